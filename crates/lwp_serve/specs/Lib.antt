@@ -1,0 +1,3 @@
+pub mod LineServer
+pub mod Bodies
+pub mod Planned

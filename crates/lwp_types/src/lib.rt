@@ -1,0 +1,30 @@
+//! The words of a pod of threads: what a thread may ask and how it is answered, what a thread's code is, where bytes come
+//! from and go to; and the machine itself, as definitions over plain lists.
+//!
+//! The contract of everything above is written in these definitions (`specs/`): the state, the thread that is chosen, one
+//! step for each call, deaths, agents, and what holds of every state. They compute. The crate stands on nothing but std.
+#![tactic(auto)]
+
+mod body;
+mod call;
+mod effects;
+mod env;
+mod ids;
+mod memory;
+mod rows;
+mod sequence;
+mod stream;
+mod text;
+
+pub use body::{Body, Program};
+pub use call::{
+    Answer, Call, Effect, ExitCall, Flags, Func, IdKind, Line, LwpErr, Mode, Pattern, PodParams,
+};
+pub use effects::{Effects, PLACES};
+pub use env::Env;
+pub use ids::{Cid, Mid, NULL_CID, NULL_MID, NULL_TID, NoMemory, Tid};
+pub use memory::{MemSink, MemSource};
+pub use rows::{AgentRow, Block, CondRow, ExitMark, Found, Letter, Lock, Mark, Request, WaitRow};
+pub use sequence::{IdList, Sequence};
+pub use stream::{Failed, Sink, Source};
+pub use text::{TEXT_MAX, Text};

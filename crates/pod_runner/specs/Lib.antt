@@ -1,0 +1,7 @@
+pub mod Session
+pub mod Play
+pub mod Due
+pub mod Over
+pub mod Eager
+pub mod History
+pub mod Trace

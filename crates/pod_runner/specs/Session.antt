@@ -1,0 +1,165 @@
+-- A session: what bodies and the machine do together, step by step.
+use Rattle.lwp_types.specs.Agents.{deliver}
+use Rattle.lwp_types.specs.Choice.{choice}
+use Rattle.lwp_types.specs.Names.{Names, polled_as}
+use Rattle.lwp_types.specs.Poll.{Next, Polled}
+use Rattle.lwp_types.specs.State.{State, opening}
+use Rattle.lwp_types.specs.Step.{step}
+use Rattle.lwp_types.specs.Unblock.{zero_answer}
+use Rattle.lwp_types.specs.declared.call.Answer.{Answer}
+use Rattle.lwp_types.specs.declared.call.Call.{Call}
+use Rattle.lwp_types.specs.declared.call.Effect.{Effect}
+use Rattle.lwp_types.specs.declared.call.PodParams.{PodParams}
+use Rattle.pod_runner.specs.declared.session.Row.{Row}
+use Rattle.pod_runner.specs.declared.session.Took.{Took}
+use Rattle.std.specs.Prelude.{List, None, Option, Some, [], if◌then◌else◌, slice_get, ℕ, ◌++◌, ◌==◌, ◌∷◌}
+use Rattle.lwp_types.specs.declared.call.Answer.TheVariants as answer
+use Rattle.lwp_types.specs.declared.call.Call.TheVariants as call
+use Rattle.lwp_types.specs.declared.call.Effect.TheVariants as effect
+
+-- what is the same in all sessions of a program
+pub record Setting (B : Type 0) : Type 0 where
+  -- what bodies mean
+  pub next : Next B
+  -- the body that a thread begins as, by procedure
+  pub bodies : List B
+  pub params : PodParams
+  -- the names at the begin
+  pub names : Names
+
+-- how a session stands: the pod, each live thread's body and pending answer, and the names
+pub record Live (B : Type 0) : Type 0 where
+  pub state : State
+  pub rows : List (Row B)
+  pub names : Names
+
+-- how it stands after a step, and what the step did
+pub record Move (B : Type 0) : Type 0 where
+  pub live : Live B
+  pub effects : List Effect
+
+-- a step that was made: a take, or else a call
+pub record Made : Type 0 where
+  pub take : Option Took
+  pub effects : List Effect
+
+-- how a session stands, and its steps so far, the oldest first
+pub record Session (B : Type 0) : Type 0 where
+  pub live : Live B
+  pub steps : List Made
+
+-- ---- the threads' bodies
+
+-- the row of a thread
+abbrev pub row_of : {B : Type 0} → ℕ → List (Row B) → Option (Row B)
+row_of t [] = None
+row_of t (row ∷ rows) = if row.tid == t then Some row else row_of t rows
+
+-- the rows, with another in the place of a thread's own
+abbrev pub with_row : {B : Type 0} → ℕ → (Row B → Row B) → List (Row B) → List (Row B)
+with_row t change [] = []
+with_row t change (row ∷ rows) = if row.tid == t then change row ∷ rows else row ∷ with_row t change rows
+
+-- the rows without a thread's own
+abbrev pub without_row : {B : Type 0} → ℕ → List (Row B) → List (Row B)
+without_row t [] = []
+without_row t (row ∷ rows) = if row.tid == t then rows else row ∷ without_row t rows
+
+-- a thread is polled with this answer next
+abbrev pub answered : {B : Type 0} → ℕ → Answer → List (Row B) → List (Row B)
+answered t a rows = with_row t (λ row. record row { answer = a }) rows
+
+-- a thread's body has taken its answer, and stands so
+abbrev pub polled : {B : Type 0} → ℕ → B → List (Row B) → List (Row B)
+polled t body rows = with_row t (λ row. record row { body = body; answer = zero_answer }) rows
+
+-- the row of a new thread, if there is such a procedure
+abbrev pub row_opened : {B : Type 0} → ℕ → Option B → List (Row B)
+row_opened t None = []
+row_opened t (Some body) = record { tid = t; body = body; answer = zero_answer } ∷ []
+
+-- the procedure of a Create
+abbrev pub proc_of : Call → Option ℕ
+proc_of (call.Create number prio flags) = Some number
+proc_of _ = None
+
+-- the thread that an answer names
+abbrev pub thread_in : Answer → Option ℕ
+thread_in (answer.Thread t) = Some t
+thread_in _ = None
+
+-- the row of the thread that was created, if the call creates one of this procedure, and it was answered so
+abbrev pub rows_born : {B : Type 0} → List B → Option ℕ → Option ℕ → List (Row B)
+rows_born bodies (Some number) (Some t) = row_opened t (slice_get bodies number)
+rows_born bodies None t = []
+rows_born bodies (Some number) None = []
+
+-- what one effect does to the rows, in a step that creates a thread of this procedure, if any
+abbrev pub settled_by : {B : Type 0} → List B → Option ℕ → Effect → List (Row B) → List (Row B)
+settled_by bodies born (effect.Answered t a) rows = answered t a rows ++ rows_born bodies born (thread_in a)
+settled_by bodies born (effect.Died t) rows = without_row t rows
+settled_by bodies born _ rows = rows
+
+-- what the effects of a step do to them, one after the other
+abbrev pub settled : {B : Type 0} → List B → Option ℕ → List Effect → List (Row B) → List (Row B)
+settled bodies born [] rows = rows
+settled bodies born (e ∷ es) rows = settled bodies born es (settled_by bodies born e rows)
+
+-- ---- the two kinds of step
+
+-- nothing happens
+abbrev pub unmoved : {B : Type 0} → Live B → Move B
+unmoved live = record { live = live; effects = [] }
+
+-- the call that a thread's body gave is made
+unfoldable pub called : {B : Type 0} → List B → Live B → ℕ → Polled B → Move B
+called bodies live t reply = let out = step live.state reply.0 in record {
+  live = record {
+    state = out.after;
+    rows = settled bodies (proc_of reply.0) out.effects (polled t reply.1 live.rows);
+    names = reply.2;
+  };
+  effects = out.effects;
+}
+
+-- the body of a thread is polled, and its call is made
+abbrev pub move_row : {B : Type 0} → Setting B → Live B → ℕ → Option (Row B) → Move B
+move_row setting live t None = unmoved live
+move_row setting live t (Some row) = called setting.bodies live t (setting.next row.body (polled_as t live.names) row.answer)
+
+-- the same, of the thread that was chosen, if one was
+abbrev pub move_by : {B : Type 0} → Setting B → Live B → Option ℕ → Move B
+move_by setting live None = unmoved live
+move_by setting live (Some t) = move_row setting live t (row_of t live.rows)
+
+-- a call: the thread whose turn it is is polled, and its call is made
+unfoldable pub move : {B : Type 0} → Setting B → Live B → Move B
+move setting live = move_by setting live (choice live.state)
+
+-- a take: its text is delivered to its event
+unfoldable pub taken : {B : Type 0} → Setting B → Took → Live B → Move B
+taken setting took live = let out = deliver live.state took.event took.line.text in record {
+  live = record live { state = out.after; rows = settled setting.bodies None out.effects live.rows };
+  effects = out.effects;
+}
+
+-- ---- sessions
+
+-- the first thread alone, before its first call
+abbrev pub opening_session : {B : Type 0} → Setting B → Session B
+opening_session setting = record {
+  live = record { state = opening setting.params; rows = row_opened 0 (slice_get setting.bodies 0); names = setting.names };
+  steps = [];
+}
+
+-- a session, one step on
+abbrev pub extended : {B : Type 0} → Session B → Option Took → Move B → Session B
+extended s took m = record { live = m.live; steps = s.steps ++ record { take = took; effects = m.effects } ∷ [] }
+
+-- a session, one call on
+abbrev pub call_step : {B : Type 0} → Setting B → Session B → Session B
+call_step setting s = extended s None (move setting s.live)
+
+-- a session, one take on
+abbrev pub take_step : {B : Type 0} → Setting B → Took → Session B → Session B
+take_step setting took s = extended s (Some took) (taken setting took s.live)

@@ -1,0 +1,233 @@
+// A script as a program sees it. A name is the place at which it stands in the list of its kind.
+use lwp_types::{Flags, Func, Line, Mode, Pattern, Sequence, Text};
+
+/// Whom a statement speaks of: a name, the thread itself, thread 0, the sender of the letter received last, nobody.
+#[derive(Clone, Copy)]
+pub enum Who {
+    Named(u32),
+    Me,
+    First,
+    Sender,
+    Nobody,
+}
+
+/// When a `skip` passes over the next statement: the last answer was neither a refusal nor a catch, was a refusal, was a
+/// catch, was this value.
+#[derive(Clone, Copy)]
+pub enum Test {
+    Fine,
+    Refused,
+    Caught,
+    Value(u32),
+}
+
+/// What an exit procedure is to do.
+#[derive(Clone, Copy)]
+pub enum ExitStmt {
+    MonExit { mon: u32 },
+    MonBreak { mon: u32 },
+    Notify { cond: u32 },
+    Broadcast { cond: u32 },
+    Reply { to: Who, text: Text },
+    Resume { who: Who },
+    SetExit { code: u32 },
+    Note { text: Text },
+}
+
+/// A statement of a procedure.
+#[derive(Clone, Copy)]
+pub enum Stmt {
+    Create {
+        name: u32,
+        proc: u32,
+        prio: u32,
+        flags: Flags,
+    },
+    Destroy {
+        who: Who,
+    },
+    Ping {
+        who: Who,
+    },
+    Yield {
+        to: Who,
+    },
+    Suspend {
+        who: Who,
+    },
+    Resume {
+        who: Who,
+    },
+    Join {
+        who: Who,
+    },
+    Resched {
+        prio: u32,
+    },
+    SetPri {
+        who: Who,
+        prio: u32,
+    },
+    SetMaxPri {
+        prio: u32,
+    },
+    Me,
+    SetExit {
+        code: u32,
+    },
+    GetExit,
+    PodExit {
+        code: u32,
+    },
+    Threads,
+    Send {
+        to: Who,
+        room: u8,
+        text: Text,
+    },
+    Recv {
+        from: Option<Who>,
+        mode: Mode,
+    },
+    Reply {
+        to: Who,
+        text: Text,
+    },
+    Senders,
+    Receivers,
+    MonCreate {
+        mon: u32,
+    },
+    CvCreate {
+        cond: u32,
+        mon: u32,
+    },
+    MonDestroy {
+        mon: u32,
+    },
+    Enter {
+        mon: u32,
+    },
+    CondEnter {
+        mon: u32,
+    },
+    MonExit {
+        mon: u32,
+    },
+    MonBreak {
+        mon: u32,
+    },
+    MonWaiters {
+        mon: u32,
+    },
+    Monitors,
+    CvDestroy {
+        cond: u32,
+    },
+    Wait {
+        cond: u32,
+    },
+    Notify {
+        cond: u32,
+    },
+    Broadcast {
+        cond: u32,
+    },
+    CvSend {
+        cond: u32,
+        who: Who,
+    },
+    CvWaiters {
+        cond: u32,
+    },
+    Conds,
+    CallProc {
+        proc: u32,
+    },
+    Return,
+    Handle {
+        pattern: Pattern,
+        func: Func,
+        arg: u32,
+    },
+    Unhandle,
+    Raise {
+        pattern: u32,
+    },
+    ExcNotify {
+        pattern: u32,
+    },
+    Bound {
+        pattern: u32,
+    },
+    UniqPatt,
+    OnExit {
+        exit: ExitStmt,
+    },
+    Agent {
+        name: u32,
+        event: u32,
+    },
+    Agents,
+    Say {
+        text: Text,
+    },
+    Skip {
+        test: Test,
+    },
+    Again,
+}
+
+/// What a built-in procedure is: the store, or a session that serves event `event` from the store named `store`.
+#[derive(Clone, Copy)]
+pub enum NativeKind {
+    Store,
+    Session { event: u8, store: u32 },
+}
+
+/// A built-in procedure.
+#[derive(Clone, Copy)]
+pub struct Native {
+    pub name: u32,
+    pub kind: NativeKind,
+}
+
+/// A procedure of statements.
+#[derive(Drop)]
+pub struct Proc {
+    pub name: u32,
+    pub stmts: Sequence<Stmt>,
+}
+
+/// The names of each kind, in the order in which they first appear.
+#[derive(Drop)]
+pub struct Names {
+    pub procs: Sequence<Text>,
+    pub threads: Sequence<Text>,
+    pub mons: Sequence<Text>,
+    pub conds: Sequence<Text>,
+}
+
+/// A script: what its pod is made with, the event of each client, its procedures, and the lines that its clients post, in the
+/// order of the text.
+#[derive(Drop)]
+pub struct Script {
+    pub maxpri: u32,
+    pub births: u64,
+    pub clients: Sequence<u8>,
+    pub natives: Sequence<Native>,
+    pub procs: Sequence<Proc>,
+    pub posts: Sequence<Line>,
+    pub names: Names,
+}
+
+/// How a session comes to its end.
+#[derive(Clone, Copy, Debug, PartialEq, Eq)]
+pub enum Halt {
+    /// The pod has ended, with this status.
+    Ended(u8),
+    /// Nobody may run, and no event can be delivered that has a line left.
+    Stuck,
+    /// All calls that were allowed have been made.
+    Spent,
+}
