@@ -1,6 +1,6 @@
 // The names that the bodies of a pod share.
-ghost use Rattle.std.specs.Prelude.{◌≡◌, IfOk, OnOk, slice_set, slice_index_or, replicate, ◌++◌, [], ◌∷◌};
-ghost use Rattle.lwp_types.specs.Names.{null_id, null_names, polled_as, id_at, thread_named, monitor_named, condition_named};
+ghost use Rattle.std.specs.Prelude.{◌≡◌, IfOk, length, replicate};
+ghost use Rattle.lwp_types.specs.Names.{null_names, polled_as, id_at, thread_named, monitor_named, condition_named};
 
 use crate::{Cid, Mid, NULL_CID, NULL_MID, NULL_TID, NoMemory, Tid};
 use std::alloc::Global;
@@ -57,6 +57,27 @@ impl Env {
         ensures { result ≡ self.now.me }
     {
         self.me
+    }
+
+    /// How many names of threads there are.
+    pub fn thread_count(&self) -> usize
+        ensures { result ≡ length self.now.threads }
+    {
+        self.threads.len()
+    }
+
+    /// How many names of monitors there are.
+    pub fn mon_count(&self) -> usize
+        ensures { result ≡ length self.now.monitors }
+    {
+        self.mons.len()
+    }
+
+    /// How many names of conditions there are.
+    pub fn cond_count(&self) -> usize
+        ensures { result ≡ length self.now.conditions }
+    {
+        self.conds.len()
     }
 
     /// Sets who is polled.

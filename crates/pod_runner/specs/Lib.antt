@@ -1,7 +1,13 @@
 pub mod Session
+pub mod Polls
 pub mod Play
 pub mod Due
 pub mod Over
 pub mod Eager
 pub mod History
 pub mod Trace
+pub mod Phase
+pub mod Run
+pub mod Keeps
+pub mod Parts
+pub mod Built

@@ -123,23 +123,23 @@ called bodies live t reply = let out = step live.state reply.0 in record {
 }
 
 -- the body of a thread is polled, and its call is made
-abbrev pub move_row : {B : Type 0} → Setting B → Live B → ℕ → Option (Row B) → Move B
-move_row setting live t None = unmoved live
-move_row setting live t (Some row) = called setting.bodies live t (setting.next row.body (polled_as t live.names) row.answer)
+abbrev pub move_row : {B : Type 0} → Next B → List B → Live B → ℕ → Option (Row B) → Move B
+move_row next bodies live t None = unmoved live
+move_row next bodies live t (Some row) = called bodies live t (next row.body (polled_as t live.names) row.answer)
 
 -- the same, of the thread that was chosen, if one was
-abbrev pub move_by : {B : Type 0} → Setting B → Live B → Option ℕ → Move B
-move_by setting live None = unmoved live
-move_by setting live (Some t) = move_row setting live t (row_of t live.rows)
+abbrev pub move_by : {B : Type 0} → Next B → List B → Live B → Option ℕ → Move B
+move_by next bodies live None = unmoved live
+move_by next bodies live (Some t) = move_row next bodies live t (row_of t live.rows)
 
 -- a call: the thread whose turn it is is polled, and its call is made
-unfoldable pub move : {B : Type 0} → Setting B → Live B → Move B
-move setting live = move_by setting live (choice live.state)
+unfoldable pub move : {B : Type 0} → Next B → List B → Live B → Move B
+move next bodies live = move_by next bodies live (choice live.state)
 
 -- a take: its text is delivered to its event
-unfoldable pub taken : {B : Type 0} → Setting B → Took → Live B → Move B
-taken setting took live = let out = deliver live.state took.event took.line.text in record {
-  live = record live { state = out.after; rows = settled setting.bodies None out.effects live.rows };
+unfoldable pub taken : {B : Type 0} → List B → Took → Live B → Move B
+taken bodies took live = let out = deliver live.state took.event took.line.text in record {
+  live = record live { state = out.after; rows = settled bodies None out.effects live.rows };
   effects = out.effects;
 }
 
@@ -158,8 +158,8 @@ extended s took m = record { live = m.live; steps = s.steps ++ record { take = t
 
 -- a session, one call on
 abbrev pub call_step : {B : Type 0} → Setting B → Session B → Session B
-call_step setting s = extended s None (move setting s.live)
+call_step setting s = extended s None (move setting.next setting.bodies s.live)
 
 -- a session, one take on
 abbrev pub take_step : {B : Type 0} → Setting B → Took → Session B → Session B
-take_step setting took s = extended s (Some took) (taken setting took s.live)
+take_step setting took s = extended s (Some took) (taken setting.bodies took s.live)

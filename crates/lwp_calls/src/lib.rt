@@ -1,0 +1,11 @@
+//! The pod: its threads, and one call at a time by the thread whose turn it is.
+//!
+//! A `Pod` is seen as the machine's state (`lwp_types/specs/State.antt`). `Pod::call` takes it from one state to the next exactly
+//! as the machine's step does, and gives the step's effects in their order; a call that is refused memory leaves the pod as it
+//! was. It stands on the scheduler of `pod_sched`. Which calls are carried out so far stands in `specs/Built.antt`.
+#![tactic(auto)]
+
+mod pod;
+mod rows;
+
+pub use pod::{Pod, PodEnd};

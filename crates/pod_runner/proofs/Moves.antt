@@ -1,0 +1,57 @@
+-- One call of a session, by what was found.
+use Rattle.std.proofs.Common.{◌≡◌, ℕ, ◌<◌, ◌≤◌, List, [], ◌++◌, length, None, Some, sym, ap, ◌∙◌, refl, arith, inl, inr, true, false, Bool}
+use Rattle.std.specs.Prelude.{Option, slice_get, slice_set, IsTrue, if◌then◌else◌}
+use Rattle.std.proofs.lemmas.Option.{slice_get_past, slice_get_cases}
+use Rattle.lwp_calls.specs.Built.{is_built}
+use Rattle.lwp_calls.specs.Pod.{current_of}
+use Rattle.lwp_types.specs.Choice.{choice}
+use Rattle.lwp_types.specs.Names.{Names, polled_as}
+use Rattle.lwp_types.specs.Poll.{Next}
+use Rattle.lwp_types.specs.State.{State}
+use Rattle.lwp_types.specs.Step.{step}
+use Rattle.lwp_types.specs.declared.call.Call.{Call}
+use Rattle.lwp_types.specs.declared.call.Effect.{Effect}
+use Rattle.pod_runner.specs.Built.{is_next_built}
+use Rattle.pod_runner.specs.Polls.{Polls, place_of}
+use Rattle.pod_runner.specs.Session.{Live, Move, called, move, polled, proc_of, row_of, settled, unmoved}
+use Rattle.pod_runner.specs.declared.session.Row.{Row}
+use Rattle.pod_runner.proofs.RowLemmas.{row_of-place, with_row-place}
+
+-- the thread whose turn it is was chosen
+pub chosen_from : (s : State) (t : ℕ) → current_of s ≡ Some t → choice s ≡ Some t
+chosen_from s t h = by_end s.ended h
+  where
+    by_end : (b : Bool) → (if b then None else choice s) ≡ Some t → choice s ≡ Some t
+    by_end true h = let no : None ≡ Some t = h in cc
+    by_end false h = h
+
+pub slice_get_present : {X : Type 0} (xs : List X) (i : ℕ) → i < length xs → (x : X) × (slice_get xs i ≡ Some x)
+slice_get_present xs i there = elim (slice_get_cases xs i).1 [ inl w ↦ (w.0, w.2) | inr w ↦ absurd (omega arith) ]
+
+pub move_no_row : {B : Type 0} (next : Next B) (bodies : List B) (live : Live B) (t : ℕ) → choice live.state ≡ Some t → length live.rows ≤ place_of t live.rows → move next bodies live ≡ unmoved live
+unfolding move
+move_no_row next bodies live t h past = rw (h, row_of-place t live.rows, slice_get_past live.rows (place_of t live.rows) past) refl
+
+move_some : {B : Type 0} (next : Next B) (bodies : List B) (live : Live B) (t : ℕ) (row : Row B) → choice live.state ≡ Some t → row_of t live.rows ≡ Some row
+    → move next bodies live ≡ called bodies live t (next row.body (polled_as t live.names) row.answer)
+unfolding move
+move_some next bodies live t row h there = rw (h, there) refl
+
+-- a call that was carried out
+pub moved : {B : Type 0} (next : Next B) (bodies : List B) (live : Live B) (t : ℕ) (row : Row B) (call : Call) (after : State) (effects : List Effect) (mid rows : List (Row B)) (names : Names)
+    → choice live.state ≡ Some t → slice_get live.rows (place_of t live.rows) ≡ Some row
+    → Polls next row (polled_as t live.names) call (place_of t live.rows) live.rows mid names
+    → after ≡ (step live.state call).after → effects ≡ (step live.state call).effects
+    → rows ≡ settled bodies (proc_of call) effects mid
+    → move next bodies live ≡ record { live = record { state = after; rows = rows; names = names }; effects = effects }
+unfolding called
+moved next bodies live t row call after effects mid rows names h there polls a e r =
+    let found : row_of t live.rows ≡ Some row = row_of-place t live.rows ∙ there in
+    let reply = next row.body (polled_as t live.names) row.answer in
+    let left : mid ≡ polled t reply.1 live.rows = polls.leaves ∙ sym (with_row-place t _ live.rows row there) in
+    move_some next bodies live t row h found ∙ rw (r, e, a, left, polls.names, polls.gives) refl
+
+-- the next call is one that the pod carries out
+pub built_call : {B : Type 0} (next : Next B) (live : Live B) (t : ℕ) (row : Row B) → choice live.state ≡ Some t → slice_get live.rows (place_of t live.rows) ≡ Some row
+    → IsTrue (is_next_built next live) → IsTrue (is_built t (next row.body (polled_as t live.names) row.answer).0)
+built_call next live t row h there built = rw (h, row_of-place t live.rows, there) at built

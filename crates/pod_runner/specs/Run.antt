@@ -1,0 +1,61 @@
+-- What a run is seen as, and what its calls say.
+use Rattle.lwp_types.specs.Names.{Names, null_names}
+use Rattle.lwp_types.specs.Poll.{Next}
+use Rattle.lwp_types.specs.Streams.{AppendsPrefix, appended}
+use Rattle.lwp_types.specs.declared.call.PodParams.{PodParams}
+use Rattle.pod_runner.specs.Phase.{phase_of}
+use Rattle.pod_runner.specs.Play.{play}
+use Rattle.pod_runner.specs.Session.{Session, Setting}
+use Rattle.pod_runner.specs.Trace.{lines}
+use Rattle.pod_runner.specs.declared.phase.Phase.{Phase}
+use Rattle.pod_runner.specs.declared.session.Took.{Took}
+use Rattle.std.specs.Prelude.{Bool, List, Option, length, ℕ, ◌≡◌}
+
+-- a run: what it plays, and how far it is
+pub record Played (P : Type 0) : Type 0 where
+  pub program : P
+  pub params : PodParams
+  -- the names at the begin
+  pub names : Names
+  -- how many calls are allowed
+  pub turns : ℕ
+  -- how many were made
+  pub calls : ℕ
+  -- the lines taken, the oldest first
+  pub takes : List Took
+  pub failed : Bool
+
+-- what a run plays, by what bodies and programs mean
+abbrev pub setting_of : {B P : Type 0} → Next B → (P → List B) → Played P → Setting B
+setting_of next bodies run = record { next = next; bodies = bodies run.program; params = run.params; names = run.names }
+
+-- its session so far
+abbrev pub session_of : {B P : Type 0} → Next B → (P → List B) → Played P → Session B
+session_of next bodies run = play (setting_of next bodies run) run.takes run.calls
+
+-- the lines of its steps so far
+abbrev pub trace_of : {B P : Type 0} → Next B → (P → List B) → (P → List (List ℕ)) → Played P → List ℕ
+trace_of next bodies proc_names run = lines (proc_names run.program) (session_of next bodies run).steps
+
+-- where it stands
+abbrev pub phase_now : {B P : Type 0} → Next B → (P → List B) → Played P → Phase
+phase_now next bodies run = phase_of (session_of next bodies run).live.state run.turns run.calls
+
+-- what is told goes from a trace to a longer one
+abbrev pub Writes : Option (List ℕ) → Option (List ℕ) → List ℕ → List ℕ → Type 0
+Writes old new before after = (base : Option (List ℕ)) → old ≡ appended base before → new ≡ appended base after
+
+-- the same, but only as far as some prefix of the longer one
+abbrev pub WritesPart : Option (List ℕ) → Option (List ℕ) → List ℕ → List ℕ → Type 0
+WritesPart old new before after = (base : Option (List ℕ)) → old ≡ appended base before → AppendsPrefix base new after
+
+-- the same run, further on
+pub record GoesOn {P : Type 0} (old new : Played P) : Type 0 where
+  pub program : new.program ≡ old.program
+  pub params : new.params ≡ old.params
+  pub names : new.names ≡ old.names
+  pub turns : new.turns ≡ old.turns
+
+-- names as a run begins with them: of each kind as many as these, and none stands for anything
+abbrev pub names_like : Names → Names
+names_like names = null_names (length names.threads) (length names.monitors) (length names.conditions)

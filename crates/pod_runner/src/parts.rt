@@ -1,0 +1,118 @@
+// What a run moves: the pod, each live thread's body, and the names.
+ghost use Rattle.std.specs.Prelude.{◌≡◌, ◌<◌, ◌≤◌, ◌^◌, IfOk, IsSome, IsTrue, Some, slice_get, length};
+ghost use Rattle.lwp_types.specs.State.{opening};
+ghost use Rattle.lwp_calls.specs.Pod.{current_of};
+ghost use Rattle.pod_runner.specs.Built.{is_next_built};
+ghost use Rattle.pod_runner.specs.Phase.{phase_of};
+ghost use Rattle.pod_runner.specs.Polls.{place_of};
+ghost use Rattle.pod_runner.specs.Session.{row_opened};
+
+use crate::rows::{open, place, poll_at, proc_of, settle};
+use crate::written::lines_of;
+use crate::{Phase, Row};
+use lwp_calls::{Pod, PodEnd};
+use lwp_types::{Body, Effects, Env, NoMemory, PodParams, Program, Text, Tid};
+use std::alloc::Global;
+
+/// A pod with its threads' bodies.
+#[derive(Drop)]
+pub struct Parts<B> {
+    pub pod: Pod,
+    pub rows: Vec<Row<B>>,
+    pub env: Env,
+    pub effects: Effects,
+}
+
+impl<B: Body> Parts<B> {
+    ghost use Rattle.pod_runner.specs.Parts.{live_of, Moves};
+
+    /// The first thread, before its first call.
+    pub fn new<P: Program<B>>(
+        alloc: Global,
+        params: PodParams,
+        program: &P,
+        env: Env,
+    ) -> Result<Parts<B>, NoMemory>
+        requires least { 1 ≤ params.maxpri }
+        requires most { params.maxpri ≤ 255 }
+        requires births { 1 ≤ params.births }
+        requires few_births { params.births < 2 ^ 32 }
+        requires procs { 1 ≤ params.procs }
+        ensures { IfOk result (λ parts. live_of parts ≡ record { state = opening params; rows = row_opened 0 (slice_get (P.bodies program.now) 0); names = env }) }
+    {
+        let mut rows = Vec::new(alloc);
+        open(&mut rows, program, 0, Tid { number: 0 })?;
+        let effects = Effects::new(alloc)?;
+        let pod = Pod::new(alloc, params)?;
+        Ok(Parts {
+            pod,
+            rows,
+            env,
+            effects,
+        })
+    }
+
+    /// Where a run of so many calls, out of so many, stands.
+    pub fn phase(&self, turns: u64, calls: u64) -> Phase
+        ensures { result ≡ phase_of self.now.pod turns calls }
+    {
+        match self.pod.ending() {
+            Some(PodEnd::Ended(status)) => Phase::Ended(status),
+            Some(PodEnd::Idle) => Phase::Idle,
+            None => {
+                if calls < turns {
+                    Phase::Turn
+                } else {
+                    Phase::Spent
+                }
+            }
+        }
+    }
+
+    /// Polls the body of the thread whose turn it is, and makes its call. The answer is the lines of what that did.
+    pub fn turn<P: Program<B>>(
+        &mut self,
+        alloc: Global,
+        program: &P,
+        names: &[Text],
+    ) -> Result<Vec<u8>, NoMemory>
+        requires current { IsSome (current_of self.old.pod) }
+        requires built { IsTrue (is_next_built B.next (live_of self.old)) }
+        ensures { IfOk result (λ out. Moves B.next (P.bodies program.now) names.now (live_of self.old) (live_of self.new) out.items) }
+    {
+        match self.pod.current() {
+            None => Ok(Vec::new(alloc)),
+            Some(tid) => {
+                let i = place(&self.rows, tid);
+                if i < self.rows.len() {
+                    self.make_call(alloc, program, names, tid, i)
+                } else {
+                    Ok(Vec::new(alloc))
+                }
+            }
+        }
+    }
+
+    fn make_call<P: Program<B>>(
+        &mut self,
+        alloc: Global,
+        program: &P,
+        names: &[Text],
+        tid: Tid,
+        i: usize,
+    ) -> Result<Vec<u8>, NoMemory>
+        requires current { current_of self.old.pod ≡ Some tid }
+        requires place { i ≡ place_of tid self.old.rows.items }
+        requires within { i < length self.old.rows.items }
+        requires built { IsTrue (is_next_built B.next (live_of self.old)) }
+        ensures { IfOk result (λ out. Moves B.next (P.bodies program.now) names.now (live_of self.old) (live_of self.new) out.items) }
+    {
+        self.env.set_me(tid);
+        let call = poll_at(&mut self.rows, i, &mut self.env)?;
+        let born = proc_of(&call);
+        self.pod.call(call, &mut self.effects)?;
+        let out = lines_of(alloc, &self.effects, None, names)?;
+        settle(&mut self.rows, program, born, &mut self.effects)?;
+        Ok(out)
+    }
+}

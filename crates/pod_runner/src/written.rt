@@ -1,0 +1,38 @@
+// Writing.
+ghost use Rattle.std.specs.Prelude.{◌≡◌, ◌++◌, IfOk, OnOk, OnErr, option_copied};
+ghost use Rattle.lwp_types.specs.Streams.{appended, AppendsPrefix, HasCause};
+ghost use Rattle.script_text.specs.Lines.{step_lines};
+
+use lwp_types::{Effects, Failed, Line, NoMemory, Sink, Text};
+use script_text::trace_line;
+use std::alloc::Global;
+
+/// Writes the bytes, or fails after some of them.
+pub fn write_all<K: Sink>(sink: &mut K, bytes: &[u8]) -> Result<(), Failed>
+    ensures ok { OnOk result (K.written sink.new ≡ appended (K.written sink.old) bytes.now) }
+    ensures err { OnErr result (AppendsPrefix (K.written sink.old) (K.written sink.new) bytes.now) }
+    ensures cause { HasCause (K.faults sink.old) (K.faults sink.new) result }
+{
+    let mut done = 0;
+    while done < bytes.len() {
+        done += sink.write(&bytes[done..])?;
+    }
+    Ok(())
+}
+
+/// The lines of a step: a line for each effect, where this line was taken, if any, and the procedures have these names.
+pub fn lines_of(
+    alloc: Global,
+    effects: &Effects,
+    took: Option<&Line>,
+    names: &[Text],
+) -> Result<Vec<u8>, NoMemory>
+    ensures { IfOk result (λ out. out.items ≡ step_lines names.now (option_copied took.entry) effects.now) }
+{
+    let mut out = Vec::new(alloc);
+    for i in 0..effects.len() {
+        let line = trace_line(alloc, effects.get(i), took, names)?;
+        out.extend_from_slice(&line)?;
+    }
+    Ok(out)
+}
