@@ -1,0 +1,15 @@
+use Rattle.std.proofs.Common.{ap, arith, length, refl, sym, ◌∙◌}
+use Rattle.pod_sched.proofs.Lists.{changed_more}
+use Rattle.pod_sched.proofs.rows.set_blocked.Goals.{else-eq, then-eq}
+use Rattle.pod_sched.proofs.rows.set_blocked.Goals as goal
+use Rattle.pod_sched.specs.Schedule.{block_set}
+
+pub loop-row-preserved : goal.loop-row-preserved
+loop-row-preserved c =
+    let at = c.loop-row in
+    let len = at.auto.row-items ∙ ap length c.deref_mut-row-items.ensures.value in
+    let more = changed_more (block_set c.args.tid c.args.blocked) c.args.rows.now.items at.row-items at.row-index c.row-item.result in
+    elim c.if-eq.branch [
+      | then-eq w ↦ let here = sym c.eq.ensures ∙ w.if-eq.true in more _ (omega (arith, len)) len at.invariant (rw here refl) _ w.row-items-is
+      | else-eq w ↦ let other = sym c.eq.ensures ∙ w.if-eq.false in more _ (omega (arith, len)) len at.invariant (rw other refl) _ w.row-items-is
+    ]

@@ -1,0 +1,13 @@
+//! Which of a pod's threads runs next: of those that are neither suspended nor blocked, the first of the greatest priority.
+//!
+//! The contract of each call is one equation between lists: the known threads, and the order of those that may run
+//! (`specs/Schedule.antt`). It says for a scheduler by itself what the machine of `lwp_types` does to a pod's threads and
+//! order; what both speak of, the choice among them, is cited from there. The crate stands on `lwp_types` alone.
+#![tactic(auto)]
+
+mod order;
+mod rows;
+mod sched;
+
+pub use rows::Known;
+pub use sched::Sched;
