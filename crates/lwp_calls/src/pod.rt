@@ -1,7 +1,7 @@
 // A pod, and its calls.
 ghost use Rattle.std.specs.Prelude.{◌≡◌, ◌≤◌, ◌<◌, ◌^◌, ◌+◌, ◌++◌, ◌∷◌, [], length, IfOk, OnOk, OnErr, IsErr, IsSome, IfSome, IsTrue, Some, None, Option};
-ghost use Rattle.lwp_types.specs.Case.{answered};
-ghost use Rattle.lwp_types.specs.Choice.{is_over};
+ghost use Rattle.lwp_types.specs.Case.{answered, unanswered};
+ghost use Rattle.lwp_types.specs.Choice.{is_over, is_eligible_in};
 ghost use Rattle.lwp_types.specs.Death.{death, return_from};
 ghost use Rattle.lwp_types.specs.State.{opening};
 ghost use Rattle.lwp_types.specs.Step.{step, end_effects, ends, finished};
@@ -78,11 +78,16 @@ impl Pod {
         })
     }
 
-    /// The thread whose turn it is.
+    /// The thread whose turn it is. It stays in its place while it makes its call.
     pub fn current(&self) -> Option<Tid>
-        ensures { result ≡ current_of self.now }
+        ensures value { result ≡ current_of self.now }
+        ensures may_run { IfSome result (λ t. IsTrue (is_eligible_in self.now t)) }
     {
-        if self.ended { None } else { self.sched.current() }
+        if self.ended {
+            None
+        } else {
+            self.sched.current()
+        }
     }
 
     /// Why it is nobody's turn, if so.
@@ -115,12 +120,13 @@ impl Pod {
                 let answer = self.create(proc, prio, flags)?;
                 self.answer(tid, call, answer, effects);
             }
-            Call::Yield { to } => {
-                let answer = self.yield_to(tid, to);
+            Call::Yield { .. } => {
+                let answer = self.yield_turn(tid);
                 self.answer(tid, call, answer, effects);
             }
             Call::Return => self.retire(tid, effects),
-            _ => self.answer(tid, call, Answer::Value(0), effects),
+            Call::Say { .. } => self.answer(tid, call, Answer::Value(0), effects),
+            _ => unreachable!(),
         }
         Ok(())
     }
@@ -169,29 +175,24 @@ impl Pod {
         Ok(())
     }
 
-    // Only to the caller itself so far.
-    fn yield_to(&mut self, tid: Tid, to: Tid) -> Answer
-        requires { to ≡ tid }
-        ensures { yield_to self.old tid to ≡ answered self.new result }
+    // The caller lets all others of its priority go first.
+    fn yield_turn(&mut self, tid: Tid) -> Answer
+        requires { IsTrue (is_eligible_in self.old tid) }
+        ensures { yield_to self.old tid tid ≡ answered self.new result }
     {
-        if !self.sched.knows(to) {
-            return Answer::Refused(LwpErr::NonExist);
-        }
-        if !self.sched.eligible(to) {
-            return Answer::Refused(LwpErr::InvalidArg);
-        }
-        self.sched.yield_to(to, to);
+        self.sched.yield_to(tid, tid);
         Answer::Value(0)
     }
 
     // The death of a thread that has nothing.
     fn bury(&mut self, tid: Tid)
-        ensures { self.new ≡ (death tid self.old).after }
+        requires { IsTrue (is_eligible_in self.old tid) }
+        ensures after { self.new ≡ (death tid self.old).after }
+        ensures effects { (death tid self.old).effects ≡ Effect.Died tid ∷ [] }
+        ensures is_return { return_from self.old tid ≡ unanswered (death tid self.old) }
     {
-        if self.sched.knows(tid) {
-            self.sched.leave(tid);
-            forget(&mut self.threads, tid);
-        }
+        self.sched.leave(tid);
+        forget(&mut self.threads, tid);
     }
 }
 
@@ -228,7 +229,8 @@ impl Pod {
     }
 
     fn retire(&mut self, tid: Tid, effects: &mut Effects)
-        requires { effects.old ≡ [] }
+        requires may_run { IsTrue (is_eligible_in self.old tid) }
+        requires empty { effects.old ≡ [] }
         ensures after { self.new ≡ (finished tid Call.Return (return_from self.old tid)).after }
         ensures effects { effects.new ≡ (finished tid Call.Return (return_from self.old tid)).effects }
     {
