@@ -1,2 +1,9 @@
 pub mod Script
 pub mod Lines
+pub mod Words
+pub mod Table
+pub mod Meaning
+pub mod Grammar
+pub mod Reading
+pub mod Spelling
+pub mod Track

@@ -1,0 +1,212 @@
+-- What a reader answers at the end is the verdict on the lines.
+use Rattle.std.proofs.Common.{◌≡◌, ℕ, suc, ◌+◌, ◌≤◌, true, false, ◌&&◌, cond, List, [], ◌∷◌, ◌++◌, length, fold, Option, Some, None, Result, Ok, Err, refl, sym, ap, subst, ◌∙◌, arith, append_assoc}
+use Rattle.std.specs.List.{flat_map}
+use Rattle.std.proofs.lemmas.List.{append-nil}
+use Rattle.std.proofs.lemmas.Grind.{flat_map-append}
+use Rattle.lwp_types.specs.TextFields.{is_printable}
+use Rattle.script_text.specs.declared.table.Op.{Op}
+use Rattle.script_text.specs.declared.table.Op.TheVariants as op
+use Rattle.script_text.specs.declared.table.Role.{Role}
+use Rattle.script_text.specs.declared.table.Role.TheVariants as role
+use Rattle.script_text.specs.declared.phrase.Phrase.{Phrase}
+use Rattle.script_text.specs.declared.reason.Reason.{Reason}
+use Rattle.script_text.specs.declared.reason.Reason.TheVariants as reason
+use Rattle.script_text.specs.declared.reason.ReadErr.{ReadErr}
+use Rattle.script_text.specs.declared.draft.Draft.{Draft}
+use Rattle.script_text.specs.declared.reader.Mention.{Mention}
+use Rattle.script_text.specs.declared.reader.Reader.{Reader}
+use Rattle.script_text.specs.declared.script.Script.{Script}
+use Rattle.script_text.specs.Table.{op_at, role_of, starts}
+use Rattle.script_text.specs.Reading.{phrase_at}
+use Rattle.script_text.specs.Grammar.{follows, keeps_rule, declared_by, last_role, may_stand, is_declared}
+use Rattle.script_text.specs.Meaning.{contains_name, added}
+use Rattle.script_text.specs.Spelling.{cut, reason_behind, reason_at, judge_said, judge, at_line, read_on, declared_on, declared_in, finish, verdict_by, Gives}
+use Rattle.script_text.specs.Track.{judge_told, judge_alone, mention_of, took, judged, noted, step, start, first_missing, answer_by, answer_at}
+use Rattle.script_text.proofs.WordLemmas.{both}
+use Rattle.script_text.proofs.PhraseLaws.{phrase_found, phrase_op}
+use Rattle.script_text.proofs.TrackLaws.{first_undeclared, undeclared_push, Tracks, tracks_more}
+
+-- ---- One line, by itself and in its text.
+
+-- a line that is good by itself
+record Alone (before : List Phrase) (line : List ℕ) (p : Phrase) : Type 0 where
+  printable : is_printable line ≡ true
+  said : phrase_at line ≡ Some p
+  stands : may_stand before p ≡ true
+
+abbrev alone : List Phrase → List ℕ → Result Phrase Reason
+alone before line = judge_alone (last_role before) (flat_map declared_by before) line
+
+alone_ok : (before : List Phrase) (line : List ℕ) (p : Phrase) → alone before line ≡ Ok p → Alone before line p
+alone_ok before line p e = elim (is_printable line) as (λ v. is_printable line ≡ v → cond v (judge_told (last_role before) (flat_map declared_by before) line (phrase_at line)) (Err reason.Bytes) ≡ Ok p → Alone before line p) [
+  | false ↦ λ i f. absurd cc
+  | true ↦ λ i f. elim (phrase_at line) as (λ o. phrase_at line ≡ o → judge_told (last_role before) (flat_map declared_by before) line o ≡ Ok p → Alone before line p) [
+    | None ↦ λ j g. absurd cc
+    | Some q ↦ λ j g. elim (may_stand before q) as (λ v. may_stand before q ≡ v → cond v (Ok q) (Err (reason_at before line)) ≡ Ok p → Alone before line p) [
+      | false ↦ λ k h. absurd cc
+      | true ↦ λ k h. let same : q ≡ p = cc in subst (Alone before line) same (record { printable = i; said = j; stands = k })
+    ] refl g
+  ] refl f
+] refl e
+
+-- what is bad by itself is bad in every text
+alone_err : (d : List (List ℕ)) (before : List Phrase) (line : List ℕ) (why : Reason) → alone before line ≡ Err why → judge d before line ≡ Err why
+alone_err d before line why e = elim (is_printable line) as (λ v. cond v (judge_told (last_role before) (flat_map declared_by before) line (phrase_at line)) (Err reason.Bytes) ≡ Err why → cond v (judge_said d before line (phrase_at line)) (Err reason.Bytes) ≡ Err why) [
+  | false ↦ λ f. f
+  | true ↦ λ f. elim (phrase_at line) as (λ o. judge_told (last_role before) (flat_map declared_by before) line o ≡ Err why → judge_said d before line o ≡ Err why) [
+    | None ↦ λ g. g
+    | Some q ↦ λ g. elim (may_stand before q) as (λ v. cond v (Ok q) (Err (reason_at before line)) ≡ Err why → cond (v && is_declared d q) (Ok q) (Err (reason_at before line)) ≡ Err why) [
+      | false ↦ λ h. h
+      | true ↦ λ h. absurd cc
+    ] g
+  ] f
+] e
+
+-- what starts a procedure is a statement
+starts_in_role : (o : Op) → starts o ≡ true → role_of o ≡ role.Statement
+starts_in_role op.Create s = refl
+starts_in_role op.Lwp s = absurd cc
+starts_in_role op.Pod s = absurd cc
+starts_in_role op.Proc s = absurd cc
+starts_in_role op.Yield s = absurd cc
+starts_in_role op.Say s = absurd cc
+starts_in_role op.Return s = absurd cc
+
+undeclared_starts : (d : List (List ℕ)) (p : Phrase) → is_declared d p ≡ false → starts p.op ≡ true
+undeclared_starts d p e = elim (starts p.op) as (λ v. cond v (contains_name d p.procedure) true ≡ false → v ≡ true) [
+  | true ↦ λ f. refl
+  | false ↦ λ f. absurd cc
+] e
+
+behind_statement : (last : Option Role) (o : Op) → role_of o ≡ role.Statement → follows last role.Statement ≡ true → reason_behind last (Some o) ≡ reason.Statement
+behind_statement None o e h = absurd cc
+behind_statement (Some role.Header) o e h = absurd cc
+behind_statement (Some role.Pod) o e h = absurd cc
+behind_statement (Some role.Proc) o e h = rw e refl
+behind_statement (Some role.Statement) o e h = rw e refl
+
+-- an undeclared procedure makes a line that stands bad as a statement
+undeclared_reason : (d : List (List ℕ)) (before : List Phrase) (line : List ℕ) (p : Phrase) → Alone before line p → is_declared d p ≡ false → reason_at before line ≡ reason.Statement
+undeclared_reason d before line p a e =
+    let r : role_of p.op ≡ role.Statement = starts_in_role p.op (undeclared_starts d p e) in
+    let f : follows (last_role before) (role_of p.op) ≡ true = (both (follows (last_role before) (role_of p.op)) (keeps_rule (flat_map declared_by before) (role_of p.op) p) a.stands).0 in
+    rw (phrase_op line p a.said) (behind_statement (last_role before) p.op r (subst (λ (x : Role). follows (last_role before) x ≡ true) r f))
+
+-- ---- The end.
+
+-- a reader that has found no bad line
+abbrev good : ℕ → Option Role → List (List ℕ) → List Mention → Draft → Reader
+good count last declared mentions draft = record { count = count; last = last; bad = None; declared = declared; mentions = mentions; draft = draft }
+
+-- the answer in a text that declares these procedures
+abbrev settled : List (List ℕ) → Reader → List ℕ → Result Script (ℕ × Reason)
+settled d r tail = answer_by (first_missing d r.draft.script.names.procs r.mentions) r.bad r tail
+
+-- behind a bad line only what is declared changes
+frozen : (d : List (List ℕ)) (why : Reason) (count : ℕ) (last : Option Role) (declared : List (List ℕ)) (mentions : List Mention) (draft : Draft) (lines more : List (List ℕ)) (tail : List ℕ) → settled d (noted (fold step (record { count = count; last = last; bad = Some why; declared = declared; mentions = mentions; draft = draft }) lines) more) tail ≡ answer_by (first_missing d draft.script.names.procs mentions) (Some why) (record { count = count; last = last; bad = Some why; declared = []; mentions = mentions; draft = draft }) tail
+frozen d why count last declared mentions draft [] more tail = elim (first_missing d draft.script.names.procs mentions) as (λ o. answer_by o (Some why) (record { count = count; last = last; bad = Some why; declared = declared ++ more; mentions = mentions; draft = draft }) tail ≡ answer_by o (Some why) (record { count = count; last = last; bad = Some why; declared = []; mentions = mentions; draft = draft }) tail) [
+  | None ↦ refl
+  | Some k ↦ refl
+]
+frozen d why count last declared mentions draft (l ∷ ls) more tail = frozen d why count last (declared ++ declared_on (phrase_at l)) mentions draft ls more tail
+
+-- a reader goes on as what it knows of the lines says
+goes_on : (count : ℕ) (last : Option Role) (declared : List (List ℕ)) (mentions : List Mention) (draft : Draft) (before : List Phrase) (l : List ℕ) (p : Phrase) → Tracks count last declared mentions draft before → judge_alone last declared l ≡ Ok p → Alone before l p × Tracks (count + 1) (Some (role_of p.op)) (declared ++ declared_on (phrase_at l)) (mentions ++ mention_of (count + 1) (added draft p).script.names.procs p) (added draft p) (before ++ p ∷ [])
+goes_on count last declared mentions draft before l p k e =
+    let same : judge_alone last declared l ≡ alone before l = rw (k.last_is, k.declared_is) refl in
+    let a = alone_ok before l p (sym same ∙ e) in
+    (a, rw a.said (tracks_more count last declared mentions draft before p k (phrase_found l p a.said).0))
+
+-- a line that starts an undeclared procedure is the first bad line
+stays_missed : (d : List (List ℕ)) (n : ℕ) (count : ℕ) (last : Option Role) (declared : List (List ℕ)) (mentions : List Mention) (draft : Draft) (before : List Phrase) (lines more : List (List ℕ)) (tail : List ℕ) → Tracks count last declared mentions draft before → first_undeclared d 1 before ≡ Some n → settled d (noted (fold step (good count last declared mentions draft) lines) more) tail ≡ Err (n, reason.Statement)
+stays_missed d n count last declared mentions draft before [] more tail k h = rw (k.mentions_tell d, h) refl
+stays_missed d n count last declared mentions draft before (l ∷ ls) more tail k h = elim (judge_alone last declared l) as (λ j. judge_alone last declared l ≡ j → settled d (noted (fold step (noted (took (good count last declared mentions draft) j) (declared_on (phrase_at l))) ls) more) tail ≡ Err (n, reason.Statement)) [
+  | Err why ↦ λ e. frozen d why count last (declared ++ declared_on (phrase_at l)) mentions draft ls more tail ∙ rw (k.mentions_tell d, h) refl
+  | Ok p ↦ λ e.
+      let g = goes_on count last declared mentions draft before l p k e in
+      let missed : first_undeclared d 1 (before ++ p ∷ []) ≡ Some n = undeclared_push d 1 before p ∙ rw h refl in
+      stays_missed d n (count + 1) _ _ _ _ (before ++ p ∷ []) ls more tail g.1 missed
+] refl
+
+-- no bytes declare nothing
+nothing_declared : declared_on (phrase_at []) ≡ []
+unfolding phrase_at op_at
+nothing_declared = refl
+
+-- the answer behind good lines
+all_ended : (d : List (List ℕ)) (count : ℕ) (last : Option Role) (declared : List (List ℕ)) (mentions : List Mention) (draft : Draft) (before : List Phrase) (tail : List ℕ) → Tracks count last declared mentions draft before → first_undeclared d 1 before ≡ None → settled d (noted (good count last declared mentions draft) (declared_on (phrase_at tail))) tail ≡ finish (Ok before) tail
+all_ended d count last declared mentions draft before (b ∷ tail) k h =
+    let line : count + 1 ≡ suc (length before) = omega (arith, k.count_is) in
+    rw (k.mentions_tell d, h, line) refl
+all_ended d count last declared mentions draft before [] k h =
+    let line : count + 1 ≡ suc (length before) = omega (arith, k.count_is) in
+    let same : declared ++ declared_on (phrase_at []) ≡ flat_map declared_by before = rw (nothing_declared, append-nil declared) k.declared_is in
+    rw (k.mentions_tell d, h, same, line, k.draft_is) refl
+
+-- the answer behind lines that are good so far
+settles : (d : List (List ℕ)) (count : ℕ) (last : Option Role) (declared : List (List ℕ)) (mentions : List Mention) (draft : Draft) (before : List Phrase) (lines : List (List ℕ)) (tail : List ℕ) → Tracks count last declared mentions draft before → first_undeclared d 1 before ≡ None → settled d (noted (fold step (good count last declared mentions draft) lines) (declared_on (phrase_at tail))) tail ≡ finish (read_on d before lines) tail
+settles d count last declared mentions draft before [] tail k h = all_ended d count last declared mentions draft before tail k h
+settles d count last declared mentions draft before (l ∷ ls) tail k h = elim (judge_alone last declared l) as (λ j. judge_alone last declared l ≡ j → settled d (noted (fold step (noted (took (good count last declared mentions draft) j) (declared_on (phrase_at l))) ls) (declared_on (phrase_at tail))) tail ≡ finish (at_line (suc (length before)) (judge d before l) (λ p. read_on d (before ++ p ∷ []) ls)) tail) [
+  | Err why ↦ λ e.
+      let same : judge_alone last declared l ≡ alone before l = rw (k.last_is, k.declared_is) refl in
+      let bad : judge d before l ≡ Err why = alone_err d before l why (sym same ∙ e) in
+      let line : count + 1 ≡ suc (length before) = omega (arith, k.count_is) in
+      frozen d why count last (declared ++ declared_on (phrase_at l)) mentions draft ls (declared_on (phrase_at tail)) tail ∙ rw (k.mentions_tell d, h, bad, line) refl
+  | Ok p ↦ λ e.
+      let g = goes_on count last declared mentions draft before l p k e in
+      elim (is_declared d p) as (λ v. is_declared d p ≡ v → settled d (noted (fold step (noted (took (good count last declared mentions draft) (Ok p)) (declared_on (phrase_at l))) ls) (declared_on (phrase_at tail))) tail ≡ finish (at_line (suc (length before)) (judge d before l) (λ q. read_on d (before ++ q ∷ []) ls)) tail) [
+        | true ↦ λ y.
+            let none : first_undeclared d 1 (before ++ p ∷ []) ≡ None = undeclared_push d 1 before p ∙ rw (h, y) refl in
+            settles d (count + 1) _ _ _ _ (before ++ p ∷ []) ls tail g.1 none ∙ rw (g.0.printable, g.0.said, g.0.stands, y) refl
+        | false ↦ λ n.
+            let missed : first_undeclared d 1 (before ++ p ∷ []) ≡ Some (1 + length before) = undeclared_push d 1 before p ∙ rw (h, n) refl in
+            let line : 1 + length before ≡ suc (length before) = omega arith in
+            let why : reason_at before l ≡ reason.Statement = undeclared_reason d before l p g.0 n in
+            stays_missed d (1 + length before) (count + 1) _ _ _ _ (before ++ p ∷ []) ls (declared_on (phrase_at tail)) tail g.1 missed ∙ rw (g.0.printable, g.0.said, g.0.stands, n, why, line) refl
+      ] refl
+] refl
+
+-- what the lines declare is kept
+took_declared : (r : Reader) (j : Result Phrase Reason) → (took r j).declared ≡ r.declared
+took_declared r (Ok p) = refl
+took_declared r (Err why) = refl
+
+judged_declared : (b : Option Reason) (r : Reader) (l : List ℕ) → (judged b r l).declared ≡ r.declared
+judged_declared (Some why) r l = refl
+judged_declared None r l = took_declared r (judge_alone r.last r.declared l)
+
+fold_declared : (r : Reader) (lines : List (List ℕ)) → (fold step r lines).declared ≡ r.declared ++ declared_in lines
+fold_declared r [] = sym (append-nil r.declared)
+fold_declared r (l ∷ ls) = fold_declared (step r l) ls ∙ ap (λ (x : List (List ℕ)). (x ++ declared_on (phrase_at l)) ++ declared_in ls) (judged_declared r.bad r l) ∙ append_assoc r.declared (declared_on (phrase_at l)) (declared_in ls)
+
+starts_well : Tracks 0 None [] [] start.draft []
+starts_well = record { count_is = refl; last_is = refl; declared_is = refl; draft_is = refl; are_named = tt; mentions_tell = λ d. refl }
+
+-- a reader's answer is the verdict
+pub verdict_folds : (lines : List (List ℕ)) (tail : List ℕ) → answer_at (fold step start lines) tail ≡ verdict_by (lines, tail)
+verdict_folds lines tail =
+    let all = declared_in (lines ++ tail ∷ []) in
+    let d : (fold step start lines).declared ++ declared_on (phrase_at tail) ≡ all =
+    ap (λ (l : List (List ℕ)). l ++ declared_on (phrase_at tail)) (fold_declared start lines)
+    ∙ sym (flat_map-append (λ (l : List ℕ). declared_on (phrase_at l)) lines (tail ∷ []) ∙ ap (λ (l : List (List ℕ)). declared_in lines ++ l) (append-nil (declared_on (phrase_at tail)))) in
+    ap (λ (x : List (List ℕ)). settled x (noted (fold step start lines) (declared_on (phrase_at tail))) tail) d ∙ settles all 0 None [] [] start.draft [] lines tail starts_well refl
+
+-- a step takes one line
+took_count : (r : Reader) (j : Result Phrase Reason) → (took r j).count ≤ r.count + 1
+took_count r (Ok p) = omega arith
+took_count r (Err why) = omega arith
+
+judged_count : (b : Option Reason) (r : Reader) (l : List ℕ) → (judged b r l).count ≤ r.count + 1
+judged_count (Some why) r l = omega arith
+judged_count None r l = took_count r (judge_alone r.last r.declared l)
+
+pub step_count : (r : Reader) (l : List ℕ) → (step r l).count ≤ r.count + 1
+step_count r l = judged_count r.bad r l
+
+-- the answer of a reader that has taken all lines of a text
+pub read_gives : (r : Reader) (rest text : List ℕ) (result : Result Script ReadErr) → cut rest ≡ ([], rest) → fold step r (cut rest).0 ≡ fold step start (cut text).0 → (cut rest).1 ≡ (cut text).1 → Gives (answer_at r rest) result → Gives (verdict_by (cut text)) result
+read_gives r rest text result none lines tail h =
+    let g : r ≡ fold step start (cut text).0 = ap (λ (c : List (List ℕ) × List ℕ). fold step r c.0) (sym none) ∙ lines in
+    let t : rest ≡ (cut text).1 = ap (λ (c : List (List ℕ) × List ℕ). c.1) (sym none) ∙ tail in
+    let same : answer_at r rest ≡ verdict_by (cut text) = rw (g, t) (verdict_folds (cut text).0 (cut text).1) in
+    subst (λ (v : Result Script (ℕ × Reason)). Gives v result) same h

@@ -1,0 +1,363 @@
+-- Reading a line and writing a phrase undo each other.
+use Rattle.std.proofs.Common.{◌≡◌, ℕ, suc, ◌<◌, ◌≤◌, ◌^◌, Bool, true, false, not, ◌&&◌, cond, eqb, ltb, leb, List, [], ◌∷◌, ◌++◌, length, take, drop, Some, None, refl, sym, ap, subst, ◌∙◌, arith}
+use Rattle.std.specs.Prelude.{IsTrue, option_map, option_and_then, codes}
+use Rattle.std.specs.List.{flat_map, AllByRecursion, list_all}
+use Rattle.std.specs.Str.{bytes_eq, all_ascii_digits}
+use Rattle.std.specs.Fmt.{decimal}
+use Rattle.std.specs.Char.{is_ascii_digit}
+use Rattle.std.proofs.lemmas.Bool.{leb-true, lt-ltb, ltb-true, ne_eqb, eqb-true}
+use Rattle.std.proofs.lemmas.Option.{cond_some, option_and_then_some}
+use Rattle.std.proofs.lemmas.List.{append-nil, take_at, drop_at, take-append-drop}
+use Rattle.std.proofs.lemmas.Slice.Eq.{bytes_eq-Decides}
+use Rattle.std.proofs.lemmas.Fmt.{digits_decimal}
+use Rattle.script_text.specs.declared.table.Op.{Op}
+use Rattle.script_text.specs.declared.table.Op.TheVariants as op
+use Rattle.script_text.specs.declared.table.Kind.{Kind}
+use Rattle.script_text.specs.declared.table.Kind.TheVariants as kind
+use Rattle.script_text.specs.declared.phrase.Phrase.{Phrase}
+use Rattle.script_text.specs.Words.{is_lowercase, is_reserved, is_name, is_name_byte, number_at, reach}
+use Rattle.script_text.specs.Table.{op_in, op_at, ops, kinds_of, word_of}
+use Rattle.lwp_types.specs.TextFields.{is_text}
+use Rattle.script_text.specs.Lines.{spaced}
+use Rattle.script_text.specs.Grammar.{slot_text, phrase_text, SlotFits, IsPhrase, blank, copy_slot, copy_slots, needed, IsNeeded}
+use Rattle.script_text.specs.Reading.{fill_word, fill_text, fill_spaced, slot_at, fill, first_word, phrase_at}
+use Rattle.script_text.proofs.WordLemmas.{both, Stops, reach-append, number_again, number_found, own}
+
+-- ---- Rows.
+
+pub op_found : (os : List Op) (w : List ℕ) (o : Op) → op_in os w ≡ Some o → w ≡ word_of o
+op_found [] w o e = absurd cc
+op_found (x ∷ os) w o e = elim (bytes_eq (word_of x) w) as (λ v. bytes_eq (word_of x) w ≡ v → cond v (Some x) (op_in os w) ≡ Some o → w ≡ word_of o) [
+  | true ↦ λ t f. let h : x ≡ o = cc in sym ((bytes_eq-Decides (word_of x) w).0 t) ∙ ap word_of h
+  | false ↦ λ t f. op_found os w o f
+] refl e
+
+-- every row is found by its word
+pub op_again : (o : Op) → op_at (word_of o) ≡ Some o
+unfolding op_at
+op_again op.Lwp = refl
+op_again op.Pod = refl
+op_again op.Proc = refl
+op_again op.Create = refl
+op_again op.Yield = refl
+op_again op.Say = refl
+op_again op.Return = refl
+
+-- words of rows have no space
+pub word_is_whole : (o : Op) → reach 32 (word_of o) ≡ length (word_of o)
+word_is_whole op.Lwp = refl
+word_is_whole op.Pod = refl
+word_is_whole op.Proc = refl
+word_is_whole op.Create = refl
+word_is_whole op.Yield = refl
+word_is_whole op.Say = refl
+word_is_whole op.Return = refl
+
+-- ---- Slots of different kinds don't touch each other.
+
+abbrev kind_number : Kind → ℕ
+kind_number kind.Thread = 0
+kind_number kind.Procedure = 1
+kind_number kind.Number = 2
+kind_number kind.Flags = 3
+kind_number kind.Me = 4
+kind_number kind.Text = 5
+
+abbrev pub same_kind : Kind → Kind → Bool
+same_kind j k = eqb (kind_number j) (kind_number k)
+
+abbrev pub absent : Kind → List Kind → Bool
+absent j [] = true
+absent j (k ∷ ks) = not (same_kind j k) && absent j ks
+
+-- no kind twice, and a text only at the end
+abbrev pub is_row : List Kind → Bool
+is_row [] = true
+is_row (kind.Text ∷ []) = true
+is_row (kind.Text ∷ k ∷ ks) = false
+is_row (k ∷ ks) = absent k ks && is_row ks
+
+pub rows : (o : Op) → is_row (kinds_of o) ≡ true
+rows op.Lwp = refl
+rows op.Pod = refl
+rows op.Proc = refl
+rows op.Create = refl
+rows op.Yield = refl
+rows op.Say = refl
+rows op.Return = refl
+
+-- what a phrase has in a slot
+abbrev slot_value : Phrase → Kind → List ℕ × ℕ
+slot_value p kind.Thread = (p.thread, 0)
+slot_value p kind.Procedure = (p.procedure, 0)
+slot_value p kind.Number = ([], p.number)
+slot_value p kind.Flags = ([], 0)
+slot_value p kind.Me = ([], 0)
+slot_value p kind.Text = (p.text, 0)
+
+text_from_value : (p q : Phrase) (k : Kind) → slot_value p k ≡ slot_value q k → slot_text p k ≡ slot_text q k
+text_from_value p q kind.Thread e = ap (λ (v : List ℕ × ℕ). 32 ∷ v.0) e
+text_from_value p q kind.Procedure e = ap (λ (v : List ℕ × ℕ). 32 ∷ v.0) e
+text_from_value p q kind.Number e = ap (λ (v : List ℕ × ℕ). 32 ∷ decimal v.1) e
+text_from_value p q kind.Flags e = refl
+text_from_value p q kind.Me e = refl
+text_from_value p q kind.Text e = ap (λ (v : List ℕ × ℕ). spaced v.0) e
+
+fits_from_value : (p q : Phrase) (k : Kind) → slot_value p k ≡ slot_value q k → SlotFits p k → SlotFits q k
+fits_from_value p q kind.Thread e h = subst (λ (v : List ℕ × ℕ). IsTrue (is_name v.0)) e h
+fits_from_value p q kind.Procedure e h = subst (λ (v : List ℕ × ℕ). IsTrue (is_name v.0)) e h
+fits_from_value p q kind.Number e h = subst (λ (v : List ℕ × ℕ). v.1 < 2 ^ 32) e h
+fits_from_value p q kind.Flags e h = tt
+fits_from_value p q kind.Me e h = tt
+fits_from_value p q kind.Text e h = subst (λ (v : List ℕ × ℕ). IsTrue (is_text v.0)) e h
+
+-- q differs from p in this slot at most
+record Filled (k : Kind) (p q : Phrase) : Type 0 where
+  op : q.op ≡ p.op
+  others : (j : Kind) → same_kind j k ≡ false → slot_value q j ≡ slot_value p j
+
+fills_thread : (p : Phrase) (w : List ℕ) → Filled kind.Thread p (record p { thread = w })
+fills_thread p w = record { op = refl; others = λ j ne. elim j as (λ i. same_kind i kind.Thread ≡ false → slot_value (record p { thread = w }) i ≡ slot_value p i) [ kind.Thread ↦ λ f. absurd cc | _ ↦ λ f. refl ] ne }
+
+fills_proc : (p : Phrase) (w : List ℕ) → Filled kind.Procedure p (record p { procedure = w })
+fills_proc p w = record { op = refl; others = λ j ne. elim j as (λ i. same_kind i kind.Procedure ≡ false → slot_value (record p { procedure = w }) i ≡ slot_value p i) [ kind.Procedure ↦ λ f. absurd cc | _ ↦ λ f. refl ] ne }
+
+fills_number : (p : Phrase) (n : ℕ) → Filled kind.Number p (record p { number = n })
+fills_number p n = record { op = refl; others = λ j ne. elim j as (λ i. same_kind i kind.Number ≡ false → slot_value (record p { number = n }) i ≡ slot_value p i) [ kind.Number ↦ λ f. absurd cc | _ ↦ λ f. refl ] ne }
+
+fills_text : (p : Phrase) (w : List ℕ) → Filled kind.Text p (record p { text = w })
+fills_text p w = record { op = refl; others = λ j ne. elim j as (λ i. same_kind i kind.Text ≡ false → slot_value (record p { text = w }) i ≡ slot_value p i) [ kind.Text ↦ λ f. absurd cc | _ ↦ λ f. refl ] ne }
+
+fills_nothing : (k : Kind) (p : Phrase) → Filled k p p
+fills_nothing k p = record { op = refl; others = λ j ne. refl }
+
+-- ---- What is read is what was written.
+
+-- this text filled the slot
+record FilledWith (k : Kind) (p q : Phrase) (text : List ℕ) : Type 0 where
+  filled : Filled k p q
+  text_is : text ≡ slot_text q k
+  fits : SlotFits q k
+
+word_found : (k : Kind) (p q : Phrase) (w : List ℕ) → fill_word k p w ≡ Some q → FilledWith k p q (32 ∷ w)
+word_found kind.Thread p q w e =
+    let b = cond_some (is_name w) (record p { thread = w }) q e in
+    subst (λ x. FilledWith kind.Thread p x (32 ∷ w)) b.1 (record { filled = fills_thread p w; text_is = refl; fits = b.0 })
+word_found kind.Procedure p q w e =
+    let b = cond_some (is_name w) (record p { procedure = w }) q e in
+    subst (λ x. FilledWith kind.Procedure p x (32 ∷ w)) b.1 (record { filled = fills_proc p w; text_is = refl; fits = b.0 })
+word_found kind.Number p q w e = elim (number_at w) as (λ o. number_at w ≡ o → option_map (λ n. record p { number = n }) o ≡ Some q → FilledWith kind.Number p q (32 ∷ w)) [
+  | None ↦ λ i f. absurd cc
+  | Some n ↦ λ i f.
+      let g = number_found w n i in
+      let h : record p { number = n } ≡ q = cc in
+      subst (λ x. FilledWith kind.Number p x (32 ∷ w)) h (record { filled = fills_number p n; text_is = ap (λ t. 32 ∷ t) g.0; fits = g.1 })
+] refl e
+word_found kind.Flags p q w e =
+    let b = cond_some (bytes_eq w (codes "-")) p q e in
+    subst (λ x. FilledWith kind.Flags p x (32 ∷ w)) b.1 (record { filled = fills_nothing kind.Flags p; text_is = ap (λ t. 32 ∷ t) ((bytes_eq-Decides w (codes "-")).0 b.0); fits = tt })
+word_found kind.Me p q w e =
+    let b = cond_some (bytes_eq w (codes "self")) p q e in
+    subst (λ x. FilledWith kind.Me p x (32 ∷ w)) b.1 (record { filled = fills_nothing kind.Me p; text_is = ap (λ t. 32 ∷ t) ((bytes_eq-Decides w (codes "self")).0 b.0); fits = tt })
+word_found kind.Text p q w e = absurd cc
+
+-- a slot was taken off the front of the text
+record Taken (k : Kind) (p : Phrase) (rest : List ℕ) (x : Phrase × List ℕ) : Type 0 where
+  filled : Filled k p x.0
+  text_is : rest ≡ slot_text x.0 k ++ x.1
+  fits : SlotFits x.0 k
+
+text_found : (p : Phrase) (rest : List ℕ) (x : Phrase × List ℕ) → fill_text p rest ≡ Some x → Taken kind.Text p rest x
+text_found p [] x e =
+    let h : (record p { text = [] }, []) ≡ x = cc in
+    subst (λ y. Taken kind.Text p [] y) h (record { filled = fills_text p []; text_is = refl; fits = refl })
+text_found p (b ∷ []) x e =
+    let c = cond_some (eqb b 32 && ltb 0 0 && is_text []) (record p { text = [] }, []) x e in
+    absurd (omega (arith, ltb-true 0 0 (both _ _ (both (eqb b 32 && ltb 0 0) (is_text []) c.0).0).1))
+text_found p (b ∷ c ∷ bs) x e =
+    let t = cond_some (eqb b 32 && ltb 0 (length (c ∷ bs)) && is_text (c ∷ bs)) (record p { text = c ∷ bs }, []) x e in
+    let u = both (eqb b 32 && ltb 0 (length (c ∷ bs))) (is_text (c ∷ bs)) t.0 in
+    let v = both (eqb b 32) (ltb 0 (length (c ∷ bs))) u.0 in
+    let space : b ≡ 32 = eqb-true b 32 v.0 in
+    subst (λ y. Taken kind.Text p (b ∷ c ∷ bs) y) t.1 (record { filled = fills_text p (c ∷ bs); text_is = rw space (sym (append-nil (32 ∷ c ∷ bs))); fits = u.1 })
+
+spaced_found : (k : Kind) (p : Phrase) (rest : List ℕ) (x : Phrase × List ℕ) → fill_spaced k p rest ≡ Some x → Taken k p rest x
+spaced_found k p [] x e = absurd cc
+spaced_found k p (b ∷ bs) x e = elim (eqb b 32) as (λ v. eqb b 32 ≡ v → cond v (option_map (λ q. (q, drop (reach 32 bs) bs)) (fill_word k p (take (reach 32 bs) bs))) None ≡ Some x → Taken k p (b ∷ bs) x) [
+  | false ↦ λ t f. absurd cc
+  | true ↦ λ t f. elim (fill_word k p (take (reach 32 bs) bs)) as (λ o. fill_word k p (take (reach 32 bs) bs) ≡ o → option_map (λ q. (q, drop (reach 32 bs) bs)) o ≡ Some x → Taken k p (b ∷ bs) x) [
+    | None ↦ λ i g. absurd cc
+    | Some q ↦ λ i g.
+        let w = word_found k p q (take (reach 32 bs) bs) i in
+        let h : (q, drop (reach 32 bs) bs) ≡ x = cc in
+        let space : b ≡ 32 = eqb-true b 32 t in
+        subst (λ y. Taken k p (b ∷ bs) y) h (record { filled = w.filled; text_is = rw (space, ← w.text_is) (ap (λ l. 32 ∷ l) (sym (take-append-drop (reach 32 bs) bs))); fits = w.fits })
+  ] refl f
+] refl e
+
+slot_found : (k : Kind) (p : Phrase) (rest : List ℕ) (x : Phrase × List ℕ) → slot_at k p rest ≡ Some x → Taken k p rest x
+slot_found kind.Text p rest x e = text_found p rest x e
+slot_found kind.Thread p rest x e = spaced_found kind.Thread p rest x e
+slot_found kind.Procedure p rest x e = spaced_found kind.Procedure p rest x e
+slot_found kind.Number p rest x e = spaced_found kind.Number p rest x e
+slot_found kind.Flags p rest x e = spaced_found kind.Flags p rest x e
+slot_found kind.Me p rest x e = spaced_found kind.Me p rest x e
+
+-- the text was taken slot by slot, to its end
+record RowTaken (ks : List Kind) (p : Phrase) (rest : List ℕ) (q : Phrase) : Type 0 where
+  op : q.op ≡ p.op
+  others : (j : Kind) → absent j ks ≡ true → slot_value q j ≡ slot_value p j
+  text_is : rest ≡ flat_map (slot_text q) ks
+  fits : AllByRecursion (SlotFits q) ks
+
+-- the kind in front isn't among the others
+row_first : (k : Kind) (ks : List Kind) → is_row (k ∷ ks) ≡ true → (absent k ks ≡ true) × (is_row ks ≡ true)
+row_first kind.Text [] h = (refl, refl)
+row_first kind.Text (k ∷ ks) h = absurd cc
+row_first kind.Thread ks h = both (absent kind.Thread ks) (is_row ks) h
+row_first kind.Procedure ks h = both (absent kind.Procedure ks) (is_row ks) h
+row_first kind.Number ks h = both (absent kind.Number ks) (is_row ks) h
+row_first kind.Flags ks h = both (absent kind.Flags ks) (is_row ks) h
+row_first kind.Me ks h = both (absent kind.Me ks) (is_row ks) h
+
+not_true : (b : Bool) → not b ≡ true → b ≡ false
+not_true true h = absurd cc
+not_true false h = refl
+
+fill_found : (ks : List Kind) (p : Phrase) (rest : List ℕ) (q : Phrase) → is_row ks ≡ true → fill ks p rest ≡ Some q → RowTaken ks p rest q
+fill_found [] p [] q r e =
+    let h : p ≡ q = cc in
+    record { op = ap (λ (x : Phrase). x.op) (sym h); others = λ j a. ap (λ (x : Phrase). slot_value x j) (sym h); text_is = refl; fits = tt }
+fill_found [] p (b ∷ bs) q r e = absurd cc
+fill_found (k ∷ ks) p rest q r e =
+    option_and_then_some (λ x. fill ks x.0 x.1) (slot_at k p rest) q e
+    (λ x i f.
+    let t = slot_found k p rest x i in
+    let first = row_first k ks r in
+    let more = fill_found ks x.0 x.1 q first.1 f in
+    let same : slot_value q k ≡ slot_value x.0 k = more.others k first.0 in
+    record {
+      op = more.op ∙ t.filled.op;
+      others = λ j a. let n = both (not (same_kind j k)) (absent j ks) a in more.others j n.1 ∙ t.filled.others j (not_true _ n.0);
+      text_is = t.text_is ∙ ap (λ l. l ++ x.1) (text_from_value x.0 q k (sym same)) ∙ ap (λ l. slot_text q k ++ l) more.text_is;
+      fits = (fits_from_value x.0 q k (sym same) t.fits, more.fits);
+    })
+
+-- a line is the text of what is read from it
+pub phrase_found : (line : List ℕ) (p : Phrase) → phrase_at line ≡ Some p → IsPhrase p × (line ≡ phrase_text p)
+unfolding phrase_at op_at
+phrase_found line p e =
+    let n = reach 32 line in
+    option_and_then_some (λ o. fill (kinds_of o) (blank o) (drop n line)) (op_at (take n line)) p e
+    (λ o i f.
+    let t = fill_found (kinds_of o) (blank o) (drop n line) p (rows o) f in
+    let w : take n line ≡ word_of o = op_found ops (take n line) o i in
+    let whole : line ≡ word_of o ++ flat_map (slot_text p) (kinds_of o) = sym (take-append-drop n line) ∙ ap (λ l. l ++ drop n line) w ∙ ap (λ l. word_of o ++ l) t.text_is in
+    let is_op : o ≡ p.op = sym t.op in
+    (subst (λ x. AllByRecursion (SlotFits p) (kinds_of x)) is_op t.fits, subst (λ x. line ≡ word_of x ++ flat_map (slot_text p) (kinds_of x)) is_op whole))
+
+-- ---- What is written is read.
+
+name_bytes_are_whole : (bs : List ℕ) → list_all is_name_byte bs ≡ true → reach 32 bs ≡ length bs
+name_bytes_are_whole [] h = refl
+name_bytes_are_whole (b ∷ bs) h = elim (eqb b 32) as (λ v. eqb b 32 ≡ v → cond v 0 (suc (reach 32 bs)) ≡ suc (length bs)) [
+  | true ↦ λ t. absurd (let h' = subst (λ x. (is_name_byte x && list_all is_name_byte bs) ≡ true) (eqb-true b 32 t) h in cc)
+  | false ↦ λ t. ap suc (name_bytes_are_whole bs (both (is_name_byte b) (list_all is_name_byte bs) h).1)
+] refl
+
+name_is_whole : (w : List ℕ) → is_name w ≡ true → reach 32 w ≡ length w
+name_is_whole [] h = refl
+name_is_whole (b ∷ bs) h =
+    let u = both (is_lowercase b && list_all is_name_byte bs && ltb (length bs) 16) (not (is_reserved (b ∷ bs))) h in
+    let v = both (is_lowercase b && list_all is_name_byte bs) (ltb (length bs) 16) u.0 in
+    let t = both (is_lowercase b) (list_all is_name_byte bs) v.0 in
+    let low : 97 ≤ b = leb-true 97 b (both (leb 97 b) (leb b 122) t.0).0 in
+    let no : eqb b 32 ≡ false = ne_eqb b 32 (λ z. omega arith) in
+    rw no (ap suc (name_bytes_are_whole bs t.1))
+
+digits_are_whole : (bs : List ℕ) → all_ascii_digits bs ≡ true → reach 32 bs ≡ length bs
+digits_are_whole [] h = refl
+digits_are_whole (b ∷ bs) h = elim (eqb b 32) as (λ v. eqb b 32 ≡ v → cond v 0 (suc (reach 32 bs)) ≡ suc (length bs)) [
+  | true ↦ λ t. absurd (let h' = subst (λ x. (is_ascii_digit x && all_ascii_digits bs) ≡ true) (eqb-true b 32 t) h in cc)
+  | false ↦ λ t. ap suc (digits_are_whole bs (both (is_ascii_digit b) (all_ascii_digits bs) h).1)
+] refl
+
+spaced_again : (k : Kind) (q r : Phrase) (w after : List ℕ) → reach 32 w ≡ length w → Stops 32 after → fill_word k q w ≡ Some r → fill_spaced k q (32 ∷ w ++ after) ≡ Some (r, after)
+spaced_again k q r w after whole s e =
+    rw (reach-append 32 w after whole s, take_at w after (length w) refl, drop_at w after (length w) refl, e) refl
+
+text_again : (p q : Phrase) → is_text p.text ≡ true → fill_text q (spaced p.text ++ []) ≡ Some (record q { text = p.text }, [])
+text_again p q h = rw append-nil (of_text q p.text h)
+  where
+    of_text : (q : Phrase) (t : List ℕ) → is_text t ≡ true → fill_text q (spaced t) ≡ Some (record q { text = t }, [])
+    of_text q [] h = refl
+    of_text q (b ∷ bs) h = let some : ltb 0 (length (b ∷ bs)) ≡ true = lt-ltb 0 (length (b ∷ bs)) (omega arith) in rw (some, h) refl
+
+slot_again : (k : Kind) (p q : Phrase) (after : List ℕ) → SlotFits p k → Stops 32 after → (same_kind k kind.Text ≡ true → after ≡ []) → slot_at k q (slot_text p k ++ after) ≡ Some (copy_slot k p q, after)
+slot_again kind.Thread p q after h s l = spaced_again kind.Thread q (record q { thread = p.thread }) p.thread after (name_is_whole p.thread h) s (rw h refl)
+slot_again kind.Procedure p q after h s l = spaced_again kind.Procedure q (record q { procedure = p.procedure }) p.procedure after (name_is_whole p.procedure h) s (rw h refl)
+slot_again kind.Number p q after h s l =
+    spaced_again kind.Number q (record q { number = p.number }) (decimal p.number) after (digits_are_whole (decimal p.number) (digits_decimal own p.number (omega arith))) s (rw (number_again p.number h) refl)
+slot_again kind.Flags p q after h s l = spaced_again kind.Flags q q (codes "-") after refl s refl
+slot_again kind.Me p q after h s l = spaced_again kind.Me q q (codes "self") after refl s refl
+slot_again kind.Text p q after h s l =
+    let nothing : after ≡ [] = l refl in
+    subst (λ (r : List ℕ). fill_text q (spaced p.text ++ r) ≡ Some (record q { text = p.text }, r)) (sym nothing) (text_again p q h)
+
+-- the text of slots is empty or begins with a space
+places_stop : (p : Phrase) (ks : List Kind) → is_row ks ≡ true → Stops 32 (flat_map (slot_text p) ks)
+places_stop p [] r = tt
+places_stop p (kind.Thread ∷ ks) r = refl
+places_stop p (kind.Procedure ∷ ks) r = refl
+places_stop p (kind.Number ∷ ks) r = refl
+places_stop p (kind.Flags ∷ ks) r = refl
+places_stop p (kind.Me ∷ ks) r = refl
+places_stop p (kind.Text ∷ []) r = rw append-nil (of_text p.text)
+  where
+    of_text : (t : List ℕ) → Stops 32 (spaced t)
+    of_text [] = tt
+    of_text (b ∷ bs) = refl
+places_stop p (kind.Text ∷ k ∷ ks) r = absurd cc
+
+-- nothing comes behind a text
+text_is_last : (p : Phrase) (k : Kind) (ks : List Kind) → is_row (k ∷ ks) ≡ true → same_kind k kind.Text ≡ true → flat_map (slot_text p) ks ≡ []
+text_is_last p kind.Text [] r t = refl
+text_is_last p kind.Text (k ∷ ks) r t = absurd cc
+text_is_last p kind.Thread ks r t = absurd cc
+text_is_last p kind.Procedure ks r t = absurd cc
+text_is_last p kind.Number ks r t = absurd cc
+text_is_last p kind.Flags ks r t = absurd cc
+text_is_last p kind.Me ks r t = absurd cc
+
+fill_again : (ks : List Kind) (p q : Phrase) → is_row ks ≡ true → AllByRecursion (SlotFits p) ks → fill ks q (flat_map (slot_text p) ks) ≡ Some (copy_slots ks p q)
+fill_again [] p q r h = refl
+fill_again (k ∷ ks) p q r h =
+    let first = row_first k ks r in
+    let e = slot_again k p q (flat_map (slot_text p) ks) h.0 (places_stop p ks first.1) (text_is_last p k ks r) in
+    ap (option_and_then (λ x. fill ks x.0 x.1)) e ∙ fill_again ks p (copy_slot k p q) first.1 h.1
+
+-- the text of a phrase is read as the phrase
+pub phrase_again : (p : Phrase) → IsPhrase p → phrase_at (phrase_text p) ≡ Some (needed p)
+unfolding phrase_at
+phrase_again p h =
+    let w = word_of p.op in
+    let rest = flat_map (slot_text p) (kinds_of p.op) in
+    let n : reach 32 (w ++ rest) ≡ length w = reach-append 32 w rest (word_is_whole p.op) (places_stop p (kinds_of p.op) (rows p.op)) in
+    rw (n, take_at w rest (length w) refl, drop_at w rest (length w) refl, op_again p.op) (fill_again (kinds_of p.op) p (blank p.op) (rows p.op) h)
+
+-- no slot is filled that the row doesn't have
+pub phrase_needed : (line : List ℕ) (p : Phrase) → phrase_at line ≡ Some p → IsNeeded p
+phrase_needed line p e =
+    let f = phrase_found line p e in
+    let again : phrase_at (phrase_text p) ≡ Some (needed p) = phrase_again p f.0 in
+    let same : phrase_at line ≡ phrase_at (phrase_text p) = ap phrase_at f.1 in
+    let both_are : Some (needed p) ≡ Some p = sym again ∙ sym same ∙ e in
+    cc
+
+-- a line that is read begins with the word of its row
+pub phrase_op : (line : List ℕ) (p : Phrase) → phrase_at line ≡ Some p → op_at (first_word line) ≡ Some p.op
+unfolding phrase_at op_at
+phrase_op line p e =
+    let n = reach 32 line in
+    option_and_then_some (λ o. fill (kinds_of o) (blank o) (drop n line)) (op_at (take n line)) p e
+    (λ o i f. let t = fill_found (kinds_of o) (blank o) (drop n line) p (rows o) f in i ∙ ap (λ (x : Op). Some x) (sym t.op))

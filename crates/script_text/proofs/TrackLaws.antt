@@ -1,0 +1,164 @@
+-- What a reader knows fits the lines that it has taken.
+use Rattle.std.proofs.Common.{◌≡◌, ℕ, suc, ◌+◌, ◌<◌, ◌≤◌, true, false, not, ◌&&◌, ◌||◌, cond, List, [], ◌∷◌, ◌++◌, length, fold, Option, Some, None, refl, sym, ap, ◌∙◌, arith, length-append}
+use Rattle.std.specs.List.{flat_map, AllByRecursion}
+use Rattle.std.specs.Str.{bytes_eq}
+use Rattle.std.proofs.lemmas.List.{append-nil, get_or_append_left}
+use Rattle.std.proofs.lemmas.Grind.{flat_map-append}
+use Rattle.std.proofs.lemmas.Slice.Eq.{bytes_eq-Decides}
+use Rattle.script_text.specs.declared.table.Op.{Op}
+use Rattle.script_text.specs.declared.table.Op.TheVariants as op
+use Rattle.script_text.specs.declared.table.Role.{Role}
+use Rattle.script_text.specs.declared.table.Role.TheVariants as role
+use Rattle.script_text.specs.declared.phrase.Phrase.{Phrase}
+use Rattle.script_text.specs.declared.draft.Draft.{Draft}
+use Rattle.script_text.specs.declared.reader.Mention.{Mention}
+use Rattle.script_text.specs.Words.{is_name}
+use Rattle.script_text.specs.Table.{role_of, kinds_of, starts}
+use Rattle.script_text.specs.Grammar.{SlotFits, IsPhrase, last_role, declared_by, is_declared}
+use Rattle.script_text.specs.Meaning.{contains_name, place, enter, added_at, added, entered, empty_draft, draft_of}
+use Rattle.script_text.specs.Track.{name_at, mention_of, first_missing}
+
+-- ---- One more of a list.
+
+pub fold_push : {A B : Type 0} (f : B → A → B) (b : B) (xs : List A) (x : A) → fold f b (xs ++ x ∷ []) ≡ f (fold f b xs) x
+fold_push f b [] x = refl
+fold_push f b (y ∷ ys) x = fold_push f (f b y) ys x
+
+pub all_push : {A : Type 0} (P : A → Type 0) (xs ys : List A) → AllByRecursion P xs → AllByRecursion P ys → AllByRecursion P (xs ++ ys)
+all_push P [] ys h k = k
+all_push P (x ∷ xs) ys h k = (h.0, all_push P xs ys h.1 k)
+
+last_role_push : (ps : List Phrase) (p : Phrase) → last_role (ps ++ p ∷ []) ≡ Some (role_of p.op)
+last_role_push [] p = refl
+last_role_push (q ∷ []) p = refl
+last_role_push (q ∷ r ∷ ps) p = last_role_push (r ∷ ps) p
+
+-- ---- Names keep their numbers.
+
+-- what is entered stands in the list
+entered_there : (names : List (List ℕ)) (w : List ℕ) → is_name w ≡ true → contains_name (enter names w) w ≡ true
+entered_there names w h = rw h (elim (contains_name names w) as (λ v. contains_name names w ≡ v → contains_name (cond (true && not v) (names ++ w ∷ []) names) w ≡ true) [
+  | true ↦ λ e. e
+  | false ↦ λ e. at_end names w
+] refl)
+  where
+    at_end : (names : List (List ℕ)) (w : List ℕ) → contains_name (names ++ w ∷ []) w ≡ true
+    at_end [] w = rw ((bytes_eq-Decides w w).1 refl) refl
+    at_end (n ∷ ns) w = elim (bytes_eq n w) as (λ v. (v || contains_name (ns ++ w ∷ []) w) ≡ true) [ true ↦ refl | false ↦ at_end ns w ]
+
+-- at its number stands the name
+place_there : (names : List (List ℕ)) (w : List ℕ) → contains_name names w ≡ true → (place names w < length names) × (name_at names (place names w) ≡ w)
+place_there [] w h = absurd cc
+place_there (n ∷ ns) w h = elim (bytes_eq n w) as (λ v. bytes_eq n w ≡ v → (v || contains_name ns w) ≡ true → (cond v 0 (suc (place ns w)) < length (n ∷ ns)) × (name_at (n ∷ ns) (cond v 0 (suc (place ns w))) ≡ w)) [
+  | true ↦ λ e f. (omega arith, (bytes_eq-Decides n w).0 e)
+  | false ↦ λ e f. let t = place_there ns w f in (omega (arith, t.0), t.1)
+] refl h
+
+-- a new name moves none
+name_stays : (names : List (List ℕ)) (w : List ℕ) (k : ℕ) → k < length names → name_at (enter names w) k ≡ name_at names k
+name_stays names w k lt = elim (is_name w && not (contains_name names w)) as (λ v. name_at (cond v (names ++ w ∷ []) names) k ≡ name_at names k) [
+  | true ↦ get_or_append_left names (w ∷ []) [] k lt
+  | false ↦ refl
+]
+
+few_names : (names : List (List ℕ)) (w : List ℕ) → length names ≤ length (enter names w)
+few_names names w = elim (is_name w && not (contains_name names w)) as (λ v. length names ≤ length (cond v (names ++ w ∷ []) names)) [
+  | true ↦ omega (arith, length-append names (w ∷ []))
+  | false ↦ omega arith
+]
+
+-- ---- Mentions.
+
+-- the numbers of mentions are those of names
+abbrev pub AreNamed : List (List ℕ) → List Mention → Type 0
+AreNamed names ms = AllByRecursion (λ m. m.name < length names) ms
+
+named_still : (names : List (List ℕ)) (w : List ℕ) (ms : List Mention) → AreNamed names ms → AreNamed (enter names w) ms
+named_still names w [] h = tt
+named_still names w (m ∷ ms) h = (omega (arith, h.0, few_names names w), named_still names w ms h.1)
+
+missing_still : (d names : List (List ℕ)) (w : List ℕ) (ms : List Mention) → AreNamed names ms → first_missing d (enter names w) ms ≡ first_missing d names ms
+missing_still d names w [] h = refl
+missing_still d names w (m ∷ ms) h = rw (name_stays names w m.name h.0, missing_still d names w ms h.1) refl
+
+-- the first answer, if there is one, and else the second
+abbrev pub or_else : Option ℕ → Option ℕ → Option ℕ
+or_else None o = o
+or_else (Some k) o = Some k
+
+missing_push : (d names : List (List ℕ)) (ms ns : List Mention) → first_missing d names (ms ++ ns) ≡ or_else (first_missing d names ms) (first_missing d names ns)
+missing_push d names [] ns = refl
+missing_push d names (m ∷ ms) ns = elim (contains_name d (name_at names m.name)) as (λ v. cond v (first_missing d names (ms ++ ns)) (Some m.line) ≡ or_else (cond v (first_missing d names ms) (Some m.line)) (first_missing d names ns)) [
+  | true ↦ missing_push d names ms ns
+  | false ↦ refl
+]
+
+-- the number of the first line that starts an undeclared procedure
+abbrev pub first_undeclared : List (List ℕ) → ℕ → List Phrase → Option ℕ
+first_undeclared d k [] = None
+first_undeclared d k (p ∷ ps) = cond (is_declared d p) (first_undeclared d (suc k) ps) (Some k)
+
+pub undeclared_push : (d : List (List ℕ)) (k : ℕ) (ps : List Phrase) (q : Phrase) → first_undeclared d k (ps ++ q ∷ []) ≡ or_else (first_undeclared d k ps) (cond (is_declared d q) None (Some (k + length ps)))
+undeclared_push d k [] q = ap (λ (n : ℕ). cond (is_declared d q) None (Some n)) (omega arith)
+undeclared_push d k (p ∷ ps) q = elim (is_declared d p) as (λ v. cond v (first_undeclared d (suc k) (ps ++ q ∷ [])) (Some k) ≡ or_else (cond v (first_undeclared d (suc k) ps) (Some k)) (cond (is_declared d q) None (Some (k + suc (length ps))))) [
+  | true ↦ undeclared_push d (suc k) ps q ∙ ap (λ (n : ℕ). or_else (first_undeclared d (suc k) ps) (cond (is_declared d q) None (Some n))) (omega arith)
+  | false ↦ refl
+]
+
+-- a line that starts a procedure names one
+names_one : (p : Phrase) → IsPhrase p → starts p.op ≡ true → is_name p.procedure ≡ true
+names_one p h s = by_row p p.op h s
+  where
+    by_row : (p : Phrase) (o : Op) → AllByRecursion (SlotFits p) (kinds_of o) → starts o ≡ true → is_name p.procedure ≡ true
+    by_row p op.Create h s = h.1.0
+    by_row p op.Lwp h s = absurd cc
+    by_row p op.Pod h s = absurd cc
+    by_row p op.Proc h s = absurd cc
+    by_row p op.Yield h s = absurd cc
+    by_row p op.Say h s = absurd cc
+    by_row p op.Return h s = absurd cc
+
+-- the mention of one line
+mention_tells : (d names : List (List ℕ)) (k : ℕ) (p : Phrase) → IsPhrase p → AreNamed (enter names p.procedure) (mention_of k (enter names p.procedure) p) × (first_missing d (enter names p.procedure) (mention_of k (enter names p.procedure) p) ≡ cond (is_declared d p) None (Some k))
+mention_tells d names k p h = elim (starts p.op) as (λ v. starts p.op ≡ v → AreNamed (enter names p.procedure) (cond v (record { line = k; name = place (enter names p.procedure) p.procedure } ∷ []) []) × (first_missing d (enter names p.procedure) (cond v (record { line = k; name = place (enter names p.procedure) p.procedure } ∷ []) []) ≡ cond (cond v (contains_name d p.procedure) true) None (Some k))) [
+  | true ↦ λ e.
+      let there = place_there (enter names p.procedure) p.procedure (entered_there names p.procedure (names_one p h e)) in
+      ((there.0, tt), rw there.1 refl)
+  | false ↦ λ e. (tt, refl)
+] refl
+
+-- ---- A reader.
+
+-- a reader that has found no bad line knows this of the lines
+pub record Tracks (count : ℕ) (last : Option Role) (declared : List (List ℕ)) (mentions : List Mention) (draft : Draft) (before : List Phrase) : Type 0 where
+  pub count_is : count ≡ length before
+  pub last_is : last ≡ last_role before
+  pub declared_is : declared ≡ flat_map declared_by before
+  pub draft_is : draft ≡ draft_of before
+  pub are_named : AreNamed draft.script.names.procs mentions
+  pub mentions_tell : (d : List (List ℕ)) → first_missing d draft.script.names.procs mentions ≡ first_undeclared d 1 before
+
+procs_after : (d : Draft) (p : Phrase) → (added d p).script.names.procs ≡ enter d.script.names.procs p.procedure
+procs_after d p = by_role (role_of p.op) (entered d p) p
+  where
+    by_role : (r : Role) (d : Draft) (p : Phrase) → (added_at r d p).script.names.procs ≡ d.script.names.procs
+    by_role role.Header d p = refl
+    by_role role.Pod d p = refl
+    by_role role.Proc d p = refl
+    by_role role.Statement d p = refl
+
+-- one more line
+pub tracks_more : (count : ℕ) (last : Option Role) (declared : List (List ℕ)) (mentions : List Mention) (draft : Draft) (before : List Phrase) (p : Phrase) → Tracks count last declared mentions draft before → IsPhrase p → Tracks (count + 1) (Some (role_of p.op)) (declared ++ declared_by p) (mentions ++ mention_of (count + 1) (added draft p).script.names.procs p) (added draft p) (before ++ p ∷ [])
+tracks_more count last declared mentions draft before p k h =
+    let names = draft.script.names.procs in
+    let grown = enter names p.procedure in
+    let same : (added draft p).script.names.procs ≡ grown = procs_after draft p in
+    let line : count + 1 ≡ 1 + length before = omega (arith, k.count_is) in
+    record {
+      count_is = omega (arith, k.count_is, length-append before (p ∷ []));
+      last_is = sym (last_role_push before p);
+      declared_is = rw (flat_map-append declared_by before (p ∷ []), append-nil (declared_by p)) (ap (λ (l : List (List ℕ)). l ++ declared_by p) k.declared_is);
+      draft_is = ap (λ (d : Draft). added d p) k.draft_is ∙ sym (fold_push added empty_draft before p);
+      are_named = rw same (all_push _ mentions (mention_of (count + 1) grown p) (named_still names p.procedure mentions k.are_named) (mention_tells [] names (count + 1) p h).0);
+      mentions_tell = λ d. rw same (missing_push d grown mentions (mention_of (count + 1) grown p) ∙ rw (missing_still d names p.procedure mentions k.are_named, k.mentions_tell d, (mention_tells d names (count + 1) p h).1) (ap (λ (n : ℕ). or_else (first_undeclared d 1 before) (cond (is_declared d p) None (Some n))) line ∙ sym (undeclared_push d 1 before p)));
+    }

@@ -1,0 +1,90 @@
+-- The script that lines say.
+use Rattle.std.specs.Prelude.{ℕ, suc, Bool, false, not, ◌&&◌, List, [], ◌∷◌, ◌++◌, Option, Some, None, fold, if◌then◌else◌, option_to_list}
+use Rattle.std.specs.List.{list_any}
+use Rattle.std.specs.Str.{bytes_eq}
+use Rattle.script_text.specs.declared.table.Op.{Op}
+use Rattle.script_text.specs.declared.table.Op.TheVariants as op
+use Rattle.script_text.specs.declared.table.Role.{Role}
+use Rattle.script_text.specs.declared.table.Role.TheVariants as role
+use Rattle.script_text.specs.declared.phrase.Phrase.{Phrase}
+use Rattle.script_text.specs.declared.draft.Draft.{Draft}
+use Rattle.script_text.specs.declared.script.Stmt.{Stmt}
+use Rattle.script_text.specs.declared.script.Stmt.TheVariants as stmt
+use Rattle.script_text.specs.declared.script.Who.TheVariants as who
+use Rattle.script_text.specs.declared.script.Proc.{Proc}
+use Rattle.script_text.specs.declared.script.Names.{Names}
+use Rattle.script_text.specs.declared.script.Script.{Script}
+use Rattle.script_text.specs.Words.{is_name}
+use Rattle.script_text.specs.Table.{role_of}
+
+-- ---- Names and their numbers.
+
+-- whether the name is in the list
+abbrev pub contains_name : List (List ℕ) → List ℕ → Bool
+contains_name names w = list_any (λ n. bytes_eq n w) names
+
+-- a name's number: the place at which it first stands
+abbrev pub place : List (List ℕ) → List ℕ → ℕ
+place [] w = 0
+place (n ∷ ns) w = if bytes_eq n w then 0 else suc (place ns w)
+
+-- a name that is new goes to the end
+abbrev pub enter : List (List ℕ) → List ℕ → List (List ℕ)
+enter names w = if is_name w && not (contains_name names w) then names ++ w ∷ [] else names
+
+-- the names, and those of one more line
+abbrev pub named : Names → Phrase → Names
+named names p = record names { procs = enter names.procs p.procedure; threads = enter names.threads p.thread }
+
+-- ---- Statements.
+
+-- the statement of a line, if its row is one of a statement
+abbrev pub statement_at : Op → Names → Phrase → Option Stmt
+statement_at op.Create names p = Some (stmt.Create (place names.threads p.thread) (place names.procs p.procedure) p.number (record { suspended = false; nolastrites = false; server = false }))
+statement_at op.Yield names p = Some (stmt.Yield who.Me)
+statement_at op.Say names p = Some (stmt.Say p.text)
+statement_at op.Return names p = Some stmt.Return
+statement_at _ names p = None
+
+-- the procedure with one more statement
+abbrev pub grown : Option Stmt → Option Proc → Option Proc
+grown None current = current
+grown (Some s) None = None
+grown (Some s) (Some p) = Some (record p { stmts = p.stmts ++ s ∷ [] })
+
+-- ---- Lines.
+
+-- no names of any kind
+abbrev pub empty_names : Names
+empty_names = record { procs = []; threads = []; mons = []; conds = [] }
+
+-- the script of no lines; the limit on births is the greatest, unless a line says another
+abbrev pub empty_draft : Draft
+empty_draft = record { script = record { maxpri = 0; births = 4294967295; clients = []; natives = []; procs = []; posts = []; names = empty_names }; current = None }
+
+-- the script, with the last procedure at its end
+abbrev pub closed : Draft → Script
+closed d = record d.script { procs = d.script.procs ++ option_to_list d.current }
+
+-- the names of a line are entered before it is added
+abbrev pub entered : Draft → Phrase → Draft
+entered d p = record d { script = record d.script { names = named d.script.names p } }
+
+-- a line by the part it plays: a procedure ends where the next one begins
+abbrev pub added_at : Role → Draft → Phrase → Draft
+added_at role.Header d p = d
+added_at role.Pod d p = record d { script = record d.script { maxpri = p.number } }
+added_at role.Proc d p = record { script = closed d; current = Some (record { name = place d.script.names.procs p.procedure; stmts = [] }) }
+added_at role.Statement d p = record d { current = grown (statement_at p.op d.script.names p) d.current }
+
+-- one more line
+abbrev pub added : Draft → Phrase → Draft
+added d p = added_at (role_of p.op) (entered d p) p
+
+-- what these lines have made
+abbrev pub draft_of : List Phrase → Draft
+draft_of lines = fold added empty_draft lines
+
+-- the script that these lines say
+abbrev pub script_of : List Phrase → Script
+script_of lines = closed (draft_of lines)

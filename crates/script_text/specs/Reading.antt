@@ -1,0 +1,52 @@
+-- What a line says, taken from left to right.
+use Rattle.std.specs.Prelude.{ℕ, ◌&&◌, ◌==◌, nat_lt, List, [], ◌∷◌, length, take, drop, Option, Some, None, option_map, option_and_then, if◌then◌else◌, codes}
+use Rattle.std.specs.Str.{bytes_eq}
+use Rattle.lwp_types.specs.TextFields.{is_text}
+use Rattle.script_text.specs.declared.table.Kind.{Kind}
+use Rattle.script_text.specs.declared.table.Kind.TheVariants as kind
+use Rattle.script_text.specs.declared.phrase.Phrase.{Phrase}
+use Rattle.script_text.specs.Words.{is_name, number_at, reach}
+use Rattle.script_text.specs.Table.{op_at, kinds_of}
+use Rattle.script_text.specs.Grammar.{blank}
+
+-- p with a slot of this kind filled by a word
+abbrev pub fill_word : Kind → Phrase → List ℕ → Option Phrase
+fill_word kind.Thread p w = if is_name w then Some (record p { thread = w }) else None
+fill_word kind.Procedure p w = if is_name w then Some (record p { procedure = w }) else None
+fill_word kind.Number p w = option_map (λ n. record p { number = n }) (number_at w)
+fill_word kind.Flags p w = if bytes_eq w (codes "-") then Some p else None
+fill_word kind.Me p w = if bytes_eq w (codes "self") then Some p else None
+fill_word kind.Text p w = None
+
+-- p with its text filled by all that is left: a space and then at least one byte, or nothing
+abbrev pub fill_text : Phrase → List ℕ → Option (Phrase × List ℕ)
+fill_text p [] = Some (record p { text = [] }, [])
+fill_text p (b ∷ bs) = if b == 32 && nat_lt 0 (length bs) && is_text bs then Some (record p { text = bs }, []) else None
+
+-- p with a slot filled by the word behind one space, and what is left behind the word
+abbrev pub fill_spaced : Kind → Phrase → List ℕ → Option (Phrase × List ℕ)
+fill_spaced k p [] = None
+fill_spaced k p (b ∷ bs) = if b == 32 then option_map (λ q. (q, drop (reach 32 bs) bs)) (fill_word k p (take (reach 32 bs) bs)) else None
+
+-- p with the next slot filled, and what is left
+abbrev pub slot_at : Kind → Phrase → List ℕ → Option (Phrase × List ℕ)
+slot_at kind.Text = fill_text
+slot_at kind.Thread = fill_spaced kind.Thread
+slot_at kind.Procedure = fill_spaced kind.Procedure
+slot_at kind.Number = fill_spaced kind.Number
+slot_at kind.Flags = fill_spaced kind.Flags
+slot_at kind.Me = fill_spaced kind.Me
+
+-- p with all these slots filled, where nothing is left
+abbrev pub fill : List Kind → Phrase → List ℕ → Option Phrase
+fill [] p [] = Some p
+fill [] p (b ∷ bs) = None
+fill (k ∷ ks) p rest = option_and_then (λ x. fill ks x.0 x.1) (slot_at k p rest)
+
+-- the bytes up to the first space
+abbrev pub first_word : List ℕ → List ℕ
+first_word line = take (reach 32 line) line
+
+-- what a line says, if it is the text of a phrase
+unfoldable pub phrase_at : List ℕ → Option Phrase
+phrase_at line = option_and_then (λ o. fill (kinds_of o) (blank o) (drop (reach 32 line) line)) (op_at (first_word line))

@@ -1,0 +1,114 @@
+-- The script of a text, or its first bad line with the first reason that fits.
+use Rattle.std.specs.Prelude.{◌≡◌, ℕ, suc, ◌&&◌, List, [], ◌∷◌, ◌++◌, length, Option, Some, None, Result, Ok, Err, ◌==◌, nat_lt, if◌then◌else◌}
+use Rattle.std.specs.List.{flat_map}
+use Rattle.lwp_types.specs.TextFields.{is_printable}
+use Rattle.script_text.specs.declared.table.Op.{Op}
+use Rattle.script_text.specs.declared.table.Role.{Role}
+use Rattle.script_text.specs.declared.table.Role.TheVariants as role
+use Rattle.script_text.specs.declared.phrase.Phrase.{Phrase}
+use Rattle.script_text.specs.declared.reason.Reason.{Reason}
+use Rattle.script_text.specs.declared.reason.Reason.TheVariants as reason
+use Rattle.script_text.specs.declared.reason.ReadErr.{ReadErr}
+use Rattle.script_text.specs.declared.reason.ReadErr.TheVariants as err
+use Rattle.script_text.specs.declared.script.Script.{Script}
+use Rattle.script_text.specs.Table.{op_at, role_of}
+use Rattle.script_text.specs.Reading.{first_word, phrase_at}
+use Rattle.script_text.specs.Grammar.{declared_by, last_role, may_stand, is_declared}
+use Rattle.script_text.specs.Meaning.{script_of}
+
+-- ---- The lines of a text.
+
+-- a byte in front of the first of these lines
+abbrev pub onto_first : ℕ → List (List ℕ) × List ℕ → List (List ℕ) × List ℕ
+onto_first b c = onto c.0 c.1
+  where
+    onto : List (List ℕ) → List ℕ → List (List ℕ) × List ℕ
+    onto [] tail = ([], b ∷ tail)
+    onto (l ∷ ls) tail = ((b ∷ l) ∷ ls, tail)
+
+-- the lines that have ended, and what stands behind the last newline
+abbrev pub cut : List ℕ → List (List ℕ) × List ℕ
+cut [] = ([], [])
+cut (b ∷ bs) = if b == 10 then ([] ∷ (cut bs).0, (cut bs).1) else onto_first b (cut bs)
+
+-- ---- Why a line is bad.
+
+-- the reason of a line that plays this part
+abbrev pub role_reason : Role → Reason
+role_reason role.Proc = reason.Proc
+role_reason _ = reason.Statement
+
+-- the reason of a line by its first word
+abbrev pub word_reason : Option Op → Reason
+word_reason None = reason.Statement
+word_reason (Some o) = role_reason (role_of o)
+
+-- the first line is to be the header, and the second the pod; behind them the first word decides
+abbrev pub reason_behind : Option Role → Option Op → Reason
+reason_behind None first = reason.Header
+reason_behind (Some role.Header) first = reason.Pod
+reason_behind (Some _) first = word_reason first
+
+-- the reason of a bad line of printable bytes behind these lines
+abbrev pub reason_at : List Phrase → List ℕ → Reason
+reason_at before line = reason_behind (last_role before) (op_at (first_word line))
+
+-- ---- The lines one by one.
+
+-- a line by what it says, if it says anything
+abbrev pub judge_said : List (List ℕ) → List Phrase → List ℕ → Option Phrase → Result Phrase Reason
+judge_said declared before line None = Err (reason_at before line)
+judge_said declared before line (Some p) = if may_stand before p && is_declared declared p then Ok p else Err (reason_at before line)
+
+-- what a line says behind these lines, in a text that declares these procedures, or why it is bad
+abbrev pub judge : List (List ℕ) → List Phrase → List ℕ → Result Phrase Reason
+judge declared before line = if is_printable line then judge_said declared before line (phrase_at line) else Err reason.Bytes
+
+-- goes on behind a good line, and stops at a bad one with its number
+abbrev pub at_line : ℕ → Result Phrase Reason → (Phrase → Result (List Phrase) (ℕ × Reason)) → Result (List Phrase) (ℕ × Reason)
+at_line k (Ok p) f = f p
+at_line k (Err why) f = Err (k, why)
+
+-- what lines say that come behind others, up to the first that is bad
+abbrev pub read_on : List (List ℕ) → List Phrase → List (List ℕ) → Result (List Phrase) (ℕ × Reason)
+read_on declared before [] = Ok before
+read_on declared before (line ∷ lines) = at_line (suc (length before)) (judge declared before line) (λ p. read_on declared (before ++ p ∷ []) lines)
+
+-- the procedure that a line declares by what it says
+abbrev pub declared_on : Option Phrase → List (List ℕ)
+declared_on None = []
+declared_on (Some p) = declared_by p
+
+-- the procedures that these lines declare, wherever they stand
+abbrev pub declared_in : List (List ℕ) → List (List ℕ)
+declared_in lines = flat_map (λ l. declared_on (phrase_at l)) lines
+
+-- ---- The whole text.
+
+-- the script of all lines, where each has ended and one declares a procedure
+abbrev pub finish : Result (List Phrase) (ℕ × Reason) → List ℕ → Result Script (ℕ × Reason)
+finish (Err bad) tail = Err bad
+finish (Ok lines) (b ∷ tail) = Err (suc (length lines), reason.Unended)
+finish (Ok lines) [] = if length (flat_map declared_by lines) == 0 then Err (suc (length lines), reason.Missing) else Ok (script_of lines)
+
+-- a text by its lines; a line that hasn't ended declares its procedure too
+abbrev pub verdict_by : List (List ℕ) × List ℕ → Result Script (ℕ × Reason)
+verdict_by c = finish (read_on (declared_in (c.0 ++ c.1 ∷ [])) [] c.0) c.1
+
+-- the script of the text, or the number of its first bad line and why
+abbrev pub verdict : List ℕ → Result Script (ℕ × Reason)
+verdict text = if nat_lt 16777216 (length text) then Err (0, reason.TooLarge) else verdict_by (cut text)
+
+-- ---- What a reader answers.
+
+-- the answer is this verdict, unless memory is refused
+abbrev pub Gives : Result Script (ℕ × Reason) → Result Script ReadErr → Type 0
+Gives v (Ok s) = v ≡ Ok s
+Gives v (Err err.NoMemory) = Unit {0}
+Gives v (Err (err.Bad line why)) = v ≡ Err (line, why)
+
+-- the answer is this script, unless memory is refused
+abbrev pub IsReadAs : Script → Result Script ReadErr → Type 0
+IsReadAs s (Ok t) = t ≡ s
+IsReadAs s (Err err.NoMemory) = Unit {0}
+IsReadAs s (Err (err.Bad line why)) = ⊥

@@ -1,0 +1,54 @@
+-- The table of lines: the first word of each, the part that it plays in a script, and its slots.
+use Rattle.std.specs.Prelude.{ℕ, Bool, true, false, List, [], ◌∷◌, Option, Some, None, codes, if◌then◌else◌}
+use Rattle.std.specs.Str.{bytes_eq}
+use Rattle.script_text.specs.declared.table.Op.{Op}
+use Rattle.script_text.specs.declared.table.Op.TheVariants as op
+use Rattle.script_text.specs.declared.table.Role.{Role}
+use Rattle.script_text.specs.declared.table.Role.TheVariants as role
+use Rattle.script_text.specs.declared.table.Kind.{Kind}
+use Rattle.script_text.specs.declared.table.Kind.TheVariants as kind
+
+-- the first word
+abbrev pub word_of : Op → List ℕ
+word_of op.Lwp = codes "lwp"
+word_of op.Pod = codes "pod"
+word_of op.Proc = codes "proc"
+word_of op.Create = codes "create"
+word_of op.Yield = codes "yield"
+word_of op.Say = codes "say"
+word_of op.Return = codes "return"
+
+-- the part that the line plays
+abbrev pub role_of : Op → Role
+role_of op.Lwp = role.Header
+role_of op.Pod = role.Pod
+role_of op.Proc = role.Proc
+role_of _ = role.Statement
+
+-- the slots behind the first word
+abbrev pub kinds_of : Op → List Kind
+kinds_of op.Lwp = kind.Number ∷ []
+kinds_of op.Pod = kind.Number ∷ []
+kinds_of op.Proc = kind.Procedure ∷ []
+kinds_of op.Create = kind.Thread ∷ kind.Procedure ∷ kind.Number ∷ kind.Flags ∷ []
+kinds_of op.Yield = kind.Me ∷ []
+kinds_of op.Say = kind.Text ∷ []
+kinds_of op.Return = []
+
+-- whether the line starts a procedure that some line must declare
+abbrev pub starts : Op → Bool
+starts op.Create = true
+starts _ = false
+
+-- all rows
+abbrev pub ops : List Op
+ops = op.Lwp ∷ op.Pod ∷ op.Proc ∷ op.Create ∷ op.Yield ∷ op.Say ∷ op.Return ∷ []
+
+-- the first of these rows with this word
+abbrev pub op_in : List Op → List ℕ → Option Op
+op_in [] w = None
+op_in (o ∷ os) w = if bytes_eq (word_of o) w then Some o else op_in os w
+
+-- the row of a word
+unfoldable pub op_at : List ℕ → Option Op
+op_at w = op_in ops w

@@ -1,0 +1,93 @@
+-- A reader that takes one line after another, as a value.
+use Rattle.std.specs.Prelude.{ℕ, ◌+◌, List, [], ◌∷◌, ◌++◌, length, Option, Some, None, Result, Ok, Err, ◌==◌, if◌then◌else◌, slice_index_or}
+use Rattle.lwp_types.specs.TextFields.{is_printable}
+use Rattle.script_text.specs.declared.table.Role.{Role}
+use Rattle.script_text.specs.declared.phrase.Phrase.{Phrase}
+use Rattle.script_text.specs.declared.reason.Reason.{Reason}
+use Rattle.script_text.specs.declared.reason.Reason.TheVariants as reason
+use Rattle.script_text.specs.declared.reader.Mention.{Mention}
+use Rattle.script_text.specs.declared.reader.Reader.{Reader}
+use Rattle.script_text.specs.declared.script.Script.{Script}
+use Rattle.script_text.specs.Table.{op_at, role_of, starts}
+use Rattle.script_text.specs.Reading.{first_word, phrase_at}
+use Rattle.script_text.specs.Grammar.{may_stand_at}
+use Rattle.script_text.specs.Meaning.{contains_name, place, added, empty_draft, closed}
+use Rattle.script_text.specs.Spelling.{reason_behind, declared_on}
+
+-- ---- One line.
+
+-- a line by what it says, if it says anything
+abbrev pub judge_told : Option Role → List (List ℕ) → List ℕ → Option Phrase → Result Phrase Reason
+judge_told last known line None = Err (reason_behind last (op_at (first_word line)))
+judge_told last known line (Some p) = if may_stand_at last known p then Ok p else Err (reason_behind last (op_at (first_word line)))
+
+-- what a line says, or why it is bad whatever the lines behind it declare
+abbrev pub judge_alone : Option Role → List (List ℕ) → List ℕ → Result Phrase Reason
+judge_alone last known line = if is_printable line then judge_told last known line (phrase_at line) else Err reason.Bytes
+
+-- the mention of a procedure that a line starts
+abbrev pub mention_of : ℕ → List (List ℕ) → Phrase → List Mention
+mention_of line names p = if starts p.op then record { line = line; name = place names p.procedure } ∷ [] else []
+
+-- a reader with one more line that may stand
+abbrev pub taken : Reader → Phrase → Reader
+taken r p =
+    let d = added r.draft p in
+    record r {
+      count = r.count + 1;
+      last = Some (role_of p.op);
+      mentions = r.mentions ++ mention_of (r.count + 1) d.script.names.procs p;
+      draft = d;
+    }
+
+-- a reader with one more line that was judged
+abbrev pub took : Reader → Result Phrase Reason → Reader
+took r (Ok p) = taken r p
+took r (Err why) = record r { bad = Some why }
+
+-- behind a bad line no more lines are judged
+abbrev pub judged : Option Reason → Reader → List ℕ → Reader
+judged (Some why) r line = r
+judged None r line = took r (judge_alone r.last r.declared line)
+
+-- a reader that knows of more declared procedures
+abbrev pub noted : Reader → List (List ℕ) → Reader
+noted r names = record r { declared = r.declared ++ names }
+
+-- one more line: it is judged, and what it declares is noted
+abbrev pub step : Reader → List ℕ → Reader
+step r line = noted (judged r.bad r line) (declared_on (phrase_at line))
+
+-- a reader that has read nothing
+abbrev pub start : Reader
+start = record { count = 0; last = None; bad = None; declared = []; mentions = []; draft = empty_draft }
+
+-- ---- The end.
+
+-- the name of a number
+abbrev pub name_at : List (List ℕ) → ℕ → List ℕ
+name_at names n = slice_index_or names n []
+
+-- the line of the first mention of a procedure that isn't declared
+abbrev pub first_missing : List (List ℕ) → List (List ℕ) → List Mention → Option ℕ
+first_missing declared names [] = None
+first_missing declared names (m ∷ ms) = if contains_name declared (name_at names m.name) then first_missing declared names ms else Some m.line
+
+-- where every line that has ended is good
+abbrev pub answer_fine : Reader → List ℕ → Result Script (ℕ × Reason)
+answer_fine r (b ∷ tail) = Err (r.count + 1, reason.Unended)
+answer_fine r [] = if length r.declared == 0 then Err (r.count + 1, reason.Missing) else Ok (closed r.draft)
+
+-- A line that starts an undeclared procedure comes first: the lines behind one that is bad by itself aren't judged.
+abbrev pub answer_by : Option ℕ → Option Reason → Reader → List ℕ → Result Script (ℕ × Reason)
+answer_by (Some k) bad r tail = Err (k, reason.Statement)
+answer_by None (Some why) r tail = Err (r.count + 1, why)
+answer_by None None r tail = answer_fine r tail
+
+-- what the reader answers, once what is left has declared its procedure too
+abbrev pub answer : Reader → List ℕ → Result Script (ℕ × Reason)
+answer r tail = answer_by (first_missing r.declared r.draft.script.names.procs r.mentions) r.bad r tail
+
+-- the script of these lines and what is left behind them, or why there is none
+abbrev pub answer_at : Reader → List ℕ → Result Script (ℕ × Reason)
+answer_at r tail = answer (noted r (declared_on (phrase_at tail))) tail

@@ -1,0 +1,46 @@
+// Why bytes aren't a script.
+ghost use Rattle.std.specs.Prelude.{◌≡◌};
+ghost use Rattle.script_text.specs.declared.reason.ReadErr.TheVariants as read_err;
+
+use lwp_types::NoMemory;
+
+/// Why a line is bad. Where several fit, the first of this order is named, but for `Unbuilt`, which a reader never gives: it
+/// is for a script that says what isn't built yet.
+#[derive(Clone, Copy, Debug, PartialEq, Eq)]
+pub enum Reason {
+    /// More than 16,777,216 bytes: line 0, before all else.
+    TooLarge,
+    /// The last line has no newline.
+    Unended,
+    /// A byte that isn't printable.
+    Bytes,
+    Header,
+    Pod,
+    Limit,
+    Client,
+    Native,
+    Proc,
+    Post,
+    Again,
+    /// A line that isn't a statement of a procedure, or one that names an undeclared procedure.
+    Statement,
+    /// The text ends too early: the line is one past the last.
+    Missing,
+    Unbuilt,
+}
+
+/// Why bytes aren't read as a script.
+#[derive(Debug, Drop)]
+pub enum ReadErr {
+    NoMemory,
+    /// The first bad line, counted from 1.
+    Bad { line: u32, reason: Reason },
+}
+
+impl From<NoMemory> for ReadErr {
+    ghost from_gives = { λ _ e. e ≡ read_err.NoMemory };
+
+    fn from(_: NoMemory) -> ReadErr {
+        ReadErr::NoMemory
+    }
+}
