@@ -33,7 +33,7 @@ exit_call_of sender names (exit_stmt.Resume w) = exit.Resume (who_id sender name
 exit_call_of sender names (exit_stmt.SetExit code) = exit.SetExit code
 exit_call_of sender names (exit_stmt.Note text) = exit.Note text
 
--- statements that name nothing; a skip or an again makes no call, and is never asked for one
+-- what a statement calls that names nothing; a skip or an again makes no call, and nobody asks for it
 abbrev pub plain_call : Stmt → Call
 plain_call (stmt.Resched p) = call.Resched p
 plain_call (stmt.SetMaxPri p) = call.SetMaxPri p
@@ -56,9 +56,10 @@ plain_call stmt.UniqPatt = call.UniqPatt
 plain_call (stmt.Agent name e) = call.Agent e
 plain_call stmt.Agents = call.Agents
 plain_call (stmt.Say text) = call.Say text
+plain_call stmt.Return = call.Return
 plain_call _ = call.Return
 
--- statements that name monitors and conditions
+-- the same, or a statement that names monitors or conditions
 abbrev pub lock_call : ℕ → Names → Stmt → Call
 lock_call sender names (stmt.CvCreate c m) = call.CvCreate (id_at names.monitors m)
 lock_call sender names (stmt.MonDestroy m) = call.MonDestroy (id_at names.monitors m)
@@ -75,7 +76,7 @@ lock_call sender names (stmt.CvSend c w) = call.CvSend (id_at names.conditions c
 lock_call sender names (stmt.CvWaiters c) = call.CvWaiters (id_at names.conditions c)
 lock_call sender names s = plain_call s
 
--- statements that name threads, agents and procedures, and all others
+-- what a statement calls
 abbrev pub call_of : Script → ℕ → Names → Stmt → Call
 call_of script sender names (stmt.Create name number prio flags) = call.Create (proc_number script number) prio flags
 call_of script sender names (stmt.CallProc number) = call.CallProc (proc_number script number)

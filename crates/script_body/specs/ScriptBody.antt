@@ -32,7 +32,7 @@ script_opening script number = record { script = script; top = opening_frame num
 
 -- ---- catches
 
--- the frame that has so many below it
+-- the frame that has so many below it; the present one where no other has
 abbrev pub frame_above : ScriptBody → ℕ → Frame
 frame_above body depth = slice_index_or body.below depth body.top
 

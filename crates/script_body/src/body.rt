@@ -15,12 +15,13 @@ use std::alloc::Global;
 use std::marker::Model;
 use std::mem;
 
-/// A thread that runs a procedure of a script.
+/// A thread that runs a procedure of a script. It takes memory only to set a handler or to call a procedure.
 #[derive(Drop)]
 pub struct ScriptBody<'s> {
     alloc: Global,
     script: &'s Script,
     top: Frame,
+    // Those that it will return to, the innermost last.
     below: Vec<Frame>,
     sender: Tid,
     last: Option<Stmt>,
@@ -39,7 +40,8 @@ impl<'s> Model for ScriptBody<'s> {
 }
 
 impl<'s> ScriptBody<'s> {
-    /// A thread at the begin of a procedure.
+    /// A thread at the begin of a procedure. No memory is asked for: `NoMemory` is the answer only where a script has
+    /// more procedures than a `u32` can number.
     pub fn new(alloc: Global, script: &'s Script, proc: u32) -> Result<ScriptBody<'s>, NoMemory>
         requires { proc < length script.now.procs }
         ensures { IfOk result (λ b. b ≡ script_opening script.now proc) }
@@ -57,6 +59,7 @@ impl<'s> ScriptBody<'s> {
         })
     }
 
+    // The frame that has so many below it; the present one where no other has.
     fn frame_above(&self, depth: usize) -> &Frame
         ensures { result.now ≡ frame_above self.now depth }
     {
@@ -66,6 +69,7 @@ impl<'s> ScriptBody<'s> {
         }
     }
 
+    // Makes that frame the present one, and goes on in it behind a handler.
     fn go_back(&mut self, depth: usize, mark: usize, place: usize)
         ensures { self.new ≡ back_at self.old depth mark place }
     {
@@ -76,6 +80,7 @@ impl<'s> ScriptBody<'s> {
         self.top.catch_at(mark, place);
     }
 
+    // Whether there is such a handler. If not, nothing changes.
     fn take_caught(&mut self, depth: usize, mark: usize) -> bool
         ensures took { result ≡ is_some (taken_caught self.old depth mark) }
         ensures after { self.new ≡ unwrap_or (taken_caught self.old depth mark) self.old }
@@ -92,6 +97,7 @@ impl<'s> ScriptBody<'s> {
         }
     }
 
+    // Whether there is a frame to return to.
     fn take_returned(&mut self) -> bool
         ensures took { result ≡ is_some (returned self.old) }
         ensures after { self.new ≡ unwrap_or (returned self.old) self.old }
@@ -105,6 +111,7 @@ impl<'s> ScriptBody<'s> {
         }
     }
 
+    // Whether there is a handler to remove.
     fn take_unhandled(&mut self) -> bool
         ensures took { result ≡ is_some (unhandled self.old) }
         ensures after { self.new ≡ unwrap_or (unhandled self.old) self.old }
@@ -112,6 +119,7 @@ impl<'s> ScriptBody<'s> {
         self.top.remove_handler()
     }
 
+    // Begins the procedure with this name.
     fn begin(&mut self, name: u32) -> Result<(), NoMemory>
         ensures { OnOk result (self.new ≡ with_frame self.old (proc_number self.old.script name)) }
     {
@@ -129,6 +137,7 @@ impl<'s> ScriptBody<'s> {
         }
     }
 
+    // Takes an answer that is neither a catch nor a refusal, by the statement of the last call.
     fn take_by(&mut self, got: &Answer, stmt: &Stmt) -> Result<bool, NoMemory>
         ensures took { IfOk result (λ took. took ≡ is_some (taken_by self.old got.now stmt.now)) }
         ensures after { OnOk result (self.new ≡ unwrap_or (taken_by self.old got.now stmt.now) self.old) }
@@ -167,6 +176,7 @@ impl<'s> ScriptBody<'s> {
         self.take_by(got, &stmt)
     }
 
+    // Takes the answer to the last call, if it can be one. If not, nothing changes.
     fn take(&mut self, got: &Answer) -> Result<bool, NoMemory>
         ensures took { IfOk result (λ took. took ≡ is_some (taken self.old got.now)) }
         ensures after { OnOk result (self.new ≡ unwrap_or (taken self.old got.now) self.old) }
@@ -179,6 +189,7 @@ impl<'s> ScriptBody<'s> {
         }
     }
 
+    // Makes the call of the next statement, and stands behind it.
     fn go_on(&mut self, env: &Env, got: &Answer) -> Call
         ensures call { result ≡ call_of self.old.script self.old.sender env.now (stmt_after got.now self.old).stmt }
         ensures after { self.new ≡ behind self.old (stmt_after got.now self.old) }
@@ -200,11 +211,11 @@ impl<'s> Body for ScriptBody<'s> {
 
     #[tactic(auto, unfolding(crate::specs::ScriptBody::script_next))]
     fn poll(&mut self, env: &mut Env, got: Answer) -> Result<Call, NoMemory> {
-        let last = self.last;
+        let made = self.last;
         if !self.take(&got)? {
             return Ok(Call::Return);
         }
-        name_by(env, &got, &last);
+        name_by(env, &got, &made);
         Ok(self.go_on(env, &got))
     }
 

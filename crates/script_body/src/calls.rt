@@ -43,6 +43,7 @@ fn exit_call_of(sender: Tid, env: &Env, exit: &ExitStmt) -> ExitCall
     }
 }
 
+// A statement that names nothing.
 fn plain_call(stmt: &Stmt) -> Call
     ensures { result ≡ plain_call stmt.now }
 {
@@ -72,10 +73,12 @@ fn plain_call(stmt: &Stmt) -> Call
         Stmt::Agent { event, .. } => Call::Agent { event: *event },
         Stmt::Agents => Call::Agents,
         Stmt::Say { text } => Call::Say { text: *text },
+        // A return; and what makes no call, for which nobody asks.
         _ => Call::Return,
     }
 }
 
+// A statement that names monitors or conditions, or nothing.
 fn lock_call(sender: Tid, env: &Env, stmt: &Stmt) -> Call
     ensures { result ≡ lock_call sender env.now stmt.now }
 {
@@ -119,6 +122,7 @@ fn source_of(sender: Tid, env: &Env, from: &Option<Who>) -> Option<Tid>
     }
 }
 
+/// The call of a statement, in a thread whose last letter came from `sender`.
 pub fn call_of(script: &Script, sender: Tid, env: &Env, stmt: &Stmt) -> Call
     requires { length (proc_places script.now) < 2 ^ 32 }
     ensures { result ≡ call_of script.now sender env.now stmt.now }

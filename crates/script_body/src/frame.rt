@@ -6,6 +6,7 @@ use lwp_types::NoMemory;
 use std::alloc::Global;
 use std::marker::Model;
 
+/// The procedure, the place of its next statement, and the places behind its handlers.
 #[derive(Drop)]
 pub struct Frame {
     number: u32,
@@ -57,6 +58,7 @@ impl Frame {
         self.place = place;
     }
 
+    /// Keeps the present place for a handler.
     pub fn set_handler(&mut self) -> Result<(), NoMemory>
         ensures { OnOk result (self.new ≡ with_handler self.old) }
     {
@@ -72,6 +74,7 @@ impl Frame {
         self.handlers.pop().is_some()
     }
 
+    /// Goes on at a handler's place, with so many handlers left.
     pub fn catch_at(&mut self, mark: usize, place: usize)
         ensures { self.new ≡ with_caught mark place self.old }
     {

@@ -13,3 +13,6 @@ mod numbers;
 mod walk;
 
 pub use body::ScriptBody;
+
+#[cfg(test)]
+mod tests;

@@ -29,10 +29,11 @@ fn name_condition(env: &mut Env, name: u32, got: &Answer)
     }
 }
 
-pub fn name_by(env: &mut Env, got: &Answer, last: &Option<Stmt>)
-    ensures { env.new ≡ named got.now last.now env.old }
+/// Sets the name of the last call's statement, if the call has made something.
+pub fn name_by(env: &mut Env, got: &Answer, made: &Option<Stmt>)
+    ensures { env.new ≡ named got.now made.now env.old }
 {
-    match last {
+    match made {
         Some(Stmt::Create { name, .. } | Stmt::Agent { name, .. }) => name_thread(env, *name, got),
         Some(Stmt::MonCreate { mon }) => name_monitor(env, *mon, got),
         Some(Stmt::CvCreate { cond, .. }) => name_condition(env, *cond, got),

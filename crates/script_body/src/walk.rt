@@ -34,6 +34,7 @@ fn is_value(n: u32, got: &Answer) -> bool
     }
 }
 
+// Whether a skip with this condition passes over the next statement.
 fn meets(got: &Answer, test: Test) -> bool
     ensures { result ≡ meets got.now test }
 {
