@@ -1,0 +1,223 @@
+// A thread that runs a procedure of a script.
+ghost use Rattle.std.specs.Prelude.{◌≡◌, ◌<◌, is_some, unwrap_or, length, IfOk, OnOk};
+ghost use Rattle.script_text.specs.Script.{proc_number};
+ghost use Rattle.script_body.specs.Calls.{call_of};
+ghost use Rattle.script_body.specs.ScriptBody.{script_opening, frame_above, back_at, taken_caught, unhandled, with_frame, returned, with_sender_by, taken_by, taken_refused, taken_plain, taken, stmt_after, behind};
+
+use crate::calls::call_of;
+use crate::frame::Frame;
+use crate::names::name_by;
+use crate::numbers::{has_numbers, proc_number, stmts_at};
+use crate::walk::{is_refused, next_stmt};
+use lwp_types::{Answer, Body, Call, Env, NULL_TID, NoMemory, Tid};
+use script_text::{Script, Stmt};
+use std::alloc::Global;
+use std::marker::Model;
+use std::mem;
+
+/// A thread that runs a procedure of a script. It takes memory only to set a handler or to call a procedure.
+#[derive(Drop)]
+pub struct ScriptBody<'s> {
+    alloc: Global,
+    script: &'s Script,
+    top: Frame,
+    // Those that it will return to, the innermost last.
+    below: Vec<Frame>,
+    sender: Tid,
+    last: Option<Stmt>,
+}
+
+impl<'s> Model for ScriptBody<'s> {
+    ghost use Rattle.std.specs.Prelude.{◌<◌, ◌^◌, length};
+    ghost use Rattle.script_text.specs.Script.{proc_places};
+    ghost use Rattle.script_body.specs.ScriptBody.{ScriptBody};
+
+    ghost Value = { ScriptBody };
+
+    ghost view = { λ b. record { script = b.script.now; top = b.top; below = b.below.items; sender = b.sender; last = b.last } };
+
+    ghost invariant = { λ b. length (proc_places b.script.now) < 2 ^ 32 };
+}
+
+impl<'s> ScriptBody<'s> {
+    /// A thread at the begin of a procedure. No memory is asked for: `NoMemory` is the answer only where a script has
+    /// more procedures than a `u32` can number.
+    pub fn new(alloc: Global, script: &'s Script, proc: u32) -> Result<ScriptBody<'s>, NoMemory>
+        requires { proc < length script.now.procs }
+        ensures { IfOk result (λ b. b ≡ script_opening script.now proc) }
+    {
+        if !has_numbers(script) {
+            return Err(NoMemory);
+        }
+        Ok(ScriptBody {
+            alloc,
+            script,
+            top: Frame::new(alloc, proc),
+            below: Vec::new(alloc),
+            sender: NULL_TID,
+            last: None,
+        })
+    }
+
+    // The frame that has so many below it; the present one where no other has.
+    fn frame_above(&self, depth: usize) -> &Frame
+        ensures { result.now ≡ frame_above self.now depth }
+    {
+        match self.below.get(depth) {
+            Some(frame) => frame,
+            None => &self.top,
+        }
+    }
+
+    // Makes that frame the present one, and goes on in it behind a handler.
+    fn go_back(&mut self, depth: usize, mark: usize, place: usize)
+        ensures { self.new ≡ back_at self.old depth mark place }
+    {
+        if depth < self.below.len() {
+            self.top = self.below.remove(depth);
+            self.below.truncate(depth);
+        }
+        self.top.catch_at(mark, place);
+    }
+
+    // Whether there is such a handler. If not, nothing changes.
+    fn take_caught(&mut self, depth: usize, mark: usize) -> bool
+        ensures took { result ≡ is_some (taken_caught self.old depth mark) }
+        ensures after { self.new ≡ unwrap_or (taken_caught self.old depth mark) self.old }
+    {
+        if depth == 0 || self.below.len() + 1 < depth {
+            return false;
+        }
+        match self.frame_above(depth - 1).handler(mark) {
+            Some(place) => {
+                self.go_back(depth - 1, mark, place);
+                true
+            }
+            None => false,
+        }
+    }
+
+    // Whether there is a frame to return to.
+    fn take_returned(&mut self) -> bool
+        ensures took { result ≡ is_some (returned self.old) }
+        ensures after { self.new ≡ unwrap_or (returned self.old) self.old }
+    {
+        match self.below.pop() {
+            Some(frame) => {
+                self.top = frame;
+                true
+            }
+            None => false,
+        }
+    }
+
+    // Whether there is a handler to remove.
+    fn take_unhandled(&mut self) -> bool
+        ensures took { result ≡ is_some (unhandled self.old) }
+        ensures after { self.new ≡ unwrap_or (unhandled self.old) self.old }
+    {
+        self.top.remove_handler()
+    }
+
+    // Begins the procedure with this name.
+    fn begin(&mut self, name: u32) -> Result<(), NoMemory>
+        ensures { OnOk result (self.new ≡ with_frame self.old (proc_number self.old.script name)) }
+    {
+        let opened = Frame::new(self.alloc, proc_number(self.script, name));
+        let caller = mem::replace(&mut self.top, opened);
+        self.below.push(caller)?;
+        Ok(())
+    }
+
+    fn know_sender(&mut self, got: &Answer)
+        ensures { self.new ≡ with_sender_by got.now self.old }
+    {
+        if let Answer::Letter { from, .. } = got {
+            self.sender = *from;
+        }
+    }
+
+    // Takes an answer that is neither a catch nor a refusal, by the statement of the last call.
+    fn take_by(&mut self, got: &Answer, stmt: &Stmt) -> Result<bool, NoMemory>
+        ensures took { IfOk result (λ took. took ≡ is_some (taken_by self.old got.now stmt.now)) }
+        ensures after { OnOk result (self.new ≡ unwrap_or (taken_by self.old got.now stmt.now) self.old) }
+    {
+        match stmt {
+            Stmt::Recv { .. } => self.know_sender(got),
+            Stmt::Handle { .. } => self.top.set_handler()?,
+            Stmt::Unhandle => return Ok(self.take_unhandled()),
+            Stmt::CallProc { proc } => self.begin(*proc)?,
+            Stmt::Return => return Ok(self.take_returned()),
+            _ => {}
+        }
+        Ok(true)
+    }
+
+    fn take_refused(&mut self, stmt: &Stmt) -> bool
+        ensures took { result ≡ is_some (taken_refused self.old stmt.now) }
+        ensures after { self.new ≡ unwrap_or (taken_refused self.old stmt.now) self.old }
+    {
+        match stmt {
+            Stmt::Return => self.take_returned(),
+            _ => true,
+        }
+    }
+
+    fn take_plain(&mut self, got: &Answer) -> Result<bool, NoMemory>
+        ensures took { IfOk result (λ took. took ≡ is_some (taken_plain self.old got.now self.old.last)) }
+        ensures after { OnOk result (self.new ≡ unwrap_or (taken_plain self.old got.now self.old.last) self.old) }
+    {
+        let Some(stmt) = self.last else {
+            return Ok(true);
+        };
+        if is_refused(got) {
+            return Ok(self.take_refused(&stmt));
+        }
+        self.take_by(got, &stmt)
+    }
+
+    // Takes the answer to the last call, if it can be one. If not, nothing changes.
+    fn take(&mut self, got: &Answer) -> Result<bool, NoMemory>
+        ensures took { IfOk result (λ took. took ≡ is_some (taken self.old got.now)) }
+        ensures after { OnOk result (self.new ≡ unwrap_or (taken self.old got.now) self.old) }
+    {
+        match got {
+            Answer::Caught { depth, mark, .. } => {
+                Ok(self.take_caught(*depth as usize, *mark as usize))
+            }
+            _ => self.take_plain(got),
+        }
+    }
+
+    // Makes the call of the next statement, and stands behind it.
+    fn go_on(&mut self, env: &Env, got: &Answer) -> Call
+        ensures call { result ≡ call_of self.old.script self.old.sender env.now (stmt_after got.now self.old).stmt }
+        ensures after { self.new ≡ behind self.old (stmt_after got.now self.old) }
+    {
+        let stmts = stmts_at(self.script, self.top.number());
+        let at = next_stmt(stmts, self.top.place(), got);
+        let call = call_of(self.script, self.sender, env, &at.stmt);
+        self.top.go_on_at(at.place);
+        self.last = Some(at.stmt);
+        call
+    }
+}
+
+impl<'s> Body for ScriptBody<'s> {
+    ghost use Rattle.script_body.specs.ScriptBody.{script_next};
+    ghost use Rattle.script_body.specs.NameLaws.{script_next-keeps_lengths};
+
+    ghost next = { script_next };
+
+    #[tactic(auto, unfolding(crate::specs::ScriptBody::script_next))]
+    fn poll(&mut self, env: &mut Env, got: Answer) -> Result<Call, NoMemory> {
+        let made = self.last;
+        if !self.take(&got)? {
+            return Ok(Call::Return);
+        }
+        name_by(env, &got, &made);
+        Ok(self.go_on(env, &got))
+    }
+
+    ghost keeps_lengths = { script_next-keeps_lengths };
+}

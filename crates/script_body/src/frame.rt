@@ -1,0 +1,84 @@
+// A procedure that was begun and hasn't returned.
+ghost use Rattle.std.specs.Prelude.{◌≡◌, ◌==◌, not, length, slice_get, IfOk, OnOk};
+ghost use Rattle.script_body.specs.Frame.{opening_frame, with_handler, without_handler, with_caught};
+
+use lwp_types::NoMemory;
+use std::alloc::Global;
+use std::marker::Model;
+
+/// The procedure, the place of its next statement, and the places behind its handlers.
+#[derive(Drop)]
+pub struct Frame {
+    number: u32,
+    place: usize,
+    handlers: Vec<usize>,
+}
+
+impl Model for Frame {
+    ghost use Rattle.script_body.specs.Frame.{Frame};
+
+    ghost Value = { Frame };
+
+    ghost view = { λ f. record { number = f.number; place = f.place; handlers = f.handlers.items } };
+}
+
+impl Frame {
+    pub fn new(alloc: Global, number: u32) -> Frame
+        ensures { result ≡ opening_frame number }
+    {
+        Frame {
+            number,
+            place: 0,
+            handlers: Vec::new(alloc),
+        }
+    }
+
+    pub fn number(&self) -> u32
+        ensures { result ≡ self.now.number }
+    {
+        self.number
+    }
+
+    pub fn place(&self) -> usize
+        ensures { result ≡ self.now.place }
+    {
+        self.place
+    }
+
+    /// The place behind a handler of this frame, if there is such a handler.
+    pub fn handler(&self, mark: usize) -> Option<usize>
+        ensures { result ≡ slice_get self.now.handlers mark }
+    {
+        self.handlers.get(mark).copied()
+    }
+
+    pub fn go_on_at(&mut self, place: usize)
+        ensures { self.new ≡ record self.old { place = place } }
+    {
+        self.place = place;
+    }
+
+    /// Keeps the present place for a handler.
+    pub fn set_handler(&mut self) -> Result<(), NoMemory>
+        ensures { OnOk result (self.new ≡ with_handler self.old) }
+    {
+        self.handlers.push(self.place)?;
+        Ok(())
+    }
+
+    /// Whether there was a handler to be removed.
+    pub fn remove_handler(&mut self) -> bool
+        ensures some { result ≡ not (length self.old.handlers == 0) }
+        ensures after { self.new ≡ without_handler self.old }
+    {
+        self.handlers.pop().is_some()
+    }
+
+    /// Goes on at a handler's place, with so many handlers left.
+    pub fn catch_at(&mut self, mark: usize, place: usize)
+        ensures { self.new ≡ with_caught mark place self.old }
+    {
+        self.place = place;
+        self.handlers.truncate(mark);
+    }
+}

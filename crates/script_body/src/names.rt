@@ -1,0 +1,42 @@
+// The names that calls set.
+ghost use Rattle.std.specs.Prelude.{◌≡◌};
+ghost use Rattle.script_body.specs.Naming.{thread_named_by, monitor_named_by, condition_named_by, named};
+
+use lwp_types::{Answer, Env};
+use script_text::Stmt;
+
+fn name_thread(env: &mut Env, name: u32, got: &Answer)
+    ensures { env.new ≡ thread_named_by name got.now env.old }
+{
+    if let Answer::Thread(tid) = got {
+        env.set_thread(name, *tid);
+    }
+}
+
+fn name_monitor(env: &mut Env, name: u32, got: &Answer)
+    ensures { env.new ≡ monitor_named_by name got.now env.old }
+{
+    if let Answer::Monitor(mon) = got {
+        env.set_mon(name, *mon);
+    }
+}
+
+fn name_condition(env: &mut Env, name: u32, got: &Answer)
+    ensures { env.new ≡ condition_named_by name got.now env.old }
+{
+    if let Answer::Cond(cond) = got {
+        env.set_cond(name, *cond);
+    }
+}
+
+/// Sets the name of the last call's statement, if the call has made something.
+pub fn name_by(env: &mut Env, got: &Answer, made: &Option<Stmt>)
+    ensures { env.new ≡ named got.now made.now env.old }
+{
+    match made {
+        Some(Stmt::Create { name, .. } | Stmt::Agent { name, .. }) => name_thread(env, *name, got),
+        Some(Stmt::MonCreate { mon }) => name_monitor(env, *mon, got),
+        Some(Stmt::CvCreate { cond, .. }) => name_condition(env, *cond, got),
+        _ => {}
+    }
+}
