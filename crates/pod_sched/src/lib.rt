@@ -8,6 +8,8 @@
 mod order;
 mod rows;
 mod sched;
+#[cfg(test)]
+mod tests;
 
 pub use rows::Known;
 pub use sched::Sched;

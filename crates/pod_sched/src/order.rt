@@ -42,6 +42,7 @@ pub fn move_before(order: &mut Vec<Tid>, tid: Tid, other: Tid)
     ensures capacity { vec_capacity order.new ≡ vec_capacity order.old }
 {
     take_out(order, tid);
+    // There is room for what was taken out, so no memory is asked for.
     let place = place_of(order, other).unwrap_or(order.len());
     let _ = order.insert(place, tid);
 }
