@@ -1,0 +1,4 @@
+pub mod Words
+pub mod Threads
+pub mod Ends
+pub mod Letters

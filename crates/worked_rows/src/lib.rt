@@ -1,0 +1,11 @@
+//! Worked rows: short scripts, and for each what the definitions make of it, computed and compared with what was worked out by
+//! hand: the whole trace, the end, the number of calls, and the lines taken.
+//!
+//! The functions have no code, and their clauses are the rows. Every call and every refusal of it stands in a row, each of the
+//! eight exit calls with its results, each step of a death, both ends of every range of numbers, and the line server at work.
+//! The crate stands on the definitions of the crates below it, and on none of their code.
+#![tactic(auto)]
+
+pub mod ends;
+pub mod letters;
+pub mod threads;
