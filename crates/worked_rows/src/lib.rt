@@ -8,4 +8,7 @@
 
 pub mod ends;
 pub mod letters;
+pub mod locks;
+pub mod marks;
 pub mod threads;
+pub mod waits;
