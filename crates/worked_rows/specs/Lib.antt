@@ -5,3 +5,5 @@ pub mod Letters
 pub mod Locks
 pub mod Waits
 pub mod Marks
+pub mod Exits
+pub mod Deaths

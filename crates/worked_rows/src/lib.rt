@@ -6,7 +6,9 @@
 //! The crate stands on the definitions of the crates below it, and on none of their code.
 #![tactic(auto)]
 
+pub mod deaths;
 pub mod ends;
+pub mod exits;
 pub mod letters;
 pub mod locks;
 pub mod marks;
