@@ -7,3 +7,7 @@ pub mod Waits
 pub mod Marks
 pub mod Exits
 pub mod Deaths
+pub mod Agents
+pub mod Scripts
+pub mod Servers
+pub mod LineServer

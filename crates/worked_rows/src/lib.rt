@@ -6,11 +6,15 @@
 //! The crate stands on the definitions of the crates below it, and on none of their code.
 #![tactic(auto)]
 
+pub mod agents;
 pub mod deaths;
 pub mod ends;
 pub mod exits;
 pub mod letters;
+pub mod line_server;
 pub mod locks;
 pub mod marks;
+pub mod scripts;
+pub mod servers;
 pub mod threads;
 pub mod waits;
