@@ -11,3 +11,6 @@ pub mod Agents
 pub mod Scripts
 pub mod Servers
 pub mod LineServer
+pub mod Limits
+pub mod NextCalls
+pub mod Played
