@@ -1,0 +1,16 @@
+pub mod Words
+pub mod Threads
+pub mod Ends
+pub mod Letters
+pub mod Locks
+pub mod Waits
+pub mod Marks
+pub mod Exits
+pub mod Deaths
+pub mod Agents
+pub mod Scripts
+pub mod Servers
+pub mod LineServer
+pub mod Limits
+pub mod NextCalls
+pub mod Played
