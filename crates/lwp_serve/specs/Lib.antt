@@ -1,3 +1,5 @@
 pub mod LineServer
 pub mod Bodies
 pub mod Planned
+pub mod Outcome
+pub mod Reading
