@@ -3,3 +3,4 @@ pub mod Appends
 pub mod Plays
 pub mod Moves
 pub mod Turns
+pub mod EagerLaws

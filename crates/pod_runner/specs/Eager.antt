@@ -8,7 +8,7 @@ use Rattle.script_text.specs.declared.script.Halt.{Halt}
 use Rattle.pod_runner.specs.Session.{Session, Setting, call_step, opening_session, take_step}
 use Rattle.pod_runner.specs.declared.session.Took.{Took}
 use Rattle.std.specs.List.{filter, find, fold}
-use Rattle.std.specs.Prelude.{Bool, List, None, Option, Some, [], false, is_some, length, not, suc, true, zero, ℕ, ◌&&◌, ◌++◌, ◌+◌, ◌==◌, ◌∷◌}
+use Rattle.std.specs.Prelude.{Bool, List, None, Option, Some, [], false, is_some, length, not, suc, true, zero, ℕ, ◌&&◌, ◌++◌, ◌+◌, ◌==◌, ◌∷◌, ◌≡◌}
 
 -- how far such a session has come
 pub record Plan (B : Type 0) : Type 0 where
@@ -103,3 +103,8 @@ opening_plan planned posts = record { session = opening_session planned.setting;
 -- the session whole: each round makes a call or takes a line, so these rounds suffice
 unfoldable pub plan_whole : {B : Type 0} → Planned B → List Line → Plan B
 plan_whole planned posts = go_on planned (planned.turns + length posts) (opening_plan planned posts)
+
+-- the session comes to this point, where it is over, and ended so
+pub record ComesTo {B : Type 0} (planned : Planned B) (posts : List Line) (plan : Plan B) (halt : Halt) : Type 0 where
+  pub whole : plan_whole planned posts ≡ plan
+  pub halted : plan_over planned plan ≡ Some halt

@@ -3,13 +3,15 @@ use Rattle.lwp_types.specs.Names.{Names, null_names}
 use Rattle.lwp_types.specs.Poll.{Next}
 use Rattle.lwp_types.specs.Streams.{AppendsPrefix, appended}
 use Rattle.lwp_types.specs.declared.call.PodParams.{PodParams}
+use Rattle.pod_runner.specs.Eager.{ComesTo, Plan, Planned}
 use Rattle.pod_runner.specs.Phase.{phase_of}
 use Rattle.pod_runner.specs.Play.{play}
 use Rattle.pod_runner.specs.Session.{Session, Setting}
 use Rattle.pod_runner.specs.Trace.{lines}
 use Rattle.pod_runner.specs.declared.phase.Phase.{Phase}
 use Rattle.pod_runner.specs.declared.session.Took.{Took}
-use Rattle.std.specs.Prelude.{Bool, List, Option, length, ℕ, ◌≡◌}
+use Rattle.script_text.specs.declared.script.Halt.{Halt}
+use Rattle.std.specs.Prelude.{Bool, List, Option, [], length, ℕ, ◌≡◌}
 
 -- a run: what it plays, and how far it is
 pub record Played (P : Type 0) : Type 0 where
@@ -40,6 +42,18 @@ trace_of next bodies proc_names run = lines (proc_names run.program) (session_of
 -- where it stands
 abbrev pub phase_now : {B P : Type 0} → Next B → (P → List B) → Played P → Phase
 phase_now next bodies run = phase_of (session_of next bodies run).live.state run.turns run.calls
+
+-- the session whose lines all are there from the begin, of the same program and as many calls, where the clients post to these events
+abbrev pub planned_of : {B P : Type 0} → Next B → (P → List B) → List ℕ → Played P → Planned B
+planned_of next bodies clients run = record { setting = setting_of next bodies run; clients = clients; turns = run.turns }
+
+-- how far such a session is, if it is where the run is, with no line taken and none left
+abbrev pub plan_now : {B P : Type 0} → Next B → (P → List B) → Played P → Plan B
+plan_now next bodies run = record { session = session_of next bodies run; calls = run.calls; left = []; takes = [] }
+
+-- without lines, whoever the clients are, that session comes to where the run is, and ends so
+abbrev pub IsPlanned : {B P : Type 0} → Next B → (P → List B) → Played P → Halt → Type 0
+IsPlanned next bodies run halt = (clients : List ℕ) → ComesTo (planned_of next bodies clients run) [] (plan_now next bodies run) halt
 
 -- what is told goes from a trace to a longer one
 abbrev pub Writes : Option (List ℕ) → Option (List ℕ) → List ℕ → List ℕ → Type 0

@@ -1,17 +1,17 @@
 // A run from call to call, until its end.
-ghost use Rattle.std.specs.Prelude.{◌≡◌, ◌≤◌, false, IfOk, OnOk, OnErr, IsErrOf};
+ghost use Rattle.std.specs.Prelude.{◌≡◌, ◌≤◌, [], false, IfOk, OnOk, OnErr, IsErrOf};
 ghost use Rattle.lwp_types.specs.Streams.{Rose};
 ghost use Rattle.pod_runner.specs.Built.{AllBuilt};
 ghost use Rattle.pod_runner.specs.Due.{IsDefined};
 ghost use Rattle.pod_runner.specs.Phase.{phase_of_halt};
-ghost use Rattle.pod_runner.specs.Run.{setting_of, phase_now, trace_of, Writes, WritesPart, GoesOn};
+ghost use Rattle.pod_runner.specs.Run.{setting_of, phase_now, trace_of, IsPlanned, Writes, WritesPart, GoesOn};
 
 use crate::playing::Run;
 use crate::{Phase, RunErr};
 use lwp_types::{Body, Program, Sink};
 use script_text::Halt;
 
-/// Makes calls until the end.
+/// Makes calls until the end. A run that has taken no line plays the session planned without lines, whoever the clients are.
 pub fn run<B: Body, P: Program<B>, K: Sink>(
     run: &mut Run<B, P>,
     sink: &mut K,
@@ -26,6 +26,7 @@ pub fn run<B: Body, P: Program<B>, K: Sink>(
     ensures whole { OnOk result (Writes (K.written sink.old) (K.written sink.new) (trace_of B.next P.bodies P.proc_names run.old) (trace_of B.next P.bodies P.proc_names run.new)) }
     ensures part { OnErr result (WritesPart (K.written sink.old) (K.written sink.new) (trace_of B.next P.bodies P.proc_names run.old) (trace_of B.next P.bodies P.proc_names run.new)) }
     ensures halt { IfOk result (λ halt. phase_now B.next P.bodies run.new ≡ phase_of_halt halt) }
+    ensures planned { run.old.takes ≡ [] → IfOk result (IsPlanned B.next P.bodies run.new) }
     ensures made { IsDefined (setting_of B.next P.bodies run.new) run.new.takes run.new.calls }
     ensures faults { OnOk result (K.faults sink.new ≡ K.faults sink.old) }
     ensures later { K.faults sink.old ≤ K.faults sink.new }
