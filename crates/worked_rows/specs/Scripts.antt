@@ -50,8 +50,8 @@ a_skip_over_a_skip = record {
 --   lwp 1 / pod 1
 --   proc main / skip is 0 / say never / say yes / call p
 --   proc p / skip is 1 / skip is 0 / say never / say in
-abbrev pub a_skip_at_the_begin : Row
-a_skip_at_the_begin = record {
+abbrev pub a_skip_at_the_start : Row
+a_skip_at_the_start = record {
   script = pod 1 (named (codes "main" ∷ codes "p" ∷ []) [] [] [])
       (procedure 0 (stmt.Skip (test.Value 0) ∷ stmt.Say (codes "never") ∷ stmt.Say (codes "yes") ∷ stmt.CallProc 1 ∷ [])
       ∷ procedure 1 (stmt.Skip (test.Value 1) ∷ stmt.Skip (test.Value 0) ∷ stmt.Say (codes "never") ∷ stmt.Say (codes "in") ∷ [])
