@@ -45,3 +45,8 @@ writes_then a b c t u v p q base h = q base (p base h)
 
 pub part_then : (a b c : Option (List ℕ)) (t u v : List ℕ) → Writes a b t u → WritesPart b c u v → WritesPart a c t v
 part_then a b c t u v p q base h = q base (p base h)
+
+-- a fact of an error holds where there is one
+pub on_err : {X E : Type 0} (r : Result X E) (P : Type 0) → P → OnErr r P
+on_err (Ok x) P h = tt
+on_err (Err e) P h = h

@@ -1,3 +1,5 @@
 pub mod RowLemmas
 pub mod Appends
 pub mod Plays
+pub mod Moves
+pub mod Turns

@@ -12,6 +12,8 @@ use Rattle.lwp_types.specs.Step.{step}
 use Rattle.lwp_types.specs.declared.call.Call.{Call}
 use Rattle.lwp_types.specs.declared.call.Effect.{Effect}
 use Rattle.pod_runner.specs.Built.{is_next_built}
+use Rattle.pod_runner.specs.Parts.{Moves}
+use Rattle.script_text.specs.Lines.{step_lines}
 use Rattle.pod_runner.specs.Polls.{Polls, place_of}
 use Rattle.pod_runner.specs.Session.{Live, Move, called, move, polled, proc_of, row_of, settled, unmoved}
 use Rattle.pod_runner.specs.declared.session.Row.{Row}
@@ -55,3 +57,32 @@ moved next bodies live t row call after effects mid rows names h there polls a e
 pub built_call : {B : Type 0} (next : Next B) (live : Live B) (t : ℕ) (row : Row B) → choice live.state ≡ Some t → slice_get live.rows (place_of t live.rows) ≡ Some row
     → IsTrue (is_next_built next live) → IsTrue (is_built t (next row.body (polled_as t live.names) row.answer).0)
 built_call next live t row h there built = rw (h, row_of-place t live.rows, there) at built
+
+-- the same, by the place of the row, with its lines
+pub moves_at : {B : Type 0} (next : Next B) (bodies : List B) (procs : List (List ℕ)) (live : Live B) (t i : ℕ) (known : Names) (call : Call) (after : State) (effects : List Effect) (mid rows : List (Row B)) (names : Names) (out : List ℕ) (born : Option ℕ)
+    → choice live.state ≡ Some t → i ≡ place_of t live.rows → i < length live.rows → known ≡ polled_as t live.names
+    → ((row : Row B) → slice_get live.rows i ≡ Some row → Polls next row known call i live.rows mid names)
+    → after ≡ (step live.state call).after → effects ≡ (step live.state call).effects
+    → born ≡ proc_of call → rows ≡ settled bodies born effects mid → out ≡ step_lines procs None effects
+    → Moves next bodies procs live (record { state = after; rows = rows; names = names }) out
+moves_at next bodies procs live t i known call after effects mid rows names out born h at there k polls a e b r o =
+    let found = slice_get_present live.rows i there in
+    let is : slice_get live.rows (place_of t live.rows) ≡ Some found.0 = ap (slice_get live.rows) (sym at) ∙ found.1 in
+    let p : Polls next found.0 (polled_as t live.names) call (place_of t live.rows) live.rows mid names = rw (← at, ← k) (polls found.0 found.1) in
+    let m = moved next bodies live t found.0 call after effects mid rows names h is p a e (r ∙ ap (λ born. settled bodies born effects mid) b) in
+    record { live = rw m refl; lines = o ∙ rw m refl }
+
+-- with no row, nothing happens
+pub moves_none : {B : Type 0} (next : Next B) (bodies : List B) (procs : List (List ℕ)) (live : Live B) (t : ℕ) (out : List ℕ) → choice live.state ≡ Some t → length live.rows ≤ place_of t live.rows → out ≡ [] → Moves next bodies procs live live out
+moves_none next bodies procs live t out h past none = let m = move_no_row next bodies live t h past in record { live = rw m refl; lines = none ∙ rw m refl }
+
+-- the call that a polled body gave is one that the pod carries out
+pub built_at : {B : Type 0} (next : Next B) (live : Live B) (t i : ℕ) (known : Names) (call : Call) (mid : List (Row B)) (names : Names)
+    → choice live.state ≡ Some t → i ≡ place_of t live.rows → i < length live.rows → known ≡ polled_as t live.names
+    → ((row : Row B) → slice_get live.rows i ≡ Some row → Polls next row known call i live.rows mid names)
+    → IsTrue (is_next_built next live) → IsTrue (is_built t call)
+built_at next live t i known call mid names h at there k polls built =
+    let found = slice_get_present live.rows i there in
+    let is : slice_get live.rows (place_of t live.rows) ≡ Some found.0 = ap (slice_get live.rows) (sym at) ∙ found.1 in
+    let p = polls found.0 found.1 in
+    rw (p.gives, k) (built_call next live t found.0 h is built)

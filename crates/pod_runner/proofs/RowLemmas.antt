@@ -1,5 +1,5 @@
 -- The row of a thread, found at its place.
-use Rattle.std.proofs.Common.{◌≡◌, ℕ, ◌+◌, ◌<◌, ◌≤◌, List, ◌∷◌, ◌++◌, length, get_or, set, take, drop, refl, sym, ap, ◌∙◌, append-nil, Some, Bool, true, false, cond, suc, []}
+use Rattle.std.proofs.Common.{◌≡◌, ℕ, ◌+◌, ◌<◌, ◌≤◌, List, ◌∷◌, ◌++◌, length, get_or, set, take, drop, refl, sym, ap, ◌∙◌, append-nil, Some, Bool, true, false, cond, suc, zero, add-one, []}
 use Rattle.std.specs.Prelude.{slice_get, slice_set, ◌==◌}
 use Rattle.pod_runner.specs.Polls.{place_of}
 use Rattle.std.proofs.lemmas.Option.{slice_get_past}
@@ -60,3 +60,12 @@ with_row-place t change (r ∷ rows) row there = by_head (r.tid == t) (λ h. wit
         → cond b (change r ∷ rows) (r ∷ with_row t change rows) ≡ slice_set (r ∷ rows) (cond b 0 (suc (place_of t rows))) (change row)
     by_head true rest h = let same : r ≡ row = cc in rw same refl
     by_head false rest h = ap (λ l. r ∷ l) (rest h)
+
+-- one element more of a list that is gone through
+take-one : {X : Type 0} (xs : List X) (i : ℕ) (x : X) → slice_get xs i ≡ Some x → take (suc i) xs ≡ take i xs ++ x ∷ []
+take-one [] i x h = absurd (cc)
+take-one (y ∷ ys) zero x h = let same : y ≡ x = cc in ap (λ z. z ∷ []) same
+take-one (y ∷ ys) (suc i) x h = ap (λ zs. y ∷ zs) (take-one ys i x h)
+
+pub take_next : {X : Type 0} (xs : List X) (i : ℕ) (x : X) → slice_get xs i ≡ Some x → take (i + 1) xs ≡ take i xs ++ x ∷ []
+take_next xs i x h = rw add-one (take-one xs i x h)

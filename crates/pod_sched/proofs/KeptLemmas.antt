@@ -1,4 +1,4 @@
--- Each call keeps what a `Sched` keeps of its fields, and adds to the order only where there is room.
+-- The invariant of `Sched` holds after each call, which adds to the order only where there is room.
 use Rattle.lwp_types.specs.State.{passes, put_before, to_end, without}
 use Rattle.pod_sched.proofs.Counts.{length-without, one}
 use Rattle.pod_sched.proofs.Ordered.{IsOrdered-admitted, IsOrdered-back, IsOrdered-left, IsOrdered-moved_before, IsOrdered-out, IsOrdered-stays, IsOrdered-to_end, length-order-le, length-order_back, row_found, times-found, times-known}

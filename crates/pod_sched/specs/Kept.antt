@@ -1,4 +1,4 @@
--- What a `Sched` keeps of its fields, for its own proofs: callers see the schedule alone.
+-- The invariant of `Sched`, for its own proofs: callers see the schedule alone.
 use Rattle.pod_sched.specs.Schedule.{IsOrdered, Schedule}
 use Rattle.std.specs.Prelude.{length, ℕ, ◌≤◌}
 

@@ -1,4 +1,4 @@
--- A scheduler as plain lists, and what each of its calls makes of them.
+-- The scheduler in plain lists, and the schedule that each call leaves.
 use Rattle.lwp_types.specs.Choice.{best_by}
 use Rattle.lwp_types.specs.State.{passes, put_before, to_end, without}
 use Rattle.pod_sched.specs.declared.rows.Known.{Known}
@@ -87,7 +87,7 @@ priority_in s t = prio_in s.threads t
 abbrev pub choice : Schedule → Option ℕ
 choice s = best_by (prio_in s.threads) s.order
 
--- the schedule after each call
+-- what each call leaves
 
 -- nobody is known, and there is room for nobody
 abbrev pub empty_schedule : ℕ → Schedule

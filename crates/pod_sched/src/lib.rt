@@ -1,4 +1,5 @@
-//! Which of a pod's threads runs next: of those that are neither suspended nor blocked, the first of the greatest priority.
+//! The scheduler of a pod: it knows threads, and chooses who runs. That is the first of the greatest priority in the order of
+//! those that may run, which nobody has suspended and which wait for nothing.
 //!
 //! The contract of each call is one equation between lists: the known threads, and the order of those that may run
 //! (`specs/Schedule.antt`). It says for a scheduler by itself what the machine of `lwp_types` does to a pod's threads and
@@ -8,6 +9,8 @@
 mod order;
 mod rows;
 mod sched;
+#[cfg(test)]
+mod tests;
 
 pub use rows::Known;
 pub use sched::Sched;

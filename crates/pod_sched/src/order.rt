@@ -9,7 +9,7 @@ use crate::Known;
 use crate::rows::prio_in;
 use lwp_types::Tid;
 
-// Takes the thread out of the order.
+// The thread stands in the order no more.
 pub fn take_out(order: &mut Vec<Tid>, tid: Tid)
     ensures items { order.new.items ≡ without tid order.old.items }
     ensures capacity { vec_capacity order.new ≡ vec_capacity order.old }
@@ -42,6 +42,7 @@ pub fn move_before(order: &mut Vec<Tid>, tid: Tid, other: Tid)
     ensures capacity { vec_capacity order.new ≡ vec_capacity order.old }
 {
     take_out(order, tid);
+    // There is room for what was taken out, so no memory is asked for.
     let place = place_of(order, other).unwrap_or(order.len());
     let _ = order.insert(place, tid);
 }
@@ -56,7 +57,7 @@ fn better(rows: &[Known], best: Option<Tid>, tid: Tid) -> Option<Tid>
     }
 }
 
-// The first of the greatest priority.
+// Who is chosen.
 pub fn first_best(rows: &[Known], order: &[Tid]) -> Option<Tid>
     ensures { result ≡ best_by (prio_in rows.now) order.now }
 {

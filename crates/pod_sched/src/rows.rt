@@ -64,7 +64,7 @@ pub fn set_prio(rows: &mut Vec<Known>, tid: Tid, prio: u32)
     }
 }
 
-// Forgets the thread.
+// Drops the thread's row.
 pub fn forget(rows: &mut Vec<Known>, tid: Tid)
     ensures items { rows.new.items ≡ without_row tid rows.old.items }
     ensures capacity { vec_capacity rows.new ≡ vec_capacity rows.old }

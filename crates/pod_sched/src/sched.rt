@@ -9,13 +9,13 @@ use lwp_types::{NoMemory, Tid};
 use std::alloc::Global;
 use std::marker::Model;
 
-/// The known threads, and the order of those that may run.
+/// Who is known, and who may run after whom.
 #[derive(Drop)]
 pub struct Sched {
     rows: Vec<Known>,
     order: Vec<Tid>,
     maxpri: u32,
-    // How many threads may be known with no more memory.
+    // Both lists have room for so many.
     places: usize,
 }
 
@@ -32,7 +32,7 @@ impl Model for Sched {
 }
 
 impl Sched {
-    /// No threads, and priorities up to `maxpri`.
+    /// A scheduler that knows nobody yet, with priorities from 1 to `maxpri`.
     pub fn new(alloc: Global, maxpri: u32) -> Result<Sched, NoMemory>
         requires least { 1 ≤ maxpri }
         requires most { maxpri ≤ 255 }

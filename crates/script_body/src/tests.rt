@@ -65,15 +65,21 @@ fn told(call: &Call) -> (u8, u64) {
 }
 
 // What the thread 4 calls in the first procedure, when it is answered so.
-fn calls(alloc: Global, script: &Script, answers: Vec<Answer>) -> Result<Vec<(u8, u64)>, NoMemory> {
+fn calls(
+    alloc: Global,
+    first: &[Stmt],
+    second: &[Stmt],
+    answers: Vec<Answer>,
+) -> Result<Vec<(u8, u64)>, NoMemory> {
     let _inside: Option<(Call, ExitCall, Answer)> = None;
     let mut env = Env::new(alloc, 1, 0, 0)?;
     env.set_me(Tid { number: 4 });
     let mut made = Vec::new(alloc);
+    let script = script_of(alloc, first, second)?;
     if script.procs.len() == 0 {
         return Ok(made);
     }
-    let mut body = ScriptBody::new(alloc, script, 0)?;
+    let mut body = ScriptBody::new(alloc, &script, 0)?;
     for got in answers {
         let call = body.poll(&mut env, got)?;
         made.push(told(&call))?;
@@ -104,22 +110,24 @@ fn a_catch_goes_on_behind_its_handler(rt: HostRuntime) -> Result<(), Fail> {
         Stmt::Raise { pattern: 5 },
         Stmt::Me,
     ];
-    let script = script_of(alloc, &first, &second)?;
-    let mut answers = Vec::new(alloc);
-    answers.push(Answer::Value(0))?;
-    answers.push(Answer::Thread(Tid { number: 5 }))?;
-    for _ in 0..3 {
-        answers.push(Answer::Value(0))?;
-    }
-    answers.push(Answer::Caught {
+    let caught = Answer::Caught {
         depth: 2,
         mark: 0,
         pattern: 5,
-    })?;
-    // The called procedure has no statement left, and then the first one hasn't either.
-    answers.push(Answer::Value(0))?;
-    answers.push(Answer::Value(0))?;
-    let made = calls(alloc, &script, answers)?;
+    };
+    let fine = || Answer::Value(0);
+    // The called procedure has no statement left at last, and then the first one hasn't either.
+    let answers = vec![in alloc;
+        fine(),
+        Answer::Thread(Tid { number: 5 }),
+        fine(),
+        fine(),
+        fine(),
+        caught,
+        fine(),
+        fine(),
+    ]?;
+    let made = calls(alloc, &first, &second, answers)?;
     assert_eq!(rt;
         made.as_slice(),
         [
@@ -153,19 +161,24 @@ fn words_mean_threads(rt: HostRuntime) -> Result<(), Fail> {
         Stmt::Ping { who: Who::Nobody },
         Stmt::Again,
     ];
-    let script = script_of(alloc, &first, &[])?;
-    let mut answers = Vec::new(alloc);
-    answers.push(Answer::Value(0))?;
-    answers.push(Answer::Refused(LwpErr::NoRoom))?;
-    answers.push(Answer::Letter {
+    let letter = Answer::Letter {
         from: Tid { number: 9 },
         text: Text::new(b"hi").ok_or("text")?,
         room: 0,
-    })?;
-    for _ in 0..5 {
-        answers.push(Answer::Value(0))?;
-    }
-    let made = calls(alloc, &script, answers)?;
+    };
+    let fine = || Answer::Value(0);
+    let refused = Answer::Refused(LwpErr::NoRoom);
+    let answers = vec![in alloc;
+        fine(),
+        refused,
+        letter,
+        fine(),
+        fine(),
+        fine(),
+        fine(),
+        fine(),
+    ]?;
+    let made = calls(alloc, &first, &[], answers)?;
     let null = NULL_TID.number;
     assert_eq!(rt;
         made.as_slice(),

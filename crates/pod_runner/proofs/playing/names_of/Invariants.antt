@@ -1,0 +1,5 @@
+use Rattle.std.proofs.Common.{◌≡◌, take}
+use Rattle.pod_runner.proofs.playing.names_of.Given as goal
+
+abbrev pub invariant-loop-proc : goal.invariant-loop-proc
+invariant-loop-proc g l = l.names.items ≡ take l.proc (g.P.Program.proc_names l.program)
