@@ -1,7 +1,7 @@
 -- Events of the outside, as messages of agents to their owners.
 use Rattle.script_text.specs.declared.script.Halt.TheVariants.{Ended, Spent, Stuck}
-use Rattle.std.specs.Prelude.{None, Some, [], codes, ◌∷◌}
-use Rattle.worked_rows.specs.Words.{Row, limited, line, named, plain, pod, posted, procedure, took}
+use Rattle.std.specs.Prelude.{None, Some, [], codes, ◌++◌, ◌∷◌}
+use Rattle.worked_rows.specs.Words.{Row, limited, line, longest_x, longest_y, named, plain, pod, posted, procedure, took}
 use Rattle.script_text.specs.declared.script.Who.TheVariants as who
 use Rattle.script_text.specs.declared.script.Test.TheVariants as test
 use Rattle.script_text.specs.declared.script.ExitStmt.TheVariants as exit_stmt
@@ -272,19 +272,15 @@ a_reply_before_the_letter = record {
 --   post 0 xx..x
 abbrev pub the_longest_reply_to_an_agent : Row
 the_longest_reply_to_an_agent = record {
-  script = posted (31 ∷ []) (line 0 0 (codes "xxxxxxxxxxxxxxxxxxxxxxxxxxxxxxxxxxxxxxxxxxxxxxxxxxxxxxxxxxxxxxxxxxxxxxxxxxxxxxxxxxxxxxxxxxxxxxxxxxxxxxxxxxxxxxxxxxxxxxxxxxxxxxxxxxxxxxxxxxxxxxxxxxxxxxxxxxxxxxxxxxxxxxxxxxxxxxxxxxxxxxxxxxxxxxxxxxxxxxxxxxxxxxxxxxxxxxxxxxxxxxxxxxxxxxxxxxxxxxxx")
-      ∷ [])
+  script = posted (31 ∷ []) (line 0 0 longest_x ∷ [])
       (pod 1 (named (codes "main" ∷ []) (codes "g" ∷ []) [] [])
-      (procedure 0 (stmt.Agent 0 31 ∷ stmt.Recv (Some (who.Named 0)) mode.Block
-      ∷ stmt.Reply (who.Named 0) (codes "yyyyyyyyyyyyyyyyyyyyyyyyyyyyyyyyyyyyyyyyyyyyyyyyyyyyyyyyyyyyyyyyyyyyyyyyyyyyyyyyyyyyyyyyyyyyyyyyyyyyyyyyyyyyyyyyyyyyyyyyyyyyyyyyyyyyyyyyyyyyyyyyyyyyyyyyyyyyyyyyyyyyyyyyyyyyyyyyyyyyyyyyyyyyyyyyyyyyyyyyyyyyyyyyyyyyyyyyyyyyyyyyyyyyyyyyyyyyyyyy")
-      ∷ [])
+      (procedure 0 (stmt.Agent 0 31 ∷ stmt.Recv (Some (who.Named 0)) mode.Block ∷ stmt.Reply (who.Named 0) longest_y ∷ [])
       ∷ []));
   turns = 100000;
-  trace = codes "t0: agent 31\nt0 = t1\nevent 31 client 0 seq 0 xxxxxxxxxxxxxxxxxxxxxxxxxxxxxxxxxxxxxxxxxxxxxxxxxxxxxxxxxxxxxxxxxxxxxxxxxxxxxxxxxxxxxxxxxxxxxxxxxxxxxxxxxxxxxxxxxxxxxxxxxxxxxxxxxxxxxxxxxxxxxxxxxxxxxxxxxxxxxxxxxxxxxxxxxxxxxxxxxxxxxxxxxxxxxxxxxxxxxxxxxxxxxxxxxxxxxxxxxxxxxxxxxxxxxxxxxxxxxxxx\nt0: recv t1 wait\nt0 = letter t1 240 xxxxxxxxxxxxxxxxxxxxxxxxxxxxxxxxxxxxxxxxxxxxxxxxxxxxxxxxxxxxxxxxxxxxxxxxxxxxxxxxxxxxxxxxxxxxxxxxxxxxxxxxxxxxxxxxxxxxxxxxxxxxxxxxxxxxxxxxxxxxxxxxxxxxxxxxxxxxxxxxxxxxxxxxxxxxxxxxxxxxxxxxxxxxxxxxxxxxxxxxxxxxxxxxxxxxxxxxxxxxxxxxxxxxxxxxxxxxxxxx\nt0: reply t1 yyyyyyyyyyyyyyyyyyyyyyyyyyyyyyyyyyyyyyyyyyyyyyyyyyyyyyyyyyyyyyyyyyyyyyyyyyyyyyyyyyyyyyyyyyyyyyyyyyyyyyyyyyyyyyyyyyyyyyyyyyyyyyyyyyyyyyyyyyyyyyyyyyyyyyyyyyyyyyyyyyyyyyyyyyyyyyyyyyyyyyyyyyyyyyyyyyyyyyyyyyyyyyyyyyyyyyyyyyyyyyyyyyyyyyyyyyyyyyyy\nt0 = 0\nt0: return\nt0 dies\npod ends 0\n";
+  trace = codes "t0: agent 31\nt0 = t1\nevent 31 client 0 seq 0 " ++ (longest_x ++ (codes "\nt0: recv t1 wait\nt0 = letter t1 240 " ++ (longest_x ++ (codes "\nt0: reply t1 " ++ (longest_y ++ codes "\nt0 = 0\nt0: return\nt0 dies\npod ends 0\n")))));
   halt = Ended 0;
   calls = 4;
-  takes = took 1 31 (line 0 0 (codes "xxxxxxxxxxxxxxxxxxxxxxxxxxxxxxxxxxxxxxxxxxxxxxxxxxxxxxxxxxxxxxxxxxxxxxxxxxxxxxxxxxxxxxxxxxxxxxxxxxxxxxxxxxxxxxxxxxxxxxxxxxxxxxxxxxxxxxxxxxxxxxxxxxxxxxxxxxxxxxxxxxxxxxxxxxxxxxxxxxxxxxxxxxxxxxxxxxxxxxxxxxxxxxxxxxxxxxxxxxxxxxxxxxxxxxxxxxxxxxxx"))
-      ∷ [];
+  takes = took 1 31 (line 0 0 longest_x) ∷ [];
 }
 
 -- The message of a destroyed agent is gone; the next line comes to the next agent of the event.

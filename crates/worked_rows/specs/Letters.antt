@@ -1,7 +1,7 @@
 -- Messages: a sender waits for its reply.
 use Rattle.script_text.specs.declared.script.Halt.TheVariants.{Ended, Stuck}
-use Rattle.std.specs.Prelude.{None, Some, [], codes, ◌∷◌}
-use Rattle.worked_rows.specs.Words.{Row, asleep, named, plain, pod, procedure, serving}
+use Rattle.std.specs.Prelude.{None, Some, [], codes, ◌++◌, ◌∷◌}
+use Rattle.worked_rows.specs.Words.{Row, asleep, longest_x, longest_y, named, plain, pod, procedure, serving}
 use Rattle.script_text.specs.declared.script.Who.TheVariants as who
 use Rattle.script_text.specs.declared.script.Stmt.TheVariants as stmt
 use Rattle.lwp_types.specs.declared.call.Mode.TheVariants as mode
@@ -126,14 +126,11 @@ room_for_nothing = record {
 abbrev pub room_for_the_longest : Row
 room_for_the_longest = record {
   script = pod 1 (named (codes "main" ∷ codes "w" ∷ []) (codes "a" ∷ []) [] [])
-      (procedure 0 (stmt.Create 0 1 1 plain ∷ stmt.Recv None mode.Block
-      ∷ stmt.Reply (who.Named 0) (codes "yyyyyyyyyyyyyyyyyyyyyyyyyyyyyyyyyyyyyyyyyyyyyyyyyyyyyyyyyyyyyyyyyyyyyyyyyyyyyyyyyyyyyyyyyyyyyyyyyyyyyyyyyyyyyyyyyyyyyyyyyyyyyyyyyyyyyyyyyyyyyyyyyyyyyyyyyyyyyyyyyyyyyyyyyyyyyyyyyyyyyyyyyyyyyyyyyyyyyyyyyyyyyyyyyyyyyyyyyyyyyyyyyyyyyyyyyyyyyyyy")
-      ∷ [])
-      ∷ procedure 1 (stmt.Send who.First 240 (codes "xxxxxxxxxxxxxxxxxxxxxxxxxxxxxxxxxxxxxxxxxxxxxxxxxxxxxxxxxxxxxxxxxxxxxxxxxxxxxxxxxxxxxxxxxxxxxxxxxxxxxxxxxxxxxxxxxxxxxxxxxxxxxxxxxxxxxxxxxxxxxxxxxxxxxxxxxxxxxxxxxxxxxxxxxxxxxxxxxxxxxxxxxxxxxxxxxxxxxxxxxxxxxxxxxxxxxxxxxxxxxxxxxxxxxxxxxxxxxxxx")
-      ∷ [])
+      (procedure 0 (stmt.Create 0 1 1 plain ∷ stmt.Recv None mode.Block ∷ stmt.Reply (who.Named 0) longest_y ∷ [])
+      ∷ procedure 1 (stmt.Send who.First 240 longest_x ∷ [])
       ∷ []);
   turns = 100000;
-  trace = codes "t0: create w 1 -\nt0 = t1\nt0: recv any wait\nt1: send t0 240 xxxxxxxxxxxxxxxxxxxxxxxxxxxxxxxxxxxxxxxxxxxxxxxxxxxxxxxxxxxxxxxxxxxxxxxxxxxxxxxxxxxxxxxxxxxxxxxxxxxxxxxxxxxxxxxxxxxxxxxxxxxxxxxxxxxxxxxxxxxxxxxxxxxxxxxxxxxxxxxxxxxxxxxxxxxxxxxxxxxxxxxxxxxxxxxxxxxxxxxxxxxxxxxxxxxxxxxxxxxxxxxxxxxxxxxxxxxxxxxx\nt0 = letter t1 240 xxxxxxxxxxxxxxxxxxxxxxxxxxxxxxxxxxxxxxxxxxxxxxxxxxxxxxxxxxxxxxxxxxxxxxxxxxxxxxxxxxxxxxxxxxxxxxxxxxxxxxxxxxxxxxxxxxxxxxxxxxxxxxxxxxxxxxxxxxxxxxxxxxxxxxxxxxxxxxxxxxxxxxxxxxxxxxxxxxxxxxxxxxxxxxxxxxxxxxxxxxxxxxxxxxxxxxxxxxxxxxxxxxxxxxxxxxxxxxxx\nt0: reply t1 yyyyyyyyyyyyyyyyyyyyyyyyyyyyyyyyyyyyyyyyyyyyyyyyyyyyyyyyyyyyyyyyyyyyyyyyyyyyyyyyyyyyyyyyyyyyyyyyyyyyyyyyyyyyyyyyyyyyyyyyyyyyyyyyyyyyyyyyyyyyyyyyyyyyyyyyyyyyyyyyyyyyyyyyyyyyyyyyyyyyyyyyyyyyyyyyyyyyyyyyyyyyyyyyyyyyyyyyyyyyyyyyyyyyyyyyyyyyyyyy\nt1 = reply yyyyyyyyyyyyyyyyyyyyyyyyyyyyyyyyyyyyyyyyyyyyyyyyyyyyyyyyyyyyyyyyyyyyyyyyyyyyyyyyyyyyyyyyyyyyyyyyyyyyyyyyyyyyyyyyyyyyyyyyyyyyyyyyyyyyyyyyyyyyyyyyyyyyyyyyyyyyyyyyyyyyyyyyyyyyyyyyyyyyyyyyyyyyyyyyyyyyyyyyyyyyyyyyyyyyyyyyyyyyyyyyyyyyyyyyyyyyyyyy\nt0 = 0\nt0: return\nt0 dies\nt1: return\nt1 dies\npod ends 0\n";
+  trace = codes "t0: create w 1 -\nt0 = t1\nt0: recv any wait\nt1: send t0 240 " ++ (longest_x ++ (codes "\nt0 = letter t1 240 " ++ (longest_x ++ (codes "\nt0: reply t1 " ++ (longest_y ++ (codes "\nt1 = reply " ++ (longest_y ++ codes "\nt0 = 0\nt0: return\nt0 dies\nt1: return\nt1 dies\npod ends 0\n")))))));
   halt = Ended 0;
   calls = 6;
   takes = [];

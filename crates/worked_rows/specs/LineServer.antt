@@ -1,5 +1,5 @@
 -- The line server at work: three clients, a session for each, one store. Each client asks for thirteen keys in turn, to be put,
--- got and deleted, and quits; each session waits for the store while the two others ask.
+-- got and deleted, and quits. The store is of greater priority and replies at once; the sessions take turns, a request each.
 use Rattle.lwp_types.specs.declared.call.Line.{Line}
 use Rattle.pod_runner.specs.Due.{counted_to}
 use Rattle.pod_runner.specs.declared.session.Took.{Took}

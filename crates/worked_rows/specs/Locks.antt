@@ -171,12 +171,12 @@ births_of_monitors_and_conditions = record {
   takes = [];
 }
 
--- A monitor is held across a yield; its owner isn't asked whether it may run.
+-- A monitor stays held while its owner is suspended.
 --   lwp 1 / pod 1
 --   proc main / moncreate m / enter m / create a w 1 - / suspend self / monexit m
 --   proc w / condenter m / resume first / enter m / monexit m
-abbrev pub an_owner_that_yields : Row
-an_owner_that_yields = record {
+abbrev pub a_suspended_owner : Row
+a_suspended_owner = record {
   script = pod 1 (named (codes "main" ∷ codes "w" ∷ []) (codes "a" ∷ []) (codes "m" ∷ []) [])
       (procedure 0 (stmt.MonCreate 0 ∷ stmt.Enter 0 ∷ stmt.Create 0 1 1 plain ∷ stmt.Suspend who.Me ∷ stmt.MonExit 0 ∷ [])
       ∷ procedure 1 (stmt.CondEnter 0 ∷ stmt.Resume who.First ∷ stmt.Enter 0 ∷ stmt.MonExit 0 ∷ [])

@@ -1,7 +1,7 @@
 -- What the statements of a procedure mean that make no call, what names stand for, and how texts are printed.
 use Rattle.script_text.specs.declared.script.Halt.TheVariants.{Ended}
-use Rattle.std.specs.Prelude.{None, Some, [], codes, ◌∷◌}
-use Rattle.worked_rows.specs.Words.{Row, limited, named, plain, pod, procedure}
+use Rattle.std.specs.Prelude.{None, Some, [], codes, ◌++◌, ◌∷◌}
+use Rattle.worked_rows.specs.Words.{Row, limited, longest_x, named, plain, pod, procedure}
 use Rattle.script_text.specs.declared.script.Who.TheVariants as who
 use Rattle.script_text.specs.declared.script.Test.TheVariants as test
 use Rattle.script_text.specs.declared.script.ExitStmt.TheVariants as exit_stmt
@@ -50,8 +50,8 @@ a_skip_over_a_skip = record {
 --   lwp 1 / pod 1
 --   proc main / skip is 0 / say never / say yes / call p
 --   proc p / skip is 1 / skip is 0 / say never / say in
-abbrev pub a_skip_at_the_begin : Row
-a_skip_at_the_begin = record {
+abbrev pub a_skip_at_the_start : Row
+a_skip_at_the_start = record {
   script = pod 1 (named (codes "main" ∷ codes "p" ∷ []) [] [] [])
       (procedure 0 (stmt.Skip (test.Value 0) ∷ stmt.Say (codes "never") ∷ stmt.Say (codes "yes") ∷ stmt.CallProc 1 ∷ [])
       ∷ procedure 1 (stmt.Skip (test.Value 1) ∷ stmt.Skip (test.Value 0) ∷ stmt.Say (codes "never") ∷ stmt.Say (codes "in") ∷ [])
@@ -254,12 +254,10 @@ the_caller_prints_as_self = record {
 abbrev pub texts : Row
 texts = record {
   script = pod 1 (named (codes "main" ∷ []) [] [] [])
-      (procedure 0 (stmt.Say [] ∷ stmt.Say (codes " two") ∷ stmt.Say (codes "a  b")
-      ∷ stmt.Say (codes "xxxxxxxxxxxxxxxxxxxxxxxxxxxxxxxxxxxxxxxxxxxxxxxxxxxxxxxxxxxxxxxxxxxxxxxxxxxxxxxxxxxxxxxxxxxxxxxxxxxxxxxxxxxxxxxxxxxxxxxxxxxxxxxxxxxxxxxxxxxxxxxxxxxxxxxxxxxxxxxxxxxxxxxxxxxxxxxxxxxxxxxxxxxxxxxxxxxxxxxxxxxxxxxxxxxxxxxxxxxxxxxxxxxxxxxxxxxxxxxx")
-      ∷ [])
+      (procedure 0 (stmt.Say [] ∷ stmt.Say (codes " two") ∷ stmt.Say (codes "a  b") ∷ stmt.Say longest_x ∷ [])
       ∷ []);
   turns = 100000;
-  trace = codes "t0: say\nt0 = 0\nt0: say  two\nt0 = 0\nt0: say a  b\nt0 = 0\nt0: say xxxxxxxxxxxxxxxxxxxxxxxxxxxxxxxxxxxxxxxxxxxxxxxxxxxxxxxxxxxxxxxxxxxxxxxxxxxxxxxxxxxxxxxxxxxxxxxxxxxxxxxxxxxxxxxxxxxxxxxxxxxxxxxxxxxxxxxxxxxxxxxxxxxxxxxxxxxxxxxxxxxxxxxxxxxxxxxxxxxxxxxxxxxxxxxxxxxxxxxxxxxxxxxxxxxxxxxxxxxxxxxxxxxxxxxxxxxxxxxx\nt0 = 0\nt0: return\nt0 dies\npod ends 0\n";
+  trace = codes "t0: say\nt0 = 0\nt0: say  two\nt0 = 0\nt0: say a  b\nt0 = 0\nt0: say " ++ (longest_x ++ codes "\nt0 = 0\nt0: return\nt0 dies\npod ends 0\n");
   halt = Ended 0;
   calls = 5;
   takes = [];

@@ -10,7 +10,7 @@ use Rattle.script_text.specs.declared.script.NativeKind.{NativeKind}
 use Rattle.script_text.specs.declared.script.Proc.{Proc}
 use Rattle.script_text.specs.declared.script.Script.{Script}
 use Rattle.script_text.specs.declared.script.Stmt.{Stmt}
-use Rattle.std.specs.Prelude.{List, Some, [], false, true, ℕ, ◌≡◌}
+use Rattle.std.specs.Prelude.{List, Some, [], false, replicate, true, ℕ, ◌≡◌}
 
 -- a script, the turns that it is given, and what is to come of it: the whole trace, the end, the number of calls, the lines taken
 pub record Row : Type 0 where
@@ -83,3 +83,11 @@ line client seq text = record { client = client; seq = seq; text = text }
 -- a line that was taken after so many calls, for this event
 abbrev pub took : ℕ → ℕ → Line → Took
 took turn event line = record { turn = turn; line = line; event = event }
+
+-- the longest text of one letter
+abbrev pub longest_x : List ℕ
+longest_x = replicate 240 120
+
+-- the same of another
+abbrev pub longest_y : List ℕ
+longest_y = replicate 240 121

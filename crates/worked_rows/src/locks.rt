@@ -1,5 +1,5 @@
 // Monitors, which their owners may enter again.
-ghost use Rattle.worked_rows.specs.Locks.{breaking_a_lock, monitor_requests, no_such_monitor, entered_again_and_again, anothers_lock, the_greatest_priority_enters_next, a_broken_lock_passes_on, monitors_and_their_waiters, births_of_monitors_and_conditions, an_owner_that_yields};
+ghost use Rattle.worked_rows.specs.Locks.{breaking_a_lock, monitor_requests, no_such_monitor, entered_again_and_again, anothers_lock, the_greatest_priority_enters_next, a_broken_lock_passes_on, monitors_and_their_waiters, births_of_monitors_and_conditions, a_suspended_owner};
 ghost use Rattle.worked_rows.specs.Words.{IsWorked};
 
 /// Who enters, waits, leaves, breaks and destroys.
@@ -13,5 +13,5 @@ pub fn entering()
     ensures a_broken_lock_passes_on { IsWorked a_broken_lock_passes_on }
     ensures monitors_and_their_waiters { IsWorked monitors_and_their_waiters }
     ensures births_of_monitors_and_conditions { IsWorked births_of_monitors_and_conditions }
-    ensures an_owner_that_yields { IsWorked an_owner_that_yields }
+    ensures a_suspended_owner { IsWorked a_suspended_owner }
 {}

@@ -47,6 +47,6 @@ pub returns-clause-births_of_monitors_and_conditions : goal.returns-clause-birth
 unfolding trace_of halt_of calls_of takes_of plan_whole move called taken script_next session_next store_next step step_by deliver unless and_then in_order for_each digits
 returns-clause-births_of_monitors_and_conditions c = (refl, refl, refl, refl)
 
-pub returns-clause-an_owner_that_yields : goal.returns-clause-an_owner_that_yields
+pub returns-clause-a_suspended_owner : goal.returns-clause-a_suspended_owner
 unfolding trace_of halt_of calls_of takes_of plan_whole move called taken script_next session_next store_next step step_by deliver unless and_then in_order for_each digits
-returns-clause-an_owner_that_yields c = (refl, refl, refl, refl)
+returns-clause-a_suspended_owner c = (refl, refl, refl, refl)

@@ -19,9 +19,9 @@ pub returns-clause-a_skip_over_a_skip : goal.returns-clause-a_skip_over_a_skip
 unfolding trace_of halt_of calls_of takes_of plan_whole move called taken script_next session_next store_next step step_by deliver unless and_then in_order for_each digits
 returns-clause-a_skip_over_a_skip c = (refl, refl, refl, refl)
 
-pub returns-clause-a_skip_at_the_begin : goal.returns-clause-a_skip_at_the_begin
+pub returns-clause-a_skip_at_the_start : goal.returns-clause-a_skip_at_the_start
 unfolding trace_of halt_of calls_of takes_of plan_whole move called taken script_next session_next store_next step step_by deliver unless and_then in_order for_each digits
-returns-clause-a_skip_at_the_begin c = (refl, refl, refl, refl)
+returns-clause-a_skip_at_the_start c = (refl, refl, refl, refl)
 
 pub returns-clause-a_skip_past_the_end : goal.returns-clause-a_skip_past_the_end
 unfolding trace_of halt_of calls_of takes_of plan_whole move called taken script_next session_next store_next step step_by deliver unless and_then in_order for_each digits
