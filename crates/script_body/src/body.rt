@@ -1,6 +1,6 @@
 // A thread that runs a procedure of a script.
-ghost use Rattle.std.specs.Prelude.{◌≡◌, ◌<◌, is_some, unwrap_or, length, IfOk, OnOk};
-ghost use Rattle.script_text.specs.Script.{proc_number};
+ghost use Rattle.std.specs.Prelude.{◌≡◌, ◌<◌, ◌≤◌, ◌^◌, is_some, unwrap_or, length, IfOk, OnOk, OnErr};
+ghost use Rattle.script_text.specs.Script.{proc_number, proc_places};
 ghost use Rattle.script_body.specs.Calls.{call_of};
 ghost use Rattle.script_body.specs.ScriptBody.{script_opening, frame_above, back_at, taken_caught, unhandled, with_frame, returned, with_sender_by, taken_by, taken_refused, taken_plain, taken, stmt_after, behind};
 
@@ -40,11 +40,12 @@ impl<'s> Model for ScriptBody<'s> {
 }
 
 impl<'s> ScriptBody<'s> {
-    /// A thread at the begin of a procedure. No memory is asked for: `NoMemory` is the answer only where a script has
-    /// more procedures than a `u32` can number.
+    /// A thread at the begin of a procedure. No memory is asked for: `NoMemory` is the answer only to a script with more
+    /// procedures than a `u32` can number.
     pub fn new(alloc: Global, script: &'s Script, proc: u32) -> Result<ScriptBody<'s>, NoMemory>
         requires { proc < length script.now.procs }
-        ensures { IfOk result (λ b. b ≡ script_opening script.now proc) }
+        ensures ok { IfOk result (λ b. b ≡ script_opening script.now proc) }
+        ensures err { OnErr result (2 ^ 32 ≤ length (proc_places script.now)) }
     {
         if !has_numbers(script) {
             return Err(NoMemory);
