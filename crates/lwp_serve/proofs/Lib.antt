@@ -1,2 +1,3 @@
 pub mod SourceLemmas
 pub mod BuiltLaws
+pub mod ProgramLaws

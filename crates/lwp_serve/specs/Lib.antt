@@ -3,3 +3,4 @@ pub mod Bodies
 pub mod Planned
 pub mod Outcome
 pub mod Reading
+pub mod BodyLaws

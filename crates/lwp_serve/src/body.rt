@@ -23,7 +23,7 @@ impl<'s> ThreadBody<'s> {
 
     /// The thread runs this.
     pub fn scripted(script: ScriptBody<'s>) -> ThreadBody<'s>
-        ensures { result ≡ Scripted script }
+        ensures { result ≡ Scripted script.entry }
     {
         ThreadBody { script }
     }

@@ -1,6 +1,8 @@
 //! The program.
 #![tactic(auto)]
 
+mod body;
+mod program;
 mod session;
 mod source;
 
