@@ -4,3 +4,4 @@ pub mod Planned
 pub mod Outcome
 pub mod Reading
 pub mod BodyLaws
+pub mod Plan
