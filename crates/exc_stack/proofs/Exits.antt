@@ -183,6 +183,13 @@ module _ (depth : ℕ) (ms : List Mark) (enough : depth ≤ frames ms) where
       by_exit None h = ap (λ ys. first_frames depth ms ++ ys) h ∙ append-nil (first_frames depth ms)
       by_exit (Some x) h = tt
 
+  lands_above : IfNone (last_exit (later_frames depth ms)) (frames (unwound_to depth ms).left ≡ depth)
+  lands_above = by_exit (last_exit (later_frames depth ms)) rest_above
+    where
+      by_exit : (o : Option ExitMark) → IfNone o ((unwound_to depth ms).left ≡ first_frames depth ms) → IfNone o (frames (unwound_to depth ms).left ≡ depth)
+      by_exit None h = ap frames h ∙ frames-first depth ms enough
+      by_exit (Some x) h = tt
+
   pub UnwindsTo-step : UnwindsTo depth ms (unwound_to depth ms).left (unwound_to depth ms).exit
   UnwindsTo-step = record {
     stays = first_stays;
@@ -190,6 +197,7 @@ module _ (depth : ℕ) (ms : List Mark) (enough : depth ≤ frames ms) where
     next = exits-next (later_frames depth ms) ∙ ap (λ ys. option_to_list (last_exit (later_frames depth ms)) ++ exits_of ys) (sym later_left);
     last = none_left (later_frames depth ms);
     rest = rest_above;
+    lands = lands_above;
     shrinks = fewer_above;
   }
 

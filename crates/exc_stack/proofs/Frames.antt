@@ -108,6 +108,18 @@ frames-first (suc n) (mark.Frame ∷ ms) h = omega (arith, frames-frame ms, fram
 frames-first n (mark.Handler pat func arg ∷ ms) h = frames-cons (mark.Handler pat func arg) (first_frames n ms) refl ∙ frames-first n ms (omega (arith, frames-cons (mark.Handler pat func arg) ms refl))
 frames-first n (mark.Exit reg x ∷ ms) h = frames-cons (mark.Exit reg x) (first_frames n ms) refl ∙ frames-first n ms (omega (arith, frames-cons (mark.Exit reg x) ms refl))
 
+-- as many frames as a lower part has are that part, and what its topmost frame has above it
+pub first-append : (n : ℕ) (ms ys : List Mark) → n ≡ frames ms → first_frames n (ms ++ ys) ≡ ms ++ first_frames 0 ys
+first-append zero [] ys h = refl
+first-append (suc n) [] ys h = absurd (omega arith)
+first-append zero (mark.Frame ∷ ms) ys h = absurd (omega (arith, frames-frame ms))
+first-append (suc n) (mark.Frame ∷ ms) ys h = ap (λ zs. mark.Frame ∷ zs) (first-append n ms ys (omega (arith, frames-frame ms)))
+first-append n (mark.Handler pat func arg ∷ ms) ys h = ap (λ zs. mark.Handler pat func arg ∷ zs) (first-append n ms ys (omega (arith, frames-cons (mark.Handler pat func arg) ms refl)))
+first-append n (mark.Exit reg x ∷ ms) ys h = ap (λ zs. mark.Exit reg x ∷ zs) (first-append n ms ys (omega (arith, frames-cons (mark.Exit reg x) ms refl)))
+
+pub frames-first-zero : (ms : List Mark) → frames (first_frames 0 ms) ≡ 0
+frames-first-zero ms = frames-first 0 ms (omega arith)
+
 -- more on the top is above the first frames
 pub later-append : (n : ℕ) (ms ys : List Mark) → n < frames ms → later_frames n (ms ++ ys) ≡ later_frames n ms ++ ys
 later-append n [] ys h = absurd (omega arith)

@@ -13,11 +13,6 @@ pub some_frame : (ms : List Mark) → begins_with_frame ms ≡ true → 0 < leng
 some_frame [] e h = absurd (omega arith)
 some_frame (m ∷ ms) e h = omega (arith, count-cons is_frame m ms, ap one e)
 
--- nor have those that have a handler
-pub some_frame_of : (ms : List Mark) (k : ℕ) → begins_with_frame ms ≡ true → k < handlers_on_top ms → 0 < frames ms
-some_frame_of [] k e h = absurd (omega arith)
-some_frame_of (m ∷ ms) k e h = some_frame (m ∷ ms) e (omega arith)
-
 -- frames and exits stay
 frames-first_handlers : (n : ℕ) (ms : List Mark) → frames (first_handlers n ms) ≡ frames ms
 frames-first_handlers n [] = refl
@@ -64,3 +59,10 @@ handlers-push ms m some e =
     ap (λ n. count_by is_handler (later_frames (n - 1) (ms ++ m ∷ []))) same
     ∙ ap (λ zs. count_by is_handler zs) (later-append (frames ms - 1) ms (m ∷ []) (omega arith))
     ∙ omega (arith, count-append is_handler (later_frames (frames ms - 1) ms) (m ∷ []))
+
+-- a handler and more on the top, in the same frame
+pub handlers-more : (ms rest : List Mark) (m : Mark) → 0 < frames ms → is_handler m ≡ true → frames (m ∷ rest) ≡ 0 → handlers_on_top ms < handlers_on_top (ms ++ m ∷ rest)
+handlers-more ms rest m some e none =
+    let same : frames (ms ++ m ∷ rest) ≡ frames ms = omega (arith, none, count-append is_frame ms (m ∷ rest)) in
+    let more = ap (λ n. count_by is_handler (later_frames (n - 1) (ms ++ m ∷ rest))) same ∙ ap (λ zs. count_by is_handler zs) (later-append (frames ms - 1) ms (m ∷ rest) (omega arith)) in
+    omega (arith, more, count-append is_handler (later_frames (frames ms - 1) ms) (m ∷ rest), count-cons is_handler m rest, ap one e)

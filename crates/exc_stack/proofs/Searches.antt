@@ -1,13 +1,14 @@
 -- The search for a handler finds the topmost that catches the exception.
 use Rattle.exc_stack.proofs.Counts.{count-append, count-cons, one}
-use Rattle.exc_stack.proofs.Handlers.{handlers-frame, handlers-push}
-use Rattle.exc_stack.specs.Stack.{IsTopmostMatch, begins_with_frame, catches, handlers_on_top}
-use Rattle.lwp_types.specs.Marks.{Search, found_in, frames, is_frame, look, matches}
+use Rattle.exc_stack.proofs.Handlers.{handlers-frame, handlers-more, handlers-push, some_frame}
+use Rattle.exc_stack.proofs.Frames.{first-append, frames-cons, frames-first-zero}
+use Rattle.exc_stack.specs.Stack.{IsInReach, IsTopmostMatch, begins_with_frame, catches, handlers_on_top}
+use Rattle.lwp_types.specs.Marks.{Search, first_frames, found_in, frames, is_frame, look, matches}
 use Rattle.lwp_types.specs.declared.call.Func.{Func}
 use Rattle.lwp_types.specs.declared.call.Pattern.{Pattern}
 use Rattle.lwp_types.specs.declared.rows.Found.{Found}
 use Rattle.lwp_types.specs.declared.rows.Mark.{Mark}
-use Rattle.std.proofs.Common.{Bool, List, MatchOption, None, Option, Some, [], ap, append_assoc, arith, cond, false, refl, sym, true, ℕ, ◌++◌, ◌+◌, ◌<◌, ◌||◌, ◌∙◌, ◌∷◌, ◌≡◌}
+use Rattle.std.proofs.Common.{Bool, IfSome, List, MatchOption, None, Option, Some, [], ap, append_assoc, arith, cond, false, refl, sym, true, ℕ, ◌++◌, ◌+◌, ◌<◌, ◌||◌, ◌∙◌, ◌∷◌, ◌≡◌}
 use Rattle.std.proofs.lemmas.List.Folds.{list_any-append}
 use Rattle.std.proofs.lemmas.List.{append-nil}
 use Rattle.std.specs.List.{fold, list_any}
@@ -83,3 +84,26 @@ found_in-topmost p (mark.Frame ∷ ms) e = (Knows-all p (mark.Frame ∷ []) ms (
     start = record { some = omega arith; depth = refl; number = refl; finds = refl }
 found_in-topmost p (mark.Handler pat func arg ∷ ms) e = absurd (cc)
 found_in-topmost p (mark.Exit reg x ∷ ms) e = absurd (cc)
+
+-- the frame of a handler that was found is there, with the handler in it
+IsInReach-match : (p : ℕ) (ms : List Mark) (f : Found) → begins_with_frame ms ≡ true → IsTopmostMatch p ms f → IsInReach ms f
+IsInReach-match p ms f e found =
+    let h = mark.Handler found.pattern f.func f.arg in
+    let some = some_below found.below (rw found.splits at e) in
+    let front = first-append f.depth found.below (h ∷ found.above) found.depth in
+    record {
+      least = omega (arith, some, found.depth);
+      most = omega (arith, found.depth, ap frames found.splits, count-append is_frame found.below (h ∷ found.above));
+      number = rw (found.splits, front) (omega (arith, found.number, handlers-more found.below (first_frames 0 found.above) h some refl (frames-cons h (first_frames 0 found.above) refl ∙ frames-first-zero found.above)));
+    }
+  where
+    some_below : (below : List Mark) → begins_with_frame (below ++ mark.Handler found.pattern f.func f.arg ∷ found.above) ≡ true → 0 < frames below
+    some_below [] b = absurd (cc)
+    some_below (m ∷ below) b = some_frame (m ∷ below) b (omega arith)
+
+pub found_in-in_reach : (p : ℕ) (ms : List Mark) → begins_with_frame ms ≡ true → IfSome (found_in p ms) (IsInReach ms)
+found_in-in_reach p ms e = by_found (found_in p ms) (found_in-topmost p ms e)
+  where
+    by_found : (o : Option Found) → FindsIn p ms o → IfSome o (IsInReach ms)
+    by_found None none = tt
+    by_found (Some f) found = IsInReach-match p ms f e found

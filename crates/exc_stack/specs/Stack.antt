@@ -117,6 +117,12 @@ pub record IsTopmostMatch (p : ℕ) (ms : List Mark) (f : Found) : Type 0 where
   pub depth : f.depth ≡ frames below
   pub number : f.mark ≡ handlers_on_top below
 
+-- the stack can be unwound to the handler's frame, and has the handler in it then
+pub record IsInReach (ms : List Mark) (f : Found) : Type 0 where
+  pub least : 1 ≤ f.depth
+  pub most : f.depth ≤ frames ms
+  pub number : f.mark < handlers_on_top (first_frames f.depth ms)
+
 -- one step of an unwinding to the first frames: what it gives is the next of the exits that are due
 pub record UnwindsTo (depth : ℕ) (before after : List Mark) (given : Option ExitMark) : Type 0 where
   pub stays : first_frames depth after ≡ first_frames depth before
@@ -124,6 +130,7 @@ pub record UnwindsTo (depth : ℕ) (before after : List Mark) (given : Option Ex
   pub next : exits_of (later_frames depth before) ≡ option_to_list given ++ exits_of (later_frames depth after)
   pub last : IsNone given ↔ (exits_of (later_frames depth before) ≡ [])
   pub rest : IfNone given (after ≡ first_frames depth before)
+  pub lands : IfNone given (frames after ≡ depth)
   pub shrinks : OnSome given (length after < length before)
 
 -- one step of an unwinding of the whole stack

@@ -1,9 +1,9 @@
 // The stack.
-ghost use Rattle.std.specs.Prelude.{◌≡◌, ◌↔◌, ◌<◌, ◌≤◌, ◌∷◌, [], false, if◌then◌else◌, is_ok, length, not, option_to_list, IfOk, IsOk, IsTrue, MatchOption, OnErr, OnOk};
+ghost use Rattle.std.specs.Prelude.{◌≡◌, ◌↔◌, ◌<◌, ◌≤◌, ◌∷◌, [], false, if◌then◌else◌, is_ok, length, not, option_to_list, IfOk, IfSome, IsOk, IsTrue, MatchOption, OnErr, OnOk};
 ghost use Rattle.std.specs.List.{list_any};
 ghost use Rattle.std.specs.Result.{result_err};
 ghost use Rattle.lwp_types.specs.Marks.{exits_of, first_frames, found_in, frames, is_frame, later_frames};
-ghost use Rattle.exc_stack.specs.Stack.{GivesInTurn, IsStack, IsTopmostMatch, UnwindsAll, UnwindsTo, catches, handlers_on_top, has_all_frames, is_full, one_frame, refusal_on, settled_at, unhandled, unwound_all, unwound_to, with_frame, with_mark};
+ghost use Rattle.exc_stack.specs.Stack.{GivesInTurn, IsInReach, IsStack, IsTopmostMatch, UnwindsAll, UnwindsTo, catches, handlers_on_top, has_all_frames, is_full, one_frame, refusal_on, settled_at, unhandled, unwound_all, unwound_to, with_frame, with_mark};
 
 use crate::marks::{found_in, frames, marks_below, settle, unwind};
 use lwp_types::{ExitCall, ExitMark, Found, Func, LwpErr, Mark, NoMemory, Pattern};
@@ -100,6 +100,7 @@ impl ExcStack {
         requires { 0 < length self.now }
         ensures value { result ≡ found_in pattern self.now }
         ensures topmost { MatchOption result (list_any (catches pattern) self.now ≡ false) (IsTopmostMatch pattern self.now) }
+        ensures in_reach { IfSome result (IsInReach self.now) }
     {
         found_in(&self.marks, pattern)
     }
