@@ -1,5 +1,5 @@
 -- Counts over a list that is put together.
-use Rattle.std.proofs.Common.{Bool, List, ap, arith, cond, count_by, ℕ, ◌++◌, ◌+◌, ◌∷◌, ◌≡◌, [], false, true, sym, ◌∙◌, refl}
+use Rattle.std.proofs.Common.{Bool, List, cond, count_by, ℕ, ◌++◌, ◌+◌, ◌∷◌, ◌≡◌}
 use Rattle.std.proofs.lemmas.List.Sums.{sum_by-append, sum_by-cons}
 
 -- what an element adds to the count of a test

@@ -5,13 +5,11 @@ use Rattle.exc_stack.specs.Stack.{GivesInTurn, UnwindsAll, UnwindsTo, begins_wit
 use Rattle.lwp_types.specs.Marks.{exit_of, exits_of, first_frames, frames, is_exit, is_frame, later_frames}
 use Rattle.lwp_types.specs.declared.rows.ExitMark.{ExitMark}
 use Rattle.lwp_types.specs.declared.rows.Mark.{Mark}
-use Rattle.std.proofs.Common.{Bool, IfNone, IsNone, List, None, OnSome, Option, Some, [], ap, arith, cond, drop, false, is_some, length, option_to_list, refl, reverse, sym, take, true, ℕ, ◌++◌, ◌+◌, ◌-◌, ◌<◌, ◌||◌, ◌↔◌, ◌∙◌, ◌∷◌, ◌≡◌, ◌≤◌}
-use Rattle.std.proofs.lemmas.Bool.{false≢true}
+use Rattle.std.proofs.Common.{Bool, IfNone, IsNone, List, None, OnSome, Option, Some, [], ap, arith, cond, drop, false, is_some, length, option_to_list, refl, reverse, sym, take, true, ℕ, ◌++◌, ◌<◌, ◌||◌, ◌↔◌, ◌∙◌, ◌∷◌, ◌≡◌, ◌≤◌}
 use Rattle.std.proofs.lemmas.List.Elements.{filter_map-append}
 use Rattle.std.proofs.lemmas.List.Folds.{list_any-append}
 use Rattle.std.proofs.lemmas.List.{append-nil, drop-append-le, drop_all, length-append, length_push, reverse-append, take-append-drop, take-append-le, take_all}
 use Rattle.std.specs.List.{cons_option, filter_map, find, list_any}
-use Rattle.lwp_types.specs.declared.rows.Mark.TheVariants as mark
 
 -- the exits of a list by its lowest mark, and by its topmost
 pub exits-cons : (m : Mark) (ms : List Mark) → exits_of (m ∷ ms) ≡ exits_of ms ++ option_to_list (exit_of m)

@@ -1,14 +1,12 @@
 -- The search for a handler finds the topmost that catches the exception.
-use Rattle.exc_stack.proofs.Counts.{count-append, count-cons, one}
+use Rattle.exc_stack.proofs.Counts.{count-append}
 use Rattle.exc_stack.proofs.Handlers.{handlers-frame, handlers-more, handlers-push, some_frame}
 use Rattle.exc_stack.proofs.Frames.{first-append, frames-cons, frames-first-zero}
 use Rattle.exc_stack.specs.Stack.{IsInReach, IsTopmostMatch, begins_with_frame, catches, handlers_on_top}
 use Rattle.lwp_types.specs.Marks.{Search, first_frames, found_in, frames, is_frame, look, matches}
-use Rattle.lwp_types.specs.declared.call.Func.{Func}
-use Rattle.lwp_types.specs.declared.call.Pattern.{Pattern}
 use Rattle.lwp_types.specs.declared.rows.Found.{Found}
 use Rattle.lwp_types.specs.declared.rows.Mark.{Mark}
-use Rattle.std.proofs.Common.{Bool, IfSome, List, MatchOption, None, Option, Some, [], ap, append_assoc, arith, cond, false, refl, sym, true, ℕ, ◌++◌, ◌+◌, ◌<◌, ◌||◌, ◌∙◌, ◌∷◌, ◌≡◌}
+use Rattle.std.proofs.Common.{Bool, IfSome, List, MatchOption, None, Option, Some, [], ap, append_assoc, arith, cond, false, refl, sym, true, ℕ, ◌++◌, ◌<◌, ◌∙◌, ◌∷◌, ◌≡◌}
 use Rattle.std.proofs.lemmas.List.Folds.{list_any-append}
 use Rattle.std.proofs.lemmas.List.{append-nil}
 use Rattle.std.specs.List.{fold, list_any}

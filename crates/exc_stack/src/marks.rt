@@ -1,6 +1,5 @@
 // Searches in the marks of a stack, and the ways in which marks go.
-ghost use Rattle.std.specs.Prelude.{◌≡◌, ◌++◌, ◌≤◌, ◌<◌, ◌-◌, length, take, drop};
-ghost use Rattle.std.specs.List.{count_by};
+ghost use Rattle.std.specs.Prelude.{◌≡◌, ◌++◌, ◌≤◌, ◌<◌, length, take, drop};
 ghost use Rattle.lwp_types.specs.Marks.{exit_of, first_frames, first_handlers, found_in, frames, is_frame, matches};
 ghost use Rattle.exc_stack.specs.Stack.{TakesTop, below_last_exit, is_handler, last_exit};
 

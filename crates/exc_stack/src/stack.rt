@@ -1,5 +1,5 @@
 // The stack.
-ghost use Rattle.std.specs.Prelude.{◌≡◌, ◌↔◌, ◌<◌, ◌≤◌, ◌∷◌, [], false, if◌then◌else◌, is_ok, length, not, option_to_list, IfOk, IfSome, IsOk, IsTrue, MatchOption, OnErr, OnOk};
+ghost use Rattle.std.specs.Prelude.{◌≡◌, ◌<◌, ◌≤◌, [], false, length, not, IfOk, IfSome, IsOk, IsTrue, MatchOption, OnErr, OnOk};
 ghost use Rattle.std.specs.List.{list_any};
 ghost use Rattle.std.specs.Result.{result_err};
 ghost use Rattle.lwp_types.specs.Marks.{exits_of, first_frames, found_in, frames, is_frame, later_frames};
@@ -11,6 +11,7 @@ use std::alloc::Global;
 use std::marker::Model;
 
 const MOST_FRAMES: u32 = 64;
+
 const MOST_MARKS: usize = 256;
 
 /// The marks of one thread, from the bottom to the top.
