@@ -5,3 +5,5 @@ pub mod Outcome
 pub mod Reading
 pub mod BodyLaws
 pub mod Plan
+pub mod Words
+pub mod Texts

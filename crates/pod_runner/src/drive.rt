@@ -29,6 +29,7 @@ pub fn run<B: Body, P: Program<B>, K: Sink>(
     ensures planned { run.old.takes ≡ [] → IfOk result (IsPlanned B.next P.bodies run.new) }
     ensures begun { run.old.takes ≡ [] → IsBegun B.next P.bodies P.proc_names run.new }
     ensures made { IsDefined (setting_of B.next P.bodies run.new) run.new.takes run.new.calls }
+    ensures unfailed { OnOk result (run.new.failed ≡ false) }
     ensures faults { OnOk result (K.faults sink.new ≡ K.faults sink.old) }
     ensures later { K.faults sink.old ≤ K.faults sink.new }
     ensures cause { IsErrOf result RunErr.WriteFault → Rose (K.faults sink.old) (K.faults sink.new) }
