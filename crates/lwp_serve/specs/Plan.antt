@@ -6,6 +6,8 @@ use Rattle.lwp_serve.specs.declared.session.SessionEnd.{SessionEnd}
 use Rattle.lwp_serve.specs.declared.session.SessionEnd.TheVariants as end
 use Rattle.lwp_types.specs.Streams.{AppendsPrefix, Rose, appended}
 use Rattle.script_text.specs.Grammar.{Spells}
+use Rattle.script_text.specs.declared.reason.Reason.{Reason}
+use Rattle.script_text.specs.declared.reason.Reason.TheVariants as reasons
 use Rattle.script_text.specs.declared.script.Halt.{Halt}
 use Rattle.script_text.specs.declared.script.Script.{Script}
 use Rattle.lwp_types.specs.Names.{Names, null_names}
@@ -82,11 +84,15 @@ RunSays turns script sink session _ = ⊥
 abbrev pub SourceSays : Stream → (Script → Type 0) → Type 0
 SourceSays source says = IsFaultless source × ((script : Script) × Holds source.old script × says script)
 
+-- which line is bad and why isn't told yet
+abbrev pub IsUnbuilt : ℕ → Reason → Type 0
+IsUnbuilt line reason = (line ≡ 0) × (reason ≡ reasons.Unbuilt)
+
 -- what each end says: a script was read, and run as far as this; or else nothing was written, and there is a cause
 abbrev pub EndSays : ℕ → Stream → Stream → Session → SessionEnd → Type 0
 EndSays turns source sink session end.Usage = ⊥
 EndSays turns source sink session end.ReadFault = IsFaulty source × IsUnread sink session
-EndSays turns source sink session (end.Script line reason) = IsFaultless source × HoldsNone source.old × IsUnread sink session
+EndSays turns source sink session (end.Script line reason) = IsFaultless source × HoldsNone source.old × IsUnread sink session × IsUnbuilt line reason
 EndSays turns source sink session end.NoMemory =
     IsFaultless source × IsUnread sink session ⊎ SourceSays source (λ script. RunSays turns script sink session end.NoMemory)
 EndSays turns source sink session e = SourceSays source (λ script. RunSays turns script sink session e)

@@ -8,17 +8,17 @@
 #![tactic(auto)]
 
 mod body;
+mod command;
 mod plan;
 mod program;
 mod session;
 mod source;
 mod texts;
-mod top;
 
 pub use body::ThreadBody;
+pub use command::top;
 pub use plan::plan_main;
 pub use program::ScriptProgram;
 pub use session::{Session, SessionEnd, Taken};
 pub use source::SCRIPT_MAX;
 pub use texts::fault_text;
-pub use top::top;

@@ -4,11 +4,9 @@
 //! said on standard error, and the exit status is the session's.
 #![tactic(auto)]
 
-mod stand_in;
 mod streams;
 
-use lwp_serve::{Session, SessionEnd};
-use stand_in::{fault_text, top};
+use lwp_serve::{Session, SessionEnd, fault_text, top};
 use std::io::{ErrorKind, Write};
 use std::process::ExitCode;
 use std::{env, io};

@@ -23,5 +23,5 @@ returns g c = rw c.new-in-Err-Bad.ensures (record {
   says = (c.in-Ok.ensures.same,
     holds-none (g.S.Source.left c.args.source.now) c.deref.result.now (rw c.deref.ensures.value c.in-Ok.ensures.read) 
       (bad-none c.deref.result.now c.in-Err-Bad.field-0 c.in-Err-Bad.field-0-0 c.in-Err-Bad.field-0-1 c.in-Err-Bad.field-0-is c.in-Err-Bad.ensures.only),
-    record { quiet = (refl, refl); calls = refl });
+    record { quiet = (refl, refl); calls = refl }, (refl, refl));
 })
