@@ -8,7 +8,10 @@ use Rattle.lwp_types.specs.Streams.{AppendsPrefix, Rose, appended}
 use Rattle.script_text.specs.Grammar.{Spells}
 use Rattle.script_text.specs.declared.script.Halt.{Halt}
 use Rattle.script_text.specs.declared.script.Script.{Script}
-use Rattle.std.specs.Prelude.{List, Option, None, Some, [], ℕ, ◌≡◌, ◌≤◌, ◌⊎◌}
+use Rattle.lwp_types.specs.Names.{Names, null_names}
+use Rattle.pod_runner.specs.Run.{Played}
+use Rattle.script_text.specs.Script.{params_of}
+use Rattle.std.specs.Prelude.{List, Option, None, Some, [], false, length, ℕ, ◌≡◌, ◌≤◌, ◌⊎◌}
 
 -- a source or a sink before and after: what it tells, and its count of faults
 pub record Stream : Type 0 where
@@ -39,46 +42,74 @@ abbrev pub HoldsNone : Option (List ℕ) → Type 0
 HoldsNone None = Unit {0}
 HoldsNone (Some told) = (script : Script) → Spells told script → ⊥
 
--- the session of a script, to its end: its whole trace was written, so many calls were made, and no line was there to be taken
-pub record IsWhole (turns : ℕ) (script : Script) (sink : Stream) (session : Session) (halt : Halt) : Type 0 where
-  pub trace : sink.new ≡ appended sink.old (trace_of script turns)
+-- what was told before and is told now: the session of a script, to its end; its whole trace was written, so many calls were made,
+-- and no line was there to be taken
+pub record IsWhole (turns : ℕ) (script : Script) (old new : Option (List ℕ)) (calls : ℕ) (halt : Halt) : Type 0 where
+  pub trace : new ≡ appended old (trace_of script turns)
   pub halted : halt_of script turns ≡ Some halt
-  pub ends : session.end ≡ end_of halt
-  pub calls : session.turns ≡ calls_of script turns
+  pub made : calls ≡ calls_of script turns
   pub takes : takes_of script turns ≡ []
 
 -- the first part of it: the first bytes of its trace were written, and no more calls were made than it makes
-pub record IsPart (turns : ℕ) (script : Script) (sink : Stream) (session : Session) : Type 0 where
-  pub trace : AppendsPrefix sink.old sink.new (trace_of script turns)
-  pub calls : session.turns ≤ calls_of script turns
+pub record IsPart (turns : ℕ) (script : Script) (old new : Option (List ℕ)) (calls : ℕ) : Type 0 where
+  pub trace : AppendsPrefix old new (trace_of script turns)
+  pub made : calls ≤ calls_of script turns
 
 -- it ended before a script was read
 pub record IsUnread (sink : Stream) (session : Session) : Type 0 where
   pub quiet : IsQuiet sink
   pub calls : session.turns ≡ 0
 
--- the script that the source held was run to its end
-abbrev pub RanWhole : ℕ → Stream → Stream → Session → Type 0
-RanWhole turns source sink session = IsFaultless source × IsFaultless sink
-    × ((script : Script) × Holds source.old script × ((halt : Halt) × IsWhole turns script sink session halt))
+-- a session to its end
+abbrev pub IsRun : ℕ → Script → Stream → Session → Type 0
+IsRun turns script sink session =
+    IsFaultless sink × ((halt : Halt) × (session.end ≡ end_of halt) × IsWhole turns script sink.old sink.new session.turns halt)
 
--- it was run as far as this
-abbrev pub RanPart : ℕ → Stream → Stream → Session → Type 0
-RanPart turns source sink session = IsFaultless source × ((script : Script) × Holds source.old script × IsPart turns script sink session)
+-- a session as far as it came
+abbrev pub IsRunPart : ℕ → Script → Stream → Session → Type 0
+IsRunPart turns script sink session = IsPart turns script sink.old sink.new session.turns
 
--- what each end says: a run to the end comes to one of three, and any other has its cause
+-- what each end says of the session of a script that was read
+abbrev pub RunSays : ℕ → Script → Stream → Session → SessionEnd → Type 0
+RunSays turns script sink session (end.Ended status) = IsRun turns script sink session
+RunSays turns script sink session end.Stuck = IsRun turns script sink session
+RunSays turns script sink session end.Spent = IsRun turns script sink session
+RunSays turns script sink session end.WriteFault = IsFaulty sink × IsRunPart turns script sink session
+RunSays turns script sink session end.NoMemory = IsFaultless sink × (IsUnread sink session ⊎ IsRunPart turns script sink session)
+RunSays turns script sink session _ = ⊥
+
+-- the same, where that script is the one that the source held
+abbrev pub SourceSays : Stream → (Script → Type 0) → Type 0
+SourceSays source says = IsFaultless source × ((script : Script) × Holds source.old script × says script)
+
+-- what each end says: a script was read, and run as far as this; or else nothing was written, and there is a cause
 abbrev pub EndSays : ℕ → Stream → Stream → Session → SessionEnd → Type 0
-EndSays turns source sink session (end.Ended status) = RanWhole turns source sink session
-EndSays turns source sink session end.Stuck = RanWhole turns source sink session
-EndSays turns source sink session end.Spent = RanWhole turns source sink session
 EndSays turns source sink session end.Usage = ⊥
 EndSays turns source sink session end.ReadFault = IsFaulty source × IsUnread sink session
-EndSays turns source sink session end.WriteFault = IsFaulty sink × RanPart turns source sink session
 EndSays turns source sink session (end.Script line reason) = IsFaultless source × HoldsNone source.old × IsUnread sink session
-EndSays turns source sink session end.NoMemory = IsFaultless source × IsFaultless sink × (IsUnread sink session ⊎ RanPart turns source sink session)
+EndSays turns source sink session end.NoMemory =
+    IsFaultless source × IsUnread sink session ⊎ SourceSays source (λ script. RunSays turns script sink session end.NoMemory)
+EndSays turns source sink session e = SourceSays source (λ script. RunSays turns script sink session e)
+
+-- what a session says of a script that was read
+pub record IsPlayed (turns : ℕ) (script : Script) (sink : Stream) (session : Session) : Type 0 where
+  pub status : session.status ≡ status_of session.end
+  pub taken : session.taken ≡ []
+  pub says : RunSays turns script sink session session.end
 
 -- what a session of `plan` says, with so many turns allowed
 pub record IsPlan (turns : ℕ) (source sink : Stream) (session : Session) : Type 0 where
   pub status : session.status ≡ status_of session.end
   pub taken : session.taken ≡ []
   pub says : EndSays turns source sink session session.end
+
+-- ---- a run of a script before its first call
+
+-- a script's names stand for nothing yet
+abbrev pub opening_names : Script → Names
+opening_names script = null_names (length script.names.threads) (length script.names.mons) (length script.names.conds)
+
+-- the run, with so many turns allowed
+abbrev pub opening_run : Script → ℕ → Played Script
+opening_run script turns =
+    record { program = script; params = params_of script; names = opening_names script; turns = turns; calls = 0; takes = []; failed = false }
