@@ -10,3 +10,6 @@ mod agents;
 mod rows;
 
 pub use agents::Agents;
+
+#[cfg(test)]
+mod tests;
