@@ -1,13 +1,13 @@
 -- Each call keeps what `Agents` keeps of its fields.
 use Rattle.agents.specs.Kept.{IsKept}
-use Rattle.agents.specs.Roster.{IsInBirthOrder, Rises, Roster, created, destroyed, is_above_all}
+use Rattle.agents.specs.Roster.{Rises, Roster, destroyed, is_above_all}
 use Rattle.lwp_types.specs.Letters.{holding_set, is_agent_row, with_holding}
 use Rattle.lwp_types.specs.declared.rows.AgentRow.{AgentRow}
-use Rattle.std.proofs.Common.{Bool, IsTrue, List, [], arith, cond, false, length, ltb, map, not, refl, true, ℕ, ◌&&◌, ◌++◌, ◌<◌, ◌∷◌, ◌≡◌, ◌≤◌}
+use Rattle.std.proofs.Common.{Bool, List, [], arith, cond, false, length, ltb, map, not, refl, true, ℕ, ◌&&◌, ◌++◌, ◌<◌, ◌∷◌, ◌≡◌, ◌≤◌}
 use Rattle.std.proofs.lemmas.Bool.{ltb-true}
 use Rattle.std.proofs.lemmas.List.Sums.{count_by-le-length, length-filter}
 use Rattle.std.proofs.lemmas.List.{length-map, length_push}
-use Rattle.std.specs.List.{AllByRecursion, filter, list_all}
+use Rattle.std.specs.List.{AllByRecursion, filter}
 
 both_true : (a b : Bool) → (a && b) ≡ true → (a ≡ true) × (b ≡ true)
 both_true true b h = (refl, h)
@@ -55,10 +55,8 @@ module _ {r : Roster} {room : ℕ} (was : IsKept r room) where
   kept_with : (rows : List AgentRow) → Rises rows → length rows ≤ r.places → IsKept (record r { agents = rows }) room
   kept_with rows rises fits = record { in_order = record { rises = rises }; fits = fits; places_fit = was.places_fit }
 
-  pub IsKept-created : (a e t : ℕ) → is_above_all a r.agents ≡ true → length r.agents < r.places → IsKept (created r a e t) room
-  IsKept-created a e t above free =
-      let newest : AgentRow = record { number = a; event = e; owner = t; holding = false } in
-      kept_with _ (Rises-push r.agents newest was.in_order.rises above) (omega (arith, length_push r.agents newest))
+  pub IsKept-joined : (newest : AgentRow) → is_above_all newest.number r.agents ≡ true → length r.agents < r.places → IsKept (record r { agents = r.agents ++ newest ∷ [] }) room
+  IsKept-joined newest above free = kept_with _ (Rises-push r.agents newest was.in_order.rises above) (omega (arith, length_push r.agents newest))
 
   pub IsKept-destroyed : (a : ℕ) → IsKept (destroyed r a) room
   IsKept-destroyed a =
