@@ -13,3 +13,6 @@ mod requests;
 
 pub use monitors::Monitors;
 pub use requests::EntryRequest;
+
+#[cfg(test)]
+mod tests;

@@ -188,9 +188,9 @@ impl Monitors {
         ensures value { result ≡ depth_of self.old mon }
         ensures after { self.new ≡ freed self.old mon }
     {
-        let depth = depth_of(&self.locks, mon);
+        let before = depth_of(&self.locks, mon);
         free(&mut self.locks, mon);
-        depth
+        before
     }
 
     /// Whoever is next enters a free monitor. The answer is that thread, if any waits.
