@@ -13,3 +13,6 @@ mod waits;
 
 pub use conds::Conds;
 pub use waits::WaitRec;
+
+#[cfg(test)]
+mod tests;
