@@ -1,8 +1,7 @@
 -- What `Conds` keeps of its fields where somebody waits no more.
-use Rattle.conditions.specs.ConditionTable.{ConditionTable, forgotten, is_wait_of, without_wait}
+use Rattle.conditions.specs.ConditionTable.{ConditionTable, forgotten, is_wait_of}
 use Rattle.conditions.specs.Kept.{IsKept}
-use Rattle.conditions.specs.declared.waits.WaitRec.{WaitRec}
-use Rattle.std.proofs.Common.{List, arith, length, not, ℕ, ◌≤◌}
+use Rattle.std.proofs.Common.{arith, not, ℕ}
 use Rattle.std.proofs.lemmas.List.Sums.{count_by-le-length, length-filter}
 
 pub IsKept-forgotten : {s : ConditionTable} {room : ℕ} → IsKept s room → (t : ℕ) → IsKept (forgotten s t) room

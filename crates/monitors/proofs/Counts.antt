@@ -1,7 +1,7 @@
 -- How many elements of a list pass a test.
-use Rattle.lwp_types.specs.State.{member, without}
+use Rattle.lwp_types.specs.State.{without}
 use Rattle.monitors.specs.MonitorTable.{times_in}
-use Rattle.std.proofs.Common.{Bool, List, None, Option, Some, [], ap, arith, cond, count_by, eqb, false, length, map, not, refl, reverse, true, ℕ, ◌&&◌, ◌++◌, ◌+◌, ◌∙◌, ◌∷◌, ◌≡◌, ◌≢◌, ◌≤◌, ◌||◌}
+use Rattle.std.proofs.Common.{Bool, List, None, Option, Some, [], ap, arith, cond, count_by, eqb, false, length, map, not, refl, reverse, true, ℕ, ◌++◌, ◌+◌, ◌∷◌, ◌≡◌, ◌≢◌, ◌≤◌, ◌||◌}
 use Rattle.std.proofs.lemmas.Bool.Decides.{nat_tests}
 use Rattle.std.proofs.lemmas.List.Filters.{length-filter_both}
 use Rattle.std.proofs.lemmas.List.Sums.{length-filter, sum_by-cons, sum_by_push}
@@ -11,10 +11,6 @@ use Rattle.std.specs.List.{filter, find, list_any}
 -- what an element adds to the count of a test
 abbrev pub one : Bool → ℕ
 one b = cond b 1 0
-
-one-le : (a : Bool) → one a ≤ 1
-one-le true = omega arith
-one-le false = omega arith
 
 not_not : (b : Bool) → b ≡ not (not b)
 not_not true = refl

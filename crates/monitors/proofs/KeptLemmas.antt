@@ -1,19 +1,16 @@
 -- Each call keeps what `Monitors` keeps of its fields, and has room for the lock that it adds.
 use Rattle.lwp_types.specs.Locks.{depth_set, is_owned_by, with_depth}
 use Rattle.lwp_types.specs.Release.{is_lock, without_lock}
-use Rattle.lwp_types.specs.State.{member, without}
 use Rattle.lwp_types.specs.declared.rows.Lock.{Lock}
 use Rattle.monitors.proofs.Best.{best_passes}
 use Rattle.monitors.proofs.Counts.{any_counted, count-failed, count-filter-le, count-map, count-push, count-reverse, count_any, count_found, count_found_by, count_not_found, find_none, length-failed, one, times-without_other}
 use Rattle.monitors.proofs.Room.{held, length-locks-le, length-locks-lt}
 use Rattle.monitors.specs.Kept.{IsKept}
-use Rattle.monitors.specs.MonitorTable.{MonitorTable, destroyed, forgotten, freed, is_free, is_live, lock_of, last_lock, next_request, priority_set, requested, requeued, times_in, with_grant, with_priority, without_request}
+use Rattle.monitors.specs.MonitorTable.{MonitorTable, destroyed, forgotten, freed, is_free, is_live, lock_of, last_lock, next_request, times_in, with_grant, without_request}
 use Rattle.monitors.specs.declared.requests.EntryRequest.{EntryRequest}
-use Rattle.std.proofs.Common.{Bool, List, None, Option, Some, [], ap, arith, eqb, false, inl, inr, is_none, length, refl, reverse, sym, true, ℕ, ◌++◌, ◌+◌, ◌<◌, ◌∙◌, ◌∷◌, ◌≡◌, ◌≤◌}
+use Rattle.std.proofs.Common.{List, None, Option, Some, [], ap, arith, eqb, false, inl, inr, is_none, length, refl, reverse, sym, true, ℕ, ◌++◌, ◌+◌, ◌<◌, ◌∙◌, ◌∷◌, ◌≡◌, ◌≤◌}
 use Rattle.std.proofs.lemmas.Bool.{cases_eq, eq-eqb, eqb-true, ne_eqb}
-use Rattle.std.proofs.lemmas.List.Sums.{length-filter, count_by-le-length}
-use Rattle.std.proofs.lemmas.List.{length-map, length_push}
-use Rattle.std.specs.List.{filter, find}
+use Rattle.std.proofs.lemmas.List.{length_push}
 
 -- a lock that is there, or that isn't
 
@@ -101,12 +98,6 @@ module _ {s : MonitorTable} {lock_room request_room : ℕ} (was : IsKept s lock_
 
   pub IsKept-forgotten : (t : ℕ) → IsKept (forgotten s t) lock_room request_room
   IsKept-forgotten t = kept_requests (without_request t s.requests) (omega (arith, was.fits, length-failed (λ r. eqb r.tid t) s.requests))
-
-  pub IsKept-requeued : (t p : ℕ) → IsKept (requeued s t p) lock_room request_room
-  IsKept-requeued t p = kept_requests (with_priority t p s.requests) (omega (arith, was.fits, length-map s.requests (priority_set t p)))
-
-  pub IsKept-requested : (r : EntryRequest) → length s.requests < s.places → IsKept (requested s r) lock_room request_room
-  IsKept-requested r room = kept_requests (s.requests ++ r ∷ []) (omega (arith, room, length_push s.requests r))
 
   module _ (m : ℕ) (live : is_live s m ≡ true) (free : is_free s m ≡ true) where
     -- there is room for the lock of a live monitor that is free

@@ -4,7 +4,7 @@ use Rattle.lwp_types.specs.State.{without}
 use Rattle.lwp_types.specs.declared.rows.Lock.{Lock}
 use Rattle.monitors.proofs.Counts.{count-cons, count-failed, count-filter-le, length-failed, one, times-without_other}
 use Rattle.monitors.specs.MonitorTable.{times_in}
-use Rattle.std.proofs.Common.{List, [], ap, arith, count_by, eqb, false, inl, inr, length, refl, ℕ, ◌<◌, ◌∷◌, ◌≡◌, ◌≤◌, sym}
+use Rattle.std.proofs.Common.{List, [], ap, arith, count_by, eqb, inl, inr, length, refl, ℕ, ◌<◌, ◌∷◌, ◌≡◌, ◌≤◌, sym}
 use Rattle.std.proofs.lemmas.Bool.{cases_eq, eq-eqb, ne_eqb}
 
 -- how many locks there are of a monitor

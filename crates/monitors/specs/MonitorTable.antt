@@ -7,7 +7,7 @@ use Rattle.lwp_types.specs.declared.rows.Lock.{Lock}
 use Rattle.lwp_types.specs.declared.rows.Request.{Request}
 use Rattle.monitors.specs.declared.requests.EntryRequest.{EntryRequest}
 use Rattle.std.specs.List.{AllByRecursion, count_by, filter, find, list_any}
-use Rattle.std.specs.Prelude.{Bool, List, None, Option, Some, [], if◌then◌else◌, is_none, is_some, length, map, max, nat_le, nat_lt, not, option_map, reverse, true, unwrap_or, ℕ, ◌&&◌, ◌++◌, ◌+◌, ◌-◌, ◌<◌, ◌==◌, ◌||◌, ◌∷◌, ◌≡◌, ◌≤◌}
+use Rattle.std.specs.Prelude.{Bool, List, None, Option, Some, [], if◌then◌else◌, is_none, length, map, max, nat_le, nat_lt, not, option_map, reverse, true, unwrap_or, ℕ, ◌&&◌, ◌++◌, ◌+◌, ◌-◌, ◌<◌, ◌==◌, ◌||◌, ◌∷◌, ◌≡◌, ◌≤◌}
 
 -- all that there is of monitors
 pub record MonitorTable : Type 0 where
