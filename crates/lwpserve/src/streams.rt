@@ -90,3 +90,73 @@ impl Sink for StdSink {
         Ok(n)
     }
 }
+
+#[cfg(test)]
+mod tests {
+    use super::*;
+    use std::test::Fail;
+
+    // Each call is interrupted, as long as there are signals; then it fails, or takes or gives so many bytes.
+    #[derive(Drop)]
+    struct Signalled {
+        signals: u32,
+        count: Option<usize>,
+    }
+
+    impl Signalled {
+        fn answer(&mut self, most: usize) -> io::Result<usize>
+            ensures { IfOk result (λ n. n ≤ most) }
+        {
+            if self.signals > 0 {
+                self.signals -= 1;
+                return Err(ErrorKind::Interrupted.into());
+            }
+            match self.count {
+                Some(count) => Ok(count.min(most)),
+                None => Err(ErrorKind::BrokenPipe.into()),
+            }
+        }
+    }
+
+    impl Read for Signalled {
+        fn read(&mut self, buf: &mut [u8]) -> io::Result<usize> {
+            self.answer(buf.len())
+        }
+    }
+
+    impl Write for Signalled {
+        fn write(&mut self, buf: &[u8]) -> io::Result<usize> {
+            self.answer(buf.len())
+        }
+
+        fn flush(&mut self) -> io::Result<()> {
+            Ok(())
+        }
+    }
+
+    #[test]
+    fn signals_are_passed_over(rt: HostRuntime) -> Result<(), Fail> {
+        let mut buf = [0u8; 4];
+        let cases = [
+            (Some(3), Some(3), Some(3)),
+            (Some(0), Some(0), None),
+            (None, None, None),
+        ];
+        for (count, read, written) in cases {
+            let mut stream = Signalled { signals: 2, count };
+            assert_eq!(rt; read_past_signals(&mut stream, &mut buf).ok(), read);
+            let mut stream = Signalled { signals: 2, count };
+            assert_eq!(rt; write_past_signals(&mut stream, b"four").ok(), written);
+        }
+        Ok(())
+    }
+
+    #[test]
+    fn standard_streams_succeed(rt: HostRuntime) -> Result<(), Fail> {
+        let mut buf = [0u8; 4];
+        // A test is given nothing to read.
+        assert_eq!(rt; StdSource::new(rt.stdin()).read(&mut buf), Ok(0));
+        assert_eq!(rt; StdSink::new(rt.stdout()).write(b""), Ok(0));
+        Ok(())
+    }
+}
