@@ -1,2 +1,4 @@
 pub mod SourceLemmas
 pub mod BuiltLaws
+pub mod ProgramLaws
+pub mod PlanLaws

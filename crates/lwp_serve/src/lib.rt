@@ -1,8 +1,24 @@
-//! The program.
+//! The program: what its words ask for, what its input spells, and what it writes.
+//!
+//! `top` takes the words, a source and a sink. Its contract says: where the words are a command, the source is read, and where
+//! it held a script, the sink is told exactly the trace of that script's session, which the machine of `lwp_types` defines; or
+//! the session's end names what was in the way, and what was written is then the first part of that trace.
+//!
+//! The crate stands on the reader of `script_text`, the bodies of `script_body` and the runs of `pod_runner`.
 #![tactic(auto)]
 
+mod body;
+mod command;
+mod plan;
+mod program;
 mod session;
 mod source;
+mod texts;
 
+pub use body::ThreadBody;
+pub use command::top;
+pub use plan::plan_main;
+pub use program::ScriptProgram;
 pub use session::{Session, SessionEnd, Taken};
 pub use source::SCRIPT_MAX;
+pub use texts::fault_text;

@@ -1,9 +1,9 @@
 // What a session of the program comes to.
 ghost use Rattle.std.specs.Prelude.{◌≡◌, []};
-ghost use Rattle.lwp_serve.specs.Outcome.{status_of};
+ghost use Rattle.lwp_serve.specs.Outcome.{end_of, status_of};
 
 use lwp_types::{Sequence, Text};
-use script_text::Reason;
+use script_text::{Halt, Reason};
 use std::alloc::Global;
 
 /// A line that was taken: how many calls had been made by then, its event, and whose line it was.
@@ -56,6 +56,17 @@ pub fn status_of(end: SessionEnd) -> u8
         SessionEnd::Stuck => 104,
         SessionEnd::Spent => 105,
         SessionEnd::NoMemory => 106,
+    }
+}
+
+/// The end of a session that has come to its end.
+pub fn end_of(halt: Halt) -> SessionEnd
+    ensures { result ≡ end_of halt }
+{
+    match halt {
+        Halt::Ended(status) => SessionEnd::Ended(status),
+        Halt::Stuck => SessionEnd::Stuck,
+        Halt::Spent => SessionEnd::Spent,
     }
 }
 

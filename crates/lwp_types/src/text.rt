@@ -1,5 +1,5 @@
 // A short printable text, which lies in the value itself.
-ghost use Rattle.std.specs.Prelude.{◌≡◌, ◌≤◌, ◌↔◌, length, IsTrue, IsSome, IfSome};
+ghost use Rattle.std.specs.Prelude.{◌≡◌, ◌≤◌, ◌↔◌, [], length, IsTrue, IsSome, IfSome};
 ghost use Rattle.lwp_types.specs.TextFields.{padded, is_printable, is_text};
 
 use std::marker::Model;
@@ -52,6 +52,16 @@ fn is_printable(bytes: &[u8]) -> bool
 }
 
 impl Text {
+    /// No bytes.
+    pub fn empty() -> Text
+        ensures { result ≡ [] }
+    {
+        Text {
+            bytes: cells_of(&[]),
+            len: 0,
+        }
+    }
+
     /// A text of these bytes, unless they are more than 240 or one isn't printable.
     pub fn new(bytes: &[u8]) -> Option<Text>
         ensures fits { IsSome result ↔ IsTrue (is_text bytes.now) }

@@ -1,5 +1,5 @@
 -- Without lines, the session with all lines in place is its calls, one after the other.
-use Rattle.std.proofs.Common.{◌≡◌, ◌≤◌, ℕ, zero, suc, ◌+◌, ◌-◌, List, [], ◌∷◌, Bool, true, false, cond, None, Some, ap, ◌∙◌, refl, add-one, arith}
+use Rattle.std.proofs.Common.{◌≡◌, ◌≤◌, ℕ, zero, suc, ◌+◌, ◌-◌, List, [], ◌∷◌, Bool, true, false, cond, None, Some, ap, ◌∙◌, refl, sym, ◌++◌, add-one, append-nil, append_assoc, arith}
 use Rattle.std.specs.Prelude.{Option, IsTrue, is_some, not, ◌&&◌, nat_lt, nat_le}
 use Rattle.std.specs.List.{fold}
 use Rattle.std.proofs.lemmas.Bool.Decides.{nat_tests}
@@ -8,12 +8,15 @@ use Rattle.lwp_types.specs.State.{State}
 use Rattle.script_text.specs.declared.script.Halt.{Halt}
 use Rattle.script_text.specs.declared.script.Halt.TheVariants as halts
 use Rattle.pod_runner.specs.Due.{CallsDue, IsDefined, is_call_due}
-use Rattle.pod_runner.specs.Eager.{ComesTo, Plan, Planned, advanced, boundary, go_on, offered, one_call, plan_over, plan_whole, served}
+use Rattle.pod_runner.specs.Eager.{ComesTo, Plan, Planned, advanced, boundary, go_on, offered, one_call, has_choice, plan_over, plan_whole, served}
 use Rattle.pod_runner.specs.Over.{halt_if, over}
 use Rattle.pod_runner.specs.Phase.{phase_by, phase_of, phase_of_halt}
 use Rattle.pod_runner.specs.Play.{calls_made, play}
+use Rattle.pod_runner.specs.Session.{Made, move}
+use Rattle.pod_runner.specs.Trace.{lines, made_lines, tail, trace}
+use Rattle.std.proofs.lemmas.List.Concat.{flat_map-append}
 use Rattle.lwp_types.specs.Poll.{Next}
-use Rattle.pod_runner.specs.Run.{IsPlanned, Played, phase_now, planned_of, setting_of}
+use Rattle.pod_runner.specs.Run.{Begins, IsBegun, IsPlanned, Played, phase_now, planned_of, setting_of}
 use Rattle.pod_runner.specs.declared.session.Took.{Took}
 use Rattle.pod_runner.specs.declared.phase.Phase.TheVariants as phase
 
@@ -59,6 +62,9 @@ module _ {B : Type 0} (planned : Planned B) where
       ∙ ap (λ plan. one_call planned plan) (boundary-none n)
       ∙ rw add-one refl
 
+  one_more : (n : ℕ) → one_call planned (at n) ≡ at (suc n)
+  one_more n = rw add-one refl
+
   -- one round is one call
   round : (n f : ℕ) → IsTrue (is_call_due (calls_made planned.setting n)) → n + 1 ≤ planned.turns → go_on planned (suc f) (at n) ≡ go_on planned f (at (suc n))
   round n f due h =
@@ -85,6 +91,47 @@ module _ {B : Type 0} (planned : Planned B) where
     whole = rounds n (planned.turns - n) (planned.turns + 0) (omega arith) (omega arith) due ∙ go_on-over (planned.turns - n) (at n) halt is;
     halted = is;
   }
+
+  -- ---- a session that goes on has made the calls that it has made
+
+  -- the session is as after m calls, of which these n were the first
+  abbrev Later : ℕ → Plan B → Type 0
+  Later n plan = (m : ℕ) × (more : List Made) × (plan ≡ at m) × (n ≤ m) × ((at m).session.steps ≡ (at n).session.steps ++ more)
+
+  later-now : (n : ℕ) → Later n (at n)
+  later-now n = (n, [], refl, omega arith, sym (append-nil (at n).session.steps))
+
+  later-before : (n : ℕ) (plan : Plan B) → Later (suc n) plan → Later n plan
+  later-before n plan h = (h.0, record { take = None; effects = (move planned.setting.next planned.setting.bodies (at n).session.live).effects } ∷ h.1, h.2, omega (arith, h.3),
+      h.4 ∙ append_assoc (at n).session.steps _ h.1)
+
+  goes-chosen : (f n : ℕ) (b : Bool) → ((k : ℕ) → Later k (go_on planned f (at k)))
+      → Later n (go_on planned f (elim b as (λ _. Plan B) [ true ↦ one_call planned (boundary planned (at n)) | false ↦ boundary planned (at n) ]))
+  goes-chosen f n true go = rw (ap (λ plan. one_call planned plan) (boundary-none n) ∙ one_more n) (later-before n (go_on planned f (at (suc n))) (go (suc n)))
+  goes-chosen f n false go = rw (boundary-none n) (go n)
+
+  goes-by : (f n : ℕ) (o : Option Halt) → ((k : ℕ) → Later k (go_on planned f (at k)))
+      → Later n (elim o as (λ _. Plan B) [ None ↦ go_on planned f (advanced planned (at n)) | Some halt ↦ at n ])
+  goes-by f n (Some halt) go = later-now n
+  goes-by f n None go = goes-chosen f n (has_choice (at n)) go
+
+  goes : (f n : ℕ) → Later n (go_on planned f (at n))
+  goes zero n = later-now n
+  goes (suc f) n = goes-by f n (plan_over planned (at n)) (λ k. goes f k)
+
+  begins-whole : (procs : List (List ℕ)) (n : ℕ) (whole : Plan B) → Later n whole
+      → (rest : List ℕ) × (trace procs planned whole ≡ lines procs (at n).session.steps ++ rest) × (n ≤ whole.calls)
+  begins-whole procs n whole h = (lines procs h.1 ++ tail planned whole,
+      ap (λ steps. lines procs steps ++ tail planned whole) (ap (λ (plan : Plan B). plan.session.steps) h.2 ∙ h.4)
+        ∙ ap (λ bytes. bytes ++ tail planned whole) (flat_map-append (made_lines procs) (at n).session.steps h.1)
+        ∙ append_assoc (lines procs (at n).session.steps) (lines procs h.1) (tail planned whole),
+      rw (ap (λ (plan : Plan B). plan.calls) h.2) h.3)
+
+  pub begins : (procs : List (List ℕ)) (n : ℕ) → IsDefined planned.setting [] n → n ≤ planned.turns → Begins procs planned (play planned.setting [] n) n
+  unfolding plan_whole play IsDefined
+  begins procs n due h = let found = begins-whole procs n (plan_whole planned [])
+        (rw (rounds n (planned.turns - n) (planned.turns + 0) (omega arith) (omega arith) due) (goes (planned.turns - n) n))
+      in record { rest = found.0; writes = found.1; calls_up = found.2 }
 
 -- ---- the end of a run
 
@@ -120,3 +167,25 @@ pub IsPlanned-phase : {B P : Type 0} (next : Next B) (bodies : P → List B) (ru
     → IsDefined (setting_of next bodies run) run.takes run.calls → run.calls ≤ run.turns → phase_now next bodies run ≡ phase_of_halt halt
     → IsPlanned next bodies run halt
 IsPlanned-phase next bodies run halt none due h is clients = come (planned_of next bodies clients run) run.takes run.calls halt none due h is
+
+-- a run without takes is the first part of the planned session
+begun : {B : Type 0} (procs : List (List ℕ)) (planned : Planned B) (takes : List Took) (n : ℕ) → takes ≡ [] → IsDefined planned.setting takes n → n ≤ planned.turns
+    → Begins procs planned (play planned.setting takes n) n
+begun procs planned takes n none due h = rw none (begins planned procs n (rw none at due) h)
+
+pub IsBegun-of : {B P : Type 0} (next : Next B) (bodies : P → List B) (proc_names : P → List (List ℕ)) (run : Played P) → run.takes ≡ []
+    → IsDefined (setting_of next bodies run) run.takes run.calls → run.calls ≤ run.turns → IsBegun next bodies proc_names run
+IsBegun-of next bodies proc_names run none due h clients = begun (proc_names run.program) (planned_of next bodies clients run) run.takes run.calls none due h
+
+-- where a call may be made, the calls allowed aren't spent
+pub turn-allowed : (s : State) (turns n : ℕ) → phase_of s turns n ≡ phase.Turn → n + 1 ≤ turns
+turn-allowed s turns n h = by_end s.ended (choice s) h
+  where
+    by_count : (b : Bool) → nat_lt n turns ≡ b → cond b phase.Turn phase.Spent ≡ phase.Turn → n + 1 ≤ turns
+    by_count true is h = grind (arith, nat_tests)
+    by_count false is h = absurd (cc)
+
+    by_end : (b : Bool) (o : Option ℕ) → cond b (phase.Ended s.status) (phase_by turns n o) ≡ phase.Turn → n + 1 ≤ turns
+    by_end true o h = absurd (cc)
+    by_end false None h = absurd (cc)
+    by_end false (Some t) h = by_count (nat_lt n turns) refl h

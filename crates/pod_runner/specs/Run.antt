@@ -3,15 +3,15 @@ use Rattle.lwp_types.specs.Names.{Names, null_names}
 use Rattle.lwp_types.specs.Poll.{Next}
 use Rattle.lwp_types.specs.Streams.{AppendsPrefix, appended}
 use Rattle.lwp_types.specs.declared.call.PodParams.{PodParams}
-use Rattle.pod_runner.specs.Eager.{ComesTo, Plan, Planned}
+use Rattle.pod_runner.specs.Eager.{ComesTo, Plan, Planned, plan_whole}
 use Rattle.pod_runner.specs.Phase.{phase_of}
 use Rattle.pod_runner.specs.Play.{play}
 use Rattle.pod_runner.specs.Session.{Session, Setting}
-use Rattle.pod_runner.specs.Trace.{lines}
+use Rattle.pod_runner.specs.Trace.{lines, trace}
 use Rattle.pod_runner.specs.declared.phase.Phase.{Phase}
 use Rattle.pod_runner.specs.declared.session.Took.{Took}
 use Rattle.script_text.specs.declared.script.Halt.{Halt}
-use Rattle.std.specs.Prelude.{Bool, List, Option, [], length, ℕ, ◌≡◌}
+use Rattle.std.specs.Prelude.{Bool, List, Option, [], length, ℕ, ◌++◌, ◌≡◌, ◌≤◌}
 
 -- a run: what it plays, and how far it is
 pub record Played (P : Type 0) : Type 0 where
@@ -73,3 +73,14 @@ pub record GoesOn {P : Type 0} (old new : Played P) : Type 0 where
 -- names as a run begins with them: of each kind as many as these, and none stands for anything
 abbrev pub names_like : Names → Names
 names_like names = null_names (length names.threads) (length names.monitors) (length names.conditions)
+
+-- the session whose lines all are there, if there are none, makes these calls at least, and writes at first what they write
+pub record Begins {B : Type 0} (procs : List (List ℕ)) (planned : Planned B) (session : Session B) (calls : ℕ) : Type 0 where
+  pub rest : List ℕ
+  pub writes : trace procs planned (plan_whole planned []) ≡ lines procs session.steps ++ rest
+  pub calls_up : calls ≤ (plan_whole planned []).calls
+
+-- without lines, whoever the clients are, a run is the first part of that session
+abbrev pub IsBegun : {B P : Type 0} → Next B → (P → List B) → (P → List (List ℕ)) → Played P → Type 0
+IsBegun next bodies proc_names run =
+    (clients : List ℕ) → Begins (proc_names run.program) (planned_of next bodies clients run) (session_of next bodies run) run.calls

@@ -4,7 +4,7 @@ ghost use Rattle.lwp_types.specs.Streams.{Rose};
 ghost use Rattle.pod_runner.specs.Built.{AllBuilt};
 ghost use Rattle.pod_runner.specs.Due.{IsDefined};
 ghost use Rattle.pod_runner.specs.Phase.{phase_of_halt};
-ghost use Rattle.pod_runner.specs.Run.{setting_of, phase_now, trace_of, IsPlanned, Writes, WritesPart, GoesOn};
+ghost use Rattle.pod_runner.specs.Run.{setting_of, phase_now, trace_of, IsBegun, IsPlanned, Writes, WritesPart, GoesOn};
 
 use crate::playing::Run;
 use crate::{Phase, RunErr};
@@ -27,7 +27,9 @@ pub fn run<B: Body, P: Program<B>, K: Sink>(
     ensures part { OnErr result (WritesPart (K.written sink.old) (K.written sink.new) (trace_of B.next P.bodies P.proc_names run.old) (trace_of B.next P.bodies P.proc_names run.new)) }
     ensures halt { IfOk result (λ halt. phase_now B.next P.bodies run.new ≡ phase_of_halt halt) }
     ensures planned { run.old.takes ≡ [] → IfOk result (IsPlanned B.next P.bodies run.new) }
+    ensures begun { run.old.takes ≡ [] → IsBegun B.next P.bodies P.proc_names run.new }
     ensures made { IsDefined (setting_of B.next P.bodies run.new) run.new.takes run.new.calls }
+    ensures unfailed { OnOk result (run.new.failed ≡ false) }
     ensures faults { OnOk result (K.faults sink.new ≡ K.faults sink.old) }
     ensures later { K.faults sink.old ≤ K.faults sink.new }
     ensures cause { IsErrOf result RunErr.WriteFault → Rose (K.faults sink.old) (K.faults sink.new) }

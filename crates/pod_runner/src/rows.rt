@@ -132,10 +132,7 @@ fn settle_one<B: Body, P: Program<B>>(
     ensures { OnOk result (rows.new.items ≡ settled_by (P.bodies program.now) born effect rows.old.items) }
 {
     match effect {
-        Effect::Answered {
-            tid,
-            answer: given,
-        } => {
+        Effect::Answered { tid, answer: given } => {
             let named = thread_in(&given);
             answer(rows, tid, given);
             bear(rows, program, born, named)

@@ -76,19 +76,23 @@ lock_call sender names (stmt.CvSend c w) = call.CvSend (id_at names.conditions c
 lock_call sender names (stmt.CvWaiters c) = call.CvWaiters (id_at names.conditions c)
 lock_call sender names s = plain_call s
 
--- what a statement calls
+-- the same, or a statement that names threads
+abbrev pub thread_call : ℕ → Names → Stmt → Call
+thread_call sender names (stmt.Destroy w) = call.Destroy (who_id sender names w)
+thread_call sender names (stmt.Ping w) = call.Ping (who_id sender names w)
+thread_call sender names (stmt.Yield w) = call.Yield (who_id sender names w)
+thread_call sender names (stmt.Suspend w) = call.Suspend (who_id sender names w)
+thread_call sender names (stmt.Resume w) = call.Resume (who_id sender names w)
+thread_call sender names (stmt.Join w) = call.Join (who_id sender names w)
+thread_call sender names (stmt.SetPri w p) = call.SetPri (who_id sender names w) p
+thread_call sender names (stmt.Send w room text) = call.Send (who_id sender names w) room text
+thread_call sender names (stmt.Recv from mode) = call.Recv (option_map (who_id sender names) from) mode
+thread_call sender names (stmt.Reply w text) = call.Reply (who_id sender names w) text
+thread_call sender names (stmt.OnExit x) = call.OnExit (exit_call_of sender names x)
+thread_call sender names s = lock_call sender names s
+
+-- the same, or a statement that names a procedure: what any statement calls
 abbrev pub call_of : Script → ℕ → Names → Stmt → Call
 call_of script sender names (stmt.Create name number prio flags) = call.Create (proc_number script number) prio flags
 call_of script sender names (stmt.CallProc number) = call.CallProc (proc_number script number)
-call_of script sender names (stmt.Destroy w) = call.Destroy (who_id sender names w)
-call_of script sender names (stmt.Ping w) = call.Ping (who_id sender names w)
-call_of script sender names (stmt.Yield w) = call.Yield (who_id sender names w)
-call_of script sender names (stmt.Suspend w) = call.Suspend (who_id sender names w)
-call_of script sender names (stmt.Resume w) = call.Resume (who_id sender names w)
-call_of script sender names (stmt.Join w) = call.Join (who_id sender names w)
-call_of script sender names (stmt.SetPri w p) = call.SetPri (who_id sender names w) p
-call_of script sender names (stmt.Send w room text) = call.Send (who_id sender names w) room text
-call_of script sender names (stmt.Recv from mode) = call.Recv (option_map (who_id sender names) from) mode
-call_of script sender names (stmt.Reply w text) = call.Reply (who_id sender names w) text
-call_of script sender names (stmt.OnExit x) = call.OnExit (exit_call_of sender names x)
-call_of script sender names s = lock_call sender names s
+call_of script sender names s = thread_call sender names s

@@ -1,7 +1,7 @@
 // What the statements of a script call.
 ghost use Rattle.std.specs.Prelude.{◌≡◌, ◌<◌, ◌≤◌, ◌^◌, length, option_map};
 ghost use Rattle.script_text.specs.Script.{proc_places};
-ghost use Rattle.script_body.specs.Calls.{who_id, exit_call_of, plain_call, lock_call, call_of};
+ghost use Rattle.script_body.specs.Calls.{who_id, exit_call_of, plain_call, lock_call, thread_call, call_of};
 
 use crate::numbers::proc_number;
 use lwp_types::{Call, Env, ExitCall, NULL_TID, Tid};
@@ -122,6 +122,42 @@ fn source_of(sender: Tid, env: &Env, from: &Option<Who>) -> Option<Tid>
     }
 }
 
+// A statement that names threads, or anything but procedures.
+fn thread_call(sender: Tid, env: &Env, stmt: &Stmt) -> Call
+    ensures { result ≡ thread_call sender env.now stmt.now }
+{
+    let id = |who: &Who| who_id(sender, env, *who);
+    match stmt {
+        Stmt::Destroy { who } => Call::Destroy { tid: id(who) },
+        Stmt::Ping { who } => Call::Ping { tid: id(who) },
+        Stmt::Yield { to } => Call::Yield { to: id(to) },
+        Stmt::Suspend { who } => Call::Suspend { tid: id(who) },
+        Stmt::Resume { who } => Call::Resume { tid: id(who) },
+        Stmt::Join { who } => Call::Join { tid: id(who) },
+        Stmt::SetPri { who, prio } => Call::SetPri {
+            tid: id(who),
+            prio: *prio,
+        },
+        Stmt::Send { to, room, text } => Call::Send {
+            to: id(to),
+            room: *room,
+            text: *text,
+        },
+        Stmt::Recv { from, mode } => Call::Recv {
+            from: source_of(sender, env, from),
+            mode: *mode,
+        },
+        Stmt::Reply { to, text } => Call::Reply {
+            to: id(to),
+            text: *text,
+        },
+        Stmt::OnExit { exit } => Call::OnExit {
+            call: exit_call_of(sender, env, exit),
+        },
+        _ => lock_call(sender, env, stmt),
+    }
+}
+
 /// The call of a statement, in a thread whose last letter came from `sender`.
 pub fn call_of(script: &Script, sender: Tid, env: &Env, stmt: &Stmt) -> Call
     requires { length (proc_places script.now) < 2 ^ 32 }
@@ -141,44 +177,6 @@ pub fn call_of(script: &Script, sender: Tid, env: &Env, stmt: &Stmt) -> Call
         Stmt::CallProc { proc } => Call::CallProc {
             proc: proc_number(script, *proc),
         },
-        Stmt::Destroy { who } => Call::Destroy {
-            tid: who_id(sender, env, *who),
-        },
-        Stmt::Ping { who } => Call::Ping {
-            tid: who_id(sender, env, *who),
-        },
-        Stmt::Yield { to } => Call::Yield {
-            to: who_id(sender, env, *to),
-        },
-        Stmt::Suspend { who } => Call::Suspend {
-            tid: who_id(sender, env, *who),
-        },
-        Stmt::Resume { who } => Call::Resume {
-            tid: who_id(sender, env, *who),
-        },
-        Stmt::Join { who } => Call::Join {
-            tid: who_id(sender, env, *who),
-        },
-        Stmt::SetPri { who, prio } => Call::SetPri {
-            tid: who_id(sender, env, *who),
-            prio: *prio,
-        },
-        Stmt::Send { to, room, text } => Call::Send {
-            to: who_id(sender, env, *to),
-            room: *room,
-            text: *text,
-        },
-        Stmt::Recv { from, mode } => Call::Recv {
-            from: source_of(sender, env, from),
-            mode: *mode,
-        },
-        Stmt::Reply { to, text } => Call::Reply {
-            to: who_id(sender, env, *to),
-            text: *text,
-        },
-        Stmt::OnExit { exit } => Call::OnExit {
-            call: exit_call_of(sender, env, exit),
-        },
-        _ => lock_call(sender, env, stmt),
+        _ => thread_call(sender, env, stmt),
     }
 }

@@ -4,3 +4,4 @@ pub mod CutLaws
 pub mod ScriptLaws
 pub mod TrackLaws
 pub mod FoldLaws
+pub mod LimitLaws

@@ -28,7 +28,7 @@ pub all_push : {A : Type 0} (P : A → Type 0) (xs ys : List A) → AllByRecursi
 all_push P [] ys h k = k
 all_push P (x ∷ xs) ys h k = (h.0, all_push P xs ys h.1 k)
 
-last_role_push : (ps : List Phrase) (p : Phrase) → last_role (ps ++ p ∷ []) ≡ Some (role_of p.op)
+pub last_role_push : (ps : List Phrase) (p : Phrase) → last_role (ps ++ p ∷ []) ≡ Some (role_of p.op)
 last_role_push [] p = refl
 last_role_push (q ∷ []) p = refl
 last_role_push (q ∷ r ∷ ps) p = last_role_push (r ∷ ps) p

@@ -4,6 +4,7 @@ pub mod Words
 pub mod Table
 pub mod Meaning
 pub mod Grammar
+pub mod Limits
 pub mod Reading
 pub mod Spelling
 pub mod Track

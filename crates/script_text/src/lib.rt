@@ -3,6 +3,7 @@
 //! A script is read line by line. Its grammar is a table of rows and the text of a line as a function of what it says;
 //! `Spells text script` says which texts are which scripts, and `verdict text` gives the script of a text, or its first bad
 //! line with the first reason that fits. The reader answers the verdict, so it reads a script exactly where one is spelt.
+//! A pod can be made for each script that is read, and the script has only what a line of the table writes.
 //!
 //! The crate stands on the words of `lwp_types` alone.
 #![tactic(auto)]

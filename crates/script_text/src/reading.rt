@@ -1,6 +1,7 @@
 // Bytes to a script.
 ghost use Rattle.std.specs.Prelude.{◌≡◌, ◌≤◌, ◌<◌, ◌∷◌, [], length, IfOk, IfSome, IfNone};
 ghost use Rattle.script_text.specs.Grammar.{Spells};
+ghost use Rattle.script_text.specs.Limits.{IsWithinLimits, IsSoFar};
 ghost use Rattle.script_text.specs.Spelling.{cut, verdict, verdict_by, Gives, IsReadAs};
 
 use crate::Script;
@@ -43,6 +44,10 @@ pub fn read_script(alloc: Global, bytes: &[u8]) -> Result<Script, ReadErr>
     ensures exact { Gives (verdict bytes.now) result }
     // A script that is spelt is read, and no other: bytes spell one script at most.
     ensures only { (s : Script) → Spells bytes.now s → IsReadAs s result }
+    // A pod can be made for each script that is read.
+    ensures within { IfOk result IsWithinLimits }
+    // A script that is read has only what a line of the table writes.
+    ensures so_far { IfOk result IsSoFar }
 {
     if bytes.len() > 16_777_216 {
         return Err(ReadErr::Bad {

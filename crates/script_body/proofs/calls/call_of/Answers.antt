@@ -1,24 +1,13 @@
 use Rattle.std.proofs.Common.{ap, ◌≡◌, ◌∙◌, refl}
 use Rattle.script_text.specs.declared.script.Stmt.TheVariants as stmt
-use Rattle.script_body.specs.Calls.{call_of, lock_call}
+use Rattle.script_body.specs.Calls.{call_of, thread_call}
 use Rattle.script_body.proofs.calls.call_of.Goals as goal
 
 pub returns-in_default : goal.returns-in_default
 returns-in_default c =
     let other = c.in_default in
-    elim c.args.stmt.now as (λ s. c.args.stmt.now ≡ s → c.lock_call.result ≡ call_of c.args.script.now c.args.sender c.args.env.now s) [
+    elim c.args.stmt.now as (λ s. c.args.stmt.now ≡ s → c.thread_call.result ≡ call_of c.args.script.now c.args.sender c.args.env.now s) [
       | stmt.Create x y z w ↦ λ e. absurd (other.not-Create x y z w e)
       | stmt.CallProc x ↦ λ e. absurd (other.not-CallProc x e)
-      | stmt.Destroy x ↦ λ e. absurd (other.not-Destroy x e)
-      | stmt.Ping x ↦ λ e. absurd (other.not-Ping x e)
-      | stmt.Yield x ↦ λ e. absurd (other.not-Yield x e)
-      | stmt.Suspend x ↦ λ e. absurd (other.not-Suspend x e)
-      | stmt.Resume x ↦ λ e. absurd (other.not-Resume x e)
-      | stmt.Join x ↦ λ e. absurd (other.not-Join x e)
-      | stmt.SetPri x y ↦ λ e. absurd (other.not-SetPri x y e)
-      | stmt.Send x y z ↦ λ e. absurd (other.not-Send x y z e)
-      | stmt.Recv x y ↦ λ e. absurd (other.not-Recv x y e)
-      | stmt.Reply x y ↦ λ e. absurd (other.not-Reply x y e)
-      | stmt.OnExit x ↦ λ e. absurd (other.not-OnExit x e)
-      | _ ↦ λ e. c.lock_call.ensures ∙ ap (lock_call c.args.sender c.args.env.now) e
+      | _ ↦ λ e. c.thread_call.ensures ∙ ap (thread_call c.args.sender c.args.env.now) e
     ] refl

@@ -1,0 +1,7 @@
+use Rattle.agents.proofs.KeptLemmas.{IsKept-destroyed}
+use Rattle.agents.proofs.agents.Agents.destroy.Goals as goal
+
+pub invariant_of-self : goal.invariant_of-self
+invariant_of-self c =
+    rw (c.take_out.ensures.items, c.take_out.ensures.capacity)
+    (IsKept-destroyed c.self.invariant c.args.a)

@@ -1,0 +1,7 @@
+use Rattle.agents.proofs.KeptLemmas.{IsKept-holding}
+use Rattle.agents.proofs.agents.Agents.release.Goals as goal
+
+pub invariant_of-self : goal.invariant_of-self
+invariant_of-self c =
+    rw (c.set_holding.ensures.items, c.set_holding.ensures.capacity)
+    (IsKept-holding c.self.invariant _ _)

@@ -1,0 +1,15 @@
+use Rattle.agents.proofs.Lists.{changed_more}
+use Rattle.agents.proofs.rows.set_holding.Goals.{else-eq, then-eq}
+use Rattle.agents.proofs.rows.set_holding.Goals as goal
+use Rattle.lwp_types.specs.Letters.{holding_set}
+use Rattle.std.proofs.Common.{ap, arith, length, refl, sym, ◌∙◌}
+
+pub loop-row-preserved : goal.loop-row-preserved
+loop-row-preserved c =
+    let at = c.loop-row in
+    let len = at.auto.row-items ∙ ap length c.deref_mut-row-items.ensures.value in
+    let more = changed_more (holding_set c.args.agent c.args.holding) c.args.rows.now.items at.row-items at.row-index c.row-item.result in
+    elim c.if-eq.branch [
+      | then-eq w ↦ let here = sym c.eq.ensures ∙ w.if-eq.true in more _ (omega (arith, len)) len at.invariant (rw here refl) _ w.row-items-is
+      | else-eq w ↦ let other = sym c.eq.ensures ∙ w.if-eq.false in more _ (omega (arith, len)) len at.invariant (rw other refl) _ w.row-items-is
+    ]

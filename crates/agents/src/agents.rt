@@ -1,0 +1,136 @@
+// The agents.
+ghost use Rattle.std.specs.Prelude.{◌≡◌, ◌<◌, ◌≤◌, false, length, option_map, IsOk, IsTrue, IfOk, OnOk, OnErr};
+ghost use Rattle.agents.specs.Roster.{IsInBirthOrder, agent_for, created, destroyed, first_of, has_agent_for, held, is_above_all, is_armed, is_listed, no_agents, numbers, released, reserved, row_of, without_first};
+
+use crate::rows::{agent_for, first_of, numbers, row_of, set_holding, take_out};
+use lwp_types::{AgentRow, IdList, NoMemory, Tid};
+use std::alloc::Global;
+use std::marker::Model;
+
+/// The live agents, in birth order.
+#[derive(Drop)]
+pub struct Agents {
+    rows: Vec<AgentRow>,
+    // How many agents there may be with no more memory.
+    places: usize,
+}
+
+impl Model for Agents {
+    ghost use Rattle.std.specs.Prelude.{vec_capacity};
+    ghost use Rattle.agents.specs.Roster.{Roster};
+    ghost use Rattle.agents.specs.Kept.{IsKept};
+
+    ghost Value = { Roster };
+
+    ghost view = { λ a. record { agents = a.rows.items; places = a.places } };
+
+    ghost invariant = { λ a. IsKept (record { agents = a.rows.items; places = a.places }) (vec_capacity a.rows) };
+}
+
+impl Agents {
+    /// No agents, and no places.
+    pub fn new(alloc: Global) -> Agents
+        ensures { result ≡ no_agents }
+    {
+        Agents {
+            rows: Vec::new(alloc),
+            places: 0,
+        }
+    }
+
+    /// Makes places for `n` agents in all; so many can then be created with no more memory.
+    pub fn reserve(&mut self, n: usize) -> Result<(), NoMemory>
+        ensures ok { OnOk result (self.new ≡ reserved self.old n) }
+        ensures err { OnErr result (self.new ≡ self.old) }
+        ensures has_room { n ≤ self.old.places → IsOk result }
+    {
+        if n <= self.places {
+            return Ok(());
+        }
+        self.rows.reserve(n - self.rows.len())?;
+        self.places = n;
+        Ok(())
+    }
+
+    /// One agent more, of `owner` and for an event that has none. It holds no message.
+    pub fn create(&mut self, a: Tid, event: u8, owner: Tid)
+        requires least { 1 ≤ event }
+        requires most { event ≤ 31 }
+        requires free { has_agent_for event self.old.agents ≡ false }
+        requires newest { IsTrue (is_above_all a self.old.agents) }
+        requires room { length self.old.agents < self.old.places }
+        ensures { self.new ≡ created self.old a event owner }
+    {
+        self.rows.push_reserved(AgentRow {
+            number: a,
+            event,
+            owner,
+            holding: false,
+        });
+    }
+
+    /// The event's agent, if it has one.
+    pub fn agent_of(&self, event: u8) -> Option<Tid>
+        ensures { result ≡ option_map (λ row. row.number) (agent_for event self.now.agents) }
+    {
+        agent_for(&self.rows, event).map(|row| row.number)
+    }
+
+    /// The thread that gets the agent's messages, if there is such an agent.
+    pub fn owner_of(&self, a: Tid) -> Option<Tid>
+        ensures { result ≡ option_map (λ row. row.owner) (row_of a self.now.agents) }
+    {
+        row_of(&self.rows, a).map(|row| row.owner)
+    }
+
+    /// Whether the event can be delivered: its agent holds no message.
+    pub fn armed(&self, event: u8) -> bool
+        ensures { result ≡ is_armed event self.now.agents }
+    {
+        agent_for(&self.rows, event).is_some_and(|row| !row.holding)
+    }
+
+    /// The event is delivered: its agent holds the message until the reply.
+    pub fn hold(&mut self, event: u8)
+        requires { IsTrue (is_armed event self.old.agents) }
+        ensures { self.new ≡ held self.old event }
+    {
+        if let Some(row) = agent_for(&self.rows, event) {
+            set_holding(&mut self.rows, row.number, true);
+        }
+    }
+
+    /// The agent's message is replied to.
+    pub fn release(&mut self, a: Tid)
+        requires { IsTrue (is_listed a self.old.agents) }
+        ensures { self.new ≡ released self.old a }
+    {
+        set_holding(&mut self.rows, a, false);
+    }
+
+    /// The agent is gone, and its event is free.
+    pub fn destroy(&mut self, a: Tid)
+        requires { IsTrue (is_listed a self.old.agents) }
+        ensures { self.new ≡ destroyed self.old a }
+    {
+        take_out(&mut self.rows, a);
+    }
+
+    /// The oldest agent of the thread is gone; the answer is which. Called until None, it leaves the thread without agents.
+    pub fn forget_owner(&mut self, owner: Tid) -> Option<Tid>
+        ensures value { result ≡ option_map (λ row. row.number) (first_of owner self.old.agents) }
+        ensures after { self.new ≡ without_first self.old owner }
+    {
+        let row = first_of(&self.rows, owner)?;
+        take_out(&mut self.rows, row.number);
+        Some(row.number)
+    }
+
+    /// All agents, in birth order.
+    pub fn list(&self) -> Result<IdList, NoMemory>
+        ensures value { IfOk result (λ ids. ids ≡ numbers self.now.agents) }
+        ensures in_birth_order { IsInBirthOrder self.now.agents }
+    {
+        numbers(*self.rows.allocator(), &self.rows)
+    }
+}

@@ -1,0 +1,152 @@
+-- The conditions of a pod as plain lists, and what each call on them makes of the lists.
+use Rattle.conditions.specs.declared.waits.WaitRec.{WaitRec}
+use Rattle.lwp_types.specs.Choice.{best_by}
+use Rattle.lwp_types.specs.declared.rows.CondRow.{CondRow}
+use Rattle.lwp_types.specs.declared.rows.WaitRow.{WaitRow}
+use Rattle.std.specs.List.{AllByRecursion, filter, find, list_any}
+use Rattle.std.specs.Prelude.{Bool, List, None, Option, Some, [], if◌then◌else◌, is_some, length, map, max, nat_le, not, option_map, ℕ, ◌&&◌, ◌++◌, ◌+◌, ◌<◌, ◌==◌, ◌||◌, ◌∷◌, ◌≡◌, ◌≤◌}
+
+-- all that there is of conditions
+pub record ConditionTable : Type 0 where
+  -- the live conditions, each of one monitor, in birth order
+  pub conditions : List CondRow
+  -- how many were ever born, and how many may be
+  pub births : ℕ
+  pub limit : ℕ
+  -- who waits on a condition, first come first
+  pub waits : List WaitRec
+  -- how many may wait without asking for memory
+  pub places : ℕ
+
+-- rows
+
+-- the row is that of condition c
+abbrev pub is_condition : ℕ → CondRow → Bool
+is_condition c row = row.number == c
+
+-- the condition is one of monitor m
+abbrev pub is_of_monitor : ℕ → CondRow → Bool
+is_of_monitor m row = row.mon == m
+
+-- the machine's row of a wait; the machine looks the priority up instead of keeping it
+abbrev pub machine_row : WaitRec → WaitRow
+machine_row w = record { cond = w.cond; tid = w.tid; depth = w.depth }
+
+-- the wait is on condition c
+abbrev pub is_on : ℕ → WaitRec → Bool
+is_on c w = w.cond == c
+
+-- the wait is that of thread t
+abbrev pub is_wait_of : ℕ → WaitRec → Bool
+is_wait_of t w = w.tid == t
+
+-- the waits of all threads but t
+abbrev pub without_wait : ℕ → List WaitRec → List WaitRec
+without_wait t ws = filter (λ w. not (is_wait_of t w)) ws
+
+-- a wait, with another priority where it is that of t
+abbrev pub priority_set : ℕ → ℕ → WaitRec → WaitRec
+priority_set t p w = record w { prio = if is_wait_of t w then p else w.prio }
+
+-- the priority of t becomes p; the wait keeps its place
+abbrev pub with_priority : ℕ → ℕ → List WaitRec → List WaitRec
+with_priority t p ws = map (priority_set t p) ws
+
+-- questions
+
+-- no condition can be born: so many are live, or the births are at their limit
+abbrev pub is_full : ConditionTable → Bool
+is_full s = nat_le 256 (length s.conditions) || nat_le s.limit s.births
+
+-- the row of a live condition
+abbrev pub condition_of : ConditionTable → ℕ → Option CondRow
+condition_of s c = find (is_condition c) s.conditions
+
+-- the condition is live
+abbrev pub is_live : ConditionTable → ℕ → Bool
+is_live s c = is_some (condition_of s c)
+
+-- the monitor of a live condition
+abbrev pub monitor_of : ConditionTable → ℕ → Option ℕ
+monitor_of s c = option_map (λ row. row.mon) (condition_of s c)
+
+-- somebody waits on this condition
+abbrev pub is_waited_in : List WaitRec → ℕ → Bool
+is_waited_in ws c = list_any (is_on c) ws
+
+-- somebody waits on a condition of this monitor
+abbrev pub has_waits : ConditionTable → ℕ → Bool
+has_waits s m = list_any (λ row. is_of_monitor m row && is_waited_in s.waits row.number) s.conditions
+
+-- t waits on a condition
+abbrev pub is_waiting : ConditionTable → ℕ → Bool
+is_waiting s t = list_any (is_wait_of t) s.waits
+
+-- who waits on a condition, first come first
+abbrev pub waits_on : ConditionTable → ℕ → List WaitRec
+waits_on s c = filter (is_on c) s.waits
+
+-- of those the one to notify: by the priorities of this moment, the first of the greatest
+abbrev pub next_notified : ConditionTable → ℕ → Option WaitRec
+next_notified s c = best_by (λ w. w.prio) (waits_on s c)
+
+-- of those the one that came first
+abbrev pub first_wait : ConditionTable → ℕ → Option WaitRec
+first_wait s c = find (is_on c) s.waits
+
+-- of those the one of thread t
+abbrev pub wait_of : ConditionTable → ℕ → ℕ → Option WaitRec
+wait_of s c t = find (λ w. is_on c w && is_wait_of t w) s.waits
+
+-- the table after each call
+
+-- no condition was ever born, and there is room for no wait
+abbrev pub empty_table : ℕ → ConditionTable
+empty_table limit = record { conditions = []; births = 0; limit = limit; waits = []; places = 0 }
+
+-- places for n waits at least
+abbrev pub reserved : ConditionTable → ℕ → ConditionTable
+reserved s n = record s { places = max s.places n }
+
+-- the number of a condition that is born now
+abbrev pub newborn : ConditionTable → Option ℕ
+newborn s = if is_full s then None else Some s.births
+
+-- one condition of monitor m more, if one may be born
+abbrev pub created : ConditionTable → ℕ → ConditionTable
+created s m = if is_full s then s else record s { conditions = s.conditions ++ record { number = s.births; mon = m } ∷ []; births = s.births + 1 }
+
+-- the condition is gone
+abbrev pub destroyed : ConditionTable → ℕ → ConditionTable
+destroyed s c = record s { conditions = filter (λ row. not (is_condition c row)) s.conditions }
+
+-- all conditions of the monitor are gone
+abbrev pub destroyed_of : ConditionTable → ℕ → ConditionTable
+destroyed_of s m = record s { conditions = filter (λ row. not (is_of_monitor m row)) s.conditions }
+
+-- one more waits, behind all others
+abbrev pub waited : ConditionTable → WaitRec → ConditionTable
+waited s w = record s { waits = s.waits ++ w ∷ [] }
+
+-- whoever was chosen waits no more
+abbrev pub woken : ConditionTable → Option WaitRec → ConditionTable
+woken s None = s
+woken s (Some w) = record s { waits = without_wait w.tid s.waits }
+
+-- the priority of t is another from now on
+abbrev pub requeued : ConditionTable → ℕ → ℕ → ConditionTable
+requeued s t p = record s { waits = with_priority t p s.waits }
+
+-- t waits no more
+abbrev pub forgotten : ConditionTable → ℕ → ConditionTable
+forgotten s t = record s { waits = without_wait t s.waits }
+
+-- laws
+
+-- the element is in the list, all before it weigh less, and none after it weighs more
+pub record IsFirstBest {A : Type 0} (weight : A → ℕ) (xs : List A) (best : A) : Type 0 where
+  pub before : List A
+  pub after : List A
+  pub splits : xs ≡ before ++ best ∷ after
+  pub less_before : AllByRecursion (λ x. weight x < weight best) before
+  pub no_more_after : AllByRecursion (λ x. weight x ≤ weight best) after

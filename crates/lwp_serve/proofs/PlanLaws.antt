@@ -1,0 +1,241 @@
+-- From the clauses of a run to those of a session of `plan`.
+use Rattle.lwp_serve.proofs.BuiltLaws.{all-built}
+use Rattle.lwp_serve.specs.Bodies.{Body, bodies_of, body_next}
+use Rattle.lwp_serve.specs.Outcome.{HasRead}
+use Rattle.lwp_serve.specs.Plan.{EndSays, Holds, HoldsNone, IsFaultless, IsPart, IsWhole, RunSays, Stream, opening_names, opening_run}
+use Rattle.lwp_serve.specs.Planned.{calls_of, halt_of, plan_of, planned_of, setting_of, takes_of, trace_of}
+use Rattle.lwp_serve.specs.declared.session.Session.{Session}
+use Rattle.lwp_serve.specs.declared.session.SessionEnd.{SessionEnd}
+use Rattle.lwp_serve.specs.declared.session.SessionEnd.TheVariants as end
+use Rattle.lwp_types.specs.Names.{Names}
+use Rattle.lwp_types.specs.Streams.{AppendsPrefix, appended}
+use Rattle.lwp_types.specs.declared.call.PodParams.{PodParams}
+use Rattle.pod_runner.specs.Built.{AllBuilt}
+use Rattle.pod_runner.specs.Due.{IsDefined}
+use Rattle.pod_runner.specs.Eager.{ComesTo, Plan, Planned, plan_over, plan_whole}
+use Rattle.pod_runner.specs.Play.{play}
+use Rattle.pod_runner.specs.Run as run
+use Rattle.pod_runner.specs.Run.{GoesOn, IsBegun, IsPlanned, Played, Writes, WritesPart}
+use Rattle.pod_runner.specs.Session.{Setting}
+use Rattle.pod_runner.specs.Trace.{left_from, lines, tail_by, trace}
+use Rattle.script_text.specs.Grammar.{Spells}
+use Rattle.script_text.specs.Limits.{IsSoFar}
+use Rattle.script_text.specs.Lines.{end_text}
+use Rattle.script_text.specs.Spelling.{IsReadAs}
+use Rattle.script_text.specs.declared.reason.Reason.{Reason}
+use Rattle.script_text.specs.declared.reason.ReadErr.{ReadErr}
+use Rattle.script_text.specs.declared.reason.ReadErr.TheVariants as err
+use Rattle.script_text.specs.Script.{params_of, proc_names}
+use Rattle.script_text.specs.declared.script.Halt.{Halt}
+use Rattle.script_text.specs.declared.script.Script.{Script}
+use Rattle.std.proofs.Common.{Err, List, None, Ok, OnErr, Option, Result, Some, [], ap, append-nil, append_assoc, arith, length, length-take, refl, suc, sym, take, take_all, inr, zero, ℕ, ◌++◌, ◌+◌, ◌≤◌, ◌∙◌, ◌∷◌, ◌≡◌}
+use Rattle.std.proofs.Math.Seq.{take-append-add, take-length}
+
+-- ---- what is told
+
+appended-nil : (w : Option (List ℕ)) → appended w [] ≡ w
+appended-nil None = refl
+appended-nil (Some told) = ap (λ x. Some x) (append-nil told)
+
+appended-append : (w : Option (List ℕ)) (a b : List ℕ) → appended (appended w a) b ≡ appended w (a ++ b)
+appended-append None a b = refl
+appended-append (Some told) a b = ap (λ x. Some x) (append_assoc told a b)
+
+-- the first bytes of some are the first of more
+first-of : (k : ℕ) (a rest : List ℕ) → (n : ℕ) × (take k a ≡ take n (a ++ rest))
+first-of zero a rest = (0, refl)
+first-of (suc k) [] rest = (0, refl)
+first-of (suc k) (x ∷ a) rest = let h = first-of k a rest in (suc h.0, ap (λ xs. x ∷ xs) h.1)
+
+prefix-more : (old new : Option (List ℕ)) (a rest whole : List ℕ) → whole ≡ a ++ rest → AppendsPrefix old new a → AppendsPrefix old new whole
+prefix-more old new a rest whole h p = let found = first-of p.0 a rest in
+    (found.0, p.1 ∙ ap (appended old) (found.1 ∙ ap (take found.0) (sym h)))
+
+prefix-all : (old new : Option (List ℕ)) (a : List ℕ) → new ≡ appended old a → AppendsPrefix old new a
+prefix-all old new a h = (length a, h ∙ ap (appended old) (sym (take-length a)))
+
+prefix-then : (old mid new : Option (List ℕ)) (a b whole : List ℕ) → whole ≡ a ++ b → mid ≡ appended old a → AppendsPrefix mid new b → AppendsPrefix old new whole
+prefix-then old mid new a b whole h g p = (length a + p.0,
+    p.1 ∙ ap (λ w. appended w (take p.0 b)) g ∙ appended-append old a (take p.0 b)
+    ∙ ap (appended old) (sym (take-append-add a b p.0) ∙ ap (take (length a + p.0)) (sym h)))
+
+-- a fact of an error holds where there is one
+pub on_err : {X E : Type 0} (r : Result X E) (P : Type 0) → P → OnErr r P
+on_err (Ok x) P h = tt
+on_err (Err e) P h = h
+
+-- ---- a run of a script
+
+-- it plays this script, with so many turns allowed, and takes no line
+pub record Plays (script : Script) (turns : ℕ) (r : Played Script) : Type 0 where
+  pub program : r.program ≡ script
+  pub params : r.params ≡ params_of script
+  pub names : r.names ≡ opening_names script
+  pub turns_same : r.turns ≡ turns
+  pub takes : r.takes ≡ []
+
+pub plays-opening : (r : Played Script) (turns : ℕ) → r ≡ opening_run r.program turns → Plays r.program turns r
+plays-opening r turns h = record {
+  program = refl;
+  params = ap (λ (x : Played Script). x.params) h;
+  names = ap (λ (x : Played Script). x.names) h;
+  turns_same = ap (λ (x : Played Script). x.turns) h;
+  takes = ap (λ (x : Played Script). x.takes) h;
+}
+
+pub plays-on : (script : Script) (turns : ℕ) (old new : Played Script) → Plays script turns old → GoesOn old new → new.takes ≡ old.takes → Plays script turns new
+plays-on script turns old new h g takes = record {
+  program = g.program ∙ h.program;
+  params = g.params ∙ h.params;
+  names = g.names ∙ h.names;
+  turns_same = g.turns ∙ h.turns_same;
+  takes = takes ∙ h.takes;
+}
+
+setting-is : (script : Script) (turns : ℕ) (r : Played Script) → Plays script turns r → run.setting_of body_next bodies_of r ≡ setting_of script
+setting-is script turns r h =
+    ap (λ (p : Script). the_setting p r.params r.names) h.program
+    ∙ ap (λ (p : PodParams). the_setting script p r.names) h.params
+    ∙ ap (λ (n : Names). the_setting script (params_of script) n) h.names
+  where
+    the_setting : Script → PodParams → Names → Setting Body
+    the_setting p params names = record { next = body_next; bodies = bodies_of p; params = params; names = names }
+
+planned-is : (script : Script) (turns : ℕ) (r : Played Script) → Plays script turns r → run.planned_of body_next bodies_of script.clients r ≡ planned_of script turns
+planned-is script turns r h =
+    ap (λ (s : Setting Body). the_planned s r.turns) (setting-is script turns r h) ∙ ap (λ t. the_planned (setting_of script) t) h.turns_same
+  where
+    the_planned : Setting Body → ℕ → Planned Body
+    the_planned s t = record { setting = s; clients = script.clients; turns = t }
+
+pub built-of : (script : Script) (turns : ℕ) (r : Played Script) → Plays script turns r → IsSoFar script → AllBuilt (run.setting_of body_next bodies_of r)
+built-of script turns r h so_far = rw (setting-is script turns r h) (all-built script so_far.stmts so_far.no_natives)
+
+defined-none : (s : Setting Body) → IsDefined s [] 0
+unfolding IsDefined
+defined-none s = tt
+
+pub defined-of : (s : Setting Body) (r : Played Script) → r.takes ≡ [] → r.calls ≡ 0 → IsDefined s r.takes r.calls
+defined-of s r takes calls = rw (takes, calls) (defined-none s)
+
+no-lines : (procs : List (List ℕ)) (s : Setting Body) → lines procs (play s [] 0).steps ≡ []
+unfolding play
+no-lines procs s = refl
+
+pub opening-trace : (r : Played Script) → r.takes ≡ [] → r.calls ≡ 0 → run.trace_of body_next bodies_of proc_names r ≡ []
+opening-trace r takes calls = rw (takes, calls) (no-lines (proc_names r.program) (run.setting_of body_next bodies_of r))
+
+-- what is told stands behind nothing of the trace
+pub told-before : (r : Played Script) (old : Option (List ℕ)) → r.takes ≡ [] → r.calls ≡ 0 → old ≡ appended old (run.trace_of body_next bodies_of proc_names r)
+told-before r old takes calls = sym (ap (appended old) (opening-trace r takes calls) ∙ appended-nil old)
+
+-- ---- the first part of the session
+
+plan-is : (script : Script) (turns : ℕ) → script.posts ≡ [] → plan_of script turns ≡ plan_whole (planned_of script turns) []
+plan-is script turns none = ap (λ posts. plan_whole (planned_of script turns) posts) none
+
+trace-is : (script : Script) (turns : ℕ) → script.posts ≡ [] → trace_of script turns ≡ trace (proc_names script) (planned_of script turns) (plan_whole (planned_of script turns) [])
+unfolding trace_of
+trace-is script turns none = ap (trace (proc_names script) (planned_of script turns)) (plan-is script turns none)
+
+calls-is : (script : Script) (turns : ℕ) → script.posts ≡ [] → calls_of script turns ≡ (plan_whole (planned_of script turns) []).calls
+unfolding calls_of
+calls-is script turns none = ap (λ (plan : Plan Body). plan.calls) (plan-is script turns none)
+
+-- the run's trace is the first part of the script's
+pub rest-of : (script : Script) (turns : ℕ) (r : Played Script) → Plays script turns r → IsSoFar script → IsBegun body_next bodies_of proc_names r
+    → (rest : List ℕ) × (trace_of script turns ≡ run.trace_of body_next bodies_of proc_names r ++ rest) × (r.calls ≤ calls_of script turns)
+rest-of script turns r h so_far begun = let b = begun script.clients in
+    (b.rest,
+     trace-is script turns so_far.no_posts
+       ∙ ap (λ procs. trace procs (planned_of script turns) (plan_whole (planned_of script turns) [])) (ap proc_names (sym h.program))
+       ∙ ap (λ (p : Planned Body). trace (proc_names r.program) p (plan_whole p [])) (sym (planned-is script turns r h))
+       ∙ b.writes,
+     rw (calls-is script turns so_far.no_posts, sym (planned-is script turns r h)) b.calls_up)
+
+pub part-of : (script : Script) (turns : ℕ) (r : Played Script) (old new : Option (List ℕ)) → Plays script turns r → IsSoFar script → IsBegun body_next bodies_of proc_names r
+    → AppendsPrefix old new (run.trace_of body_next bodies_of proc_names r) → IsPart turns script old new r.calls
+part-of script turns r old new h so_far begun p = let found = rest-of script turns r h so_far begun in
+    record { trace = prefix-more old new (run.trace_of body_next bodies_of proc_names r) found.0 (trace_of script turns) found.1 p; made = found.2 }
+
+pub part-all : (script : Script) (turns : ℕ) (r : Played Script) (old new : Option (List ℕ)) → Plays script turns r → IsSoFar script → IsBegun body_next bodies_of proc_names r
+    → new ≡ appended old (run.trace_of body_next bodies_of proc_names r) → IsPart turns script old new r.calls
+part-all script turns r old new h so_far begun p =
+    part-of script turns r old new h so_far begun (prefix-all old new (run.trace_of body_next bodies_of proc_names r) p)
+
+-- ---- the session to its end
+
+whole-trace : (procs : List (List ℕ)) (planned : Planned Body) (plan : Plan Body) (halt : Halt) → planned.clients ≡ [] → ComesTo planned [] plan halt
+    → trace procs planned (plan_whole planned []) ≡ lines procs plan.session.steps ++ end_text planned.turns [] halt
+whole-trace procs planned plan halt none h =
+    ap (trace procs planned) h.whole
+    ∙ ap (λ o. lines procs plan.session.steps ++ tail_by planned.turns planned.clients plan.left o) h.halted
+    ∙ ap (λ clients. lines procs plan.session.steps ++ end_text planned.turns (left_from 0 clients plan.left) halt) none
+
+-- the session of the script comes to where the run is
+comes-of : (script : Script) (turns : ℕ) (r : Played Script) (halt : Halt) → Plays script turns r → IsPlanned body_next bodies_of r halt
+    → ComesTo (planned_of script turns) [] (run.plan_now body_next bodies_of r) halt
+comes-of script turns r halt h planned = rw (sym (planned-is script turns r h)) (planned script.clients)
+
+pub end-trace : (script : Script) (turns : ℕ) (r : Played Script) (halt : Halt) → Plays script turns r → IsSoFar script → IsPlanned body_next bodies_of r halt
+    → trace_of script turns ≡ run.trace_of body_next bodies_of proc_names r ++ end_text turns [] halt
+end-trace script turns r halt h so_far planned =
+    trace-is script turns so_far.no_posts
+    ∙ whole-trace (proc_names script) (planned_of script turns) (run.plan_now body_next bodies_of r) halt so_far.no_clients (comes-of script turns r halt h planned)
+    ∙ ap (λ p. lines (proc_names p) (run.session_of body_next bodies_of r).steps ++ end_text turns [] halt) (sym h.program)
+
+pub whole-of : (script : Script) (turns : ℕ) (r : Played Script) (halt : Halt) (old mid new : Option (List ℕ)) (last : List ℕ) → Plays script turns r → IsSoFar script → IsPlanned body_next bodies_of r halt
+    → mid ≡ appended old (run.trace_of body_next bodies_of proc_names r) → last ≡ end_text turns [] halt → new ≡ appended mid last → IsWhole turns script old new r.calls halt
+unfolding halt_of calls_of takes_of
+whole-of script turns r halt old mid new last h so_far planned g e n =
+    let comes = comes-of script turns r halt h planned in
+    let plan : plan_of script turns ≡ run.plan_now body_next bodies_of r = plan-is script turns so_far.no_posts ∙ comes.whole in
+    record {
+      trace = n ∙ ap (λ w. appended w last) g ∙ appended-append old (run.trace_of body_next bodies_of proc_names r) last
+        ∙ ap (appended old) (ap (λ xs. run.trace_of body_next bodies_of proc_names r ++ xs) e ∙ sym (end-trace script turns r halt h so_far planned));
+      halted = ap (plan_over (planned_of script turns)) plan ∙ comes.halted;
+      made = sym (ap (λ (p : Plan Body). p.calls) plan);
+      takes = ap (λ (p : Plan Body). p.takes) plan;
+    }
+
+-- the last write failed
+pub part-last : (script : Script) (turns : ℕ) (r : Played Script) (halt : Halt) (old mid new : Option (List ℕ)) (last : List ℕ) → Plays script turns r → IsSoFar script
+    → IsBegun body_next bodies_of proc_names r → IsPlanned body_next bodies_of r halt
+    → mid ≡ appended old (run.trace_of body_next bodies_of proc_names r) → last ≡ end_text turns [] halt → AppendsPrefix mid new last → IsPart turns script old new r.calls
+part-last script turns r halt old mid new last h so_far begun planned g e p = record {
+    trace = prefix-then old mid new (run.trace_of body_next bodies_of proc_names r) last (trace_of script turns)
+      (end-trace script turns r halt h so_far planned ∙ ap (λ xs. run.trace_of body_next bodies_of proc_names r ++ xs) (sym e)) g p;
+    made = (rest-of script turns r h so_far begun).2;
+  }
+
+-- ---- what was read
+
+-- a text that isn't too long was read whole
+short-read : (told : List ℕ) → length (take 16777217 told) ≤ 16777216 → take 16777217 told ≡ told
+short-read told h = take_all 16777217 told (omega (arith, length-take 16777217 told, h))
+
+pub holds-of : (left : Option (List ℕ)) (bytes : List ℕ) (script : Script) → HasRead left bytes → Spells bytes script → Holds left script
+holds-of None bytes script read spells = tt
+holds-of (Some told) bytes script read spells = rw (sym (short-read told (rw (sym read) spells.1.short)), sym read) spells
+
+pub holds-none : (left : Option (List ℕ)) (bytes : List ℕ) → HasRead left bytes → ((script : Script) → Spells bytes script → ⊥) → HoldsNone left
+holds-none None bytes read none = tt
+holds-none (Some told) bytes read none = λ script spells. none script (rw (read, take_all 16777217 told (omega (arith, spells.1.short))) spells)
+
+-- bad bytes are read as no script
+pub bad-none : (bytes : List ℕ) (e : ReadErr) (line : ℕ) (why : Reason) → e ≡ err.Bad line why → ((script : Script) → Spells bytes script → IsReadAs script (Err e))
+    → (script : Script) → Spells bytes script → ⊥
+bad-none bytes e line why is only script spells = (rw is at only script spells)
+
+-- ---- what the end says
+
+pub says-of : (turns : ℕ) (source sink : Stream) (session : Session) (script : Script) (e : SessionEnd) → Holds source.old script → IsFaultless source
+    → RunSays turns script sink session e → EndSays turns source sink session e
+says-of turns source sink session script (end.Ended status) h f s = (f, (script, h, s))
+says-of turns source sink session script end.Stuck h f s = (f, (script, h, s))
+says-of turns source sink session script end.Spent h f s = (f, (script, h, s))
+says-of turns source sink session script end.WriteFault h f s = (f, (script, h, s))
+says-of turns source sink session script end.NoMemory h f s = inr (f, (script, h, s))
+says-of turns source sink session script end.Usage h f s = s
+says-of turns source sink session script end.ReadFault h f s = absurd s
+says-of turns source sink session script (end.Script line reason) h f s = absurd s

@@ -1,0 +1,121 @@
+-- What `plan` comes to, with all that it meets outside.
+use Rattle.lwp_serve.specs.Outcome.{end_of, status_of}
+use Rattle.lwp_serve.specs.Planned.{calls_of, halt_of, takes_of, trace_of}
+use Rattle.lwp_serve.specs.declared.session.Session.{Session}
+use Rattle.lwp_serve.specs.declared.session.SessionEnd.{SessionEnd}
+use Rattle.lwp_serve.specs.declared.session.SessionEnd.TheVariants as end
+use Rattle.lwp_types.specs.Streams.{AppendsPrefix, Rose, appended}
+use Rattle.script_text.specs.Grammar.{Spells}
+use Rattle.script_text.specs.declared.reason.Reason.{Reason}
+use Rattle.script_text.specs.declared.reason.Reason.TheVariants as reasons
+use Rattle.script_text.specs.declared.script.Halt.{Halt}
+use Rattle.script_text.specs.declared.script.Script.{Script}
+use Rattle.lwp_types.specs.Names.{Names, null_names}
+use Rattle.pod_runner.specs.Run.{Played}
+use Rattle.script_text.specs.Script.{params_of}
+use Rattle.std.specs.Prelude.{List, Option, None, Some, [], false, length, ℕ, ◌≡◌, ◌≤◌, ◌⊎◌}
+
+-- a source or a sink before and after: what it tells, and its count of faults
+pub record Stream : Type 0 where
+  pub old : Option (List ℕ)
+  pub new : Option (List ℕ)
+  pub faults_old : ℕ
+  pub faults_new : ℕ
+
+-- no fault came
+abbrev pub IsFaultless : Stream → Type 0
+IsFaultless stream = stream.faults_new ≡ stream.faults_old
+
+-- a fault came
+abbrev pub IsFaulty : Stream → Type 0
+IsFaulty stream = Rose stream.faults_old stream.faults_new
+
+-- nothing was written
+abbrev pub IsQuiet : Stream → Type 0
+IsQuiet sink = (sink.new ≡ sink.old) × IsFaultless sink
+
+-- what the source had left spells this script; of a source that doesn't tell, nothing is known
+abbrev pub Holds : Option (List ℕ) → Script → Type 0
+Holds None script = Unit {0}
+Holds (Some told) script = Spells told script
+
+-- what the source had left spells no script
+abbrev pub HoldsNone : Option (List ℕ) → Type 0
+HoldsNone None = Unit {0}
+HoldsNone (Some told) = (script : Script) → Spells told script → ⊥
+
+-- what was told before and is told now: the session of a script, to its end; its whole trace was written, so many calls were made,
+-- and no line was there to be taken
+pub record IsWhole (turns : ℕ) (script : Script) (old new : Option (List ℕ)) (calls : ℕ) (halt : Halt) : Type 0 where
+  pub trace : new ≡ appended old (trace_of script turns)
+  pub halted : halt_of script turns ≡ Some halt
+  pub made : calls ≡ calls_of script turns
+  pub takes : takes_of script turns ≡ []
+
+-- the first part of it: the first bytes of its trace were written, and no more calls were made than it makes
+pub record IsPart (turns : ℕ) (script : Script) (old new : Option (List ℕ)) (calls : ℕ) : Type 0 where
+  pub trace : AppendsPrefix old new (trace_of script turns)
+  pub made : calls ≤ calls_of script turns
+
+-- it ended before a script was read
+pub record IsUnread (sink : Stream) (session : Session) : Type 0 where
+  pub quiet : IsQuiet sink
+  pub calls : session.turns ≡ 0
+
+-- a session to its end
+abbrev pub IsRun : ℕ → Script → Stream → Session → Type 0
+IsRun turns script sink session =
+    IsFaultless sink × ((halt : Halt) × (session.end ≡ end_of halt) × IsWhole turns script sink.old sink.new session.turns halt)
+
+-- a session as far as it came
+abbrev pub IsRunPart : ℕ → Script → Stream → Session → Type 0
+IsRunPart turns script sink session = IsPart turns script sink.old sink.new session.turns
+
+-- what each end says of the session of a script that was read
+abbrev pub RunSays : ℕ → Script → Stream → Session → SessionEnd → Type 0
+RunSays turns script sink session (end.Ended status) = IsRun turns script sink session
+RunSays turns script sink session end.Stuck = IsRun turns script sink session
+RunSays turns script sink session end.Spent = IsRun turns script sink session
+RunSays turns script sink session end.WriteFault = IsFaulty sink × IsRunPart turns script sink session
+RunSays turns script sink session end.NoMemory = IsFaultless sink × (IsUnread sink session ⊎ IsRunPart turns script sink session)
+RunSays turns script sink session _ = ⊥
+
+-- the same, where that script is the one that the source held
+abbrev pub SourceSays : Stream → (Script → Type 0) → Type 0
+SourceSays source says = IsFaultless source × ((script : Script) × Holds source.old script × says script)
+
+-- which line is bad and why isn't told yet
+abbrev pub IsUnbuilt : ℕ → Reason → Type 0
+IsUnbuilt line reason = (line ≡ 0) × (reason ≡ reasons.Unbuilt)
+
+-- what each end says: a script was read, and run as far as this; or else nothing was written, and there is a cause
+abbrev pub EndSays : ℕ → Stream → Stream → Session → SessionEnd → Type 0
+EndSays turns source sink session end.Usage = ⊥
+EndSays turns source sink session end.ReadFault = IsFaulty source × IsUnread sink session
+EndSays turns source sink session (end.Script line reason) = IsFaultless source × HoldsNone source.old × IsUnread sink session × IsUnbuilt line reason
+EndSays turns source sink session end.NoMemory =
+    IsFaultless source × IsUnread sink session ⊎ SourceSays source (λ script. RunSays turns script sink session end.NoMemory)
+EndSays turns source sink session e = SourceSays source (λ script. RunSays turns script sink session e)
+
+-- what a session says of a script that was read
+pub record IsPlayed (turns : ℕ) (script : Script) (sink : Stream) (session : Session) : Type 0 where
+  pub status : session.status ≡ status_of session.end
+  pub taken : session.taken ≡ []
+  pub says : RunSays turns script sink session session.end
+
+-- what a session of `plan` says, with so many turns allowed
+pub record IsPlan (turns : ℕ) (source sink : Stream) (session : Session) : Type 0 where
+  pub status : session.status ≡ status_of session.end
+  pub taken : session.taken ≡ []
+  pub says : EndSays turns source sink session session.end
+
+-- ---- a run of a script before its first call
+
+-- a script's names stand for nothing yet
+abbrev pub opening_names : Script → Names
+opening_names script = null_names (length script.names.threads) (length script.names.mons) (length script.names.conds)
+
+-- the run, with so many turns allowed
+abbrev pub opening_run : Script → ℕ → Played Script
+opening_run script turns =
+    record { program = script; params = params_of script; names = opening_names script; turns = turns; calls = 0; takes = []; failed = false }

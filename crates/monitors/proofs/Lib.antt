@@ -1,0 +1,5 @@
+pub mod Best
+pub mod Counts
+pub mod KeptLemmas
+pub mod Lists
+pub mod Room

@@ -1,0 +1,6 @@
+use Rattle.monitors.proofs.KeptLemmas.{IsKept-destroyed}
+use Rattle.monitors.proofs.monitors.Monitors.destroy.Goals as goal
+
+pub invariant_of-self : goal.invariant_of-self
+invariant_of-self c =
+    rw c.take_out.ensures (IsKept-destroyed c.self.invariant c.args.mon (rw (← c.self.view_is) at c.requires.free))

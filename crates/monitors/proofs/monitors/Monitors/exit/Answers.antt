@@ -1,0 +1,8 @@
+use Rattle.monitors.proofs.KeptLemmas.{IsKept-deepened}
+use Rattle.monitors.proofs.monitors.Monitors.exit.Goals as goal
+use Rattle.std.proofs.Common.{◌-◌}
+
+pub invariant_of-self : goal.invariant_of-self
+invariant_of-self c =
+    rw (c.set_depth.ensures.items, c.set_depth.ensures.capacity)
+    (IsKept-deepened c.self.invariant c.args.mon (c.depth_of-depth.result - 1))

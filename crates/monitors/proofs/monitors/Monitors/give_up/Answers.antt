@@ -1,0 +1,5 @@
+use Rattle.monitors.proofs.KeptLemmas.{IsKept-freed}
+use Rattle.monitors.proofs.monitors.Monitors.give_up.Goals as goal
+
+pub invariant_of-self : goal.invariant_of-self
+invariant_of-self c = rw (c.free.ensures.items, c.free.ensures.capacity) (IsKept-freed c.self.invariant c.args.mon)

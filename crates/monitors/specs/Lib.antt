@@ -1,0 +1,2 @@
+pub mod MonitorTable
+pub mod Kept

@@ -1,0 +1,211 @@
+-- The monitors of a pod as plain lists, and what each call on them makes of the lists.
+use Rattle.lwp_types.specs.Choice.{best_by}
+use Rattle.lwp_types.specs.Locks.{is_owned_by, with_depth}
+use Rattle.lwp_types.specs.Release.{is_lock, without_lock}
+use Rattle.lwp_types.specs.State.{member, passes, without}
+use Rattle.lwp_types.specs.declared.rows.Lock.{Lock}
+use Rattle.lwp_types.specs.declared.rows.Request.{Request}
+use Rattle.monitors.specs.declared.requests.EntryRequest.{EntryRequest}
+use Rattle.std.specs.List.{AllByRecursion, count_by, filter, find, list_any}
+use Rattle.std.specs.Prelude.{Bool, List, None, Option, Some, [], if◌then◌else◌, is_none, length, map, max, nat_le, nat_lt, not, option_map, reverse, true, unwrap_or, ℕ, ◌&&◌, ◌++◌, ◌+◌, ◌-◌, ◌<◌, ◌==◌, ◌||◌, ◌∷◌, ◌≡◌, ◌≤◌}
+
+-- all that there is of monitors
+pub record MonitorTable : Type 0 where
+  -- the live monitors, in birth order
+  pub monitors : List ℕ
+  -- how many were ever born, and how many may be
+  pub births : ℕ
+  pub limit : ℕ
+  -- the held monitors, in the order in which they were acquired
+  pub locks : List Lock
+  -- who waits to enter, first come first
+  pub requests : List EntryRequest
+  -- how many may wait without asking for memory
+  pub places : ℕ
+
+-- requests
+
+-- the machine's row of a request; the machine looks the priority up instead of keeping it
+abbrev pub machine_row : EntryRequest → Request
+machine_row r = record { mon = r.mon; tid = r.tid; depth = r.depth }
+
+-- the request is that of thread t
+abbrev pub is_request_of : ℕ → EntryRequest → Bool
+is_request_of t r = r.tid == t
+
+-- the requests of all threads but t
+abbrev pub without_request : ℕ → List EntryRequest → List EntryRequest
+without_request t rs = filter (λ r. not (is_request_of t r)) rs
+
+-- a request, with another priority where it is that of t
+abbrev pub priority_set : ℕ → ℕ → EntryRequest → EntryRequest
+priority_set t p r = record r { prio = if is_request_of t r then p else r.prio }
+
+-- the priority of t becomes p; the request keeps its place
+abbrev pub with_priority : ℕ → ℕ → List EntryRequest → List EntryRequest
+with_priority t p rs = map (priority_set t p) rs
+
+-- questions
+
+-- the monitor is live
+abbrev pub is_live : MonitorTable → ℕ → Bool
+is_live s m = member m s.monitors
+
+-- no monitor can be born: so many are live, or the births are at their limit
+abbrev pub is_full : MonitorTable → Bool
+is_full s = nat_le 256 (length s.monitors) || nat_le s.limit s.births
+
+-- the lock of a monitor that somebody holds
+abbrev pub lock_of : MonitorTable → ℕ → Option Lock
+lock_of s m = find (is_lock m) s.locks
+
+-- of the locks of a thread, the one that it acquired last
+abbrev pub last_lock : MonitorTable → ℕ → Option Lock
+last_lock s t = find (is_owned_by t) (reverse s.locks)
+
+-- who holds the monitor
+abbrev pub owner_of : MonitorTable → ℕ → Option ℕ
+owner_of s m = option_map (λ lock. lock.owner) (lock_of s m)
+
+-- how often the owner has entered it, and 0 where nobody holds it
+abbrev pub depth_of : MonitorTable → ℕ → ℕ
+depth_of s m = unwrap_or (option_map (λ lock. lock.depth) (lock_of s m)) 0
+
+-- nobody holds the monitor
+abbrev pub is_free : MonitorTable → ℕ → Bool
+is_free s m = is_none (lock_of s m)
+
+-- t holds the monitor
+abbrev pub is_owner : MonitorTable → ℕ → ℕ → Bool
+is_owner s t m = passes (is_owned_by t) (lock_of s m)
+
+-- another than t holds it
+abbrev pub is_held_by_other : MonitorTable → ℕ → ℕ → Bool
+is_held_by_other s t m = passes (λ lock. not (is_owned_by t lock)) (lock_of s m)
+
+-- t need not wait for a monitor of this lock: there is none, or it is t's own and may be one deeper
+abbrev pub may_enter : ℕ → Option Lock → Bool
+may_enter t None = true
+may_enter t (Some lock) = is_owned_by t lock && nat_lt lock.depth 65535
+
+-- t waits to enter a monitor
+abbrev pub has_request : MonitorTable → ℕ → Bool
+has_request s t = list_any (is_request_of t) s.requests
+
+-- nobody waits to enter this monitor
+abbrev pub is_unwanted : MonitorTable → ℕ → Bool
+is_unwanted s m = not (list_any (λ r. r.mon == m) s.requests)
+
+-- who waits to enter a monitor, first come first
+abbrev pub requests_of : MonitorTable → ℕ → List EntryRequest
+requests_of s m = filter (λ r. r.mon == m) s.requests
+
+-- who enters next: by the priorities of this moment, the first of the greatest
+abbrev pub next_request : MonitorTable → ℕ → Option EntryRequest
+next_request s m = best_by (λ r. r.prio) (requests_of s m)
+
+-- that one's thread
+abbrev pub next_owner : MonitorTable → ℕ → Option ℕ
+next_owner s m = option_map (λ r. r.tid) (next_request s m)
+
+-- the table after each call
+
+-- no monitor was ever born, and there is room for no request
+abbrev pub empty_table : ℕ → MonitorTable
+empty_table limit = record { monitors = []; births = 0; limit = limit; locks = []; requests = []; places = 0 }
+
+-- places for n requests at least
+abbrev pub reserved : MonitorTable → ℕ → MonitorTable
+reserved s n = record s { places = max s.places n }
+
+-- the number of a monitor that is born now
+abbrev pub newborn : MonitorTable → Option ℕ
+newborn s = if is_full s then None else Some s.births
+
+-- one monitor more, if one may be born
+abbrev pub created : MonitorTable → MonitorTable
+created s = if is_full s then s else record s { monitors = s.monitors ++ s.births ∷ []; births = s.births + 1 }
+
+-- the monitor is gone
+abbrev pub destroyed : MonitorTable → ℕ → MonitorTable
+destroyed s m = record s { monitors = without m s.monitors }
+
+-- a monitor of no lock is held from now on, and a held one is held one deeper
+abbrev pub with_entry : ℕ → ℕ → Option Lock → List Lock → List Lock
+with_entry t m None locks = locks ++ record { mon = m; owner = t; depth = 1 } ∷ []
+with_entry t m (Some lock) locks = with_depth m (lock.depth + 1) locks
+
+-- t enters
+abbrev pub entered : MonitorTable → ℕ → ℕ → MonitorTable
+entered s t m = record s { locks = with_entry t m (lock_of s m) s.locks }
+
+-- one more waits to enter, behind all others
+abbrev pub requested : MonitorTable → EntryRequest → MonitorTable
+requested s r = record s { requests = s.requests ++ r ∷ [] }
+
+-- nobody holds the monitor
+abbrev pub freed : MonitorTable → ℕ → MonitorTable
+freed s m = record s { locks = without_lock m s.locks }
+
+-- a request is met: its thread holds the monitor at the depth that it asked for
+abbrev pub with_grant : MonitorTable → Option EntryRequest → MonitorTable
+with_grant s None = s
+with_grant s (Some r) = record s {
+  requests = without_request r.tid s.requests;
+  locks = s.locks ++ record { mon = r.mon; owner = r.tid; depth = r.depth } ∷ [];
+}
+
+-- whoever enters next holds the monitor
+abbrev pub granted : MonitorTable → ℕ → MonitorTable
+granted s m = with_grant s (next_request s m)
+
+-- whoever held the monitor doesn't, and then whoever enters next
+abbrev pub released : MonitorTable → ℕ → MonitorTable
+released s m = granted (freed s m) m
+
+-- leaving once leaves the monitor altogether
+abbrev pub is_outermost : MonitorTable → ℕ → Bool
+is_outermost s m = nat_le (depth_of s m) 1
+
+-- the owner leaves once; the last time the monitor is released
+abbrev pub exited : MonitorTable → ℕ → MonitorTable
+exited s m = if is_outermost s m then released s m else record s { locks = with_depth m (depth_of s m - 1) s.locks }
+
+-- who holds the monitor because its owner has left once
+abbrev pub owner_after : MonitorTable → ℕ → Option ℕ
+owner_after s m = if is_outermost s m then next_owner s m else None
+
+-- the monitor of this lock is released
+abbrev pub without_hold : MonitorTable → Option Lock → MonitorTable
+without_hold s None = s
+without_hold s (Some lock) = released s lock.mon
+
+-- the monitor that t acquired last is released
+abbrev pub last_released : MonitorTable → ℕ → MonitorTable
+last_released s t = without_hold s (last_lock s t)
+
+-- that monitor, and who holds it then
+abbrev pub last_release : MonitorTable → ℕ → Option (ℕ × Option ℕ)
+last_release s t = option_map (λ lock. (lock.mon, next_owner s lock.mon)) (last_lock s t)
+
+-- the priority of t is another from now on
+abbrev pub requeued : MonitorTable → ℕ → ℕ → MonitorTable
+requeued s t p = record s { requests = with_priority t p s.requests }
+
+-- t waits no more
+abbrev pub forgotten : MonitorTable → ℕ → MonitorTable
+forgotten s t = record s { requests = without_request t s.requests }
+
+-- laws
+
+-- how often a number stands in a list
+abbrev pub times_in : List ℕ → ℕ → ℕ
+times_in ns n = count_by (λ k. k == n) ns
+
+-- the element is in the list, all before it weigh less, and none after it weighs more
+pub record IsFirstBest {A : Type 0} (weight : A → ℕ) (xs : List A) (best : A) : Type 0 where
+  pub before : List A
+  pub after : List A
+  pub splits : xs ≡ before ++ best ∷ after
+  pub less_before : AllByRecursion (λ x. weight x < weight best) before
+  pub no_more_after : AllByRecursion (λ x. weight x ≤ weight best) after

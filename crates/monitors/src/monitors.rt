@@ -1,0 +1,259 @@
+// The monitors.
+ghost use Rattle.std.specs.Prelude.{◌≡◌, ◌<◌, ◌≤◌, [], false, length, map, option_map, IsTrue, IsOk, IfOk, OnOk, OnErr, MatchOption};
+ghost use Rattle.monitors.specs.MonitorTable.{IsFirstBest, created, depth_of, destroyed, empty_table, entered, exited, forgotten, freed, granted, has_request, is_free, is_held_by_other, is_live, is_owner, is_unwanted, last_lock, last_release, last_released, lock_of, may_enter, newborn, next_owner, next_request, owner_after, owner_of, released, requested, requests_of, requeued, reserved};
+
+use crate::EntryRequest;
+use crate::live::{has, list, take_out};
+use crate::locks::{depth_of, free, last_lock, lock_of, set_depth};
+use crate::requests::{first_best, forget, set_prio, tids_of};
+use lwp_types::{IdList, Lock, Mid, NoMemory, Tid};
+use std::alloc::Global;
+use std::marker::Model;
+
+// How many monitors may live at once.
+const MOST_LIVE: usize = 256;
+
+/// The live monitors, their locks, and who waits to enter.
+#[derive(Drop)]
+pub struct Monitors {
+    alloc: Global,
+    live: Vec<Mid>,
+    births: u64,
+    limit: u64,
+    locks: Vec<Lock>,
+    requests: Vec<EntryRequest>,
+    // How many requests there may be with no more memory.
+    places: usize,
+}
+
+impl Model for Monitors {
+    ghost use Rattle.std.specs.Prelude.{vec_capacity};
+    ghost use Rattle.monitors.specs.MonitorTable.{MonitorTable};
+    ghost use Rattle.monitors.specs.Kept.{IsKept};
+
+    ghost Value = { MonitorTable };
+
+    ghost view = { λ s. record { monitors = s.live.items; births = s.births; limit = s.limit; locks = s.locks.items; requests = s.requests.items; places = s.places } };
+
+    ghost invariant = { λ s. IsKept (record { monitors = s.live.items; births = s.births; limit = s.limit; locks = s.locks.items; requests = s.requests.items; places = s.places }) (vec_capacity s.locks) (vec_capacity s.requests) };
+}
+
+impl Monitors {
+    /// No monitors, and births of up to so many in all.
+    pub fn new(alloc: Global, births: u64) -> Monitors
+        ensures { result ≡ empty_table births }
+    {
+        Monitors {
+            alloc,
+            live: Vec::new(alloc),
+            births: 0,
+            limit: births,
+            locks: Vec::new(alloc),
+            requests: Vec::new(alloc),
+            places: 0,
+        }
+    }
+
+    /// Makes places for `n` requests in all; so many may then wait with no more memory.
+    pub fn reserve(&mut self, n: usize) -> Result<(), NoMemory>
+        ensures ok { OnOk result (self.new ≡ reserved self.old n) }
+        ensures err { OnErr result (self.new ≡ self.old) }
+        ensures has_room { n ≤ self.old.places → IsOk result }
+    {
+        if n <= self.places {
+            return Ok(());
+        }
+        self.requests.reserve(n - self.requests.len())?;
+        self.places = n;
+        Ok(())
+    }
+
+    /// A monitor that nobody holds, or None where none may be born. What is done to it later takes no memory.
+    pub fn create(&mut self) -> Result<Option<Mid>, NoMemory>
+        ensures value { IfOk result (λ made. made ≡ newborn self.old) }
+        ensures ok { OnOk result (self.new ≡ created self.old) }
+        ensures err { OnErr result (self.new ≡ self.old) }
+    {
+        let births = self.births;
+        if self.live.len() >= MOST_LIVE || births >= self.limit {
+            return Ok(None);
+        }
+        let mon = Mid { number: births };
+        self.locks.reserve(self.live.len() + 1 - self.locks.len())?;
+        self.live.push(mon)?;
+        self.births = births + 1;
+        Ok(Some(mon))
+    }
+
+    /// Whether the monitor was born and not destroyed.
+    pub fn is_live(&self, mon: Mid) -> bool
+        ensures { result ≡ is_live self.now mon }
+    {
+        has(&self.live, mon)
+    }
+
+    /// Ends a monitor that nobody holds or waits for.
+    pub fn destroy(&mut self, mon: Mid)
+        requires live { IsTrue (is_live self.old mon) }
+        requires free { IsTrue (is_free self.old mon) }
+        requires unwanted { IsTrue (is_unwanted self.old mon) }
+        ensures { self.new ≡ destroyed self.old mon }
+    {
+        take_out(&mut self.live, mon);
+    }
+
+    /// Who holds the monitor, if anybody does.
+    pub fn owner(&self, mon: Mid) -> Option<Tid>
+        requires { IsTrue (is_live self.now mon) }
+        ensures { result ≡ owner_of self.now mon }
+    {
+        lock_of(&self.locks, mon).map(|lock| lock.owner)
+    }
+
+    /// How often the owner has entered the monitor, and 0 where it is free.
+    pub fn depth(&self, mon: Mid) -> u32
+        requires { IsTrue (is_live self.now mon) }
+        ensures { result ≡ depth_of self.now mon }
+    {
+        depth_of(&self.locks, mon)
+    }
+
+    /// The thread enters a free monitor, or its own once more. The answer is how often it had entered it before.
+    pub fn enter(&mut self, mon: Mid, tid: Tid) -> u32
+        requires live { IsTrue (is_live self.old mon) }
+        requires may_enter { IsTrue (may_enter tid (lock_of self.old mon)) }
+        ensures value { result ≡ depth_of self.old mon }
+        ensures after { self.new ≡ entered self.old tid mon }
+    {
+        match lock_of(&self.locks, mon) {
+            None => {
+                self.locks.push_reserved(Lock {
+                    mon,
+                    owner: tid,
+                    depth: 1,
+                });
+                0
+            }
+            Some(lock) => {
+                set_depth(&mut self.locks, mon, lock.depth + 1);
+                lock.depth
+            }
+        }
+    }
+
+    /// The thread waits, behind all others, to enter a monitor that another holds.
+    pub fn request(&mut self, mon: Mid, tid: Tid, prio: u32, depth: u32)
+        requires held { IsTrue (is_held_by_other self.old tid mon) }
+        requires waits_nowhere { has_request self.old tid ≡ false }
+        requires least { 1 ≤ depth }
+        requires most { depth ≤ 65535 }
+        requires room { length self.old.requests < self.old.places }
+        ensures { self.new ≡ requested self.old (record { mon = mon; tid = tid; prio = prio; depth = depth }) }
+    {
+        self.requests.push_reserved(EntryRequest {
+            mon,
+            tid,
+            prio,
+            depth,
+        });
+    }
+
+    /// The owner leaves once. Where it leaves altogether, the answer is who holds the monitor then.
+    pub fn exit(&mut self, mon: Mid, _owner: Tid) -> Option<Tid>
+        requires { IsTrue (is_owner self.old _owner mon) }
+        ensures value { result ≡ owner_after self.old mon }
+        ensures after { self.new ≡ exited self.old mon }
+    {
+        let depth = depth_of(&self.locks, mon);
+        if depth <= 1 {
+            return self.break_lock(mon);
+        }
+        set_depth(&mut self.locks, mon, depth - 1);
+        None
+    }
+
+    /// Takes the monitor from its owner, however deep, and answers who holds it then.
+    pub fn break_lock(&mut self, mon: Mid) -> Option<Tid>
+        requires { is_free self.old mon ≡ false }
+        ensures value { result ≡ next_owner self.old mon }
+        ensures after { self.new ≡ released self.old mon }
+    {
+        free(&mut self.locks, mon);
+        self.grant(mon)
+    }
+
+    /// The owner leaves the monitor altogether, and nobody enters it yet. The answer is how often it had entered.
+    pub fn give_up(&mut self, mon: Mid, _owner: Tid) -> u32
+        requires { IsTrue (is_owner self.old _owner mon) }
+        ensures value { result ≡ depth_of self.old mon }
+        ensures after { self.new ≡ freed self.old mon }
+    {
+        let before = depth_of(&self.locks, mon);
+        free(&mut self.locks, mon);
+        before
+    }
+
+    /// Whoever is next enters a free monitor. The answer is that thread, if any waits.
+    pub fn grant(&mut self, mon: Mid) -> Option<Tid>
+        requires live { IsTrue (is_live self.old mon) }
+        requires free { IsTrue (is_free self.old mon) }
+        ensures value { result ≡ next_owner self.old mon }
+        ensures after { self.new ≡ granted self.old mon }
+        ensures first_best { MatchOption (next_request self.old mon) (requests_of self.old mon ≡ [])
+            (IsFirstBest (λ r. r.prio) (requests_of self.old mon)) }
+    {
+        let next = first_best(&self.requests, mon)?;
+        forget(&mut self.requests, next.tid);
+        self.locks.push_reserved(Lock {
+            mon: next.mon,
+            owner: next.tid,
+            depth: next.depth,
+        });
+        Some(next.tid)
+    }
+
+    /// Of the monitors that the thread holds, the one that it acquired last.
+    pub fn last_held(&self, tid: Tid) -> Option<Mid>
+        ensures { result ≡ option_map (λ lock. lock.mon) (last_lock self.now tid) }
+    {
+        last_lock(&self.locks, tid).map(|lock| lock.mon)
+    }
+
+    /// Gives the thread's request, if it has one, a priority. The request keeps its place.
+    pub fn requeue(&mut self, tid: Tid, prio: u32)
+        ensures { self.new ≡ requeued self.old tid prio }
+    {
+        set_prio(&mut self.requests, tid, prio);
+    }
+
+    /// Forgets the thread's request, if it has one.
+    pub fn forget(&mut self, tid: Tid)
+        ensures { self.new ≡ forgotten self.old tid }
+    {
+        forget(&mut self.requests, tid);
+    }
+
+    /// Takes from the thread the monitor that it acquired last. The answer is that monitor, and who holds it then.
+    pub fn release_last(&mut self, tid: Tid) -> Option<(Mid, Option<Tid>)>
+        ensures value { result ≡ last_release self.old tid }
+        ensures after { self.new ≡ last_released self.old tid }
+    {
+        let lock = last_lock(&self.locks, tid)?;
+        let next = self.break_lock(lock.mon);
+        Some((lock.mon, next))
+    }
+
+    /// The threads that wait to enter the monitor, in the order of their arrival.
+    pub fn waiters(&self, mon: Mid) -> Result<IdList, NoMemory>
+        ensures { IfOk result (λ ids. ids ≡ map (λ r. r.tid) (requests_of self.now mon)) }
+    {
+        tids_of(self.alloc, &self.requests, mon)
+    }
+
+    /// The live monitors, in birth order.
+    pub fn list(&self) -> Result<IdList, NoMemory>
+        ensures { IfOk result (λ ids. ids ≡ self.now.monitors) }
+    {
+        list(self.alloc, &self.live)
+    }
+}

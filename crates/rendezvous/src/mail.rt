@@ -1,0 +1,121 @@
+// The mail.
+ghost use Rattle.std.specs.Prelude.{◌≡◌, ◌<◌, ◌≤◌, ◌&&◌, false, length, option_map, IsOk, IfOk, OnOk, OnErr};
+ghost use Rattle.std.specs.Result.{result_err};
+ghost use Rattle.lwp_types.specs.Letters.{as_received};
+ghost use Rattle.rendezvous.specs.Mailbag.{FindsFirst, IsOnePerSender, empty_mail, first_to, forgotten, has_letter_of, is_open, is_to, popped, posted, received_from, refusal, reserved, senders_to, taken, unreceived};
+
+use crate::letters::{first_to, mark_received, received_from, senders_to, take_out, unreceived};
+use lwp_types::{IdList, Letter, LwpErr, NoMemory, Tid};
+use std::alloc::Global;
+use std::marker::Model;
+
+/// Letters that aren't replied to, in the order of their sending: at most one of each sender.
+#[derive(Drop)]
+pub struct Mail {
+    letters: Vec<Letter>,
+    // How many letters there may be with no more memory.
+    places: usize,
+}
+
+impl Model for Mail {
+    ghost use Rattle.std.specs.Prelude.{vec_capacity};
+    ghost use Rattle.rendezvous.specs.Mailbag.{Mailbag};
+    ghost use Rattle.rendezvous.specs.Kept.{IsKept};
+
+    ghost Value = { Mailbag };
+
+    ghost view = { λ m. record { letters = m.letters.items; places = m.places } };
+
+    ghost invariant = { λ m. IsKept (record { letters = m.letters.items; places = m.places }) (vec_capacity m.letters) };
+}
+
+impl Mail {
+    /// No letters, and no places.
+    pub fn new(alloc: Global) -> Mail
+        ensures { result ≡ empty_mail }
+    {
+        Mail {
+            letters: Vec::new(alloc),
+            places: 0,
+        }
+    }
+
+    /// Makes places for `n` letters in all; so many can then be posted with no more memory.
+    pub fn reserve(&mut self, n: usize) -> Result<(), NoMemory>
+        ensures ok { OnOk result (self.new ≡ reserved self.old n) }
+        ensures err { OnErr result (self.new ≡ self.old) }
+        ensures has_room { n ≤ self.old.places → IsOk result }
+    {
+        if n <= self.places {
+            return Ok(());
+        }
+        self.letters.reserve(n - self.letters.len())?;
+        self.places = n;
+        Ok(())
+    }
+
+    /// One letter more, behind the others. It may count as received already, where its receiver waits for it.
+    pub fn post_letter(&mut self, letter: Letter)
+        requires new { has_letter_of letter.from self.old.letters ≡ false }
+        requires room { length self.old.letters < self.old.places }
+        ensures { self.new ≡ posted self.old letter }
+    {
+        self.letters.push_reserved(letter);
+    }
+
+    /// The thread receives the first letter that it hasn't received yet, of the named sender or of any. The letter stays,
+    /// and waits for its reply.
+    pub fn take_letter(&mut self, to: Tid, from: Option<Tid>) -> Option<Letter>
+        ensures value { result ≡ option_map as_received (unreceived to from self.old.letters) }
+        ensures after { self.new ≡ taken self.old to from }
+        ensures first { FindsFirst (λ letter. is_to to letter && is_open from letter) self.old.letters (unreceived to from self.old.letters) }
+    {
+        let letter = unreceived(&self.letters, to, from)?;
+        mark_received(&mut self.letters, letter.from);
+        Some(Letter {
+            received: true,
+            ..letter
+        })
+    }
+
+    /// `to` replies to the letter of `from` with so many bytes, and the letter goes. It must have received it, and the
+    /// sender must have room for the reply.
+    pub fn reply(&mut self, to: Tid, from: Tid, len: usize) -> Result<(), LwpErr>
+        ensures cause { result_err result ≡ refusal (received_from to from self.old.letters) len }
+        ensures ok { OnOk result (self.new ≡ forgotten self.old from) }
+        ensures err { OnErr result (self.new ≡ self.old) }
+    {
+        let letter = received_from(&self.letters, to, from).ok_or(LwpErr::NoWait)?;
+        if len > usize::from(letter.room) {
+            return Err(LwpErr::InvalidArg);
+        }
+        take_out(&mut self.letters, from);
+        Ok(())
+    }
+
+    /// The sender's letter goes, received or not. Where there is none, nothing happens.
+    pub fn forget(&mut self, from: Tid)
+        ensures { self.new ≡ forgotten self.old from }
+    {
+        take_out(&mut self.letters, from);
+    }
+
+    /// The first letter to the thread goes, received or not; the answer is who sent it.
+    pub fn pop_to(&mut self, to: Tid) -> Option<Tid>
+        ensures value { result ≡ option_map (λ letter. letter.from) (first_to to self.old.letters) }
+        ensures after { self.new ≡ popped self.old to }
+        ensures first { FindsFirst (is_to to) self.old.letters (first_to to self.old.letters) }
+    {
+        let letter = first_to(&self.letters, to)?;
+        take_out(&mut self.letters, letter.from);
+        Some(letter.from)
+    }
+
+    /// Who sent the letters to the thread, received or not, in the order of their sending.
+    pub fn senders(&self, to: Tid) -> Result<IdList, NoMemory>
+        ensures value { IfOk result (λ ids. ids ≡ senders_to to self.now.letters) }
+        ensures one_each { IsOnePerSender self.now.letters }
+    {
+        senders_to(*self.letters.allocator(), &self.letters, to)
+    }
+}
