@@ -7,5 +7,7 @@
 
 mod pod;
 mod rows;
+#[cfg(test)]
+mod tests;
 
 pub use pod::{Pod, PodEnd};
