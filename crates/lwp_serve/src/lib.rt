@@ -22,3 +22,6 @@ pub use program::ScriptProgram;
 pub use session::{Session, SessionEnd, Taken};
 pub use source::SCRIPT_MAX;
 pub use texts::fault_text;
+
+#[cfg(test)]
+mod tests;
