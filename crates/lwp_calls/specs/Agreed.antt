@@ -35,7 +35,7 @@ pub record Numbers : Type 0 where
   pub limit : ℕ
   pub procs : ℕ
 
--- the machine's state that these are; what no call reaches yet is as it was at the begin
+-- the machine's state that these are; what no call reaches yet is as it was at the start
 abbrev pub state_of : Schedule → List LiveThread → Numbers → State
 state_of sched rows numbers = record {
   threads = map (thread_row sched) rows;

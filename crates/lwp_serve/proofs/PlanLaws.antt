@@ -55,9 +55,11 @@ prefix-all : (old new : Option (List ℕ)) (a : List ℕ) → new ≡ appended o
 prefix-all old new a h = (length a, h ∙ ap (appended old) (sym (take-length a)))
 
 prefix-then : (old mid new : Option (List ℕ)) (a b whole : List ℕ) → whole ≡ a ++ b → mid ≡ appended old a → AppendsPrefix mid new b → AppendsPrefix old new whole
-prefix-then old mid new a b whole h g p = (length a + p.0,
-    p.1 ∙ ap (λ w. appended w (take p.0 b)) g ∙ appended-append old a (take p.0 b)
-    ∙ ap (appended old) (sym (take-append-add a b p.0) ∙ ap (take (length a + p.0)) (sym h)))
+prefix-then old mid new a b whole h g p = (
+  length a + p.0,
+  p.1 ∙ ap (λ w. appended w (take p.0 b)) g ∙ appended-append old a (take p.0 b)
+      ∙ ap (appended old) (sym (take-append-add a b p.0) ∙ ap (take (length a + p.0)) (sym h)),
+)
 
 -- a fact of an error holds where there is one
 pub on_err : {X E : Type 0} (r : Result X E) (P : Type 0) → P → OnErr r P
@@ -145,13 +147,14 @@ calls-is script turns none = ap (λ (plan : Plan Body). plan.calls) (plan-is scr
 -- the run's trace is the first part of the script's
 pub rest-of : (script : Script) (turns : ℕ) (r : Played Script) → Plays script turns r → IsSoFar script → IsBegun body_next bodies_of proc_names r
     → (rest : List ℕ) × (trace_of script turns ≡ run.trace_of body_next bodies_of proc_names r ++ rest) × (r.calls ≤ calls_of script turns)
-rest-of script turns r h so_far begun = let b = begun script.clients in
-    (b.rest,
-     trace-is script turns so_far.no_posts
-       ∙ ap (λ procs. trace procs (planned_of script turns) (plan_whole (planned_of script turns) [])) (ap proc_names (sym h.program))
-       ∙ ap (λ (p : Planned Body). trace (proc_names r.program) p (plan_whole p [])) (sym (planned-is script turns r h))
-       ∙ b.writes,
-     rw (calls-is script turns so_far.no_posts, sym (planned-is script turns r h)) b.calls_up)
+rest-of script turns r h so_far begun = let b = begun script.clients in (
+  b.rest,
+  trace-is script turns so_far.no_posts
+      ∙ ap (λ procs. trace procs (planned_of script turns) (plan_whole (planned_of script turns) [])) (ap proc_names (sym h.program))
+      ∙ ap (λ (p : Planned Body). trace (proc_names r.program) p (plan_whole p [])) (sym (planned-is script turns r h))
+      ∙ b.writes,
+  rw (calls-is script turns so_far.no_posts, sym (planned-is script turns r h)) b.calls_up,
+)
 
 pub part-of : (script : Script) (turns : ℕ) (r : Played Script) (old new : Option (List ℕ)) → Plays script turns r → IsSoFar script → IsBegun body_next bodies_of proc_names r
     → AppendsPrefix old new (run.trace_of body_next bodies_of proc_names r) → IsPart turns script old new r.calls
@@ -192,7 +195,7 @@ whole-of script turns r halt old mid new last h so_far planned g e n =
     let plan : plan_of script turns ≡ run.plan_now body_next bodies_of r = plan-is script turns so_far.no_posts ∙ comes.whole in
     record {
       trace = n ∙ ap (λ w. appended w last) g ∙ appended-append old (run.trace_of body_next bodies_of proc_names r) last
-        ∙ ap (appended old) (ap (λ xs. run.trace_of body_next bodies_of proc_names r ++ xs) e ∙ sym (end-trace script turns r halt h so_far planned));
+          ∙ ap (appended old) (ap (λ xs. run.trace_of body_next bodies_of proc_names r ++ xs) e ∙ sym (end-trace script turns r halt h so_far planned));
       halted = ap (plan_over (planned_of script turns)) plan ∙ comes.halted;
       made = sym (ap (λ (p : Plan Body). p.calls) plan);
       takes = ap (λ (p : Plan Body). p.takes) plan;
@@ -203,10 +206,10 @@ pub part-last : (script : Script) (turns : ℕ) (r : Played Script) (halt : Halt
     → IsBegun body_next bodies_of proc_names r → IsPlanned body_next bodies_of r halt
     → mid ≡ appended old (run.trace_of body_next bodies_of proc_names r) → last ≡ end_text turns [] halt → AppendsPrefix mid new last → IsPart turns script old new r.calls
 part-last script turns r halt old mid new last h so_far begun planned g e p = record {
-    trace = prefix-then old mid new (run.trace_of body_next bodies_of proc_names r) last (trace_of script turns)
+  trace = prefix-then old mid new (run.trace_of body_next bodies_of proc_names r) last (trace_of script turns)
       (end-trace script turns r halt h so_far planned ∙ ap (λ xs. run.trace_of body_next bodies_of proc_names r ++ xs) (sym e)) g p;
-    made = (rest-of script turns r h so_far begun).2;
-  }
+  made = (rest-of script turns r h so_far begun).2;
+}
 
 -- ---- what was read
 

@@ -24,16 +24,16 @@ body_next (Scripted body) names a = as_body Scripted (script_next body names a)
 body_next (Serving body) names a = as_body Serving (session_next body names a)
 body_next (Storing body) names a = as_body Storing (store_next body names a)
 
--- a built-in procedure at its begin
+-- a built-in procedure at its start
 abbrev pub native_body : NativeKind → Body
 native_body native.Store = Storing store_opening
 native_body (native.Session event store) = Serving (session_opening event store)
 
--- each procedure of statements at its begin, with numbers from n on
+-- each procedure of statements at its start, with numbers from n on
 abbrev pub proc_bodies : Script → ℕ → List Proc → List Body
 proc_bodies script n [] = []
 proc_bodies script n (p ∷ ps) = Scripted (script_opening script n) ∷ proc_bodies script (n + 1) ps
 
--- every procedure at its begin, by number
+-- every procedure at its start, by number
 abbrev pub bodies_of : Script → List Body
 bodies_of script = proc_bodies script 0 script.procs ++ map (λ n. native_body n.kind) script.natives

@@ -101,9 +101,13 @@ length-proc_bodies script n [] = refl
 length-proc_bodies script n (p ∷ ps) = ap suc (length-proc_bodies script (n + 1) ps)
 
 pub as_many-of : (script : Script) → length (proc_names script) ≡ length (bodies_of script)
-as_many-of script = omega (arith,
+as_many-of script = omega (
+  arith,
   length-map (proc_places script) (λ place. slice_index_or script.names.procs place []),
   length-append (map (λ p. p.name) script.procs) (map (λ n. n.name) script.natives),
-  length-map script.procs (λ p. p.name), length-map script.natives (λ n. n.name),
+  length-map script.procs (λ p. p.name),
+  length-map script.natives (λ n. n.name),
   length-append (proc_bodies script 0 script.procs) (map (λ n. native_body n.kind) script.natives),
-  length-proc_bodies script 0 script.procs, length-map script.natives (λ n. native_body n.kind))
+  length-proc_bodies script 0 script.procs,
+  length-map script.natives (λ n. native_body n.kind),
+)

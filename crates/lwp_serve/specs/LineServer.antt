@@ -211,7 +211,7 @@ session_by body names a AtEnd = stopped body names
 unfoldable pub session_next : Next SessionBody
 session_next body names a = session_by body names a body.place
 
--- a session at its begin
+-- a session at its start
 abbrev pub session_opening : ℕ → ℕ → SessionBody
 session_opening event store = record { event = event; store = store; agent = null_id; place = AtStart }
 
@@ -289,6 +289,6 @@ store_by body names a Empties = after_reply body names (store_receives body name
 unfoldable pub store_next : Next StoreBody
 store_next body names a = store_by body names a body.place
 
--- a store at its begin
+-- a store at its start
 abbrev pub store_opening : StoreBody
 store_opening = record { tables = []; client = null_id; place = Opens }

@@ -1,4 +1,4 @@
--- What `plan` makes of a script and a number of turns: a session in which all lines are there from the begin.
+-- What `plan` makes of a script and a number of turns: a session in which all lines are there from the start.
 use Rattle.lwp_serve.specs.Bodies.{Body, bodies_of, body_next}
 use Rattle.lwp_types.specs.Names.{null_names}
 use Rattle.pod_runner.specs.Eager.{Plan, Planned, plan_over, plan_whole}

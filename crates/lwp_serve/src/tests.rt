@@ -8,7 +8,8 @@ use std::test::Fail;
 
 const SCRIPT: &[u8] = b"lwp 1\npod 1\nproc main\ncreate a worker 1 -\nyield self\nproc worker\n";
 
-const TRACE: &[u8] = b"t0: create worker 1 -\nt0 = t1\nt0: yield self\nt0 = 0\nt1: return\nt1 dies\nt0: return\nt0 dies\npod ends 0\n";
+const TRACE: &[u8] =
+    b"t0: create worker 1 -\nt0 = t1\nt0: yield self\nt0 = 0\nt1: return\nt1 dies\nt0: return\nt0 dies\npod ends 0\n";
 
 // A session's status, how many calls it made, and what it wrote.
 #[derive(Drop)]
@@ -67,8 +68,10 @@ fn an_empty_procedure_returns_at_once(rt: HostRuntime) -> Result<(), Fail> {
 
 #[test]
 fn priorities_are_refused_at_both_ends(rt: HostRuntime) -> Result<(), Fail> {
-    let script = b"lwp 1\npod 2\nproc main\ncreate a w 0 -\ncreate b w 2 -\ncreate c w 3 -\nproc w\n";
-    let trace = b"t0: create w 0 -\nt0 ! LE_ILLPRIO\nt0: create w 2 -\nt0 = t1\nt0: create w 3 -\nt0 ! LE_ILLPRIO\nt0: return\nt0 dies\nt1: return\nt1 dies\npod ends 0\n";
+    let script =
+        b"lwp 1\npod 2\nproc main\ncreate a w 0 -\ncreate b w 2 -\ncreate c w 3 -\nproc w\n";
+    let trace =
+        b"t0: create w 0 -\nt0 ! LE_ILLPRIO\nt0: create w 2 -\nt0 = t1\nt0: create w 3 -\nt0 ! LE_ILLPRIO\nt0: return\nt0 dies\nt1: return\nt1 dies\npod ends 0\n";
     let outcome = plain(rt.alloc(), script, 100_000)?;
     assert!(rt; is(&outcome, 0, 5, trace));
     Ok(())
@@ -86,8 +89,18 @@ fn a_plan_stops_where_its_calls_are_spent(rt: HostRuntime) -> Result<(), Fail> {
 fn a_read_that_fails_leaves_all_unwritten(rt: HostRuntime) -> Result<(), Fail> {
     let alloc = rt.alloc();
     // The first read gives all, and the second the end; there is no third.
-    for (fails, status, turns, written) in [(0, 101, 0, b"".as_slice()), (1, 101, 0, b""), (2, 0, 4, TRACE)] {
-        let outcome = plan(alloc, SCRIPT, 100_000, vec![in alloc; fails]?, Vec::new(alloc))?;
+    for (fails, status, turns, written) in [
+        (0, 101, 0, b"".as_slice()),
+        (1, 101, 0, b""),
+        (2, 0, 4, TRACE),
+    ] {
+        let outcome = plan(
+            alloc,
+            SCRIPT,
+            100_000,
+            vec![in alloc; fails]?,
+            Vec::new(alloc),
+        )?;
         assert!(rt; is(&outcome, status, turns, written));
     }
     Ok(())
@@ -99,7 +112,13 @@ fn a_write_that_fails_leaves_a_first_part(rt: HostRuntime) -> Result<(), Fail> {
     let third = plan(alloc, SCRIPT, 100_000, Vec::new(alloc), vec![in alloc; 2]?)?;
     assert!(rt; is(&third, 102, 1, b"t0: crea"));
     for fails in 0..100 {
-        let outcome = plan(alloc, SCRIPT, 100_000, Vec::new(alloc), vec![in alloc; fails]?)?;
+        let outcome = plan(
+            alloc,
+            SCRIPT,
+            100_000,
+            Vec::new(alloc),
+            vec![in alloc; fails]?,
+        )?;
         if outcome.status == 0 {
             assert!(rt; is(&outcome, 0, 4, TRACE));
             return Ok(());

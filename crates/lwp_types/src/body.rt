@@ -33,7 +33,7 @@ pub trait Program<B: Body>: Drop {
         requires { proc < length (bodies self.now) }
         ensures { slice_get (proc_names self.now) proc ≡ Some result };
 
-    /// A body at the begin of a procedure.
+    /// A body at the start of a procedure.
     fn body_of(&self, proc: u32) -> Result<B, NoMemory>
         requires { proc < length (bodies self.now) }
         ensures { IfOk result (λ body. slice_get (bodies self.now) proc ≡ Some body) };

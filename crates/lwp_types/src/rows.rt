@@ -12,7 +12,7 @@ pub enum Block {
     Waiting(Cid),
 }
 
-/// An entry of a thread's stack: the begin of a procedure, or what it set since.
+/// An entry of a thread's stack: the start of a procedure, or what it set since.
 #[derive(Clone, Copy)]
 pub enum Mark {
     Frame,

@@ -102,8 +102,13 @@ module _ {B : Type 0} (planned : Planned B) where
   later-now n = (n, [], refl, omega arith, sym (append-nil (at n).session.steps))
 
   later-before : (n : ℕ) (plan : Plan B) → Later (suc n) plan → Later n plan
-  later-before n plan h = (h.0, record { take = None; effects = (move planned.setting.next planned.setting.bodies (at n).session.live).effects } ∷ h.1, h.2, omega (arith, h.3),
-      h.4 ∙ append_assoc (at n).session.steps _ h.1)
+  later-before n plan h = (
+    h.0,
+    record { take = None; effects = (move planned.setting.next planned.setting.bodies (at n).session.live).effects } ∷ h.1,
+    h.2,
+    omega (arith, h.3),
+    h.4 ∙ append_assoc (at n).session.steps _ h.1,
+  )
 
   goes-chosen : (f n : ℕ) (b : Bool) → ((k : ℕ) → Later k (go_on planned f (at k)))
       → Later n (go_on planned f (elim b as (λ _. Plan B) [ true ↦ one_call planned (boundary planned (at n)) | false ↦ boundary planned (at n) ]))
@@ -121,16 +126,18 @@ module _ {B : Type 0} (planned : Planned B) where
 
   begins-whole : (procs : List (List ℕ)) (n : ℕ) (whole : Plan B) → Later n whole
       → (rest : List ℕ) × (trace procs planned whole ≡ lines procs (at n).session.steps ++ rest) × (n ≤ whole.calls)
-  begins-whole procs n whole h = (lines procs h.1 ++ tail planned whole,
-      ap (λ steps. lines procs steps ++ tail planned whole) (ap (λ (plan : Plan B). plan.session.steps) h.2 ∙ h.4)
+  begins-whole procs n whole h = (
+    lines procs h.1 ++ tail planned whole,
+    ap (λ steps. lines procs steps ++ tail planned whole) (ap (λ (plan : Plan B). plan.session.steps) h.2 ∙ h.4)
         ∙ ap (λ bytes. bytes ++ tail planned whole) (flat_map-append (made_lines procs) (at n).session.steps h.1)
         ∙ append_assoc (lines procs (at n).session.steps) (lines procs h.1) (tail planned whole),
-      rw (ap (λ (plan : Plan B). plan.calls) h.2) h.3)
+    rw (ap (λ (plan : Plan B). plan.calls) h.2) h.3,
+  )
 
   pub begins : (procs : List (List ℕ)) (n : ℕ) → IsDefined planned.setting [] n → n ≤ planned.turns → Begins procs planned (play planned.setting [] n) n
   unfolding plan_whole play IsDefined
   begins procs n due h = let found = begins-whole procs n (plan_whole planned [])
-        (rw (rounds n (planned.turns - n) (planned.turns + 0) (omega arith) (omega arith) due) (goes (planned.turns - n) n))
+      (rw (rounds n (planned.turns - n) (planned.turns + 0) (omega arith) (omega arith) due) (goes (planned.turns - n) n))
       in record { rest = found.0; writes = found.1; calls_up = found.2 }
 
 -- ---- the end of a run

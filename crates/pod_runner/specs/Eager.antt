@@ -1,4 +1,4 @@
--- Sessions in which all lines are there from the begin, and each is taken as soon as it can be.
+-- Sessions in which all lines are there from the start, and each is taken as soon as it can be.
 use Rattle.lwp_types.specs.Agents.{armed}
 use Rattle.lwp_types.specs.Choice.{choice}
 use Rattle.lwp_types.specs.State.{State, member}

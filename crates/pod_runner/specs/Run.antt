@@ -17,7 +17,7 @@ use Rattle.std.specs.Prelude.{Bool, List, Option, [], length, ℕ, ◌++◌, ◌
 pub record Played (P : Type 0) : Type 0 where
   pub program : P
   pub params : PodParams
-  -- the names at the begin
+  -- the names at the start
   pub names : Names
   -- how many calls are allowed
   pub turns : ℕ
@@ -43,7 +43,7 @@ trace_of next bodies proc_names run = lines (proc_names run.program) (session_of
 abbrev pub phase_now : {B P : Type 0} → Next B → (P → List B) → Played P → Phase
 phase_now next bodies run = phase_of (session_of next bodies run).live.state run.turns run.calls
 
--- the session whose lines all are there from the begin, of the same program and as many calls, where the clients post to these events
+-- the session whose lines all are there from the start, of the same program and as many calls, where the clients post to these events
 abbrev pub planned_of : {B P : Type 0} → Next B → (P → List B) → List ℕ → Played P → Planned B
 planned_of next bodies clients run = record { setting = setting_of next bodies run; clients = clients; turns = run.turns }
 

@@ -24,7 +24,7 @@ pub record Setting (B : Type 0) : Type 0 where
   -- the body that a thread begins as, by procedure
   pub bodies : List B
   pub params : PodParams
-  -- the names at the begin
+  -- the names at the start
   pub names : Names
 
 -- how a session stands: the pod, each live thread's body and pending answer, and the names

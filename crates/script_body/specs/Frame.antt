@@ -7,7 +7,7 @@ pub record Frame : Type 0 where
   pub place : ℕ
   pub handlers : List ℕ
 
--- a procedure at its begin
+-- a procedure at its start
 abbrev pub opening_frame : ℕ → Frame
 opening_frame number = record { number = number; place = 0; handlers = [] }
 

@@ -26,7 +26,7 @@ pub record ScriptBody : Type 0 where
   -- the statement of its last call, if it has made one
   pub last : Option Stmt
 
--- a thread at the begin of a procedure
+-- a thread at the start of a procedure
 abbrev pub script_opening : Script → ℕ → ScriptBody
 script_opening script number = record { script = script; top = opening_frame number; below = []; sender = null_id; last = None }
 
@@ -60,7 +60,7 @@ with_top body frame = record body { top = frame }
 abbrev pub unhandled : ScriptBody → Option ScriptBody
 unhandled body = if length body.top.handlers == 0 then None else Some (with_top body (without_handler body.top))
 
--- a procedure was called: it is at its begin
+-- a procedure was called: it is at its start
 abbrev pub with_frame : ScriptBody → ℕ → ScriptBody
 with_frame body number = record body { top = opening_frame number; below = body.below ++ body.top ∷ [] }
 

@@ -40,7 +40,7 @@ impl<'s> Model for ScriptBody<'s> {
 }
 
 impl<'s> ScriptBody<'s> {
-    /// A thread at the begin of a procedure. No memory is asked for: `NoMemory` is the answer only to a script with more
+    /// A thread at the start of a procedure. No memory is asked for: `NoMemory` is the answer only to a script with more
     /// procedures than a `u32` can number.
     pub fn new(alloc: Global, script: &'s Script, proc: u32) -> Result<ScriptBody<'s>, NoMemory>
         requires { proc < length script.now.procs }

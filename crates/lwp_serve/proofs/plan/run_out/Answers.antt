@@ -19,8 +19,8 @@ returns-in_err-halt-clause-part g c =
     let opening = plays-opening c.args.played.now c.args.turns c.requires.opening in
     let calls = ap (λ (x : Played Script). x.calls) c.requires.opening in
     on_err c.from_residual.result _ (part-of c.args.played.now.program c.args.turns c.run.new.run (g.K.Sink.written c.args.sink.now) (g.K.Sink.written c.run.new.sink)
-      (plays-on c.args.played.now.program c.args.turns c.args.played.now c.run.new.run opening c.run.ensures.same c.run.ensures.takes) c.requires.so_far (c.run.ensures.begun opening.takes)
-      (c.in_err-halt.ensures.part (g.K.Sink.written c.args.sink.now) (told-before c.args.played.now (g.K.Sink.written c.args.sink.now) opening.takes calls)))
+    (plays-on c.args.played.now.program c.args.turns c.args.played.now c.run.new.run opening c.run.ensures.same c.run.ensures.takes) c.requires.so_far (c.run.ensures.begun opening.takes)
+    (c.in_err-halt.ensures.part (g.K.Sink.written c.args.sink.now) (told-before c.args.played.now (g.K.Sink.written c.args.sink.now) opening.takes calls)))
 
 -- src/plan.rt:55:16
 pub returns-in_err-tail-clause-part : goal.returns-in_err-tail-clause-part
@@ -28,8 +28,8 @@ returns-in_err-tail-clause-part g c =
     let opening = plays-opening c.args.played.now c.args.turns c.requires.opening in
     let calls = ap (λ (x : Played Script). x.calls) c.requires.opening in
     on_err c.from_residual-in_err-tail.result _ (part-all c.args.played.now.program c.args.turns c.run.new.run (g.K.Sink.written c.args.sink.now) (g.K.Sink.written c.run.new.sink)
-      (plays-on c.args.played.now.program c.args.turns c.args.played.now c.run.new.run opening c.run.ensures.same c.run.ensures.takes) c.requires.so_far (c.run.ensures.begun opening.takes)
-      (c.in_ok-halt.ensures.whole (g.K.Sink.written c.args.sink.now) (told-before c.args.played.now (g.K.Sink.written c.args.sink.now) opening.takes calls)))
+    (plays-on c.args.played.now.program c.args.turns c.args.played.now c.run.new.run opening c.run.ensures.same c.run.ensures.takes) c.requires.so_far (c.run.ensures.begun opening.takes)
+    (c.in_ok-halt.ensures.whole (g.K.Sink.written c.args.sink.now) (told-before c.args.played.now (g.K.Sink.written c.args.sink.now) opening.takes calls)))
 
 -- src/plan.rt:53:1
 pub returns-in-Ok-clause-whole : goal.returns-in-Ok-clause-whole
@@ -37,10 +37,10 @@ returns-in-Ok-clause-whole g c =
     let opening = plays-opening c.args.played.now c.args.turns c.requires.opening in
     let calls = ap (λ (x : Played Script). x.calls) c.requires.opening in
     whole-of c.args.played.now.program c.args.turns c.run.new.run c.in_ok-halt.halt (g.K.Sink.written c.args.sink.now) (g.K.Sink.written c.run.new.sink) (g.K.Sink.written c.write_all.new.sink) c.deref.result.now
-      (plays-on c.args.played.now.program c.args.turns c.args.played.now c.run.new.run opening c.run.ensures.same c.run.ensures.takes) c.requires.so_far
-      (c.in_ok-halt.ensures.planned opening.takes)
-      (c.in_ok-halt.ensures.whole (g.K.Sink.written c.args.sink.now) (told-before c.args.played.now (g.K.Sink.written c.args.sink.now) opening.takes calls))
-      (c.deref.ensures.value ∙ c.in_ok-tail.ensures) c.in-Ok.ensures.ok
+    (plays-on c.args.played.now.program c.args.turns c.args.played.now c.run.new.run opening c.run.ensures.same c.run.ensures.takes) c.requires.so_far
+    (c.in_ok-halt.ensures.planned opening.takes)
+    (c.in_ok-halt.ensures.whole (g.K.Sink.written c.args.sink.now) (told-before c.args.played.now (g.K.Sink.written c.args.sink.now) opening.takes calls))
+    (c.deref.ensures.value ∙ c.in_ok-tail.ensures) c.in-Ok.ensures.ok
 
 -- src/plan.rt:40:1
 pub returns-clause-part : goal.returns-clause-part
@@ -48,7 +48,7 @@ returns-clause-part g c =
     let opening = plays-opening c.args.played.now c.args.turns c.requires.opening in
     let calls = ap (λ (x : Played Script). x.calls) c.requires.opening in
     part-last c.args.played.now.program c.args.turns c.run.new.run c.in_ok-halt.halt (g.K.Sink.written c.args.sink.now) (g.K.Sink.written c.run.new.sink) (g.K.Sink.written c.write_all.new.sink) c.deref.result.now
-      (plays-on c.args.played.now.program c.args.turns c.args.played.now c.run.new.run opening c.run.ensures.same c.run.ensures.takes) c.requires.so_far
-      (c.in_ok-halt.ensures.begun opening.takes) (c.in_ok-halt.ensures.planned opening.takes)
-      (c.in_ok-halt.ensures.whole (g.K.Sink.written c.args.sink.now) (told-before c.args.played.now (g.K.Sink.written c.args.sink.now) opening.takes calls))
-      (c.deref.ensures.value ∙ c.in_ok-tail.ensures) c.in-Err.ensures.err
+    (plays-on c.args.played.now.program c.args.turns c.args.played.now c.run.new.run opening c.run.ensures.same c.run.ensures.takes) c.requires.so_far
+    (c.in_ok-halt.ensures.begun opening.takes) (c.in_ok-halt.ensures.planned opening.takes)
+    (c.in_ok-halt.ensures.whole (g.K.Sink.written c.args.sink.now) (told-before c.args.played.now (g.K.Sink.written c.args.sink.now) opening.takes calls))
+    (c.deref.ensures.value ∙ c.in_ok-tail.ensures) c.in-Err.ensures.err

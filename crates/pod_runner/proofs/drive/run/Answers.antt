@@ -38,5 +38,9 @@ returns-in-Idle-clause-begun g c = λ none. IsBegun-of g.B.Body.next g.P.Program
 pub returns-in_err-turn-in-Turn-clause-begun : goal.returns-in_err-turn-in-Turn-clause-begun
 returns-in_err-turn-in-Turn-clause-begun g c = λ none. IsBegun-of g.B.Body.next g.P.Program.bodies g.P.Program.proc_names c.turn.new.self
     (c.turn.ensures.takes ∙ c.loop-status.invariant.takes ∙ none) (c.turn.ensures.made c.loop-status.invariant.made)
-    (omega (arith, c.turn.ensures.same.turns, c.in_err-turn-in-Turn.ensures.failed.1,
-      turn-allowed (session_of g.B.Body.next g.P.Program.bodies c.loop-status.run).live.state c.loop-status.run.turns c.loop-status.run.calls (sym c.phase.ensures ∙ c.in-Turn.is)))
+    (omega (
+      arith,
+      c.turn.ensures.same.turns,
+      c.in_err-turn-in-Turn.ensures.failed.1,
+      turn-allowed (session_of g.B.Body.next g.P.Program.bodies c.loop-status.run).live.state c.loop-status.run.turns c.loop-status.run.calls (sym c.phase.ensures ∙ c.in-Turn.is),
+    ))
