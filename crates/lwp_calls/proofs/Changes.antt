@@ -1,12 +1,12 @@
 -- What a pod keeps in two places, after a birth and after a death.
-use Rattle.std.proofs.Common.{◌≡◌, ◌≢◌, ℕ, ◌+◌, ◌<◌, Bool, true, false, not, cond, List, [], ◌∷◌, ◌++◌, map, Some, None, inl, inr, refl, sym, ap, ◌∙◌, arith, subst}
-use Rattle.std.specs.Prelude.{Option, ◌==◌, ◌&&◌, is_some, nat_lt, IsTrue, if◌then◌else◌}
+use Rattle.std.proofs.Common.{◌≡◌, ◌≢◌, ℕ, ◌+◌, ◌<◌, Bool, true, false, not, cond, List, [], ◌∷◌, ◌++◌, map, Some, None, inl, inr, refl, sym, ap, ◌∙◌, arith}
+use Rattle.std.specs.Prelude.{Option, ◌==◌, ◌&&◌, is_some, nat_lt, IsTrue}
 use Rattle.std.specs.List.{filter, find, list_all}
 use Rattle.std.proofs.lemmas.Bool.{cases_eq, eq-eqb, ne_eqb}
 use Rattle.std.proofs.lemmas.Bool.Decides.{nat_tests}
 use Rattle.std.proofs.lemmas.List.{map-append}
 use Rattle.std.proofs.lemmas.List.Folds.{list_all-append}
-use Rattle.lwp_types.specs.State.{State, ThreadRow}
+use Rattle.lwp_types.specs.State.{ThreadRow}
 use Rattle.lwp_types.specs.Threads.{born, created}
 use Rattle.lwp_types.specs.declared.call.Flags.{Flags}
 use Rattle.pod_sched.specs.Schedule as Sched

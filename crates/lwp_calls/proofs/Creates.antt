@@ -1,5 +1,5 @@
 -- A Create, by what was found.
-use Rattle.std.proofs.Common.{◌≡◌, ℕ, ◌<◌, ◌≤◌, Bool, true, false, length, refl, arith}
+use Rattle.std.proofs.Common.{◌≡◌, ℕ, ◌<◌, ◌≤◌, true, false, length, refl, arith}
 use Rattle.std.specs.Prelude.{nat_le, nat_lt, ◌==◌, ◌||◌}
 use Rattle.std.proofs.lemmas.Bool.Decides.{nat_tests}
 use Rattle.lwp_types.specs.Case.{answered, unless}

@@ -1,17 +1,15 @@
 -- The death of a thread that has nothing but its flags and one frame.
-use Rattle.std.proofs.Common.{◌≡◌, ◌≢◌, ℕ, Bool, true, false, not, cond, List, [], ◌∷◌, ◌++◌, map, Some, None, inl, inr, refl, sym, ap, ◌∙◌}
-use Rattle.std.specs.Prelude.{Option, ◌==◌, nat_le, option_map, unwrap_or}
+use Rattle.std.proofs.Common.{◌≡◌, ℕ, Bool, true, false, not, cond, List, [], ◌∷◌, map, Some, inl, inr, refl, ap}
+use Rattle.std.specs.Prelude.{◌==◌, nat_le, option_map, unwrap_or}
 use Rattle.std.specs.List.{filter, find}
 use Rattle.std.proofs.lemmas.Bool.{cases_eq, eq-eqb, ne_eqb}
 use Rattle.lwp_types.specs.Case.{unanswered}
 use Rattle.lwp_types.specs.Death.{death, joins, return_from}
 use Rattle.lwp_types.specs.Letters.{awaits}
 use Rattle.lwp_types.specs.Marks.{exits_of, frames}
-use Rattle.lwp_types.specs.State.{Outcome, State, ThreadRow, and_then, block_set, for_each, in_order, is_number, marks_in, marks_set, numbers, suspension_set, with_block, with_marks, with_suspension, without}
+use Rattle.lwp_types.specs.State.{ThreadRow, and_then, block_set, for_each, in_order, is_number, marks_set, numbers, suspension_set, with_block, with_marks, with_suspension, without}
 use Rattle.lwp_types.specs.declared.call.Effect.TheVariants as effect
 use Rattle.lwp_types.specs.declared.rows.Block.TheVariants as block
-use Rattle.lwp_types.specs.declared.rows.Mark.{Mark}
-use Rattle.lwp_types.specs.declared.rows.Mark.TheVariants as mark
 use Rattle.pod_sched.specs.Schedule.{Schedule}
 use Rattle.lwp_calls.specs.Agreed.{Numbers, state_of, thread_row}
 use Rattle.lwp_calls.specs.declared.rows.LiveThread.{LiveThread}

@@ -1,6 +1,6 @@
 -- Whether anybody is left to run.
-use Rattle.std.proofs.Common.{◌≡◌, Bool, true, false, List, [], ◌∷◌, ◌++◌, None, Some, refl, sym, ap, ◌∙◌, ℕ}
-use Rattle.std.specs.Prelude.{Option, MatchOption, is_some, not, ◌&&◌}
+use Rattle.std.proofs.Common.{◌≡◌, true, false, List, [], ◌∷◌, ◌++◌, None, Some, refl, ap, ◌∙◌, ℕ}
+use Rattle.std.specs.Prelude.{Option, MatchOption, is_some}
 use Rattle.lwp_types.specs.State.{is_empty}
 use Rattle.pod_sched.specs.Schedule.{IsFirstBest}
 

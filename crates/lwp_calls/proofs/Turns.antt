@@ -1,11 +1,10 @@
 -- Calls of the thread whose turn it is.
-use Rattle.std.proofs.Common.{◌≡◌, ℕ, Bool, true, false, cond, Some, None, inl, inr, refl, sym, ap, ◌∙◌}
-use Rattle.std.specs.Prelude.{Option, ◌==◌, not, is_some, IfSome, IsTrue}
-use Rattle.std.specs.List.{find}
+use Rattle.std.proofs.Common.{◌≡◌, ℕ, Bool, true, false, cond, Some, None, inl, inr, refl, sym, ◌∙◌}
+use Rattle.std.specs.Prelude.{Option, ◌==◌, is_some, IfSome, IsTrue}
 use Rattle.std.proofs.lemmas.Bool.{cases_eq, eq-eqb, ne_eqb}
-use Rattle.lwp_types.specs.Case.{answered, unless, valued}
+use Rattle.lwp_types.specs.Case.{unless, valued}
 use Rattle.lwp_types.specs.Choice.{choice, is_eligible, is_eligible_in}
-use Rattle.lwp_types.specs.State.{Outcome, State, ThreadRow, is_number, is_thread, passes, priority_in, thread_of}
+use Rattle.lwp_types.specs.State.{State, ThreadRow, is_thread, passes, priority_in, thread_of}
 use Rattle.lwp_types.specs.Step.{case_of, finished, step, step_by}
 use Rattle.lwp_types.specs.Threads.{yield_to, yielded}
 use Rattle.lwp_types.specs.declared.call.Call.{Call}

@@ -1,7 +1,7 @@
 -- What the scheduler knows of a thread is what the machine's state says of it.
-use Rattle.std.proofs.Common.{◌≡◌, ◌≢◌, ℕ, ◌<◌, Bool, true, false, not, cond, List, [], ◌∷◌, ◌++◌, map, length, Some, None, inl, inr, refl, sym, ap, ◌∙◌, arith, subst}
-use Rattle.std.specs.Prelude.{Option, ◌==◌, ◌&&◌, ◌||◌, is_some, option_map, unwrap_or, nat_le, nat_lt, IsTrue}
-use Rattle.std.specs.List.{filter, find, fold, list_all, list_any}
+use Rattle.std.proofs.Common.{◌≡◌, ℕ, Bool, true, false, not, cond, List, [], ◌∷◌, map, Some, None, inl, inr, refl, sym, ap, ◌∙◌}
+use Rattle.std.specs.Prelude.{Option, ◌==◌, ◌&&◌, ◌||◌, is_some, option_map, unwrap_or, IsTrue}
+use Rattle.std.specs.List.{find, fold, list_all, list_any}
 use Rattle.std.proofs.lemmas.Bool.{cases_eq, eq-eqb, ne_eqb}
 use Rattle.lwp_types.specs.Choice as machine
 use Rattle.lwp_types.specs.Choice.{best_by, better_by}

@@ -1,12 +1,11 @@
 -- What a script's program gives by number, where no procedure is built in.
-use Rattle.lwp_serve.specs.Bodies.{Body, Scripted, bodies_of, native_body, proc_bodies}
+use Rattle.lwp_serve.specs.Bodies.{Scripted, bodies_of, native_body, proc_bodies}
 use Rattle.lwp_serve.specs.BodyLaws.{length-proc_bodies}
 use Rattle.script_body.specs.ScriptBody.{script_opening}
-use Rattle.script_text.specs.Script.{proc_names, proc_places}
-use Rattle.script_text.specs.declared.script.Native.{Native}
+use Rattle.script_text.specs.Script.{proc_names}
 use Rattle.script_text.specs.declared.script.Proc.{Proc}
 use Rattle.script_text.specs.declared.script.Script.{Script}
-use Rattle.std.proofs.Common.{List, Option, Some, [], ap, append-nil, arith, length, map, refl, slice_get, slice_index_or, suc, sym, zero, ℕ, ◌++◌, ◌+◌, ◌<◌, ◌∙◌, ◌∷◌, ◌≡◌, ◌≤◌}
+use Rattle.std.proofs.Common.{List, Some, [], ap, append-nil, arith, length, map, refl, slice_get, slice_index_or, suc, sym, zero, ℕ, ◌++◌, ◌+◌, ◌<◌, ◌∙◌, ◌∷◌, ◌≡◌, ◌≤◌}
 
 -- procedures alone
 only-procs : (script : Script) → script.natives ≡ [] → bodies_of script ≡ proc_bodies script 0 script.procs

@@ -6,7 +6,7 @@ use Rattle.lwp_types.specs.Poll.{Polled}
 use Rattle.lwp_types.specs.declared.call.Answer.{Answer}
 use Rattle.lwp_types.specs.declared.call.Answer.TheVariants as answer
 use Rattle.script_body.specs.NameLaws.{script_next-keeps_lengths}
-use Rattle.std.specs.Prelude.{Bool, List, None, Option, Some, [], codes, cond, false, length, map, refl, slice_index_or, suc, true, ℕ, ◌+◌, ◌++◌, ◌∷◌, ◌≡◌}
+use Rattle.std.specs.Prelude.{Bool, List, None, Option, Some, [], codes, cond, false, length, map, refl, slice_index_or, suc, true, ℕ, ◌+◌, ◌∷◌, ◌≡◌}
 use Rattle.std.proofs.Common.{ap, arith, length-append}
 use Rattle.std.proofs.lemmas.List.{length-map}
 use Rattle.script_text.specs.Script.{proc_names, proc_places}

@@ -4,7 +4,7 @@ use Rattle.lwp_serve.specs.declared.session.SessionEnd.{SessionEnd}
 use Rattle.lwp_serve.specs.declared.session.SessionEnd.TheVariants as end
 use Rattle.script_text.specs.declared.script.Halt.{Halt}
 use Rattle.script_text.specs.declared.script.Halt.TheVariants as halt
-use Rattle.std.specs.Prelude.{List, Option, None, Some, [], take, ℕ, ◌≡◌, ◌+◌}
+use Rattle.std.specs.Prelude.{List, Option, None, Some, [], take, ℕ, ◌≡◌}
 
 -- the exit status of the program, by the end
 abbrev pub status_of : SessionEnd → ℕ

@@ -60,6 +60,16 @@ fn a_script_is_run_to_its_end(rt: HostRuntime) -> Result<(), Fail> {
 }
 
 #[test]
+fn a_said_text_stands_in_the_trace(rt: HostRuntime) -> Result<(), Fail> {
+    let script = b"lwp 1\npod 1\nproc main\ncreate a worker 1 -\nyield self\nproc worker\nsay hi\n";
+    let trace =
+        b"t0: create worker 1 -\nt0 = t1\nt0: yield self\nt0 = 0\nt1: say hi\nt1 = 0\nt1: return\nt1 dies\nt0: return\nt0 dies\npod ends 0\n";
+    let outcome = plain(rt.alloc(), script, 100_000)?;
+    assert!(rt; is(&outcome, 0, 5, trace));
+    Ok(())
+}
+
+#[test]
 fn an_empty_procedure_returns_at_once(rt: HostRuntime) -> Result<(), Fail> {
     let outcome = plain(rt.alloc(), b"lwp 1\npod 3\nproc main\n", 100_000)?;
     assert!(rt; is(&outcome, 0, 1, b"t0: return\nt0 dies\npod ends 0\n"));

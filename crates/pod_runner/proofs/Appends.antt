@@ -1,5 +1,5 @@
 -- Appending to what is told.
-use Rattle.std.proofs.Common.{◌≡◌, ℕ, ◌+◌, ◌-◌, length-drop, List, [], ◌∷◌, ◌++◌, length, take, drop, None, Some, ap, ◌∙◌, sym, refl, append_assoc, append-nil}
+use Rattle.std.proofs.Common.{◌≡◌, ℕ, ◌+◌, ◌-◌, length-drop, List, [], ◌++◌, length, take, drop, None, Some, ap, ◌∙◌, sym, refl, append_assoc, append-nil}
 use Rattle.std.proofs.Math.Seq.{take-add, take-append-add, take-length}
 use Rattle.pod_runner.specs.Run.{Writes, WritesPart}
 use Rattle.std.specs.Prelude.{Option, Result, OnErr, Ok, Err}

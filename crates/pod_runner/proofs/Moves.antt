@@ -1,6 +1,6 @@
 -- One call of a session, by what was found.
-use Rattle.std.proofs.Common.{◌≡◌, ℕ, ◌<◌, ◌≤◌, List, [], ◌++◌, length, None, Some, sym, ap, ◌∙◌, refl, arith, inl, inr, true, false, Bool}
-use Rattle.std.specs.Prelude.{Option, slice_get, slice_set, IsTrue, if◌then◌else◌}
+use Rattle.std.proofs.Common.{◌≡◌, ℕ, ◌<◌, ◌≤◌, List, [], length, None, Some, sym, ap, ◌∙◌, refl, arith, inl, inr, true, false, Bool}
+use Rattle.std.specs.Prelude.{Option, slice_get, IsTrue, if◌then◌else◌}
 use Rattle.std.proofs.lemmas.Option.{slice_get_past, slice_get_cases}
 use Rattle.lwp_calls.specs.Built.{is_built}
 use Rattle.lwp_calls.specs.Pod.{current_of}
@@ -15,7 +15,7 @@ use Rattle.pod_runner.specs.Built.{is_next_built}
 use Rattle.pod_runner.specs.Parts.{Moves}
 use Rattle.script_text.specs.Lines.{step_lines}
 use Rattle.pod_runner.specs.Polls.{Polls, place_of}
-use Rattle.pod_runner.specs.Session.{Live, Move, called, move, polled, proc_of, row_of, settled, unmoved}
+use Rattle.pod_runner.specs.Session.{Live, called, move, polled, proc_of, row_of, settled, unmoved}
 use Rattle.pod_runner.specs.declared.session.Row.{Row}
 use Rattle.pod_runner.proofs.RowLemmas.{row_of-place, with_row-place}
 

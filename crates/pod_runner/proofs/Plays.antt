@@ -1,13 +1,12 @@
 -- A session one step on.
-use Rattle.std.proofs.Common.{◌≡◌, ◌≤◌, ℕ, zero, suc, ◌+◌, List, [], ◌∷◌, ◌++◌, None, Some, ap, ◌∙◌, sym, refl, append_assoc, append-nil, add-one, arith}
+use Rattle.std.proofs.Common.{◌≡◌, ◌≤◌, ℕ, suc, ◌+◌, List, [], ◌∷◌, ◌++◌, ap, ◌∙◌, sym, refl, append_assoc, append-nil, add-one, arith}
 use Rattle.std.specs.Prelude.{Option, reverse, option_map, IsTrue}
-use Rattle.std.specs.List.{flat_map}
 use Rattle.std.proofs.lemmas.Bool.{ne_eqb}
 use Rattle.lwp_types.specs.declared.call.Effect.{Effect}
 use Rattle.script_text.specs.Lines.{step_lines}
 use Rattle.pod_runner.specs.Due.{AllDue, IsDefined, is_call_due}
-use Rattle.pod_runner.specs.Play.{LastBy, calls_made, play, played, with_take}
-use Rattle.pod_runner.specs.Session.{Made, Session, Setting, call_step, extended, move, opening_session}
+use Rattle.pod_runner.specs.Play.{LastBy, play, played}
+use Rattle.pod_runner.specs.Session.{Made, Setting, call_step, opening_session}
 use Rattle.pod_runner.specs.Trace.{lines, made_lines}
 use Rattle.pod_runner.specs.declared.session.Took.{Took}
 

@@ -1,22 +1,20 @@
 -- A run, one call on.
-use Rattle.std.proofs.Common.{◌≡◌, ◌≤◌, ℕ, ◌+◌, List, [], ◌∷◌, ◌++◌, Bool, true, false, cond, None, Some, ap, ◌∙◌, sym, refl, arith}
+use Rattle.std.proofs.Common.{◌≡◌, ◌≤◌, ℕ, ◌+◌, List, ◌++◌, Bool, true, false, cond, None, Some, ap, ◌∙◌, sym, refl, arith}
 use Rattle.std.specs.Prelude.{Option, reverse, IsTrue, is_some, not, ◌&&◌, nat_lt}
 use Rattle.std.proofs.lemmas.Bool.Decides.{nat_tests}
 use Rattle.lwp_calls.specs.Pod.{current_of}
 use Rattle.lwp_types.specs.Choice.{choice}
-use Rattle.lwp_types.specs.Poll.{Next}
 use Rattle.lwp_types.specs.State.{State}
-use Rattle.pod_runner.specs.Due.{IsDefined, is_call_due}
+use Rattle.pod_runner.specs.Due.{is_call_due}
 use Rattle.pod_runner.specs.Keeps.{IsSession}
 use Rattle.pod_runner.specs.Parts.{Moves}
 use Rattle.pod_runner.specs.Phase.{phase_by, phase_of}
-use Rattle.pod_runner.specs.Play.{LastBy, play}
-use Rattle.pod_runner.specs.Session.{Live, Session, Setting, call_step, move}
+use Rattle.pod_runner.specs.Play.{play}
+use Rattle.pod_runner.specs.Session.{Live, Session, Setting, move}
 use Rattle.pod_runner.specs.Trace.{lines}
-use Rattle.pod_runner.specs.declared.phase.Phase.{Phase}
 use Rattle.pod_runner.specs.declared.phase.Phase.TheVariants as phase
 use Rattle.pod_runner.specs.declared.session.Took.{Took}
-use Rattle.pod_runner.proofs.Plays.{IsDefined-call, LastBy-later, lines-step, play-call}
+use Rattle.pod_runner.proofs.Plays.{LastBy-later, lines-step, play-call}
 
 module _ {B : Type 0} (setting : Setting B) (procs : List (List ℕ)) (takes : List Took) (n : ℕ) (old new : Live B) (out : List ℕ) (was : IsSession setting old takes n) (moves : Moves setting.next setting.bodies procs old new out) where
   -- the parts stand as the longer session does

@@ -2,7 +2,6 @@
 use Rattle.lwp_types.specs.declared.call.Line.{Line}
 use Rattle.pod_runner.specs.Eager.{Plan, Planned, plan_over}
 use Rattle.pod_runner.specs.Session.{Made}
-use Rattle.pod_runner.specs.declared.session.Took.{Took}
 use Rattle.script_text.specs.Lines.{end_text, step_lines}
 use Rattle.script_text.specs.declared.script.Halt.{Halt}
 use Rattle.std.specs.List.{count_by, flat_map}

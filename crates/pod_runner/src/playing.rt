@@ -71,7 +71,8 @@ impl<B: Body, P: Program<B>> Run<B, P> {
         requires few_births { params.births < 2 ^ 32 }
         requires procs { 1 ≤ params.procs }
         requires names { env ≡ names_like env }
-        ensures { IfOk result (λ run. run ≡ record { program = program; params = params; names = env; turns = turns; calls = 0; takes = []; failed = false }) }
+        ensures opening { IfOk result (λ run. run ≡ record { program = program; params = params; names = env; turns = turns; calls = 0; takes = []; failed = false }) }
+        ensures defined { IfOk result (λ run. IsDefined (setting_of B.next P.bodies run) run.takes run.calls) }
     {
         let threads = env.thread_count();
         let mons = env.mon_count();

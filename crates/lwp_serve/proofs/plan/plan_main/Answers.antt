@@ -1,5 +1,5 @@
 use Rattle.lwp_serve.proofs.PlanLaws.{bad-none, holds-none, holds-of, says-of}
-use Rattle.std.proofs.Common.{◌≡◌, refl, sym, inl, inr}
+use Rattle.std.proofs.Common.{refl}
 use Rattle.lwp_serve.proofs.plan.plan_main.Goals as goal
 
 -- src/plan.rt:91:1

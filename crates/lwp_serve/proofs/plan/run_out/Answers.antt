@@ -1,8 +1,7 @@
 use Rattle.std.proofs.Common.{ap, ◌∙◌}
-use Rattle.lwp_serve.specs.Plan.{IsPart}
 use Rattle.pod_runner.specs.Run.{Played}
 use Rattle.script_text.specs.declared.script.Script.{Script}
-use Rattle.lwp_serve.proofs.PlanLaws.{Plays, built-of, defined-of, on_err, part-all, part-last, part-of, plays-on, plays-opening, told-before, whole-of}
+use Rattle.lwp_serve.proofs.PlanLaws.{built-of, defined-of, on_err, part-all, part-last, part-of, plays-on, plays-opening, told-before, whole-of}
 use Rattle.lwp_serve.proofs.plan.run_out.Goals as goal
 
 -- src/plan.rt:54:16

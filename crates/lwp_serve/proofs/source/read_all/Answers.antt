@@ -1,4 +1,4 @@
-use Rattle.std.proofs.Common.{◌≡◌, ◌≤◌, length, arith, rules, take, ◌<◌}
+use Rattle.std.proofs.Common.{◌≤◌, length, arith, rules, take, ◌<◌}
 use Rattle.lwp_serve.proofs.SourceLemmas.{read-end, read-full}
 use Rattle.lwp_serve.proofs.source.read_all.Goals.{else-loop-buffer-test, then-loop-buffer-test+in_ok-count+then-count-eq0}
 use Rattle.lwp_serve.proofs.source.read_all.Goals as goal

@@ -1,4 +1,4 @@
-use Rattle.std.proofs.Common.{◌≡◌, ◌≤◌, ◌-◌, vec_len, length}
+use Rattle.std.proofs.Common.{◌≡◌, ◌≤◌, ◌-◌, vec_len}
 use Rattle.lwp_serve.specs.Reading.{ReadSoFar}
 use Rattle.lwp_serve.proofs.source.read_all.Given as goal
 

@@ -1,5 +1,5 @@
-use Rattle.std.proofs.Common.{arith, ◌≡◌, ◌<◌, length, rules, ◌∙◌, ap, sym}
-use Rattle.pod_runner.specs.Session.{with_row, answered}
+use Rattle.std.proofs.Common.{◌≡◌, ◌<◌, length, rules, ◌∙◌, ap}
+use Rattle.pod_runner.specs.Session.{answered}
 use Rattle.pod_runner.specs.declared.session.Row.{Row}
 use Rattle.pod_runner.proofs.RowLemmas.{with_row-written}
 use Rattle.pod_runner.proofs.rows.answer.Goals as goal

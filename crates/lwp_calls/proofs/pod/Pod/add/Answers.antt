@@ -1,4 +1,4 @@
-use Rattle.std.proofs.Common.{◌≡◌, ◌+◌, ◌∙◌, sym, refl, ap, false, None}
+use Rattle.std.proofs.Common.{◌+◌, ap}
 use Rattle.std.specs.Prelude.{is_some}
 use Rattle.pod_sched.specs.Schedule.{Schedule, reserved}
 use Rattle.lwp_calls.proofs.Changes.{IsAgreed-created, IsAgreed-reserved, next_is_unknown, state_of-created}

@@ -1,6 +1,4 @@
-use Rattle.std.proofs.Common.{◌≡◌, ◌∙◌, sym, refl, ap, true}
-use Rattle.std.specs.Prelude.{IsTrue}
-use Rattle.lwp_types.specs.Choice.{is_eligible_in}
+use Rattle.std.proofs.Common.{◌∙◌, sym, refl}
 use Rattle.lwp_calls.specs.Agreed.{state_of}
 use Rattle.lwp_calls.proofs.Changes.{IsAgreed-left, threads-left}
 use Rattle.lwp_calls.proofs.Deaths.{death-alone, return-alone}

@@ -1,4 +1,4 @@
-use Rattle.std.proofs.Common.{◌≡◌, ◌∙◌, sym, refl, ap, arith, ◌≤◌, ◌<◌, length, rules}
+use Rattle.std.proofs.Common.{arith, ◌≤◌, ◌<◌, length, rules}
 use Rattle.std.proofs.lemmas.List.{length-map}
 use Rattle.lwp_calls.specs.Agreed.{state_of}
 use Rattle.lwp_calls.proofs.Creates.{create-no_proc, create-zero_prio, create-high_prio, create-full, create-at_limit, create-accepted}

@@ -1,5 +1,4 @@
-use Rattle.std.proofs.Common.{◌≡◌, ◌∙◌, sym, ap, false}
-use Rattle.std.specs.Prelude.{IfSome, IsTrue}
+use Rattle.std.proofs.Common.{◌∙◌, sym}
 use Rattle.lwp_calls.specs.Agreed.{Numbers}
 use Rattle.lwp_calls.proofs.Chosen.{chosen_runs, if_some-same}
 use Rattle.lwp_calls.proofs.Views.{choice-same, is_eligible_in-same}

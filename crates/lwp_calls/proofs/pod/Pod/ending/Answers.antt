@@ -1,5 +1,4 @@
-use Rattle.std.proofs.Common.{◌≡◌, ◌∙◌, sym, Some, ap}
-use Rattle.lwp_types.specs.Choice.{choice}
+use Rattle.std.proofs.Common.{◌∙◌, sym, ap}
 use Rattle.lwp_calls.specs.Pod.{idle_if}
 use Rattle.lwp_calls.proofs.Views.{choice-same}
 use Rattle.lwp_calls.proofs.pod.Pod.ending.Goals as goal

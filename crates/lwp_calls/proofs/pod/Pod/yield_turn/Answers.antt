@@ -1,6 +1,4 @@
 use Rattle.std.proofs.Common.{◌∙◌, sym, refl}
-use Rattle.std.proofs.lemmas.Bool.{eq-eqb}
-use Rattle.lwp_types.specs.Threads.{yield_to}
 use Rattle.lwp_calls.proofs.Turns.{yield-self}
 use Rattle.lwp_calls.proofs.Views.{is_eligible_in-same}
 use Rattle.lwp_calls.proofs.pod.Pod.yield_turn.Goals as goal

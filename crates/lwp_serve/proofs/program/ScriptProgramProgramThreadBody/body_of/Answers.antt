@@ -1,8 +1,6 @@
-use Rattle.std.proofs.Common.{rules, ◌≡◌, ℕ, ◌+◌, ◌-◌, ◌*◌, ◌<◌, ◌≤◌, length, ◌/◌, ◌%◌, Bool, true, false, nat_eq, nat_lt, List, [], ◌∷◌, ◌++◌, ap, sym, ◌∙◌, Some, arith, slice_get, slice_index_or, slice_set, bit_and, bit_or, Fits, w8, w32, w64, Bor, MutBor}
+use Rattle.std.proofs.Common.{ap, sym, ◌∙◌, Some, slice_get}
 use Rattle.lwp_serve.specs.Bodies.{Scripted, bodies_of}
-use Rattle.lwp_serve.specs.BodyLaws.{as_many-of}
-use Rattle.script_text.specs.Script.{proc_names as names_of_procs}
-use Rattle.lwp_serve.proofs.ProgramLaws.{below-procs, length-bodies, body-at, name-at}
+use Rattle.lwp_serve.proofs.ProgramLaws.{below-procs, body-at}
 use Rattle.lwp_serve.proofs.program.ScriptProgramProgramThreadBody.body_of.Goals as goal
 
 -- src/program.rt:62:22

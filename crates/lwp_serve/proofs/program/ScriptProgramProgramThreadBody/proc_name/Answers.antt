@@ -1,7 +1,4 @@
-use Rattle.std.proofs.Common.{rules, ◌≡◌, ℕ, ◌+◌, ◌-◌, ◌*◌, ◌<◌, ◌≤◌, length, ◌/◌, ◌%◌, Bool, true, false, nat_eq, nat_lt, List, [], ◌∷◌, ◌++◌, ap, sym, ◌∙◌, Some, arith, slice_get, slice_index_or, slice_set, bit_and, bit_or, Fits, w8, w32, w64, Bor, MutBor}
-use Rattle.lwp_serve.specs.Bodies.{bodies_of}
-use Rattle.lwp_serve.specs.BodyLaws.{as_many-of}
-use Rattle.script_text.specs.Script.{proc_names as names_of_procs}
+use Rattle.std.proofs.Common.{[], ap, sym, ◌∙◌, Some, slice_index_or}
 use Rattle.lwp_serve.proofs.ProgramLaws.{below-procs, name-at, past-names}
 use Rattle.lwp_serve.proofs.program.ScriptProgramProgramThreadBody.proc_name.Goals as goal
 

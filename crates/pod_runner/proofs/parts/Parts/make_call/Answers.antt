@@ -1,6 +1,3 @@
-use Rattle.std.proofs.Common.{◌≡◌, ◌<◌, length, rules}
-use Rattle.std.specs.Prelude.{IfSome, IsTrue}
-use Rattle.lwp_calls.specs.Built.{is_built}
 use Rattle.pod_runner.specs.Parts.{live_of}
 use Rattle.pod_runner.proofs.Moves.{built_at, chosen_from, moves_at}
 use Rattle.pod_runner.proofs.parts.Parts.make_call.Goals as goal

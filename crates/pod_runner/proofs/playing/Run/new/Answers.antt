@@ -1,7 +1,7 @@
-use Rattle.std.proofs.Common.{◌≡◌, ◌∙◌, ap, refl}
-use Rattle.lwp_types.specs.Names.{Names, null_names}
-use Rattle.pod_runner.specs.Session.{Live, Setting}
-use Rattle.pod_runner.proofs.Plays.{play-zero}
+use Rattle.std.proofs.Common.{◌≡◌, ◌∙◌, refl}
+use Rattle.lwp_types.specs.Names.{null_names}
+use Rattle.pod_runner.specs.Session.{Setting}
+use Rattle.pod_runner.proofs.Plays.{IsDefined-zero, play-zero}
 use Rattle.pod_runner.proofs.playing.Run.new.Goals as goal
 
 pub invariant_of-result : goal.invariant_of-result
@@ -14,3 +14,6 @@ invariant_of-result g c =
         last = tt;
       }),
     )
+
+pub returns-clause-defined : goal.returns-clause-defined
+returns-clause-defined g c = rw c.new-2.ensures.items (IsDefined-zero _)

@@ -1,9 +1,7 @@
-use Rattle.std.proofs.Common.{◌≡◌, ◌+◌, ◌++◌, ◌∙◌, refl, false, sym, ap}
-use Rattle.pod_runner.specs.Keeps.{IsSession}
+use Rattle.std.proofs.Common.{◌≡◌, ◌+◌, ◌++◌, ◌∙◌, refl, false}
 use Rattle.pod_runner.specs.Parts.{Moves, live_of}
 use Rattle.pod_runner.specs.Play.{play}
-use Rattle.pod_runner.specs.Run.{setting_of, trace_of}
-use Rattle.pod_runner.specs.Session.{Setting}
+use Rattle.pod_runner.specs.Run.{trace_of}
 use Rattle.pod_runner.specs.Trace.{lines}
 use Rattle.lwp_types.specs.Names.{null_names}
 use Rattle.pod_runner.proofs.Appends.{part_on, part_same_err, writes_on}
