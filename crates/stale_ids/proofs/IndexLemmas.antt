@@ -14,7 +14,7 @@ use Rattle.std.proofs.lemmas.List.Sums.{sum_by-set}
 use Rattle.std.proofs.lemmas.Bool.Decides.{nat_tests}
 use Rattle.std.proofs.lemmas.List.{get_or-set_same, get_or-set_other, get_or_past}
 use Rattle.stale_ids.specs.declared.index.Place.{Place}
-use Rattle.stale_ids.specs.Register.{AreBorn, AreRising, is_of, numbers, value_of, value_set, with_value, without}
+use Rattle.stale_ids.specs.Register.{AreRising, numbers, value_of, with_value, without}
 use Rattle.stale_ids.specs.Index.{IsLater, IsRising, IsAbsent, IsAt, onto, pairs, AreFull, IsSound}
 
 module _ {X : Type 0} (P : X → Type 0) where

@@ -1,6 +1,6 @@
 -- The registry in plain lists, and the one that each call leaves.
 use Rattle.std.specs.List.{AllByRecursion, filter, find}
-use Rattle.std.specs.Prelude.{Bool, List, None, Option, Some, [], if◌then◌else◌, map, max, not, option_map, ℕ, ◌++◌, ◌+◌, ◌<◌, ◌==◌, ◌∷◌}
+use Rattle.std.specs.Prelude.{Bool, List, Option, [], if◌then◌else◌, map, max, not, option_map, ℕ, ◌++◌, ◌+◌, ◌<◌, ◌==◌, ◌∷◌}
 
 -- all that a registry holds
 pub record Register (T : Type 0) : Type 0 where

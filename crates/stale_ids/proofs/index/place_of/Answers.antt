@@ -3,7 +3,7 @@ use Rattle.std.proofs.lemmas.List.Sorted.{answers_always}
 use Rattle.stale_ids.proofs.IndexLemmas.{searched}
 use Rattle.stale_ids.proofs.index.place_of.Goals as goal
 
--- the closure gives a place's number
+-- the search compares by the number of each place
 pub returns : goal.returns
 returns c =
     let facts = c.binary_search_by_key.ensures in

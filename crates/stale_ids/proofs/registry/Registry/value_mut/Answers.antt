@@ -22,9 +22,9 @@ pub returns : goal.returns
 returns g c =
     let at = rw (c.deref.ensures.value, c.unwrap-at.ensures) at c.place_of.ensures.found in
     let sound = c.self.invariant in (
-      (refl {a = c.index_mut.result.ghost_name}, λ w. rw (← c.self.view_is, found_written c.self.inside.values.slots c.self.inside.index.items sound.rising sound.full c.args.n _ _ at c.index.ensures w)),
+      (refl {a = c.index_mut.result.ghost_name}, λ w. rw (← c.self.view_is, found_written c.self.inside.values.slots c.self.inside.index.items sound.rising sound.full c.args.n c.unwrap-at.result c.index.result.now at c.index.ensures w)),
       record {
         writes_back = tt;
-        value = rw (← c.self.view_is) (found_value c.self.inside.values.slots c.self.inside.index.items sound.rising sound.full _ _ _ at c.index.ensures ∙ c.index_mut.ensures.value);
+        value = rw (← c.self.view_is) (found_value c.self.inside.values.slots c.self.inside.index.items sound.rising sound.full c.args.n c.unwrap-at.result c.index.result.now at c.index.ensures ∙ c.index_mut.ensures.value);
       },
     )
