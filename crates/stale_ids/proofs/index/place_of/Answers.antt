@@ -1,0 +1,11 @@
+use Rattle.std.proofs.Common.{rules}
+use Rattle.std.proofs.lemmas.List.Sorted.{answers_always}
+use Rattle.stale_ids.proofs.IndexLemmas.{searched}
+use Rattle.stale_ids.proofs.index.place_of.Goals as goal
+
+-- the search compares by the number of each place
+pub returns : goal.returns
+returns c =
+    let facts = c.binary_search_by_key.ensures in
+    let by_key = facts.position (λ e. e.number) (answers_always _ _ _ (λ f a r g called. search rules)) in
+    rw c.ok.ensures.value (searched _ c.requires c.args.number _ facts.bound by_key)

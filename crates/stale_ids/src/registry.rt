@@ -1,0 +1,163 @@
+// The registry.
+ghost use Rattle.std.specs.Prelude.{◌≡◌, ◌<◌, ◌≤◌, ◌↔◌, length, IsTrue, IsOk, IsErr, IsSome, IfOk, IfErr, OnOk, OnErr, None, Some, option_copied, slice_index};
+ghost use Rattle.std.specs.Option.{option_copied_mut};
+ghost use Rattle.std.specs.Borrow.{sem};
+ghost use Rattle.stale_ids.specs.Register.{AreBorn, AreRising, empty_register, inserted, numbers, removed, reserved, value_of};
+
+use crate::index::{Place, place_of};
+use lwp_types::NoMemory;
+use slab::Slab;
+use std::alloc::Global;
+use std::marker::Model;
+
+/// The living, each found by the number of its birth alone.
+#[derive(Drop)]
+pub struct Registry<T> {
+    values: Slab<T>,
+    // One place for each of the living, the oldest first.
+    index: Vec<Place>,
+    births: u64,
+    limit: u64,
+    // Both the values and the index have room for so many.
+    places: usize,
+}
+
+impl<T> Model for Registry<T> {
+    ghost use Rattle.std.specs.Prelude.{vec_capacity};
+    ghost use Rattle.stale_ids.specs.Register.{Register};
+    ghost use Rattle.stale_ids.specs.Index.{pairs, IsSound};
+
+    ghost Value = { Register T };
+
+    ghost view = { λ r. record { live = pairs r.values.slots r.index.items; births = r.births; limit = r.limit; places = r.places } };
+
+    ghost invariant = { λ r. IsSound r.values.slots r.values.capacity r.index.items (vec_capacity r.index) r.births r.limit r.places };
+}
+
+impl<T> Registry<T> {
+    ghost use Rattle.stale_ids.specs.Lends.{lends_found, lends_living};
+
+    /// Nobody yet, and at most `limit` births ever.
+    pub fn new(alloc: Global, limit: u64) -> Registry<T>
+        ensures { result ≡ empty_register limit }
+    {
+        Registry {
+            values: Slab::new(alloc),
+            index: Vec::new(alloc),
+            births: 0,
+            limit,
+            places: 0,
+        }
+    }
+
+    /// Makes places for `n` of the living in all; to insert so many then takes no memory.
+    pub fn reserve(&mut self, n: usize) -> Result<(), NoMemory>
+        ensures ok { OnOk result (self.new ≡ reserved self.old n) }
+        ensures err { OnErr result (self.new ≡ self.old) }
+        ensures has_room { n ≤ self.old.places → IsOk result }
+    {
+        if n <= self.places {
+            return Ok(());
+        }
+        let more = n - self.index.len();
+        self.values.reserve(more)?;
+        self.index.reserve(more)?;
+        self.places = n;
+        Ok(())
+    }
+
+    /// A birth: the value lives under the next number. Past the last birth the value comes back.
+    pub fn insert(&mut self, value: T) -> Result<u64, T>
+        requires { length self.old.live < self.old.places }
+        ensures ok { OnOk result (self.new ≡ inserted self.old value) }
+        ensures number { IfOk result (λ number. number ≡ self.old.births) }
+        ensures fresh { value_of self.old.births self.old.live ≡ None }
+        ensures at_limit { IsErr result ↔ (self.old.births ≡ self.old.limit) }
+        ensures value_returned { IfErr result (λ returned. returned ≡ value) }
+        ensures err { OnErr result (self.new ≡ self.old) }
+    {
+        if self.births == self.limit {
+            return Err(value);
+        }
+        let number = self.births;
+        let slot = self.values.insert_reserved(value);
+        self.index.push_reserved(Place { number, slot });
+        self.births += 1;
+        Ok(number)
+    }
+
+    /// The value that lives under the number.
+    pub fn get(&self, n: u64) -> Option<&T>
+        ensures { option_copied result ≡ value_of n self.now.live }
+    {
+        let at = place_of(&self.index, n)?;
+        self.values.get(self.index[at].slot)
+    }
+
+    /// The value that lives under the number, to be written.
+    pub fn get_mut(&mut self, n: u64) -> Option<&mut T>
+        ensures* writes_back { sem 𝓛 (lends_found T.row self.entry n result) }
+        ensures value { option_copied_mut result ≡ value_of n self.old.live }
+    {
+        if self.is_live(n) {
+            Some(self.value_mut(n))
+        } else {
+            None
+        }
+    }
+
+    // The same, of one that lives.
+    fn value_mut(&mut self, n: u64) -> &mut T
+        requires { IsSome (value_of n self.old.live) }
+        ensures* writes_back { sem 𝓛 (lends_living T.row self.entry n result) }
+        ensures value { value_of n self.old.live ≡ Some result.now }
+    {
+        let at = place_of(&self.index, n).unwrap();
+        let slot = self.index[at].slot;
+        &mut self.values[slot]
+    }
+
+    /// Whether somebody lives under the number.
+    pub fn is_live(&self, n: u64) -> bool
+        ensures { IsTrue result ↔ IsSome (value_of n self.now.live) }
+    {
+        place_of(&self.index, n).is_some()
+    }
+
+    /// The end of a life: the value goes, and its number finds nobody from then on.
+    pub fn remove(&mut self, n: u64) -> Option<T>
+        ensures value { result ≡ value_of n self.old.live }
+        ensures rest { self.new ≡ removed self.old n }
+        ensures gone { value_of n self.new.live ≡ None }
+    {
+        let at = place_of(&self.index, n)?;
+        let place = self.index.remove(at);
+        Some(self.values.remove(place.slot))
+    }
+
+    /// How many were born so far. All numbers of the living are below it.
+    pub fn births(&self) -> u64
+        ensures value { result ≡ self.now.births }
+        ensures within { result ≤ self.now.limit }
+        ensures born { AreBorn self.now.births self.now.live }
+    {
+        self.births
+    }
+
+    /// How many live.
+    pub fn len(&self) -> usize
+        ensures value { result ≡ length self.now.live }
+        ensures within { result ≤ self.now.places }
+        ensures rising { AreRising self.now.live }
+    {
+        self.index.len()
+    }
+
+    /// The number of the `i`-th of the living, counted from the oldest.
+    pub fn nth(&self, i: usize) -> u64
+        requires { i < length self.now.live }
+        ensures { result ≡ slice_index (numbers self.now.live) i }
+    {
+        self.index[i].number
+    }
+}
