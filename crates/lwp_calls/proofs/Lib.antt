@@ -1,7 +1,9 @@
-pub mod Views
-pub mod Changes
-pub mod Deaths
+pub mod Sides
+pub mod Rolls
+pub mod Living
 pub mod Chosen
-pub mod Creates
-pub mod Turns
 pub mod Ends
+pub mod Tests
+pub mod Deaths
+pub mod Steps
+pub mod Creates

@@ -1,17 +1,31 @@
 -- Which calls a pod carries out so far.
 use Rattle.lwp_types.specs.declared.call.Call.{Call}
 use Rattle.lwp_types.specs.declared.call.Call.TheVariants as call
-use Rattle.std.specs.Prelude.{Bool, false, true, ℕ, ◌==◌}
+use Rattle.std.specs.Prelude.{Bool, false, true}
 
--- the call of thread t is one of them
-abbrev pub is_built : ℕ → Call → Bool
-is_built t (call.Create number prio flags) = true
-is_built t (call.Yield to) = to == t
-is_built t call.Return = true
-is_built t (call.Say text) = true
-is_built t _ = false
+-- the call is one of them
+abbrev pub is_built : Call → Bool
+is_built (call.Create number prio flags) = true
+is_built (call.Destroy t) = true
+is_built (call.Ping t) = true
+is_built (call.Yield to) = true
+is_built (call.Resched prio) = true
+is_built (call.SetPri t prio) = true
+is_built (call.Suspend t) = true
+is_built (call.Resume t) = true
+is_built (call.Join t) = true
+is_built call.Me = true
+is_built (call.SetMaxPri prio) = true
+is_built (call.SetExit code) = true
+is_built call.GetExit = true
+is_built (call.PodExit code) = true
+is_built call.Threads = true
+is_built call.Return = true
+is_built (call.Say text) = true
+is_built _ = false
 
 -- the call is one that may ask for memory
 abbrev pub asks_memory : Call → Bool
 asks_memory (call.Create number prio flags) = true
+asks_memory call.Threads = true
 asks_memory _ = false

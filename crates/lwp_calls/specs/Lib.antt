@@ -1,3 +1,6 @@
 pub mod Built
 pub mod Pod
-pub mod Agreed
+pub mod Parts
+pub mod Waits
+pub mod Roll
+pub mod Comes

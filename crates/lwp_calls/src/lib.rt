@@ -2,12 +2,17 @@
 //!
 //! A `Pod` is seen as the machine's state (`lwp_types/specs/State.antt`). `Pod::call` takes it from one state to the next exactly
 //! as the machine's step does, and gives the step's effects in their order; a call that is refused memory leaves the pod as it
-//! was. It stands on the scheduler of `pod_sched`. Which calls are carried out so far stands in `specs/Built.antt`.
+//! was. Which calls are carried out so far stands in `specs/Built.antt`. It stands on the scheduler of `pod_sched` and on the
+//! registry of `stale_ids`: `roll` keeps the two together, `parts` has the death of a thread, and `pod` the calls.
 #![tactic(auto)]
 
+mod death;
+mod lives;
+mod numbers;
+mod parts;
 mod pod;
+mod roll;
 mod rows;
-#[cfg(test)]
-mod tests;
+mod turns;
 
 pub use pod::{Pod, PodEnd};

@@ -1,27 +1,44 @@
-// What the pod keeps of its threads beside the scheduler.
-ghost use Rattle.std.specs.Prelude.{◌≡◌, not};
-ghost use Rattle.std.specs.List.{filter, list_all};
-ghost use Rattle.lwp_calls.specs.Agreed.{is_of, all_serve};
+// What a pod keeps of a thread beside the scheduler.
+ghost use Rattle.std.specs.Prelude.{◌≡◌};
+ghost use Rattle.lwp_calls.specs.Waits.{last_answer, waits_for};
 
-use lwp_types::{Flags, Tid};
+use lwp_types::{Answer, Block, Flags, LwpErr, Tid};
 
-/// A live thread, and how it was created.
+/// A live thread: how it was created, and what it waits for.
 #[derive(Clone, Copy)]
 pub struct LiveThread {
-    pub tid: Tid,
     pub flags: Flags,
+    pub block: Block,
 }
 
-/// Forgets a thread.
-pub fn forget(rows: &mut Vec<LiveThread>, tid: Tid)
-    ensures { rows.new.items ≡ filter (λ row. not (is_of tid row)) rows.old.items }
-{
-    rows.retain(|row| row.tid.number != tid.number);
+/// What of a thread others wait for: its death, or a letter of it.
+#[derive(Clone, Copy)]
+pub enum Awaited {
+    Death,
+    Letter,
 }
 
-/// Whether every thread is a server.
-pub fn all_serve(rows: &[LiveThread]) -> bool
-    ensures { result ≡ all_serve rows.now }
-{
-    rows.iter().all(|row| row.flags.server)
+impl Awaited {
+    /// What those who wait are answered when the thread dies.
+    pub fn answer(self) -> Answer
+        ensures { result ≡ last_answer self }
+    {
+        match self {
+            Awaited::Death => Answer::Value(0),
+            Awaited::Letter => Answer::Refused(LwpErr::NonExist),
+        }
+    }
+}
+
+impl LiveThread {
+    /// Whether it waits for this of that very thread.
+    pub fn waits_for(&self, what: Awaited, tid: Tid) -> bool
+        ensures { result ≡ waits_for what tid self.now.block }
+    {
+        match (what, self.block) {
+            (Awaited::Death, Block::Joining(other)) => other == tid,
+            (Awaited::Letter, Block::Receiving(Some(from))) => from == tid,
+            _ => false,
+        }
+    }
 }

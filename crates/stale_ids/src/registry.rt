@@ -98,6 +98,7 @@ impl<T> Registry<T> {
     pub fn get_mut(&mut self, n: u64) -> Option<&mut T>
         ensures* writes_back { sem 𝓛 (lends_found T.row self.entry n result) }
         ensures value { option_copied_mut result ≡ value_of n self.old.live }
+        ensures rising { AreRising self.old.live }
     {
         if self.is_live(n) {
             Some(self.value_mut(n))
@@ -119,7 +120,8 @@ impl<T> Registry<T> {
 
     /// Whether somebody lives under the number.
     pub fn is_live(&self, n: u64) -> bool
-        ensures { IsTrue result ↔ IsSome (value_of n self.now.live) }
+        ensures value { IsTrue result ↔ IsSome (value_of n self.now.live) }
+        ensures rising { AreRising self.now.live }
     {
         place_of(&self.index, n).is_some()
     }
@@ -156,7 +158,8 @@ impl<T> Registry<T> {
     /// The number of the `i`-th of the living, counted from the oldest.
     pub fn nth(&self, i: usize) -> u64
         requires { i < length self.now.live }
-        ensures { result ≡ slice_index (numbers self.now.live) i }
+        ensures value { result ≡ slice_index (numbers self.now.live) i }
+        ensures rising { AreRising self.now.live }
     {
         self.index[i].number
     }

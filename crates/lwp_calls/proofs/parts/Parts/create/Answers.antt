@@ -1,0 +1,30 @@
+use Rattle.std.proofs.Common.{◌≡◌, ◌∙◌, ◌<◌, ◌≤◌, sym, ap, refl, arith, true, false, length}
+use Rattle.lwp_types.specs.Case.{unless}
+use Rattle.lwp_calls.proofs.Tests.{lt-true, lt-false, le-true, le-false, no_priority, zero_priority, a_priority, differ}
+use Rattle.lwp_calls.proofs.parts.Parts.create.Goals.{then-prio-eq0-via-then-prio-eq0, then-prio-eq0-via-else-prio-eq0+then-prio-maxpri}
+use Rattle.lwp_calls.proofs.Creates.{no-room, room-left}
+use Rattle.lwp_types.specs.Threads.{created}
+use Rattle.lwp_calls.proofs.parts.Parts.create.Goals as goal
+
+pub returns-then-number-self-clause-ok : goal.returns-then-number-self-clause-ok
+unfolding unless
+returns-then-number-self-clause-ok c = rw (← c.self.view_is, le-true c.self.inside.procs c.args.number (omega (arith, c.if-number-self.true))) refl
+
+pub returns-then-prio-eq0-clause-ok : goal.returns-then-prio-eq0-clause-ok
+unfolding unless
+returns-then-prio-eq0-clause-ok c = elim c.then-prio-eq0.branch [
+  | then-prio-eq0-via-then-prio-eq0 w ↦ rw (← c.self.view_is, le-false c.self.inside.procs c.args.number (omega (arith, c.if-number-self.false)), zero_priority c.args.prio c.self.inside.roll.maxpri w.if-prio-eq0.true) refl
+  | then-prio-eq0-via-else-prio-eq0+then-prio-maxpri w ↦ rw (← c.self.view_is, le-false c.self.inside.procs c.args.number (omega (arith, c.if-number-self.false)), no_priority c.args.prio c.self.inside.roll.maxpri (omega (arith, w.maxpri.ensures, w.if-prio-maxpri.true))) refl
+]
+
+pub returns-then-not-has_room-clause-ok : goal.returns-then-not-has_room-clause-ok
+unfolding unless
+returns-then-not-has_room-clause-ok c =
+    let crowded = no-room (length c.self.inside.roll.threads) c.self.inside.roll.births c.self.inside.roll.limit (sym c.if-not-has_room.ensures) in
+    rw (← c.self.view_is, le-false c.self.inside.procs c.args.number (omega (arith, c.if-number-self.false)), a_priority c.args.prio c.self.inside.roll.maxpri (omega arith) (omega (arith, c.maxpri.ensures, c.if-prio-maxpri.false))) (crowded _ _ _ refl)
+
+pub returns-clause-ok : goal.returns-clause-ok
+unfolding unless
+returns-clause-ok c =
+    let free = room-left (length c.self.inside.roll.threads) c.self.inside.roll.births c.self.inside.roll.limit (sym c.if-not-has_room.ensures) in
+    rw (← c.self.view_is, le-false c.self.inside.procs c.args.number (omega (arith, c.if-number-self.false)), a_priority c.args.prio c.self.inside.roll.maxpri (omega arith) (omega (arith, c.maxpri.ensures, c.if-prio-maxpri.false)), free.0, free.1, c.in_ok-tid.ensures.ok, c.in_ok-tid.ensures.number) refl

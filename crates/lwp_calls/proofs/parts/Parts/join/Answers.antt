@@ -1,0 +1,16 @@
+use Rattle.std.proofs.Common.{◌≡◌, ◌∙◌, ◌<◌, ◌≤◌, sym, ap, refl, arith, true, false, length}
+use Rattle.lwp_types.specs.Case.{unless}
+use Rattle.lwp_calls.proofs.Tests.{lt-true, lt-false, le-true, le-false, no_priority, zero_priority, a_priority, differ}
+use Rattle.lwp_calls.proofs.parts.Parts.join.Goals as goal
+
+pub returns-then-not-is_thread : goal.returns-then-not-is_thread
+unfolding unless
+returns-then-not-is_thread c = rw (← c.self.view_is, sym c.if-not-is_thread.ensures) refl
+
+pub returns-then-eq : goal.returns-then-eq
+unfolding unless
+returns-then-eq c = rw (← c.self.view_is, sym c.if-not-is_thread.ensures, sym c.if-eq.ensures) refl
+
+pub returns : goal.returns
+unfolding unless
+returns c = rw (← c.self.view_is, sym c.if-not-is_thread.ensures, sym c.if-eq.ensures, c.block.ensures) refl

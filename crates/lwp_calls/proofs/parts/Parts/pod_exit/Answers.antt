@@ -1,0 +1,12 @@
+use Rattle.std.proofs.Common.{◌≡◌, ◌∙◌, ◌<◌, ◌≤◌, sym, ap, refl, arith, true, false, length}
+use Rattle.lwp_types.specs.Case.{unless}
+use Rattle.lwp_calls.proofs.Tests.{lt-true, lt-false, le-true, le-false, no_priority, zero_priority, a_priority, differ}
+use Rattle.lwp_calls.proofs.parts.Parts.pod_exit.Goals as goal
+
+pub returns-then-code-gt-MOST_STATUS : goal.returns-then-code-gt-MOST_STATUS
+unfolding unless
+returns-then-code-gt-MOST_STATUS c = rw (lt-true 99 c.args.code (omega (arith, c.if-code-gt-MOST_STATUS.true))) refl
+
+pub returns : goal.returns
+unfolding unless
+returns c = rw (← c.self.view_is, lt-false 99 c.args.code (omega (arith, c.if-code-gt-MOST_STATUS.false))) refl

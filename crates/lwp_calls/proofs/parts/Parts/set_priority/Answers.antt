@@ -1,0 +1,23 @@
+use Rattle.std.proofs.Common.{◌≡◌, ◌∙◌, ◌<◌, ◌≤◌, sym, ap, refl, arith, true, false, length}
+use Rattle.lwp_types.specs.Case.{unless}
+use Rattle.lwp_calls.proofs.Tests.{lt-true, lt-false, le-true, le-false, no_priority, zero_priority, a_priority, differ}
+use Rattle.lwp_calls.proofs.parts.Parts.set_priority.Goals.{then-prio-eq0-via-then-prio-eq0, then-prio-eq0-via-else-prio-eq0+then-prio-maxpri}
+use Rattle.std.proofs.Common.{rules, to_z, of_z, w64, pos}
+use Rattle.lwp_types.specs.State.{priority_in}
+use Rattle.lwp_calls.proofs.parts.Parts.set_priority.Goals as goal
+
+pub returns-then-not-is_thread : goal.returns-then-not-is_thread
+unfolding unless
+returns-then-not-is_thread c = rw (← c.self.view_is, sym c.if-not-is_thread.ensures) refl
+
+pub returns-then-prio-eq0 : goal.returns-then-prio-eq0
+unfolding unless
+returns-then-prio-eq0 c = elim c.then-prio-eq0.branch [
+  | then-prio-eq0-via-then-prio-eq0 w ↦ rw (← c.self.view_is, sym c.if-not-is_thread.ensures, zero_priority c.args.prio c.self.inside.roll.maxpri w.if-prio-eq0.true) refl
+  | then-prio-eq0-via-else-prio-eq0+then-prio-maxpri w ↦ rw (← c.self.view_is, sym c.if-not-is_thread.ensures, no_priority c.args.prio c.self.inside.roll.maxpri (omega (arith, w.maxpri.ensures, w.if-prio-maxpri.true))) refl
+]
+
+pub returns : goal.returns
+unfolding unless
+returns c = let same : to_z w64 (of_z w64 c.from.result) ≡ pos (priority_in c.self.inside.roll c.args.tid) = search rules in
+    rw (← c.self.view_is, sym c.if-not-is_thread.ensures, a_priority c.args.prio c.self.inside.roll.maxpri (omega arith) (omega (arith, c.maxpri.ensures, c.if-prio-maxpri.false)), c.set_prio.ensures.after, same) refl

@@ -1,0 +1,41 @@
+// The death of a thread.
+ghost use Rattle.std.specs.Prelude.{◌≡◌, ◌<◌, ◌≤◌, ◌+◌, ◌++◌, length, IsTrue};
+ghost use Rattle.lwp_types.specs.Case.{unanswered};
+ghost use Rattle.lwp_types.specs.Death.{death, return_from};
+ghost use Rattle.lwp_types.specs.State.{is_thread};
+ghost use Rattle.lwp_calls.specs.Waits.{dismissed, waiting};
+
+use crate::parts::Parts;
+use crate::rows::Awaited;
+use lwp_types::{Effect, Effects, Tid};
+
+// Whoever waits for this of the thread goes on, in the order of birth.
+fn dismiss(parts: &mut Parts, what: Awaited, tid: Tid, effects: &mut Effects)
+    requires { length effects.old + length (waiting what tid parts.old.threads) < 2048 }
+    ensures after { parts.new ≡ (dismissed what tid parts.old).after }
+    ensures effects { effects.new ≡ effects.old ++ (dismissed what tid parts.old).effects }
+{
+    while let Some(other) = parts.roll.waiting(what, tid) {
+        parts.roll.unblock(other);
+        effects.push(Effect::Answered {
+            tid: other,
+            answer: what.answer(),
+        });
+    }
+}
+
+/// A thread dies: whoever waits for a letter of it learns that it is gone, and whoever has joined it goes on.
+pub fn die(parts: &mut Parts, tid: Tid, effects: &mut Effects)
+    requires lives { IsTrue (is_thread parts.old tid) }
+    requires room { length effects.old < 1000 }
+    ensures after { parts.new ≡ (death tid parts.old).after }
+    ensures effects { effects.new ≡ effects.old ++ (death tid parts.old).effects }
+    ensures most { length effects.new ≤ length effects.old + 1025 }
+    ensures is_return { return_from parts.old tid ≡ unanswered (death tid parts.old) }
+{
+    parts.roll.set_aside(tid);
+    dismiss(parts, Awaited::Letter, tid, effects);
+    dismiss(parts, Awaited::Death, tid, effects);
+    parts.roll.leave(tid);
+    effects.push(Effect::Died { tid });
+}
