@@ -1,6 +1,8 @@
 // The agents.
 ghost use Rattle.std.specs.Prelude.{◌≡◌, ◌<◌, ◌≤◌, false, length, option_map, IsOk, IsTrue, IfOk, OnOk, OnErr};
-ghost use Rattle.agents.specs.Roster.{IsInBirthOrder, agent_for, created, destroyed, first_of, has_agent_for, held, is_above_all, is_armed, is_listed, no_agents, numbers, released, reserved, row_of, without_first};
+ghost use Rattle.lwp_types.specs.Agents.{event_agent, is_armed};
+ghost use Rattle.lwp_types.specs.State.{agent_numbers, agent_of, all_below};
+ghost use Rattle.agents.specs.Roster.{IsInBirthOrder, created, destroyed, first_of, has_agent_for, held, is_listed, no_agents, released, reserved, without_first};
 
 use crate::rows::{agent_for, first_of, numbers, row_of, set_holding, take_out};
 use lwp_types::{AgentRow, IdList, NoMemory, Tid};
@@ -56,8 +58,8 @@ impl Agents {
     pub fn create(&mut self, a: Tid, event: u8, owner: Tid)
         requires least { 1 ≤ event }
         requires most { event ≤ 31 }
-        requires free { has_agent_for event self.old.agents ≡ false }
-        requires newest { IsTrue (is_above_all a self.old.agents) }
+        requires free { has_agent_for self.old.agents event ≡ false }
+        requires newest { IsTrue (all_below a (agent_numbers self.old.agents)) }
         requires room { length self.old.agents < self.old.places }
         ensures { self.new ≡ created self.old a event owner }
     {
@@ -71,28 +73,28 @@ impl Agents {
 
     /// The event's agent, if it has one.
     pub fn agent_of(&self, event: u8) -> Option<Tid>
-        ensures { result ≡ option_map (λ row. row.number) (agent_for event self.now.agents) }
+        ensures { result ≡ option_map (λ row. row.number) (event_agent self.now.agents event) }
     {
         agent_for(&self.rows, event).map(|row| row.number)
     }
 
     /// The thread that gets the agent's messages, if there is such an agent.
     pub fn owner_of(&self, a: Tid) -> Option<Tid>
-        ensures { result ≡ option_map (λ row. row.owner) (row_of a self.now.agents) }
+        ensures { result ≡ option_map (λ row. row.owner) (agent_of self.now.agents a) }
     {
         row_of(&self.rows, a).map(|row| row.owner)
     }
 
     /// Whether the event can be delivered: its agent holds no message.
     pub fn armed(&self, event: u8) -> bool
-        ensures { result ≡ is_armed event self.now.agents }
+        ensures { result ≡ is_armed self.now.agents event }
     {
         agent_for(&self.rows, event).is_some_and(|row| !row.holding)
     }
 
     /// The event is delivered: its agent holds the message until the reply.
     pub fn hold(&mut self, event: u8)
-        requires { IsTrue (is_armed event self.old.agents) }
+        requires { IsTrue (is_armed self.old.agents event) }
         ensures { self.new ≡ held self.old event }
     {
         if let Some(row) = agent_for(&self.rows, event) {
@@ -102,7 +104,7 @@ impl Agents {
 
     /// The agent's message is replied to.
     pub fn release(&mut self, a: Tid)
-        requires { IsTrue (is_listed a self.old.agents) }
+        requires { IsTrue (is_listed self.old.agents a) }
         ensures { self.new ≡ released self.old a }
     {
         set_holding(&mut self.rows, a, false);
@@ -110,7 +112,7 @@ impl Agents {
 
     /// The agent is gone, and its event is free.
     pub fn destroy(&mut self, a: Tid)
-        requires { IsTrue (is_listed a self.old.agents) }
+        requires { IsTrue (is_listed self.old.agents a) }
         ensures { self.new ≡ destroyed self.old a }
     {
         take_out(&mut self.rows, a);
@@ -118,7 +120,7 @@ impl Agents {
 
     /// The oldest agent of the thread is gone; the answer is which. Called until None, it leaves the thread without agents.
     pub fn forget_owner(&mut self, owner: Tid) -> Option<Tid>
-        ensures value { result ≡ option_map (λ row. row.number) (first_of owner self.old.agents) }
+        ensures value { result ≡ option_map (λ row. row.number) (first_of self.old.agents owner) }
         ensures after { self.new ≡ without_first self.old owner }
     {
         let row = first_of(&self.rows, owner)?;
@@ -128,7 +130,7 @@ impl Agents {
 
     /// All agents, in birth order.
     pub fn list(&self) -> Result<IdList, NoMemory>
-        ensures value { IfOk result (λ ids. ids ≡ numbers self.now.agents) }
+        ensures value { IfOk result (λ ids. ids ≡ agent_numbers self.now.agents) }
         ensures in_birth_order { IsInBirthOrder self.now.agents }
     {
         numbers(*self.rows.allocator(), &self.rows)

@@ -1,28 +1,30 @@
 // The rows of the agents: which one is meant, and what becomes of it.
 ghost use Rattle.std.specs.Prelude.{◌≡◌, vec_capacity, IfOk};
+ghost use Rattle.lwp_types.specs.Agents.{event_agent, without_agent};
 ghost use Rattle.lwp_types.specs.Letters.{with_holding};
-ghost use Rattle.agents.specs.Roster.{agent_for, first_of, numbers, row_of, without_agent};
+ghost use Rattle.lwp_types.specs.State.{agent_numbers, agent_of};
+ghost use Rattle.agents.specs.Roster.{first_of};
 
 use lwp_types::{AgentRow, IdList, NoMemory, Tid};
 use std::alloc::Global;
 
 // The first agent of the event.
 pub fn agent_for(rows: &[AgentRow], event: u8) -> Option<AgentRow>
-    ensures { result ≡ agent_for event rows.now }
+    ensures { result ≡ event_agent rows.now event }
 {
     rows.iter().copied().find(|row| row.event == event)
 }
 
 // The agent of this number.
 pub fn row_of(rows: &[AgentRow], agent: Tid) -> Option<AgentRow>
-    ensures { result ≡ row_of agent rows.now }
+    ensures { result ≡ agent_of rows.now agent }
 {
     rows.iter().copied().find(|row| row.number == agent)
 }
 
 // The first agent of the thread.
 pub fn first_of(rows: &[AgentRow], owner: Tid) -> Option<AgentRow>
-    ensures { result ≡ first_of owner rows.now }
+    ensures { result ≡ first_of rows.now owner }
 {
     rows.iter().copied().find(|row| row.owner == owner)
 }
@@ -49,7 +51,7 @@ pub fn take_out(rows: &mut Vec<AgentRow>, agent: Tid)
 
 // The numbers of the agents.
 pub fn numbers(alloc: Global, rows: &[AgentRow]) -> Result<IdList, NoMemory>
-    ensures { IfOk result (λ ids. ids ≡ numbers rows.now) }
+    ensures { IfOk result (λ ids. ids ≡ agent_numbers rows.now) }
 {
     let mut ids = IdList::new(alloc);
     for row in rows {

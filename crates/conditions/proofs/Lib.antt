@@ -1,3 +1,1 @@
-pub mod Best
 pub mod KeptLemmas
-pub mod Lists

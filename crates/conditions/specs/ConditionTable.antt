@@ -1,10 +1,12 @@
 -- The conditions of a pod as plain lists, and what each call on them makes of the lists.
 use Rattle.conditions.specs.declared.waits.WaitRec.{WaitRec}
 use Rattle.lwp_types.specs.Choice.{best_by}
+use Rattle.lwp_types.specs.Locks.{is_of_monitor, without_conditions_of}
+use Rattle.lwp_types.specs.Waits.{condition_of, without_condition}
 use Rattle.lwp_types.specs.declared.rows.CondRow.{CondRow}
 use Rattle.lwp_types.specs.declared.rows.WaitRow.{WaitRow}
-use Rattle.std.specs.List.{AllByRecursion, filter, find, list_any}
-use Rattle.std.specs.Prelude.{Bool, List, None, Option, Some, [], if◌then◌else◌, is_some, length, map, max, nat_le, not, option_map, ℕ, ◌&&◌, ◌++◌, ◌+◌, ◌<◌, ◌==◌, ◌||◌, ◌∷◌, ◌≡◌, ◌≤◌}
+use Rattle.std.specs.List.{filter, find, list_any}
+use Rattle.std.specs.Prelude.{Bool, List, None, Option, Some, [], if◌then◌else◌, is_some, length, map, max, nat_le, not, option_map, ℕ, ◌&&◌, ◌++◌, ◌+◌, ◌==◌, ◌||◌, ◌∷◌}
 
 -- all that there is of conditions
 pub record ConditionTable : Type 0 where
@@ -18,15 +20,7 @@ pub record ConditionTable : Type 0 where
   -- how many may wait without asking for memory
   pub places : ℕ
 
--- rows
-
--- the row is that of condition c
-abbrev pub is_condition : ℕ → CondRow → Bool
-is_condition c row = row.number == c
-
--- the condition is one of monitor m
-abbrev pub is_of_monitor : ℕ → CondRow → Bool
-is_of_monitor m row = row.mon == m
+-- waits
 
 -- the machine's row of a wait; the machine looks the priority up instead of keeping it
 abbrev pub machine_row : WaitRec → WaitRow
@@ -58,17 +52,13 @@ with_priority t p ws = map (priority_set t p) ws
 abbrev pub is_full : ConditionTable → Bool
 is_full s = nat_le 256 (length s.conditions) || nat_le s.limit s.births
 
--- the row of a live condition
-abbrev pub condition_of : ConditionTable → ℕ → Option CondRow
-condition_of s c = find (is_condition c) s.conditions
-
 -- the condition is live
 abbrev pub is_live : ConditionTable → ℕ → Bool
-is_live s c = is_some (condition_of s c)
+is_live s c = is_some (condition_of s.conditions c)
 
 -- the monitor of a live condition
 abbrev pub monitor_of : ConditionTable → ℕ → Option ℕ
-monitor_of s c = option_map (λ row. row.mon) (condition_of s c)
+monitor_of s c = option_map (λ row. row.mon) (condition_of s.conditions c)
 
 -- somebody waits on this condition
 abbrev pub is_waited_in : List WaitRec → ℕ → Bool
@@ -118,11 +108,11 @@ created s m = if is_full s then s else record s { conditions = s.conditions ++ r
 
 -- the condition is gone
 abbrev pub destroyed : ConditionTable → ℕ → ConditionTable
-destroyed s c = record s { conditions = filter (λ row. not (is_condition c row)) s.conditions }
+destroyed s c = record s { conditions = without_condition c s.conditions }
 
 -- all conditions of the monitor are gone
 abbrev pub destroyed_of : ConditionTable → ℕ → ConditionTable
-destroyed_of s m = record s { conditions = filter (λ row. not (is_of_monitor m row)) s.conditions }
+destroyed_of s m = record s { conditions = without_conditions_of m s.conditions }
 
 -- one more waits, behind all others
 abbrev pub waited : ConditionTable → WaitRec → ConditionTable
@@ -140,13 +130,3 @@ requeued s t p = record s { waits = with_priority t p s.waits }
 -- t waits no more
 abbrev pub forgotten : ConditionTable → ℕ → ConditionTable
 forgotten s t = record s { waits = without_wait t s.waits }
-
--- laws
-
--- the element is in the list, all before it weigh less, and none after it weighs more
-pub record IsFirstBest {A : Type 0} (weight : A → ℕ) (xs : List A) (best : A) : Type 0 where
-  pub before : List A
-  pub after : List A
-  pub splits : xs ≡ before ++ best ∷ after
-  pub less_before : AllByRecursion (λ x. weight x < weight best) before
-  pub no_more_after : AllByRecursion (λ x. weight x ≤ weight best) after

@@ -1,6 +1,8 @@
 // The conditions.
-ghost use Rattle.std.specs.Prelude.{◌≡◌, ◌<◌, ◌≤◌, [], false, length, map, IsTrue, IsOk, IfOk, OnOk, OnErr, MatchOption};
-ghost use Rattle.conditions.specs.ConditionTable.{IsFirstBest, created, destroyed, destroyed_of, empty_table, first_wait, forgotten, has_waits, is_live, is_waited_in, is_waiting, monitor_of, newborn, next_notified, requeued, reserved, wait_of, waited, waits_on, woken};
+ghost use Rattle.std.specs.Prelude.{◌≡◌, ◌<◌, ◌≤◌, false, length, map, IsTrue, IsOk, IfOk, OnOk, OnErr};
+ghost use Rattle.lwp_types.specs.First.{FindsBest};
+ghost use Rattle.lwp_types.specs.Waits.{condition_numbers};
+ghost use Rattle.conditions.specs.ConditionTable.{created, destroyed, destroyed_of, empty_table, first_wait, forgotten, has_waits, is_live, is_waited_in, is_waiting, monitor_of, newborn, next_notified, requeued, reserved, wait_of, waited, waits_on, woken};
 
 use crate::WaitRec;
 use crate::rows::{list, row_of, take_out, take_out_of};
@@ -135,8 +137,7 @@ impl Conds {
     pub fn notify(&mut self, cond: Cid) -> Option<WaitRec>
         ensures value { result ≡ next_notified self.old cond }
         ensures after { self.new ≡ woken self.old result }
-        ensures first_best { MatchOption result (waits_on self.old cond ≡ [])
-            (IsFirstBest (λ w. w.prio) (waits_on self.old cond)) }
+        ensures first_best { FindsBest (λ w. w.prio) (waits_on self.old cond) result }
     {
         let wait = first_best(&self.waits, cond)?;
         forget(&mut self.waits, wait.tid);
@@ -186,7 +187,7 @@ impl Conds {
 
     /// The live conditions, in birth order.
     pub fn list(&self) -> Result<IdList, NoMemory>
-        ensures { IfOk result (λ ids. ids ≡ map (λ row. row.number) self.now.conditions) }
+        ensures { IfOk result (λ ids. ids ≡ condition_numbers self.now.conditions) }
     {
         list(self.alloc, &self.rows)
     }

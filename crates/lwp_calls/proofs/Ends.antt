@@ -1,8 +1,8 @@
 -- Whether anybody is left to run.
+use Rattle.lwp_types.specs.First.{IsFirstBest}
+use Rattle.lwp_types.specs.State.{is_empty}
 use Rattle.std.proofs.Common.{◌≡◌, true, false, List, [], ◌∷◌, ◌++◌, None, Some, refl, ap, ◌∙◌, ℕ}
 use Rattle.std.specs.Prelude.{Option, MatchOption, is_some}
-use Rattle.lwp_types.specs.State.{is_empty}
-use Rattle.pod_sched.specs.Schedule.{IsFirstBest}
 
 -- the order is empty where nobody is chosen
 pub over-idle : (order : List ℕ) (weight : ℕ → ℕ) (o : Option ℕ) → MatchOption o (order ≡ []) (IsFirstBest weight order) → is_some o ≡ false → is_empty order ≡ true

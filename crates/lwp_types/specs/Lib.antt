@@ -5,6 +5,10 @@ pub mod Streams
 pub mod Memory
 pub mod State
 pub mod Choice
+pub mod First
+pub mod ListLaws
+pub mod FirstLaws
+pub mod CountLaws
 pub mod Unblock
 pub mod Release
 pub mod Case

@@ -1,12 +1,13 @@
 -- Each call keeps what `Monitors` keeps of its fields, and has room for the lock that it adds.
-use Rattle.lwp_types.specs.Locks.{depth_set, is_owned_by, with_depth}
-use Rattle.lwp_types.specs.Release.{is_lock, without_lock}
+use Rattle.lwp_types.specs.CountLaws.{any_counted, count-failed, count-filter-le, count-map, count-push, count-reverse, count_any, count_found, count_found_by, count_not_found, find_none, length-failed, one, times-without_other}
+use Rattle.lwp_types.specs.FirstLaws.{best_passes}
+use Rattle.lwp_types.specs.Locks.{depth_set, with_depth}
+use Rattle.lwp_types.specs.Release.{is_lock, is_owned_by, last_lock, lock_of, locks_on, without_lock}
+use Rattle.lwp_types.specs.State.{times_in}
 use Rattle.lwp_types.specs.declared.rows.Lock.{Lock}
-use Rattle.monitors.proofs.Best.{best_passes}
-use Rattle.monitors.proofs.Counts.{any_counted, count-failed, count-filter-le, count-map, count-push, count-reverse, count_any, count_found, count_found_by, count_not_found, find_none, length-failed, one, times-without_other}
-use Rattle.monitors.proofs.Room.{held, length-locks-le, length-locks-lt}
+use Rattle.monitors.proofs.Room.{length-locks-le, length-locks-lt}
 use Rattle.monitors.specs.Kept.{IsKept}
-use Rattle.monitors.specs.MonitorTable.{MonitorTable, destroyed, forgotten, freed, is_free, is_live, lock_of, last_lock, next_request, times_in, with_grant, without_request}
+use Rattle.monitors.specs.MonitorTable.{MonitorTable, destroyed, forgotten, freed, is_free, is_live, next_request, with_grant, without_request}
 use Rattle.monitors.specs.declared.requests.EntryRequest.{EntryRequest}
 use Rattle.std.proofs.Common.{List, None, Option, Some, [], ap, arith, eqb, false, inl, inr, is_none, length, refl, reverse, sym, true, ℕ, ◌++◌, ◌+◌, ◌<◌, ◌∙◌, ◌∷◌, ◌≡◌, ◌≤◌}
 use Rattle.std.proofs.lemmas.Bool.{cases_eq, eq-eqb, eqb-true, ne_eqb}
@@ -19,20 +20,20 @@ none_there None e = refl
 none_there (Some x) e = absurd (cc)
 
 module _ (s : MonitorTable) (m : ℕ) where
-  pub held_free : is_free s m ≡ true → held s.locks m ≡ 0
-  held_free free = count_not_found (is_lock m) s.locks (none_there (lock_of s m) free)
+  pub held_free : is_free s m ≡ true → locks_on s.locks m ≡ 0
+  held_free free = count_not_found (is_lock m) s.locks (none_there (lock_of s.locks m) free)
 
-  pub held_not_free : is_free s m ≡ false → 1 ≤ held s.locks m
-  held_not_free taken = by_lock (lock_of s m) refl taken
+  pub held_not_free : is_free s m ≡ false → 1 ≤ locks_on s.locks m
+  held_not_free taken = by_lock (lock_of s.locks m) refl taken
     where
-      by_lock : (o : Option Lock) → lock_of s m ≡ o → is_none o ≡ false → 1 ≤ held s.locks m
+      by_lock : (o : Option Lock) → lock_of s.locks m ≡ o → is_none o ≡ false → 1 ≤ locks_on s.locks m
       by_lock None e none = absurd (cc)
       by_lock (Some lock) e none = count_found (is_lock m) s.locks lock e
 
-  pub not_free-held : 1 ≤ held s.locks m → is_free s m ≡ false
-  not_free-held some = by_lock (lock_of s m) refl
+  pub not_free-held : 1 ≤ locks_on s.locks m → is_free s m ≡ false
+  not_free-held some = by_lock (lock_of s.locks m) refl
     where
-      by_lock : (o : Option Lock) → lock_of s m ≡ o → is_none o ≡ false
+      by_lock : (o : Option Lock) → lock_of s.locks m ≡ o → is_none o ≡ false
       by_lock None e = absurd (omega (arith, some, count_not_found (is_lock m) s.locks e))
       by_lock (Some lock) e = refl
 
@@ -41,7 +42,7 @@ module _ {s : MonitorTable} {lock_room request_room : ℕ} (was : IsKept s lock_
   kept_requests : (rs : List EntryRequest) → length rs ≤ s.places → IsKept (record s { requests = rs }) lock_room request_room
   kept_requests rs fits = record { held_once = was.held_once; held_live = was.held_live; locks_fit = was.locks_fit; fits = fits; requests_fit = was.requests_fit }
 
-  kept_locks : (locks : List Lock) → ((m : ℕ) → held locks m ≤ 1) → ((m : ℕ) → held locks m ≤ times_in s.monitors m) → IsKept (record s { locks = locks }) lock_room request_room
+  kept_locks : (locks : List Lock) → ((m : ℕ) → locks_on locks m ≤ 1) → ((m : ℕ) → locks_on locks m ≤ times_in s.monitors m) → IsKept (record s { locks = locks }) lock_room request_room
   kept_locks locks once live = record { held_once = once; held_live = live; locks_fit = was.locks_fit; fits = was.fits; requests_fit = was.requests_fit }
 
   pub length-kept_locks : length s.locks ≤ length s.monitors
@@ -67,7 +68,7 @@ module _ {s : MonitorTable} {lock_room request_room : ℕ} (was : IsKept s lock_
   IsKept-destroyed m free = record {
     held_once = was.held_once;
     held_live = λ k. elim (cases_eq k m) [
-      | inl same ↦ omega (arith, ap (λ n. held s.locks n) same, held_free s m free)
+      | inl same ↦ omega (arith, ap (λ n. locks_on s.locks n) same, held_free s m free)
       | inr differs ↦ omega (arith, was.held_live k, times-without_other m k s.monitors differs)
     ];
     locks_fit = omega (arith, was.locks_fit, length-failed (λ k. eqb k m) s.monitors);
@@ -78,7 +79,7 @@ module _ {s : MonitorTable} {lock_room request_room : ℕ} (was : IsKept s lock_
   pub IsKept-freed : (m : ℕ) → IsKept (freed s m) lock_room request_room
   IsKept-freed m = kept_locks (without_lock m s.locks) (λ k. omega (arith, was.held_once k, fewer k)) (λ k. omega (arith, was.held_live k, fewer k))
     where
-      fewer : (k : ℕ) → held (without_lock m s.locks) k ≤ held s.locks k
+      fewer : (k : ℕ) → locks_on (without_lock m s.locks) k ≤ locks_on s.locks k
       fewer k = count-filter-le (is_lock k) _ s.locks
 
   -- after it is freed nobody holds it
@@ -86,14 +87,14 @@ module _ {s : MonitorTable} {lock_room request_room : ℕ} (was : IsKept s lock_
   is_free-freed m = ap is_none (find_none (is_lock m) (without_lock m s.locks) (count-failed (is_lock m) s.locks))
 
   -- the monitor of the lock that a thread acquired last is held
-  pub not_free-last : (t : ℕ) (lock : Lock) → last_lock s t ≡ Some lock → is_free s lock.mon ≡ false
+  pub not_free-last : (t : ℕ) (lock : Lock) → last_lock s.locks t ≡ Some lock → is_free s lock.mon ≡ false
   not_free-last t lock last =
       not_free-held s lock.mon (omega (arith, count_found_by (is_owned_by t) (is_lock lock.mon) (reverse s.locks) lock last (eq-eqb lock.mon lock.mon refl), count-reverse (is_lock lock.mon) s.locks))
 
   pub IsKept-deepened : (m depth : ℕ) → IsKept (record s { locks = with_depth m depth s.locks }) lock_room request_room
   IsKept-deepened m depth = kept_locks (with_depth m depth s.locks) (λ k. omega (arith, was.held_once k, as_many k)) (λ k. omega (arith, was.held_live k, as_many k))
     where
-      as_many : (k : ℕ) → held (with_depth m depth s.locks) k ≡ held s.locks k
+      as_many : (k : ℕ) → locks_on (with_depth m depth s.locks) k ≡ locks_on s.locks k
       as_many k = count-map (is_lock k) (depth_set m depth) s.locks
 
   pub IsKept-forgotten : (t : ℕ) → IsKept (forgotten s t) lock_room request_room
@@ -107,22 +108,22 @@ module _ {s : MonitorTable} {lock_room request_room : ℕ} (was : IsKept s lock_
     pub IsKept-taken : (lock : Lock) → lock.mon ≡ m → IsKept (record s { locks = s.locks ++ lock ∷ [] }) lock_room request_room
     IsKept-taken lock its = kept_locks (s.locks ++ lock ∷ []) (λ k. omega (arith, once k)) (λ k. omega (arith, alive k))
       where
-        more : (k : ℕ) → held (s.locks ++ lock ∷ []) k ≡ held s.locks k + one (is_lock k lock)
+        more : (k : ℕ) → locks_on (s.locks ++ lock ∷ []) k ≡ locks_on s.locks k + one (is_lock k lock)
         more k = count-push (is_lock k) s.locks lock
 
-        here : (k : ℕ) → k ≡ m → held (s.locks ++ lock ∷ []) k ≡ 1
-        here k same = omega (arith, more k, ap (λ n. held s.locks n) same, held_free s m free, ap one (eq-eqb lock.mon k (its ∙ sym same)))
+        here : (k : ℕ) → k ≡ m → locks_on (s.locks ++ lock ∷ []) k ≡ 1
+        here k same = omega (arith, more k, ap (λ n. locks_on s.locks n) same, held_free s m free, ap one (eq-eqb lock.mon k (its ∙ sym same)))
 
-        elsewhere : (k : ℕ) → (k ≡ m → ⊥) → held (s.locks ++ lock ∷ []) k ≡ held s.locks k
+        elsewhere : (k : ℕ) → (k ≡ m → ⊥) → locks_on (s.locks ++ lock ∷ []) k ≡ locks_on s.locks k
         elsewhere k differs = omega (arith, more k, ap one (ne_eqb lock.mon k (λ same. differs (sym same ∙ its))))
 
-        once : (k : ℕ) → held (s.locks ++ lock ∷ []) k ≤ 1
+        once : (k : ℕ) → locks_on (s.locks ++ lock ∷ []) k ≤ 1
         once k = elim (cases_eq k m) [
           | inl same ↦ omega (arith, here k same)
           | inr differs ↦ omega (arith, elsewhere k differs, was.held_once k)
         ]
 
-        alive : (k : ℕ) → held (s.locks ++ lock ∷ []) k ≤ times_in s.monitors k
+        alive : (k : ℕ) → locks_on (s.locks ++ lock ∷ []) k ≤ times_in s.monitors k
         alive k = elim (cases_eq k m) [
           | inl same ↦ omega (arith, here k same, count_any (λ n. eqb n m) s.monitors live, ap (λ n. times_in s.monitors n) same)
           | inr differs ↦ omega (arith, elsewhere k differs, was.held_live k)

@@ -1,13 +1,13 @@
 -- The monitors of a pod as plain lists, and what each call on them makes of the lists.
 use Rattle.lwp_types.specs.Choice.{best_by}
-use Rattle.lwp_types.specs.Locks.{is_owned_by, with_depth}
-use Rattle.lwp_types.specs.Release.{is_lock, without_lock}
-use Rattle.lwp_types.specs.State.{member, passes, without}
+use Rattle.lwp_types.specs.Locks.{depth_in, with_depth, with_entry}
+use Rattle.lwp_types.specs.Release.{is_owned_by, last_lock, lock_of, without_lock}
+use Rattle.lwp_types.specs.State.{member, without}
 use Rattle.lwp_types.specs.declared.rows.Lock.{Lock}
 use Rattle.lwp_types.specs.declared.rows.Request.{Request}
 use Rattle.monitors.specs.declared.requests.EntryRequest.{EntryRequest}
-use Rattle.std.specs.List.{AllByRecursion, count_by, filter, find, list_any}
-use Rattle.std.specs.Prelude.{Bool, List, None, Option, Some, [], if◌then◌else◌, is_none, length, map, max, nat_le, nat_lt, not, option_map, reverse, true, unwrap_or, ℕ, ◌&&◌, ◌++◌, ◌+◌, ◌-◌, ◌<◌, ◌==◌, ◌||◌, ◌∷◌, ◌≡◌, ◌≤◌}
+use Rattle.std.specs.List.{filter, list_any}
+use Rattle.std.specs.Prelude.{Bool, List, None, Option, Some, [], if◌then◌else◌, is_none, length, map, max, nat_le, nat_lt, not, option_map, true, ℕ, ◌&&◌, ◌++◌, ◌+◌, ◌-◌, ◌==◌, ◌||◌, ◌∷◌}
 
 -- all that there is of monitors
 pub record MonitorTable : Type 0 where
@@ -55,33 +55,13 @@ is_live s m = member m s.monitors
 abbrev pub is_full : MonitorTable → Bool
 is_full s = nat_le 256 (length s.monitors) || nat_le s.limit s.births
 
--- the lock of a monitor that somebody holds
-abbrev pub lock_of : MonitorTable → ℕ → Option Lock
-lock_of s m = find (is_lock m) s.locks
-
--- of the locks of a thread, the one that it acquired last
-abbrev pub last_lock : MonitorTable → ℕ → Option Lock
-last_lock s t = find (is_owned_by t) (reverse s.locks)
-
 -- who holds the monitor
 abbrev pub owner_of : MonitorTable → ℕ → Option ℕ
-owner_of s m = option_map (λ lock. lock.owner) (lock_of s m)
-
--- how often the owner has entered it, and 0 where nobody holds it
-abbrev pub depth_of : MonitorTable → ℕ → ℕ
-depth_of s m = unwrap_or (option_map (λ lock. lock.depth) (lock_of s m)) 0
+owner_of s m = option_map (λ lock. lock.owner) (lock_of s.locks m)
 
 -- nobody holds the monitor
 abbrev pub is_free : MonitorTable → ℕ → Bool
-is_free s m = is_none (lock_of s m)
-
--- t holds the monitor
-abbrev pub is_owner : MonitorTable → ℕ → ℕ → Bool
-is_owner s t m = passes (is_owned_by t) (lock_of s m)
-
--- another than t holds it
-abbrev pub is_held_by_other : MonitorTable → ℕ → ℕ → Bool
-is_held_by_other s t m = passes (λ lock. not (is_owned_by t lock)) (lock_of s m)
+is_free s m = is_none (lock_of s.locks m)
 
 -- t need not wait for a monitor of this lock: there is none, or it is t's own and may be one deeper
 abbrev pub may_enter : ℕ → Option Lock → Bool
@@ -130,14 +110,9 @@ created s = if is_full s then s else record s { monitors = s.monitors ++ s.birth
 abbrev pub destroyed : MonitorTable → ℕ → MonitorTable
 destroyed s m = record s { monitors = without m s.monitors }
 
--- a monitor of no lock is held from now on, and a held one is held one deeper
-abbrev pub with_entry : ℕ → ℕ → Option Lock → List Lock → List Lock
-with_entry t m None locks = locks ++ record { mon = m; owner = t; depth = 1 } ∷ []
-with_entry t m (Some lock) locks = with_depth m (lock.depth + 1) locks
-
 -- t enters
 abbrev pub entered : MonitorTable → ℕ → ℕ → MonitorTable
-entered s t m = record s { locks = with_entry t m (lock_of s m) s.locks }
+entered s t m = record s { locks = with_entry t m (lock_of s.locks m) s.locks }
 
 -- one more waits to enter, behind all others
 abbrev pub requested : MonitorTable → EntryRequest → MonitorTable
@@ -165,11 +140,11 @@ released s m = granted (freed s m) m
 
 -- leaving once leaves the monitor altogether
 abbrev pub is_outermost : MonitorTable → ℕ → Bool
-is_outermost s m = nat_le (depth_of s m) 1
+is_outermost s m = nat_le (depth_in s.locks m) 1
 
 -- the owner leaves once; the last time the monitor is released
 abbrev pub exited : MonitorTable → ℕ → MonitorTable
-exited s m = if is_outermost s m then released s m else record s { locks = with_depth m (depth_of s m - 1) s.locks }
+exited s m = if is_outermost s m then released s m else record s { locks = with_depth m (depth_in s.locks m - 1) s.locks }
 
 -- who holds the monitor because its owner has left once
 abbrev pub owner_after : MonitorTable → ℕ → Option ℕ
@@ -182,11 +157,11 @@ without_hold s (Some lock) = released s lock.mon
 
 -- the monitor that t acquired last is released
 abbrev pub last_released : MonitorTable → ℕ → MonitorTable
-last_released s t = without_hold s (last_lock s t)
+last_released s t = without_hold s (last_lock s.locks t)
 
 -- that monitor, and who holds it then
 abbrev pub last_release : MonitorTable → ℕ → Option (ℕ × Option ℕ)
-last_release s t = option_map (λ lock. (lock.mon, next_owner s lock.mon)) (last_lock s t)
+last_release s t = option_map (λ lock. (lock.mon, next_owner s lock.mon)) (last_lock s.locks t)
 
 -- the priority of t is another from now on
 abbrev pub requeued : MonitorTable → ℕ → ℕ → MonitorTable
@@ -195,17 +170,3 @@ requeued s t p = record s { requests = with_priority t p s.requests }
 -- t waits no more
 abbrev pub forgotten : MonitorTable → ℕ → MonitorTable
 forgotten s t = record s { requests = without_request t s.requests }
-
--- laws
-
--- how often a number stands in a list
-abbrev pub times_in : List ℕ → ℕ → ℕ
-times_in ns n = count_by (λ k. k == n) ns
-
--- the element is in the list, all before it weigh less, and none after it weighs more
-pub record IsFirstBest {A : Type 0} (weight : A → ℕ) (xs : List A) (best : A) : Type 0 where
-  pub before : List A
-  pub after : List A
-  pub splits : xs ≡ before ++ best ∷ after
-  pub less_before : AllByRecursion (λ x. weight x < weight best) before
-  pub no_more_after : AllByRecursion (λ x. weight x ≤ weight best) after

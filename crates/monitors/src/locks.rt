@@ -1,28 +1,27 @@
 // The locks of the held monitors, in the order in which they were acquired.
-ghost use Rattle.std.specs.Prelude.{◌≡◌, reverse, option_map, unwrap_or, vec_capacity};
-ghost use Rattle.std.specs.List.{find};
-ghost use Rattle.lwp_types.specs.Locks.{is_owned_by, with_depth};
-ghost use Rattle.lwp_types.specs.Release.{is_lock, without_lock};
+ghost use Rattle.std.specs.Prelude.{◌≡◌, vec_capacity};
+ghost use Rattle.lwp_types.specs.Locks.{depth_in, with_depth};
+ghost use Rattle.lwp_types.specs.Release.{last_lock, lock_of, without_lock};
 
 use lwp_types::{Lock, Mid, Tid};
 
 // The lock of the monitor, if it is held.
 pub fn lock_of(locks: &[Lock], mon: Mid) -> Option<Lock>
-    ensures { result ≡ find (is_lock mon) locks.now }
+    ensures { result ≡ lock_of locks.now mon }
 {
     locks.iter().copied().find(|lock| lock.mon == mon)
 }
 
 // How often the monitor's owner has entered it, and 0 where it is free.
 pub fn depth_of(locks: &[Lock], mon: Mid) -> u32
-    ensures { result ≡ unwrap_or (option_map (λ lock. lock.depth) (find (is_lock mon) locks.now)) 0 }
+    ensures { result ≡ depth_in locks.now mon }
 {
     lock_of(locks, mon).map_or(0, |lock| lock.depth)
 }
 
 // Of the thread's locks the one that it acquired last.
 pub fn last_lock(locks: &[Lock], tid: Tid) -> Option<Lock>
-    ensures { result ≡ find (is_owned_by tid) (reverse locks.now) }
+    ensures { result ≡ last_lock locks.now tid }
 {
     locks.iter().rev().copied().find(|lock| lock.owner == tid)
 }

@@ -1,6 +1,9 @@
 // The monitors.
-ghost use Rattle.std.specs.Prelude.{◌≡◌, ◌<◌, ◌≤◌, [], false, length, map, option_map, IsTrue, IsOk, IfOk, OnOk, OnErr, MatchOption};
-ghost use Rattle.monitors.specs.MonitorTable.{IsFirstBest, created, depth_of, destroyed, empty_table, entered, exited, forgotten, freed, granted, has_request, is_free, is_held_by_other, is_live, is_owner, is_unwanted, last_lock, last_release, last_released, lock_of, may_enter, newborn, next_owner, next_request, owner_after, owner_of, released, requested, requests_of, requeued, reserved};
+ghost use Rattle.std.specs.Prelude.{◌≡◌, ◌<◌, ◌≤◌, false, length, map, option_map, IsTrue, IsOk, IfOk, OnOk, OnErr};
+ghost use Rattle.lwp_types.specs.First.{FindsBest};
+ghost use Rattle.lwp_types.specs.Locks.{depth_in, is_owned_by_other, is_owner};
+ghost use Rattle.lwp_types.specs.Release.{last_lock, lock_of};
+ghost use Rattle.monitors.specs.MonitorTable.{created, destroyed, empty_table, entered, exited, forgotten, freed, granted, has_request, is_free, is_live, is_unwanted, last_release, last_released, may_enter, newborn, next_owner, next_request, owner_after, owner_of, released, requested, requests_of, requeued, reserved};
 
 use crate::EntryRequest;
 use crate::live::{has, list, take_out};
@@ -113,7 +116,7 @@ impl Monitors {
     /// How often the owner has entered the monitor, and 0 where it is free.
     pub fn depth(&self, mon: Mid) -> u32
         requires { IsTrue (is_live self.now mon) }
-        ensures { result ≡ depth_of self.now mon }
+        ensures { result ≡ depth_in self.now.locks mon }
     {
         depth_of(&self.locks, mon)
     }
@@ -121,8 +124,8 @@ impl Monitors {
     /// The thread enters a free monitor, or its own once more. The answer is how often it had entered it before.
     pub fn enter(&mut self, mon: Mid, tid: Tid) -> u32
         requires live { IsTrue (is_live self.old mon) }
-        requires may_enter { IsTrue (may_enter tid (lock_of self.old mon)) }
-        ensures value { result ≡ depth_of self.old mon }
+        requires may_enter { IsTrue (may_enter tid (lock_of self.old.locks mon)) }
+        ensures value { result ≡ depth_in self.old.locks mon }
         ensures after { self.new ≡ entered self.old tid mon }
     {
         match lock_of(&self.locks, mon) {
@@ -143,7 +146,7 @@ impl Monitors {
 
     /// The thread waits, behind all others, to enter a monitor that another holds.
     pub fn request(&mut self, mon: Mid, tid: Tid, prio: u32, depth: u32)
-        requires held { IsTrue (is_held_by_other self.old tid mon) }
+        requires held { IsTrue (is_owned_by_other self.old.locks tid mon) }
         requires waits_nowhere { has_request self.old tid ≡ false }
         requires least { 1 ≤ depth }
         requires most { depth ≤ 65535 }
@@ -160,7 +163,7 @@ impl Monitors {
 
     /// The owner leaves once. Where it leaves altogether, the answer is who holds the monitor then.
     pub fn exit(&mut self, mon: Mid, _owner: Tid) -> Option<Tid>
-        requires { IsTrue (is_owner self.old _owner mon) }
+        requires { IsTrue (is_owner self.old.locks _owner mon) }
         ensures value { result ≡ owner_after self.old mon }
         ensures after { self.new ≡ exited self.old mon }
     {
@@ -184,8 +187,8 @@ impl Monitors {
 
     /// The owner leaves the monitor altogether, and nobody enters it yet. The answer is how often it had entered.
     pub fn give_up(&mut self, mon: Mid, _owner: Tid) -> u32
-        requires { IsTrue (is_owner self.old _owner mon) }
-        ensures value { result ≡ depth_of self.old mon }
+        requires { IsTrue (is_owner self.old.locks _owner mon) }
+        ensures value { result ≡ depth_in self.old.locks mon }
         ensures after { self.new ≡ freed self.old mon }
     {
         let before = depth_of(&self.locks, mon);
@@ -199,8 +202,7 @@ impl Monitors {
         requires free { IsTrue (is_free self.old mon) }
         ensures value { result ≡ next_owner self.old mon }
         ensures after { self.new ≡ granted self.old mon }
-        ensures first_best { MatchOption (next_request self.old mon) (requests_of self.old mon ≡ [])
-            (IsFirstBest (λ r. r.prio) (requests_of self.old mon)) }
+        ensures first_best { FindsBest (λ r. r.prio) (requests_of self.old mon) (next_request self.old mon) }
     {
         let next = first_best(&self.requests, mon)?;
         forget(&mut self.requests, next.tid);
@@ -214,7 +216,7 @@ impl Monitors {
 
     /// Of the monitors that the thread holds, the one that it acquired last.
     pub fn last_held(&self, tid: Tid) -> Option<Mid>
-        ensures { result ≡ option_map (λ lock. lock.mon) (last_lock self.now tid) }
+        ensures { result ≡ option_map (λ lock. lock.mon) (last_lock self.now.locks tid) }
     {
         last_lock(&self.locks, tid).map(|lock| lock.mon)
     }

@@ -1,13 +1,14 @@
 -- The invariant of `Sched` holds after each call, which adds to the order only where there is room.
-use Rattle.lwp_types.specs.State.{passes, put_before, to_end, without}
-use Rattle.pod_sched.proofs.Counts.{length-without, one}
+use Rattle.lwp_types.specs.CountLaws.{length-without, one}
+use Rattle.lwp_types.specs.State.{passes, put_before, times_in, to_end, without}
+use Rattle.lwp_types.specs.Threads.{moved_to_end}
 use Rattle.pod_sched.proofs.Ordered.{IsOrdered-admitted, IsOrdered-back, IsOrdered-left, IsOrdered-moved_before, IsOrdered-out, IsOrdered-stays, IsOrdered-to_end, length-order-le, length-order_back, row_found, times-found, times-known}
 use Rattle.pod_sched.specs.Kept.{IsKept}
-use Rattle.pod_sched.specs.Schedule.{IsOrdered, Schedule, admitted, block_set, blocked, is_blocked_in, is_eligible, is_eligible_in, is_of, is_suspended_in, knows, left, moved_to_end, newcomer, prioritized, priority_set, priority_in, rescheduled, resumed, suspended, suspension_set, thread_of, times_in, unblocked, yielded}
+use Rattle.pod_sched.specs.Schedule.{IsOrdered, Schedule, admitted, block_set, blocked, is_blocked_in, is_eligible, is_eligible_in, is_of, is_suspended_in, knows, left, newcomer, prioritized, priority_set, priority_in, rescheduled, resumed, suspended, suspension_set, thread_of, unblocked, yielded}
 use Rattle.pod_sched.specs.declared.rows.Known.{Known}
 use Rattle.std.proofs.Common.{Bool, List, None, Option, Some, [], ap, arith, cond, eqb, false, is_some, length, map, not, refl, true, ℕ, ◌&&◌, ◌++◌, ◌<◌, ◌∙◌, ◌∷◌, ◌≡◌, ◌≤◌}
-use Rattle.std.proofs.lemmas.List.Sums.{count_by-le-length, length-filter}
 use Rattle.std.proofs.lemmas.List.{length-map, length_push}
+use Rattle.std.proofs.lemmas.List.Sums.{count_by-le-length, length-filter}
 use Rattle.std.specs.List.{find}
 
 -- the row that was found for an id, and what it passes

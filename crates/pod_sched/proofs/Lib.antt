@@ -1,5 +1,4 @@
 pub mod Counts
 pub mod Lists
-pub mod Best
 pub mod Ordered
 pub mod KeptLemmas

@@ -1,12 +1,9 @@
 -- Rows and ids, as the code goes over them.
 use Rattle.lwp_types.specs.State.{put_before}
-use Rattle.pod_sched.specs.declared.rows.Known.{Known}
-use Rattle.std.proofs.Common.{Bool, List, None, Some, [], ap, arith, cond, drop, eqb, false, get_or, length, ltb, map, not, refl, set, take, true, unwrap_or, ℕ, ◌++◌, ◌+◌, ◌<◌, ◌∙◌, ◌∷◌, ◌≡◌}
+use Rattle.std.proofs.Common.{Bool, List, None, Some, [], ap, arith, cond, eqb, false, length, ltb, not, refl, true, unwrap_or, ℕ, ◌+◌, ◌∷◌, ◌≡◌}
 use Rattle.std.proofs.Math.Numerals.{one-add}
 use Rattle.std.proofs.lemmas.Bool.{ltb-false}
 use Rattle.std.proofs.lemmas.List.Sums.{prefix_len-le-length}
-use Rattle.std.proofs.lemmas.List.Edits.{map_over_more}
-use Rattle.std.proofs.lemmas.List.{get_or_default}
 use Rattle.std.specs.List.{insert, position, position_or_len}
 
 -- the place of the first element that passes, or the length
@@ -28,11 +25,3 @@ insert_at_first t m (v ∷ vs) = by_test (insert_at_first t m vs) (eqb v m)
 -- to insert at the place of m is to put before it
 pub insert_at_place : (t m : ℕ) (order : List ℕ) → insert order (unwrap_or (position (λ u. eqb u m) order) (length order)) t ≡ put_before t m order
 insert_at_place t m order = rw (place-or_len (λ u. eqb u m) order) (insert_at_first t m order)
-
--- a loop that changes each row by f has changed one more
-module _ (f : Known → Known) (all now : List Known) (i : ℕ) (d row : Known) where
-  pub changed_more : i < length all → length now ≡ length all → now ≡ map f (take i all) ++ drop i all → row ≡ f (get_or now i d) → (after : List Known) → after ≡ set now i row → after ≡ map f (take (i + 1) all) ++ drop (i + 1) all
-  changed_more within len so_far made after written =
-      let old = get_or now i d in
-      let read : old ≡ get_or now i old = get_or_default now i d old (omega arith) in
-      written ∙ ap (λ r. set now i r) made ∙ map_over_more f all now i old within so_far read

@@ -1,6 +1,7 @@
 // The scheduler.
-ghost use Rattle.std.specs.Prelude.{◌≡◌, ◌<◌, ◌≤◌, [], false, length, IsTrue, IsOk, IfOk, OnOk, OnErr, MatchOption};
-ghost use Rattle.pod_sched.specs.Schedule.{IsFirstBest, IsOrdered, admitted, blocked, choice, empty_schedule, is_blocked_in, is_eligible_in, is_suspended_in, knows, left, prio_in, prioritized, priority_in, rescheduled, reserved, resumed, suspended, unblocked, with_maxpri, yielded};
+ghost use Rattle.std.specs.Prelude.{◌≡◌, ◌<◌, ◌≤◌, false, length, IsTrue, IsOk, IfOk, OnOk, OnErr};
+ghost use Rattle.lwp_types.specs.First.{FindsBest};
+ghost use Rattle.pod_sched.specs.Schedule.{IsOrdered, admitted, blocked, choice, empty_schedule, is_blocked_in, is_eligible_in, is_suspended_in, knows, left, prio_in, prioritized, priority_in, rescheduled, reserved, resumed, suspended, unblocked, with_maxpri, yielded};
 
 use crate::Known;
 use crate::order::{first_best, first_of, move_before, move_to_end, take_out};
@@ -184,8 +185,7 @@ impl Sched {
     /// The thread that runs next. It stays in the order.
     pub fn current(&self) -> Option<Tid>
         ensures value { result ≡ choice self.now }
-        ensures first_best { MatchOption result (self.now.order ≡ [])
-            (IsFirstBest (prio_in self.now.threads) self.now.order) }
+        ensures first_best { FindsBest (prio_in self.now.threads) self.now.order result }
         ensures ordered { IsOrdered self.now.threads self.now.order }
     {
         first_best(&self.rows, &self.order)

@@ -1,24 +1,24 @@
 -- Each call keeps what a `Mail` keeps of its fields.
-use Rattle.lwp_types.specs.Letters.{is_letter_of, marked_received, reception_set}
+use Rattle.lwp_types.specs.CountLaws.{count-filter-le, count-map, count-push, count_none, one, one-le}
+use Rattle.lwp_types.specs.Letters.{is_letter_of, letters_of, marked_received, reception_set}
 use Rattle.lwp_types.specs.declared.rows.Letter.{Letter}
-use Rattle.rendezvous.proofs.Counts.{count-filter-le, count-map_same, count-none, count-push, one, one-le}
 use Rattle.rendezvous.specs.Kept.{IsKept}
 use Rattle.rendezvous.specs.Mailbag.{Mailbag, forgotten, has_letter_of, posted}
-use Rattle.std.proofs.Common.{Bool, List, ap, arith, count_by, false, inl, inr, length, not, refl, ℕ, ◌<◌, ◌≡◌, ◌≤◌}
+use Rattle.std.proofs.Common.{Bool, List, ap, arith, false, inl, inr, length, not, ℕ, ◌<◌, ◌≡◌, ◌≤◌}
 use Rattle.std.proofs.lemmas.Bool.{cases_eq, ne_eqb}
-use Rattle.std.proofs.lemmas.List.Sums.{count_by-le-length, length-filter}
 use Rattle.std.proofs.lemmas.List.{length-map, length_push}
+use Rattle.std.proofs.lemmas.List.Sums.{count_by-le-length, length-filter}
 
 module _ {m : Mailbag} {room : ℕ} (was : IsKept m room) where
-  kept_with : (letters : List Letter) → ((x : ℕ) → count_by (is_letter_of x) letters ≤ 1) → length letters ≤ m.places → IsKept (record m { letters = letters }) room
+  kept_with : (letters : List Letter) → ((x : ℕ) → letters_of letters x ≤ 1) → length letters ≤ m.places → IsKept (record m { letters = letters }) room
   kept_with letters each fits = record { one_each = record { at_most_one = each }; fits = fits; places_fit = was.places_fit }
 
-  pub IsKept-posted : (letter : Letter) → has_letter_of letter.from m.letters ≡ false → length m.letters < m.places → IsKept (posted m letter) room
+  pub IsKept-posted : (letter : Letter) → has_letter_of m.letters letter.from ≡ false → length m.letters < m.places → IsKept (posted m letter) room
   IsKept-posted letter new free = kept_with _ each (omega (arith, length_push m.letters letter))
     where
-      each : (x : ℕ) → count_by (is_letter_of x) (posted m letter).letters ≤ 1
+      each : (x : ℕ) → letters_of (posted m letter).letters x ≤ 1
       each x = elim (cases_eq letter.from x) [
-        | inl same ↦ omega (arith, count-push (is_letter_of x) m.letters letter, one-le (is_letter_of x letter), count-none (is_letter_of x) m.letters (rw same at new))
+        | inl same ↦ omega (arith, count-push (is_letter_of x) m.letters letter, one-le (is_letter_of x letter), count_none (is_letter_of x) m.letters (rw same at new))
         | inr other ↦ omega (arith, count-push (is_letter_of x) m.letters letter, ap one (ne_eqb letter.from x other), was.one_each.at_most_one x)
       ]
 
@@ -29,4 +29,4 @@ module _ {m : Mailbag} {room : ℕ} (was : IsKept m room) where
 
   pub IsKept-marked : (t : ℕ) → IsKept (record m { letters = marked_received t m.letters }) room
   IsKept-marked t =
-      kept_with _ (λ x. omega (arith, count-map_same (is_letter_of x) (reception_set t) (λ letter. refl) m.letters, was.one_each.at_most_one x)) (omega (arith, length-map m.letters (reception_set t), was.fits))
+      kept_with _ (λ x. omega (arith, count-map (is_letter_of x) (reception_set t) m.letters, was.one_each.at_most_one x)) (omega (arith, length-map m.letters (reception_set t), was.fits))

@@ -1,4 +1,2 @@
-pub mod Lists
-pub mod Counts
 pub mod KeptLemmas
 pub mod First

@@ -1,7 +1,7 @@
 // The letters: which one is meant, and what becomes of it.
 ghost use Rattle.std.specs.Prelude.{◌≡◌, vec_capacity, IfOk};
-ghost use Rattle.lwp_types.specs.Letters.{is_from, marked_received, without_letter};
-ghost use Rattle.rendezvous.specs.Mailbag.{first_to, received_from, senders_to, unreceived};
+ghost use Rattle.lwp_types.specs.Letters.{is_from, marked_received, received_from, senders_to, unreceived, without_letter};
+ghost use Rattle.rendezvous.specs.Mailbag.{first_to};
 
 use lwp_types::{IdList, Letter, NoMemory, Tid};
 use std::alloc::Global;
@@ -15,7 +15,7 @@ fn is_from(from: Option<Tid>, letter: &Letter) -> bool
 
 // The letter that the thread receives next.
 pub fn unreceived(letters: &[Letter], to: Tid, from: Option<Tid>) -> Option<Letter>
-    ensures { result ≡ unreceived to from letters.now }
+    ensures { result ≡ unreceived letters.now to from }
 {
     letters
         .iter()
@@ -26,7 +26,7 @@ pub fn unreceived(letters: &[Letter], to: Tid, from: Option<Tid>) -> Option<Lett
 
 // The letter of this sender that the thread has received.
 pub fn received_from(letters: &[Letter], to: Tid, from: Tid) -> Option<Letter>
-    ensures { result ≡ received_from to from letters.now }
+    ensures { result ≡ received_from letters.now to from }
 {
     letters
         .iter()
@@ -37,7 +37,7 @@ pub fn received_from(letters: &[Letter], to: Tid, from: Tid) -> Option<Letter>
 
 // The letter to the thread that was sent first.
 pub fn first_to(letters: &[Letter], to: Tid) -> Option<Letter>
-    ensures { result ≡ first_to to letters.now }
+    ensures { result ≡ first_to letters.now to }
 {
     letters.iter().copied().find(|letter| letter.to == to)
 }
@@ -64,7 +64,7 @@ pub fn take_out(letters: &mut Vec<Letter>, from: Tid)
 
 // Who sent the letters to the thread.
 pub fn senders_to(alloc: Global, letters: &[Letter], to: Tid) -> Result<IdList, NoMemory>
-    ensures { IfOk result (λ ids. ids ≡ senders_to to letters.now) }
+    ensures { IfOk result (λ ids. ids ≡ senders_to letters.now to) }
 {
     let mut ids = IdList::new(alloc);
     for letter in letters {

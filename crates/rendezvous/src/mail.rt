@@ -1,8 +1,9 @@
 // The mail.
 ghost use Rattle.std.specs.Prelude.{◌≡◌, ◌<◌, ◌≤◌, ◌&&◌, false, length, option_map, IsOk, IfOk, OnOk, OnErr};
 ghost use Rattle.std.specs.Result.{result_err};
-ghost use Rattle.lwp_types.specs.Letters.{as_received};
-ghost use Rattle.rendezvous.specs.Mailbag.{FindsFirst, IsOnePerSender, empty_mail, first_to, forgotten, has_letter_of, is_open, is_to, popped, posted, received_from, refusal, reserved, senders_to, taken, unreceived};
+ghost use Rattle.lwp_types.specs.First.{FindsFirst};
+ghost use Rattle.lwp_types.specs.Letters.{as_received, is_open, is_to, received_from, senders_to, unreceived};
+ghost use Rattle.rendezvous.specs.Mailbag.{IsOnePerSender, empty_mail, first_to, forgotten, has_letter_of, popped, posted, refusal, reserved, taken};
 
 use crate::letters::{first_to, mark_received, received_from, senders_to, take_out, unreceived};
 use lwp_types::{IdList, Letter, LwpErr, NoMemory, Tid};
@@ -56,7 +57,7 @@ impl Mail {
 
     /// One letter more, behind the others. It may count as received already, where its receiver waits for it.
     pub fn post_letter(&mut self, letter: Letter)
-        requires new { has_letter_of letter.from self.old.letters ≡ false }
+        requires new { has_letter_of self.old.letters letter.from ≡ false }
         requires room { length self.old.letters < self.old.places }
         ensures { self.new ≡ posted self.old letter }
     {
@@ -66,9 +67,9 @@ impl Mail {
     /// The thread receives the first letter that it hasn't received yet, of the named sender or of any. The letter stays,
     /// and waits for its reply.
     pub fn take_letter(&mut self, to: Tid, from: Option<Tid>) -> Option<Letter>
-        ensures value { result ≡ option_map as_received (unreceived to from self.old.letters) }
+        ensures value { result ≡ option_map as_received (unreceived self.old.letters to from) }
         ensures after { self.new ≡ taken self.old to from }
-        ensures first { FindsFirst (λ letter. is_to to letter && is_open from letter) self.old.letters (unreceived to from self.old.letters) }
+        ensures first { FindsFirst (λ letter. is_to to letter && is_open from letter) self.old.letters (unreceived self.old.letters to from) }
     {
         let letter = unreceived(&self.letters, to, from)?;
         mark_received(&mut self.letters, letter.from);
@@ -81,7 +82,7 @@ impl Mail {
     /// `to` replies to the letter of `from` with so many bytes, and the letter goes. It must have received it, and the
     /// sender must have room for the reply.
     pub fn reply(&mut self, to: Tid, from: Tid, len: usize) -> Result<(), LwpErr>
-        ensures cause { result_err result ≡ refusal (received_from to from self.old.letters) len }
+        ensures cause { result_err result ≡ refusal (received_from self.old.letters to from) len }
         ensures ok { OnOk result (self.new ≡ forgotten self.old from) }
         ensures err { OnErr result (self.new ≡ self.old) }
     {
@@ -102,9 +103,9 @@ impl Mail {
 
     /// The first letter to the thread goes, received or not; the answer is who sent it.
     pub fn pop_to(&mut self, to: Tid) -> Option<Tid>
-        ensures value { result ≡ option_map (λ letter. letter.from) (first_to to self.old.letters) }
+        ensures value { result ≡ option_map (λ letter. letter.from) (first_to self.old.letters to) }
         ensures after { self.new ≡ popped self.old to }
-        ensures first { FindsFirst (is_to to) self.old.letters (first_to to self.old.letters) }
+        ensures first { FindsFirst (is_to to) self.old.letters (first_to self.old.letters to) }
     {
         let letter = first_to(&self.letters, to)?;
         take_out(&mut self.letters, letter.from);
@@ -113,7 +114,7 @@ impl Mail {
 
     /// Who sent the letters to the thread, received or not, in the order of their sending.
     pub fn senders(&self, to: Tid) -> Result<IdList, NoMemory>
-        ensures value { IfOk result (λ ids. ids ≡ senders_to to self.now.letters) }
+        ensures value { IfOk result (λ ids. ids ≡ senders_to self.now.letters to) }
         ensures one_each { IsOnePerSender self.now.letters }
     {
         senders_to(*self.letters.allocator(), &self.letters, to)

@@ -1,7 +1,7 @@
-use Rattle.agents.proofs.Lists.{changed_more}
 use Rattle.agents.proofs.rows.set_holding.Goals.{else-eq, then-eq}
 use Rattle.agents.proofs.rows.set_holding.Goals as goal
 use Rattle.lwp_types.specs.Letters.{holding_set}
+use Rattle.lwp_types.specs.ListLaws.{changed_more}
 use Rattle.std.proofs.Common.{ap, arith, length, refl, sym, ◌∙◌}
 
 pub loop-row-preserved : goal.loop-row-preserved

@@ -1,5 +1,5 @@
-use Rattle.lwp_types.specs.Letters.{is_agent_row}
 use Rattle.agents.proofs.rows.take_out.Goals as goal
+use Rattle.lwp_types.specs.State.{is_agent_row}
 use Rattle.std.proofs.Common.{not, rules}
 use Rattle.std.proofs.lemmas.Fn.{filter_same}
 

@@ -1,5 +1,6 @@
 use Rattle.conditions.proofs.rows.list.Given as goal
-use Rattle.std.proofs.Common.{map, take, ◌≡◌}
+use Rattle.lwp_types.specs.Waits.{condition_numbers}
+use Rattle.std.proofs.Common.{take, ◌≡◌}
 
 abbrev pub invariant-loop-row : goal.invariant-loop-row
-invariant-loop-row l = l.ids ≡ map (λ row. row.number) (take l.row-index l.rows)
+invariant-loop-row l = l.ids ≡ condition_numbers (take l.row-index l.rows)

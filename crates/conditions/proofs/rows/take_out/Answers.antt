@@ -1,5 +1,5 @@
 use Rattle.conditions.proofs.rows.take_out.Goals as goal
-use Rattle.conditions.specs.ConditionTable.{is_condition}
+use Rattle.lwp_types.specs.Waits.{is_condition}
 use Rattle.std.proofs.Common.{not, rules}
 use Rattle.std.proofs.lemmas.Fn.{filter_same}
 

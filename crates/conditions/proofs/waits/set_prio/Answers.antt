@@ -1,7 +1,7 @@
-use Rattle.conditions.proofs.Lists.{changed_more}
 use Rattle.conditions.proofs.waits.set_prio.Goals.{else-eq, then-eq}
 use Rattle.conditions.proofs.waits.set_prio.Goals as goal
 use Rattle.conditions.specs.ConditionTable.{priority_set}
+use Rattle.lwp_types.specs.ListLaws.{changed_more}
 use Rattle.std.proofs.Common.{ap, arith, length, refl, sym, ◌∙◌}
 
 pub loop-wait-preserved : goal.loop-wait-preserved

@@ -1,5 +1,5 @@
+use Rattle.lwp_types.specs.ListLaws.{changed_more}
 use Rattle.lwp_types.specs.Locks.{depth_set}
-use Rattle.monitors.proofs.Lists.{changed_more}
 use Rattle.monitors.proofs.locks.set_depth.Goals.{else-eq, then-eq}
 use Rattle.monitors.proofs.locks.set_depth.Goals as goal
 use Rattle.std.proofs.Common.{ap, arith, length, refl, sym, ◌∙◌}

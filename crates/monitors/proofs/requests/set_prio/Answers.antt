@@ -1,4 +1,4 @@
-use Rattle.monitors.proofs.Lists.{changed_more}
+use Rattle.lwp_types.specs.ListLaws.{changed_more}
 use Rattle.monitors.proofs.requests.set_prio.Goals.{else-eq, then-eq}
 use Rattle.monitors.proofs.requests.set_prio.Goals as goal
 use Rattle.monitors.specs.MonitorTable.{priority_set}

@@ -1,8 +1,8 @@
-use Rattle.std.proofs.Common.{ap, arith, length, refl, sym, ◌∙◌}
-use Rattle.pod_sched.proofs.Lists.{changed_more}
+use Rattle.lwp_types.specs.ListLaws.{changed_more}
 use Rattle.pod_sched.proofs.rows.set_suspended.Goals.{else-eq, then-eq}
 use Rattle.pod_sched.proofs.rows.set_suspended.Goals as goal
 use Rattle.pod_sched.specs.Schedule.{suspension_set}
+use Rattle.std.proofs.Common.{ap, arith, length, refl, sym, ◌∙◌}
 
 pub loop-row-preserved : goal.loop-row-preserved
 loop-row-preserved c =

@@ -1,5 +1,5 @@
 use Rattle.lwp_types.specs.Letters.{reception_set}
-use Rattle.rendezvous.proofs.Lists.{changed_more}
+use Rattle.lwp_types.specs.ListLaws.{changed_more}
 use Rattle.rendezvous.proofs.letters.mark_received.Goals.{else-eq, then-eq}
 use Rattle.rendezvous.proofs.letters.mark_received.Goals as goal
 use Rattle.std.proofs.Common.{ap, arith, length, refl, sym, ◌∙◌}

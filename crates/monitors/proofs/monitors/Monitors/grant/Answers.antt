@@ -1,4 +1,4 @@
-use Rattle.monitors.proofs.Best.{best_by_law}
+use Rattle.lwp_types.specs.FirstLaws.{finds_best}
 use Rattle.monitors.proofs.KeptLemmas.{IsKept-granted, room_free}
 use Rattle.monitors.proofs.monitors.Monitors.grant.Goals as goal
 use Rattle.monitors.specs.MonitorTable.{requests_of}
@@ -6,7 +6,7 @@ use Rattle.monitors.specs.declared.requests.EntryRequest.{EntryRequest}
 use Rattle.std.proofs.Common.{arith, sym}
 
 pub returns-in_err-next-clause-first_best : goal.returns-in_err-next-clause-first_best
-returns-in_err-next-clause-first_best c = best_by_law {A = EntryRequest} (λ r. r.prio) (requests_of c.args.self.now c.args.mon)
+returns-in_err-next-clause-first_best c = finds_best {A = EntryRequest} (λ r. r.prio) (requests_of c.args.self.now c.args.mon)
 
 pub push_reserved-requires : goal.push_reserved-requires
 push_reserved-requires c =
@@ -19,4 +19,4 @@ invariant_of-self c =
     (IsKept-granted c.self.invariant c.args.mon (rw (← c.self.view_is) at c.requires.live) (rw (← c.self.view_is) at c.requires.free) c.in_ok-next.next next)
 
 pub returns-clause-first_best : goal.returns-clause-first_best
-returns-clause-first_best c = best_by_law {A = EntryRequest} (λ r. r.prio) (requests_of c.args.self.now c.args.mon)
+returns-clause-first_best c = finds_best {A = EntryRequest} (λ r. r.prio) (requests_of c.args.self.now c.args.mon)

@@ -1,7 +1,7 @@
-use Rattle.rendezvous.proofs.First.{finds_first}
+use Rattle.lwp_types.specs.FirstLaws.{finds_first}
+use Rattle.lwp_types.specs.Letters.{is_to}
 use Rattle.rendezvous.proofs.KeptLemmas.{IsKept-forgotten}
 use Rattle.rendezvous.proofs.mail.Mail.pop_to.Goals as goal
-use Rattle.rendezvous.specs.Mailbag.{is_to}
 
 pub invariant_of-self : goal.invariant_of-self
 invariant_of-self c =
