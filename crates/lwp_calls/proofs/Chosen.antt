@@ -1,34 +1,21 @@
 -- The thread that a scheduler chooses may run.
+use Rattle.lwp_types.specs.CountLaws.{count-cons, one}
 use Rattle.lwp_types.specs.First.{IsFirstBest}
 use Rattle.lwp_types.specs.State.{passes}
 use Rattle.pod_sched.specs.Schedule.{IsOrdered, Schedule, is_eligible, is_eligible_in, is_of, prio_in}
 use Rattle.pod_sched.specs.declared.rows.Known.{Known}
 use Rattle.std.proofs.Common.{◌≡◌, ℕ, ◌+◌, ◌<◌, ◌≤◌, Bool, true, false, cond, List, [], ◌∷◌, ◌++◌, Some, None, refl, sym, ◌∙◌, arith, subst}
 use Rattle.std.proofs.lemmas.Bool.{eq-eqb}
-use Rattle.std.proofs.lemmas.List.Sums.{sum_by-cons}
 use Rattle.std.specs.List.{count_by, find}
 use Rattle.std.specs.Prelude.{Option, ◌==◌, ◌&&◌, MatchOption, IsTrue, IfSome}
 
--- what an element adds to a count
-one : Bool → ℕ
-one b = cond b 1 0
-
-count-cons : {X : Type 0} (p : X → Bool) (x : X) (xs : List X) → count_by p (x ∷ xs) ≡ one (p x) + count_by p xs
-unfolding one
-count-cons p x xs = sum_by-cons (λ x. cond (p x) 1 0) x xs
-
-one-le : (b : Bool) → 0 ≤ one b
-one-le b = omega arith
-
 -- who stands in a list is counted
 stands : (t : ℕ) (before after : List ℕ) → 0 < count_by (λ u. u == t) (before ++ t ∷ after)
-unfolding one
 stands t [] after = let here : one (t == t) ≡ 1 = rw (eq-eqb t t refl) refl in omega (arith, count-cons (λ u. u == t) t after, here)
 stands t (u ∷ before) after = omega (arith, count-cons (λ u. u == t) u (before ++ t ∷ after), stands t before after)
 
 -- of the two counts of a thread, that of those that may run is the lesser
 fewer : (t : ℕ) (xs : List Known) → count_by (λ (row : Known). is_of t row && is_eligible row) xs ≤ count_by (is_of t) xs
-unfolding one
 fewer t [] = omega arith
 fewer t (y ∷ ys) = omega (arith, count-cons (λ (row : Known). is_of t row && is_eligible row) y ys, count-cons (is_of t) y ys, less (is_of t y) (is_eligible y), fewer t ys)
   where
@@ -39,7 +26,6 @@ fewer t (y ∷ ys) = omega (arith, count-cons (λ (row : Known). is_of t row && 
 
 -- a thread that is known once, and counted among those that may run
 runs : (t : ℕ) (xs : List Known) → count_by (is_of t) xs ≤ 1 → 0 < count_by (λ (row : Known). is_of t row && is_eligible row) xs → passes is_eligible (find (is_of t) xs) ≡ true
-unfolding one
 runs t [] once some = absurd (omega arith)
 runs t (x ∷ xs) once some = by_head (is_of t x) (is_eligible x) refl refl (λ o s. runs t xs o s)
   where
@@ -53,7 +39,7 @@ runs t (x ∷ xs) once some = by_head (is_of t x) (is_eligible x) refl refl (λ 
         absurd (omega (arith, count-cons (is_of t) x xs, count-cons (λ (row : Known). is_of t row && is_eligible row) x xs, fewer t xs))
     by_head false e h is later =
         let none : one (is_of t x && is_eligible x) ≡ 0 = rw h refl in
-        later (omega (arith, count-cons (is_of t) x xs, one-le (is_of t x))) (omega (arith, count-cons (λ (row : Known). is_of t row && is_eligible row) x xs))
+        later (omega (arith, count-cons (is_of t) x xs)) (omega (arith, count-cons (λ (row : Known). is_of t row && is_eligible row) x xs))
 
 -- what is chosen may run
 pub chosen_runs : (sched : Schedule) (o : Option ℕ) → IsOrdered sched.threads sched.order → MatchOption o (sched.order ≡ []) (IsFirstBest (prio_in sched.threads) sched.order) → IfSome o (λ t. IsTrue (is_eligible_in sched t))

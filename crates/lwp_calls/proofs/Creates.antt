@@ -2,7 +2,7 @@
 use Rattle.std.proofs.Common.{◌≡◌, ℕ, ◌<◌, ◌≤◌, Bool, true, false, not, cond, refl, sym}
 use Rattle.std.specs.Prelude.{nat_le, nat_lt, ◌&&◌}
 use Rattle.lwp_types.specs.Case.{Case}
-use Rattle.lwp_calls.proofs.Tests.{le-not-lt}
+use Rattle.lwp_calls.proofs.Compare.{le-not-lt}
 
 -- with too many alive, or too many born, the one case or the other
 pub no-room : (live births limit : ℕ) → (nat_lt live 1024 && nat_lt births limit) ≡ false

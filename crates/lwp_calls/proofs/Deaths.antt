@@ -8,7 +8,7 @@ use Rattle.std.proofs.lemmas.Bool.Decides.{nat_tests}
 use Rattle.lwp_types.specs.declared.call.Effect.{Effect}
 use Rattle.lwp_types.specs.Case.{unanswered}
 use Rattle.lwp_types.specs.Death.{bury, death, return_from}
-use Rattle.lwp_types.specs.Lawful.{rises}
+use Rattle.lwp_types.specs.State.{rises}
 use Rattle.lwp_types.specs.Marks.{frames}
 use Rattle.lwp_types.specs.State.{Outcome, State, ThreadRow, and_then, block_set, for_each, in_order, is_not_blocked, is_number, is_suspended_in, marks_in, marks_set, numbers, passes, suspension_set, with_block, with_marks, with_suspension, without}
 use Rattle.lwp_types.specs.Unblock.{unblock, unblocked}

@@ -3,7 +3,7 @@ pub mod Rolls
 pub mod Living
 pub mod Chosen
 pub mod Ends
-pub mod Tests
+pub mod Compare
 pub mod Deaths
 pub mod Steps
 pub mod Creates

@@ -10,8 +10,8 @@ use Rattle.lwp_calls.specs.declared.rows.Awaited.{Awaited}
 use Rattle.lwp_types.specs.State as state
 use Rattle.lwp_types.specs.State.{ThreadRow, is_not_blocked, is_number, numbers, passes}
 use Rattle.lwp_types.specs.declared.rows.Block.{Block}
-use Rattle.lwp_calls.proofs.Tests.{lt-true}
-use Rattle.lwp_types.specs.Lawful.{rises}
+use Rattle.lwp_calls.proofs.Compare.{lt-true}
+use Rattle.lwp_types.specs.State.{rises}
 use Rattle.lwp_types.specs.declared.rows.Mark.TheVariants as mark
 use Rattle.lwp_calls.specs.Roll.{AreOne, IsOne, all_serve, block_set, first_waiting, row_of, rows_of, waits}
 use Rattle.lwp_calls.specs.declared.rows.LiveThread.{LiveThread}

@@ -13,6 +13,8 @@ mod parts;
 mod pod;
 mod roll;
 mod rows;
+#[cfg(test)]
+mod tests;
 mod turns;
 
 pub use pod::{Pod, PodEnd};

@@ -1,7 +1,7 @@
 // The threads of a pod: who lives, and who may run after whom.
 ghost use Rattle.std.specs.Prelude.{◌≡◌, ◌≤◌, ◌<◌, ◌^◌, ◌&&◌, ◌∷◌, [], false, nat_lt, length, map, option_map, IsTrue, IfOk, OnOk, OnErr, IfSome, MatchOption, Some};
 ghost use Rattle.std.specs.List.{list_all, slice_get};
-ghost use Rattle.lwp_types.specs.Lawful.{rises};
+ghost use Rattle.lwp_types.specs.State.{rises};
 ghost use Rattle.lwp_calls.specs.Waits.{waiting_in};
 ghost use Rattle.lwp_types.specs.Choice.{choice, is_eligible_in, is_over};
 ghost use Rattle.lwp_types.specs.declared.rows.Mark.TheVariants as mark;

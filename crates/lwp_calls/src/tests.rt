@@ -1,0 +1,165 @@
+ghost use Rattle.std.specs.Prelude.{IsTrue};
+ghost use Rattle.lwp_calls.specs.Built.{is_built};
+
+use crate::{Pod, PodEnd};
+use lwp_types::{Answer, Call, Effect, Effects, Flags, LwpErr, PodParams, Text, Tid};
+use std::test::Fail;
+
+// An effect as its letter, whose it is, and a number: `c` a call, `=` a value, `t` a thread, `l` a list by its length, a capital a
+// refusal, `d` a death, `e` the end.
+fn deed_of(effect: &Effect) -> (u8, u64, u64) {
+    match effect {
+        Effect::Called { tid, .. } => (b'c', tid.number, 0),
+        Effect::Answered { tid, answer } => match answer {
+            Answer::Value(value) => (b'=', tid.number, u64::try_from(*value).unwrap_or(1_000)),
+            Answer::Thread(born) => (b't', tid.number, born.number as u64),
+            Answer::Ids { list, .. } => (b'l', tid.number, list.len() as u64),
+            Answer::Refused(err) => (letter_of(*err), tid.number, 0),
+            _ => (b'?', tid.number, 0),
+        },
+        Effect::Died { tid } => (b'd', tid.number, 0),
+        Effect::Ended { status } => (b'e', 0, u64::from(*status)),
+        _ => (b'?', 0, 0),
+    }
+}
+
+fn letter_of(err: LwpErr) -> u8 {
+    match err {
+        LwpErr::NonExist => b'X',
+        LwpErr::InvalidArg => b'I',
+        LwpErr::IllPrio => b'P',
+        LwpErr::NoRoom => b'N',
+        _ => b'?',
+    }
+}
+
+// One call of whoever's turn it is, and whether its effects behind the call itself are these.
+fn does(pod: &mut Pod, effects: &mut Effects, call: Call, want: &[(u8, u64, u64)]) -> bool
+    requires { IsTrue (is_built call) }
+{
+    let Some(tid) = pod.current() else {
+        return false;
+    };
+    if pod.call(call, effects).is_err() {
+        return false;
+    }
+    if effects.len() != want.len() + 1 || deed_of(effects.get(0)) != (b'c', tid.number, 0) {
+        return false;
+    }
+    for i in 0..want.len() {
+        if deed_of(effects.get(i + 1)) != want[i] {
+            return false;
+        }
+    }
+    true
+}
+
+const T0: Tid = Tid { number: 0 };
+
+const T1: Tid = Tid { number: 1 };
+
+const NO_FLAGS: Flags = Flags {
+    suspended: false,
+    nolastrites: false,
+    server: false,
+};
+
+const PARAMS: PodParams = PodParams {
+    maxpri: 2,
+    births: 3,
+    procs: 2,
+};
+
+// A thread of procedure 1.
+fn create(prio: u32, flags: Flags) -> Call
+    ensures { IsTrue (is_built result) }
+{
+    Call::Create {
+        proc: 1,
+        prio,
+        flags,
+    }
+}
+
+#[test]
+fn every_range_ends_where_it_should(rt: HostRuntime) -> Result<(), Fail> {
+    let mut pod = Pod::new(rt.alloc(), PARAMS).map_err(|_| "no memory")?;
+    let mut effects = Effects::new(rt.alloc()).map_err(|_| "no memory")?;
+    let (p, e) = (&mut pod, &mut effects);
+    for prio in [0, 3, 255, 256] {
+        assert!(rt; does(p, e, create(prio, NO_FLAGS), &[(b'P', 0, 0)]));
+        assert!(rt; does(p, e, Call::SetPri { tid: T0, prio }, &[(b'P', 0, 0)]));
+        assert!(rt; does(p, e, Call::Resched { prio }, &[(b'P', 0, 0)]));
+    }
+    for prio in [0, 1, 256] {
+        assert!(rt; does(p, e, Call::SetMaxPri { prio }, &[(b'P', 0, 0)]));
+    }
+    for (code, want) in [(100, b'I'), (99, b'='), (0, b'='), (99, b'=')] {
+        assert!(rt; does(p, e, Call::SetExit { code }, &[(want, 0, 0)]));
+    }
+    assert!(rt; does(p, e, Call::PodExit { code: 100 }, &[(b'I', 0, 0)]));
+    assert!(rt; does(p, e, Call::GetExit, &[(b'=', 0, 99)]));
+    assert!(rt; does(p, e, Call::SetMaxPri { prio: 255 }, &[(b'=', 0, 0)]));
+    assert!(rt; does(p, e, Call::SetPri { tid: T0, prio: 255 }, &[(b'=', 0, 2)]));
+    // The limit is 3 births, and a refused creation is none.
+    assert!(rt; does(p, e, create(1, NO_FLAGS), &[(b't', 0, 1)]));
+    assert!(rt; does(p, e, create(255, NO_FLAGS), &[(b't', 0, 2)]));
+    assert!(rt; does(p, e, create(1, NO_FLAGS), &[(b'N', 0, 0)]));
+    assert!(rt; does(p, e, Call::Threads, &[(b'l', 0, 3)]));
+    assert!(rt; does(p, e, Call::PodExit { code: 98 }, &[(b'e', 0, 98)]));
+    assert_eq!(rt; pod.ending(), Some(PodEnd::Ended(98)));
+    Ok(())
+}
+
+#[test]
+fn a_death_tells_who_has_joined(rt: HostRuntime) -> Result<(), Fail> {
+    let mut pod = Pod::new(rt.alloc(), PARAMS).map_err(|_| "no memory")?;
+    let mut effects = Effects::new(rt.alloc()).map_err(|_| "no memory")?;
+    let (p, e) = (&mut pod, &mut effects);
+    assert!(rt; does(p, e, create(2, NO_FLAGS), &[(b't', 0, 1)]));
+    assert!(rt; does(p, e, create(2, NO_FLAGS), &[(b't', 0, 2)]));
+    assert!(rt; does(p, e, Call::Join { tid: T0 }, &[(b'I', 0, 0)]));
+    assert!(rt; does(p, e, Call::Join { tid: T1 }, &[]));
+    // 1 2, of which 1 goes behind, and then 2 joins it.
+    assert!(rt; does(p, e, Call::Yield { to: T1 }, &[(b'=', 1, 0)]));
+    assert!(rt; does(p, e, Call::Join { tid: T1 }, &[]));
+    assert!(rt; does(p, e, Call::Suspend { tid: T0 }, &[(b'=', 1, 0)]));
+    assert!(rt; does(p, e, Call::Yield { to: T0 }, &[(b'I', 1, 0)]));
+    assert!(rt; does(p, e, Call::Resume { tid: T0 }, &[(b'=', 1, 0)]));
+    assert!(rt;
+        does(
+            p,
+            e,
+            Call::Destroy { tid: T1 },
+            &[(b'=', 0, 0), (b'=', 2, 0), (b'd', 1, 0)]
+        )
+    );
+    assert!(rt; does(p, e, Call::Ping { tid: T1 }, &[(b'X', 0, 0)]));
+    assert!(rt; does(p, e, Call::Join { tid: T1 }, &[(b'X', 0, 0)]));
+    assert!(rt; does(p, e, Call::Me, &[(b't', 0, 0)]));
+    assert!(rt; !pod.is_live(T1));
+    assert!(rt; pod.is_live(T0));
+    assert_eq!(rt; pod.current(), Some(T0));
+    assert_eq!(rt; pod.ending(), None);
+    Ok(())
+}
+
+#[test]
+fn a_pod_waits_for_a_suspended_thread_but_not_for_a_server(rt: HostRuntime) -> Result<(), Fail> {
+    for (server, end) in [(true, PodEnd::Ended(0)), (false, PodEnd::Idle)] {
+        let mut pod = Pod::new(rt.alloc(), PARAMS).map_err(|_| "no memory")?;
+        let mut effects = Effects::new(rt.alloc()).map_err(|_| "no memory")?;
+        let flags = Flags {
+            suspended: true,
+            nolastrites: false,
+            server,
+        };
+        let text = Text::new(b"hello").ok_or("no text")?;
+        assert!(rt; does(&mut pod, &mut effects, create(2, flags), &[(b't', 0, 1)]));
+        assert!(rt; does(&mut pod, &mut effects, Call::Say { text }, &[(b'=', 0, 0)]));
+        assert!(rt; pod.call(Call::Return, &mut effects).is_ok());
+        assert_eq!(rt; pod.current(), None);
+        assert_eq!(rt; pod.ending(), Some(end));
+    }
+    Ok(())
+}
