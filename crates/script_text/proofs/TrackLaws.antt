@@ -10,11 +10,13 @@ use Rattle.script_text.specs.declared.table.Op.TheVariants as op
 use Rattle.script_text.specs.declared.table.Role.{Role}
 use Rattle.script_text.specs.declared.table.Role.TheVariants as role
 use Rattle.script_text.specs.declared.phrase.Phrase.{Phrase}
+use Rattle.script_text.specs.declared.stage.Stage.{Stage}
+use Rattle.script_text.specs.declared.stage.Stage.TheVariants as stages
 use Rattle.script_text.specs.declared.draft.Draft.{Draft}
 use Rattle.script_text.specs.declared.reader.Mention.{Mention}
 use Rattle.script_text.specs.Words.{is_name}
 use Rattle.script_text.specs.Table.{role_of, kinds_of, starts}
-use Rattle.script_text.specs.Grammar.{SlotFits, IsPhrase, last_role, declared_by, is_declared}
+use Rattle.script_text.specs.Grammar.{SlotFits, IsPhrase, stage_after, stage_of, declared_by, is_declared}
 use Rattle.script_text.specs.Meaning.{contains_name, place, enter, added_at, added, entered, empty_draft, draft_of}
 use Rattle.script_text.specs.Track.{name_at, mention_of, first_missing}
 
@@ -28,10 +30,8 @@ pub all_push : {A : Type 0} (P : A → Type 0) (xs ys : List A) → AllByRecursi
 all_push P [] ys h k = k
 all_push P (x ∷ xs) ys h k = (h.0, all_push P xs ys h.1 k)
 
-pub last_role_push : (ps : List Phrase) (p : Phrase) → last_role (ps ++ p ∷ []) ≡ Some (role_of p.op)
-last_role_push [] p = refl
-last_role_push (q ∷ []) p = refl
-last_role_push (q ∷ r ∷ ps) p = last_role_push (r ∷ ps) p
+pub stage_push : (ps : List Phrase) (p : Phrase) → stage_of (ps ++ p ∷ []) ≡ stage_after (stage_of ps) (role_of p.op)
+stage_push ps p = fold_push (λ (s : Stage) (q : Phrase). stage_after s (role_of q.op)) stages.Start ps p
 
 -- ---- Names keep their numbers.
 
@@ -110,13 +110,10 @@ names_one : (p : Phrase) → IsPhrase p → starts p.op ≡ true → is_name p.p
 names_one p h s = by_row p p.op h s
   where
     by_row : (p : Phrase) (o : Op) → AllByRecursion (SlotFits p) (kinds_of o) → starts o ≡ true → is_name p.procedure ≡ true
-    by_row p op.Create h s = h.1.0
-    by_row p op.Lwp h s = absurd cc
-    by_row p op.Pod h s = absurd cc
-    by_row p op.Proc h s = absurd cc
-    by_row p op.Yield h s = absurd cc
-    by_row p op.Say h s = absurd cc
-    by_row p op.Return h s = absurd cc
+    by_row p o h s = elim o as (λ x. AllByRecursion (SlotFits p) (kinds_of x) → starts x ≡ true → is_name p.procedure ≡ true) [
+      | op.Create ↦ λ f t. f.1.0
+      | _ ↦ λ f t. absurd cc
+    ] h s
 
 -- the mention of one line
 mention_tells : (d names : List (List ℕ)) (k : ℕ) (p : Phrase) → IsPhrase p → AreNamed (enter names p.procedure) (mention_of k (enter names p.procedure) p) × (first_missing d (enter names p.procedure) (mention_of k (enter names p.procedure) p) ≡ cond (is_declared d p) None (Some k))
@@ -130,9 +127,9 @@ mention_tells d names k p h = elim (starts p.op) as (λ v. starts p.op ≡ v →
 -- ---- A reader.
 
 -- a reader that has found no bad line knows this of the lines
-pub record Tracks (count : ℕ) (last : Option Role) (declared : List (List ℕ)) (mentions : List Mention) (draft : Draft) (before : List Phrase) : Type 0 where
+pub record Tracks (count : ℕ) (stage : Stage) (declared : List (List ℕ)) (mentions : List Mention) (draft : Draft) (before : List Phrase) : Type 0 where
   pub count_is : count ≡ length before
-  pub last_is : last ≡ last_role before
+  pub stage_is : stage ≡ stage_of before
   pub declared_is : declared ≡ flat_map declared_by before
   pub draft_is : draft ≡ draft_of before
   pub are_named : AreNamed draft.script.names.procs mentions
@@ -144,19 +141,22 @@ procs_after d p = by_role (role_of p.op) (entered d p) p
     by_role : (r : Role) (d : Draft) (p : Phrase) → (added_at r d p).script.names.procs ≡ d.script.names.procs
     by_role role.Header d p = refl
     by_role role.Pod d p = refl
+    by_role role.Limit d p = refl
     by_role role.Proc d p = refl
     by_role role.Statement d p = refl
+    by_role role.Skip d p = refl
+    by_role role.Again d p = refl
 
 -- one more line
-pub tracks_more : (count : ℕ) (last : Option Role) (declared : List (List ℕ)) (mentions : List Mention) (draft : Draft) (before : List Phrase) (p : Phrase) → Tracks count last declared mentions draft before → IsPhrase p → Tracks (count + 1) (Some (role_of p.op)) (declared ++ declared_by p) (mentions ++ mention_of (count + 1) (added draft p).script.names.procs p) (added draft p) (before ++ p ∷ [])
-tracks_more count last declared mentions draft before p k h =
+pub tracks_more : (count : ℕ) (stage : Stage) (declared : List (List ℕ)) (mentions : List Mention) (draft : Draft) (before : List Phrase) (p : Phrase) → Tracks count stage declared mentions draft before → IsPhrase p → Tracks (count + 1) (stage_after stage (role_of p.op)) (declared ++ declared_by p) (mentions ++ mention_of (count + 1) (added draft p).script.names.procs p) (added draft p) (before ++ p ∷ [])
+tracks_more count stage declared mentions draft before p k h =
     let names = draft.script.names.procs in
     let grown = enter names p.procedure in
     let same : (added draft p).script.names.procs ≡ grown = procs_after draft p in
     let line : count + 1 ≡ 1 + length before = omega (arith, k.count_is) in
     record {
       count_is = omega (arith, k.count_is, length-append before (p ∷ []));
-      last_is = sym (last_role_push before p);
+      stage_is = ap (λ (s : Stage). stage_after s (role_of p.op)) k.stage_is ∙ sym (stage_push before p);
       declared_is = rw (flat_map-append declared_by before (p ∷ []), append-nil (declared_by p)) (ap (λ (l : List (List ℕ)). l ++ declared_by p) k.declared_is);
       draft_is = ap (λ (d : Draft). added d p) k.draft_is ∙ sym (fold_push added empty_draft before p);
       are_named = rw same (all_push _ mentions (mention_of (count + 1) grown p) (named_still names p.procedure mentions k.are_named) (mention_tells [] names (count + 1) p h).0);

@@ -1,16 +1,17 @@
 -- Facts on bytes, words and numbers.
-use Rattle.std.proofs.Common.{◌≡◌, ℕ, suc, ◌+◌, ◌-◌, ◌*◌, ◌^◌, ◌<◌, ◌≤◌, Bool, true, false, not, ◌&&◌, cond, eqb, ltb, leb, List, [], ◌∷◌, ◌++◌, length, get_or, drop, Option, Some, None, refl, sym, ap, ◌∙◌, arith, rules, inl, inr, drop-cons}
+use Rattle.std.proofs.Common.{◌≡◌, ℕ, suc, ◌+◌, ◌-◌, ◌*◌, ◌^◌, ◌<◌, ◌≤◌, Bool, true, false, not, ◌&&◌, ◌||◌, cond, eqb, ltb, leb, List, [], ◌∷◌, ◌++◌, length, get_or, drop, Option, Some, None, refl, sym, ap, subst, ◌∙◌, arith, rules, inl, inr, drop-cons}
 use Rattle.std.proofs.lemmas.Bool.{cases_lt, le-leb, le-ltb, lt-ltb, ltb-true, ne_eqb, eqb-false}
 use Rattle.std.proofs.lemmas.Option.{cond_some}
 use Rattle.std.proofs.lemmas.Str.Parse.{IsNumeralModel, numerals_by_fold}
 use Rattle.std.proofs.lemmas.Fmt.{digits_decimal, digits_value-decimal, decimal-digits_value, first_decimal, decimal_digit, decimal_nonempty}
 use Rattle.std.specs.Fmt.{decimal}
-use Rattle.std.specs.Str.{all_ascii_digits}
-use Rattle.std.specs.Prelude.{IsSome, IfSome, IsTrue, ◌↔◌}
+use Rattle.std.specs.Str.{bytes_eq, all_ascii_digits}
+use Rattle.std.proofs.lemmas.Slice.Eq.{bytes_eq-Decides}
+use Rattle.std.specs.Prelude.{codes, IsSome, IfSome, IsTrue, ◌↔◌}
 use Rattle.std.specs.List.{list_all}
 use Rattle.std.proofs.lemmas.Bool.Decides.{nat_tests}
 use Rattle.lwp_types.specs.TextFields.{is_printable, is_text}
-use Rattle.script_text.specs.Words.{reach, is_lowercase, is_name_byte, is_reserved, is_name, value_after, value_of, is_misshapen, number_at}
+use Rattle.script_text.specs.Words.{reach, is_lowercase, is_name_byte, is_reserved, is_name, is_thread_word, value_after, value_of, is_misshapen, number_at}
 
 pub both : (a b : Bool) → (a && b) ≡ true → (a ≡ true) × (b ≡ true)
 both true b h = (refl, h)
@@ -121,3 +122,27 @@ name_is_text (b ∷ bs) h =
 pub name_text : (w : List ℕ) (o : Option (List ℕ)) → (IsSome o ↔ IsTrue (is_text w)) → IfSome o (λ t. t ≡ w) → is_name w ≡ true → o ≡ cond (is_name w) (Some w) None
 name_text w None fits same h = let some : IsSome {T = List ℕ} None = fits.1 (name_is_text w h) in absurd cc
 name_text w (Some t) fits same h = rw (h, same) refl
+
+-- ---- Words for threads.
+
+-- a word for a thread is a name or one of three
+pub thread_word : (P : List ℕ → Type 0) (w : List ℕ) → is_thread_word w ≡ true → (is_name w ≡ true → P w) → P (codes "self") → P (codes "first") → P (codes "none") → P w
+thread_word P w h name self first none = elim (is_name w) as (λ v. is_name w ≡ v → (v || bytes_eq w (codes "self") || bytes_eq w (codes "first") || bytes_eq w (codes "none")) ≡ true → P w) [
+  | true ↦ λ e f. name e
+  | false ↦ λ e f. elim (bytes_eq w (codes "self")) as (λ v. bytes_eq w (codes "self") ≡ v → (false || v || bytes_eq w (codes "first") || bytes_eq w (codes "none")) ≡ true → P w) [
+    | true ↦ λ i g. subst P (sym ((bytes_eq-Decides w (codes "self")).0 i)) self
+    | false ↦ λ i g. elim (bytes_eq w (codes "first")) as (λ v. bytes_eq w (codes "first") ≡ v → (false || false || v || bytes_eq w (codes "none")) ≡ true → P w) [
+      | true ↦ λ j k. subst P (sym ((bytes_eq-Decides w (codes "first")).0 j)) first
+      | false ↦ λ j k. subst P (sym ((bytes_eq-Decides w (codes "none")).0 k)) none
+    ] refl g
+  ] refl f
+] refl h
+
+-- a word for a thread is a text
+thread_word_is_text : (w : List ℕ) → is_thread_word w ≡ true → is_text w ≡ true
+thread_word_is_text w h = thread_word (λ v. is_text v ≡ true) w h (name_is_text w) refl refl refl
+
+-- the text of a word for a thread is made
+pub thread_word_text : (w : List ℕ) (o : Option (List ℕ)) → (IsSome o ↔ IsTrue (is_text w)) → IfSome o (λ t. t ≡ w) → is_thread_word w ≡ true → o ≡ cond (is_thread_word w) (Some w) None
+thread_word_text w None fits same h = let some : IsSome {T = List ℕ} None = fits.1 (thread_word_is_text w h) in absurd cc
+thread_word_text w (Some t) fits same h = rw (h, same) refl

@@ -1,5 +1,5 @@
 -- The text of a line, and the texts that are scripts.
-use Rattle.std.specs.Prelude.{◌≡◌, ℕ, ◌<◌, ◌≤◌, ◌^◌, Bool, true, false, not, ◌&&◌, ◌==◌, nat_le, List, [], ◌∷◌, ◌++◌, length, Option, Some, None, IsTrue, codes, if◌then◌else◌}
+use Rattle.std.specs.Prelude.{◌≡◌, ℕ, ◌<◌, ◌≤◌, ◌^◌, Bool, true, false, not, ◌&&◌, ◌==◌, nat_le, List, [], ◌∷◌, ◌++◌, length, fold, IsTrue, codes, if◌then◌else◌}
 use Rattle.std.specs.List.{flat_map, AllByRecursion}
 use Rattle.std.specs.Fmt.{decimal}
 use Rattle.lwp_types.specs.TextFields.{is_printable, is_text}
@@ -9,34 +9,56 @@ use Rattle.script_text.specs.declared.table.Role.TheVariants as role
 use Rattle.script_text.specs.declared.table.Kind.{Kind}
 use Rattle.script_text.specs.declared.table.Kind.TheVariants as kind
 use Rattle.script_text.specs.declared.phrase.Phrase.{Phrase}
+use Rattle.script_text.specs.declared.stage.Stage.{Stage}
+use Rattle.script_text.specs.declared.stage.Stage.TheVariants as stage
 use Rattle.script_text.specs.declared.script.Script.{Script}
-use Rattle.script_text.specs.Words.{is_name}
+use Rattle.script_text.specs.declared.script.Test.{Test}
+use Rattle.script_text.specs.declared.script.Test.TheVariants as test
+use Rattle.script_text.specs.Words.{is_name, is_thread_word}
 use Rattle.script_text.specs.Table.{word_of, role_of, kinds_of, starts}
-use Rattle.script_text.specs.Lines.{spaced}
+use Rattle.script_text.specs.Lines.{spaced, flags_text}
 use Rattle.script_text.specs.Meaning.{contains_name, script_of}
 
 -- ---- A line.
 
+-- when a `skip` passes over a statement, in words
+abbrev pub test_text : Test → List ℕ
+test_text test.Fine = codes "ok"
+test_text test.Refused = codes "err"
+test_text test.Caught = codes "caught"
+test_text (test.Value n) = codes "is " ++ decimal n
+
 -- one slot, with the space before it
 abbrev pub slot_text : Phrase → Kind → List ℕ
 slot_text p kind.Thread = 32 ∷ p.thread
+slot_text p kind.Who = 32 ∷ p.thread
 slot_text p kind.Procedure = 32 ∷ p.procedure
 slot_text p kind.Number = 32 ∷ decimal p.number
-slot_text p kind.Flags = codes " -"
-slot_text p kind.Me = codes " self"
+slot_text p kind.Births = codes " births"
+slot_text p kind.Flags = 32 ∷ flags_text p.flags
+slot_text p kind.Test = 32 ∷ test_text p.test
 slot_text p kind.Text = spaced p.text
 
 -- the first word and the slots of its row
 abbrev pub phrase_text : Phrase → List ℕ
 phrase_text p = word_of p.op ++ flat_map (slot_text p) (kinds_of p.op)
 
+-- the number of a test, if it has one, is one of 32 bits
+abbrev pub TestFits : Test → Type 0
+TestFits test.Fine = Unit {0}
+TestFits test.Refused = Unit {0}
+TestFits test.Caught = Unit {0}
+TestFits (test.Value n) = n < 2 ^ 32
+
 -- what a slot may hold
 abbrev pub SlotFits : Phrase → Kind → Type 0
 SlotFits p kind.Thread = IsTrue (is_name p.thread)
+SlotFits p kind.Who = IsTrue (is_thread_word p.thread)
 SlotFits p kind.Procedure = IsTrue (is_name p.procedure)
 SlotFits p kind.Number = p.number < 2 ^ 32
+SlotFits p kind.Births = Unit {0}
 SlotFits p kind.Flags = Unit {0}
-SlotFits p kind.Me = Unit {0}
+SlotFits p kind.Test = TestFits p.test
 SlotFits p kind.Text = IsTrue (is_text p.text)
 
 -- each slot of the row holds what it may
@@ -45,15 +67,17 @@ IsPhrase p = AllByRecursion (SlotFits p) (kinds_of p.op)
 
 -- a first word with nothing behind it
 abbrev pub blank : Op → Phrase
-blank o = record { op = o; thread = []; procedure = []; number = 0; text = [] }
+blank o = record { op = o; thread = []; procedure = []; number = 0; flags = record { suspended = false; nolastrites = false; server = false }; test = test.Fine; text = [] }
 
 -- q with p's slot of this kind
 abbrev pub copy_slot : Kind → Phrase → Phrase → Phrase
 copy_slot kind.Thread p q = record q { thread = p.thread }
+copy_slot kind.Who p q = record q { thread = p.thread }
 copy_slot kind.Procedure p q = record q { procedure = p.procedure }
 copy_slot kind.Number p q = record q { number = p.number }
-copy_slot kind.Flags p q = q
-copy_slot kind.Me p q = q
+copy_slot kind.Births p q = q
+copy_slot kind.Flags p q = record q { flags = p.flags }
+copy_slot kind.Test p q = record q { test = p.test }
 copy_slot kind.Text p q = record q { text = p.text }
 
 -- q with p's slots of all these kinds
@@ -75,29 +99,53 @@ IsLine p = IsPhrase p × IsNeeded p × IsTrue (is_printable (phrase_text p))
 
 -- ---- The order of lines.
 
--- the part that the last line plays
-abbrev pub last_role : List Phrase → Option Role
-last_role [] = None
-last_role (p ∷ []) = Some (role_of p.op)
-last_role (p ∷ q ∷ ps) = last_role (q ∷ ps)
+-- the first statement of a procedure says how it goes on; those behind it change nothing
+abbrev pub opened : Stage → Stage → Stage
+opened first stage.Proc = first
+opened first s = s
 
--- The header comes first and once, then the pod; then procedures, each with its statements behind it.
-abbrev pub follows : Option Role → Role → Bool
-follows None role.Header = true
-follows (Some role.Header) role.Pod = true
-follows (Some role.Pod) role.Proc = true
-follows (Some role.Proc) role.Proc = true
-follows (Some role.Proc) role.Statement = true
-follows (Some role.Statement) role.Proc = true
-follows (Some role.Statement) role.Statement = true
+-- what may come behind a line of this role
+abbrev pub stage_after : Stage → Role → Stage
+stage_after s role.Header = stage.Header
+stage_after s role.Pod = stage.Pod
+stage_after s role.Limit = stage.Limit
+stage_after s role.Proc = stage.Proc
+stage_after s role.Statement = opened stage.Calling s
+stage_after s role.Skip = opened stage.Skipping s
+stage_after s role.Again = stage.Ended
+
+-- what may come behind these lines
+abbrev pub stage_of : List Phrase → Stage
+stage_of lines = fold (λ s p. stage_after s (role_of p.op)) stage.Start lines
+
+-- The header comes first and once, then the pod, then at most one limit; then procedures, each with its statements behind it.
+-- An `again` ends a procedure whose first statement makes a call.
+abbrev pub follows : Stage → Role → Bool
+follows stage.Start role.Header = true
+follows stage.Header role.Pod = true
+follows stage.Pod role.Limit = true
+follows stage.Pod role.Proc = true
+follows stage.Limit role.Proc = true
+follows stage.Proc role.Proc = true
+follows stage.Proc role.Statement = true
+follows stage.Proc role.Skip = true
+follows stage.Calling role.Proc = true
+follows stage.Calling role.Statement = true
+follows stage.Calling role.Skip = true
+follows stage.Calling role.Again = true
+follows stage.Skipping role.Proc = true
+follows stage.Skipping role.Statement = true
+follows stage.Skipping role.Skip = true
+follows stage.Ended role.Proc = true
 follows _ _ = false
 
--- version 1; a greatest priority from 1 to 255; a procedure that isn't declared yet
+-- version 1; a greatest priority from 1 to 255; some birth is allowed; a procedure that isn't declared yet
 abbrev pub keeps_rule : List (List ℕ) → Role → Phrase → Bool
 keeps_rule known role.Header p = p.number == 1
 keeps_rule known role.Pod p = nat_le 1 p.number && nat_le p.number 255
+keeps_rule known role.Limit p = nat_le 1 p.number
 keeps_rule known role.Proc p = not (contains_name known p.procedure)
-keeps_rule known role.Statement p = true
+keeps_rule known _ p = true
 
 -- a line of this role declares this procedure, or none
 abbrev pub declared_at : Role → List ℕ → List (List ℕ)
@@ -108,13 +156,13 @@ declared_at _ w = []
 abbrev pub declared_by : Phrase → List (List ℕ)
 declared_by p = declared_at (role_of p.op) p.procedure
 
--- whether a line may stand behind one of this role, where these procedures are declared
-abbrev pub may_stand_at : Option Role → List (List ℕ) → Phrase → Bool
-may_stand_at last known p = follows last (role_of p.op) && keeps_rule known (role_of p.op) p
+-- whether a line may stand at this stage, where these procedures are declared
+abbrev pub may_stand_at : Stage → List (List ℕ) → Phrase → Bool
+may_stand_at s known p = follows s (role_of p.op) && keeps_rule known (role_of p.op) p
 
 -- whether a line may stand behind these lines
 abbrev pub may_stand : List Phrase → Phrase → Bool
-may_stand before p = may_stand_at (last_role before) (flat_map declared_by before) p
+may_stand before p = may_stand_at (stage_of before) (flat_map declared_by before) p
 
 -- each line may stand behind those before it
 abbrev pub AllStand : List Phrase → List Phrase → Type 0

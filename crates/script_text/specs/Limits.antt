@@ -3,7 +3,6 @@ use Rattle.std.specs.Prelude.{◌≡◌, ◌+◌, ◌<◌, ◌≤◌, ◌^◌, B
 use Rattle.std.specs.List.{list_all}
 use Rattle.script_text.specs.declared.script.Stmt.{Stmt}
 use Rattle.script_text.specs.declared.script.Stmt.TheVariants as stmt
-use Rattle.script_text.specs.declared.script.Who.TheVariants as who
 use Rattle.script_text.specs.declared.script.Proc.{Proc}
 use Rattle.script_text.specs.declared.script.Script.{Script}
 
@@ -20,12 +19,27 @@ pub record IsWithinLimits (script : Script) : Type 0 where
   pub few_mons : length script.names.mons < 2 ^ 32
   pub few_conds : length script.names.conds < 2 ^ 32
 
--- a statement that some line of the table writes; a thread yields to itself only
+-- a statement of the table, whomever it names
 abbrev pub is_so_far : Stmt → Bool
 is_so_far (stmt.Create name number prio flags) = true
-is_so_far (stmt.Yield who.Me) = true
+is_so_far (stmt.Destroy who) = true
+is_so_far (stmt.Ping who) = true
+is_so_far (stmt.Yield to) = true
+is_so_far (stmt.Suspend who) = true
+is_so_far (stmt.Resume who) = true
+is_so_far (stmt.Join who) = true
+is_so_far (stmt.Resched prio) = true
+is_so_far (stmt.SetPri who prio) = true
+is_so_far (stmt.SetMaxPri prio) = true
+is_so_far stmt.Me = true
+is_so_far (stmt.SetExit code) = true
+is_so_far stmt.GetExit = true
+is_so_far (stmt.PodExit code) = true
+is_so_far stmt.Threads = true
 is_so_far (stmt.Say text) = true
 is_so_far stmt.Return = true
+is_so_far (stmt.Skip test) = true
+is_so_far stmt.Again = true
 is_so_far _ = false
 
 -- only what some line of the table writes: statements, without clients, built-in procedures or posts

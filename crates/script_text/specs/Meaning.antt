@@ -1,5 +1,5 @@
 -- The script that lines say.
-use Rattle.std.specs.Prelude.{ℕ, suc, Bool, false, not, ◌&&◌, List, [], ◌∷◌, ◌++◌, Option, Some, None, fold, if◌then◌else◌, option_to_list}
+use Rattle.std.specs.Prelude.{ℕ, suc, Bool, not, codes, ◌&&◌, List, [], ◌∷◌, ◌++◌, Option, Some, None, fold, if◌then◌else◌, option_to_list}
 use Rattle.std.specs.List.{list_any}
 use Rattle.std.specs.Str.{bytes_eq}
 use Rattle.script_text.specs.declared.table.Op.{Op}
@@ -10,6 +10,7 @@ use Rattle.script_text.specs.declared.phrase.Phrase.{Phrase}
 use Rattle.script_text.specs.declared.draft.Draft.{Draft}
 use Rattle.script_text.specs.declared.script.Stmt.{Stmt}
 use Rattle.script_text.specs.declared.script.Stmt.TheVariants as stmt
+use Rattle.script_text.specs.declared.script.Who.{Who}
 use Rattle.script_text.specs.declared.script.Who.TheVariants as who
 use Rattle.script_text.specs.declared.script.Proc.{Proc}
 use Rattle.script_text.specs.declared.script.Names.{Names}
@@ -38,12 +39,35 @@ named names p = record names { procs = enter names.procs p.procedure; threads = 
 
 -- ---- Statements.
 
+-- whom a word means, where the threads are called so
+abbrev pub who_at : List (List ℕ) → List ℕ → Who
+who_at names w =
+    if bytes_eq w (codes "self") then who.Me
+    else if bytes_eq w (codes "first") then who.First
+    else if bytes_eq w (codes "none") then who.Nobody
+    else who.Named (place names w)
+
 -- the statement of a line, if its row is one of a statement
 abbrev pub statement_at : Op → Names → Phrase → Option Stmt
-statement_at op.Create names p = Some (stmt.Create (place names.threads p.thread) (place names.procs p.procedure) p.number (record { suspended = false; nolastrites = false; server = false }))
-statement_at op.Yield names p = Some (stmt.Yield who.Me)
+statement_at op.Create names p = Some (stmt.Create (place names.threads p.thread) (place names.procs p.procedure) p.number p.flags)
+statement_at op.Destroy names p = Some (stmt.Destroy (who_at names.threads p.thread))
+statement_at op.Ping names p = Some (stmt.Ping (who_at names.threads p.thread))
+statement_at op.Yield names p = Some (stmt.Yield (who_at names.threads p.thread))
+statement_at op.Suspend names p = Some (stmt.Suspend (who_at names.threads p.thread))
+statement_at op.Resume names p = Some (stmt.Resume (who_at names.threads p.thread))
+statement_at op.Join names p = Some (stmt.Join (who_at names.threads p.thread))
+statement_at op.Resched names p = Some (stmt.Resched p.number)
+statement_at op.SetPri names p = Some (stmt.SetPri (who_at names.threads p.thread) p.number)
+statement_at op.SetMaxPri names p = Some (stmt.SetMaxPri p.number)
+statement_at op.Me names p = Some stmt.Me
+statement_at op.SetExit names p = Some (stmt.SetExit p.number)
+statement_at op.GetExit names p = Some stmt.GetExit
+statement_at op.PodExit names p = Some (stmt.PodExit p.number)
+statement_at op.Threads names p = Some stmt.Threads
 statement_at op.Say names p = Some (stmt.Say p.text)
 statement_at op.Return names p = Some stmt.Return
+statement_at op.Skip names p = Some (stmt.Skip p.test)
+statement_at op.Again names p = Some stmt.Again
 statement_at _ names p = None
 
 -- the procedure with one more statement
@@ -70,12 +94,19 @@ closed d = record d.script { procs = d.script.procs ++ option_to_list d.current 
 abbrev pub entered : Draft → Phrase → Draft
 entered d p = record d { script = record d.script { names = named d.script.names p } }
 
+-- one more statement of the procedure
+abbrev pub pushed : Draft → Phrase → Draft
+pushed d p = record d { current = grown (statement_at p.op d.script.names p) d.current }
+
 -- a line by the part it plays: a procedure ends where the next one begins
 abbrev pub added_at : Role → Draft → Phrase → Draft
 added_at role.Header d p = d
 added_at role.Pod d p = record d { script = record d.script { maxpri = p.number } }
+added_at role.Limit d p = record d { script = record d.script { births = p.number } }
 added_at role.Proc d p = record { script = closed d; current = Some (record { name = place d.script.names.procs p.procedure; stmts = [] }) }
-added_at role.Statement d p = record d { current = grown (statement_at p.op d.script.names p) d.current }
+added_at role.Statement d p = pushed d p
+added_at role.Skip d p = pushed d p
+added_at role.Again d p = pushed d p
 
 -- one more line
 abbrev pub added : Draft → Phrase → Draft

@@ -1,27 +1,70 @@
 -- What a line says, taken from left to right.
-use Rattle.std.specs.Prelude.{ℕ, ◌&&◌, ◌==◌, nat_lt, List, [], ◌∷◌, length, take, drop, Option, Some, None, option_map, option_and_then, if◌then◌else◌, codes}
+use Rattle.std.specs.Prelude.{ℕ, Bool, true, false, ◌&&◌, ◌==◌, nat_lt, List, [], ◌∷◌, length, take, drop, Option, Some, None, option_map, option_and_then, if◌then◌else◌, codes}
 use Rattle.std.specs.Str.{bytes_eq}
 use Rattle.lwp_types.specs.TextFields.{is_text}
 use Rattle.script_text.specs.declared.table.Kind.{Kind}
 use Rattle.script_text.specs.declared.table.Kind.TheVariants as kind
 use Rattle.script_text.specs.declared.phrase.Phrase.{Phrase}
-use Rattle.script_text.specs.Words.{is_name, number_at, reach}
+use Rattle.script_text.specs.declared.script.Test.{Test}
+use Rattle.script_text.specs.declared.script.Test.TheVariants as test
+use Rattle.lwp_types.specs.declared.call.Flags.{Flags}
+use Rattle.script_text.specs.Lines.{flags_text}
+use Rattle.script_text.specs.Words.{is_name, is_thread_word, number_at, reach}
 use Rattle.script_text.specs.Table.{op_at, kinds_of}
 use Rattle.script_text.specs.Grammar.{blank}
+
+-- flags by three letters that stand or don't
+abbrev pub flags_by : Bool → Bool → Bool → Flags
+flags_by s n v = record { suspended = s; nolastrites = n; server = v }
+
+-- all flags that there are
+abbrev pub all_flags : List Flags
+all_flags = flags_by false false false ∷ flags_by true false false ∷ flags_by false true false ∷ flags_by true true false ∷ flags_by false false true ∷ flags_by true false true ∷ flags_by false true true ∷ flags_by true true true ∷ []
+
+-- the first of these flags that are written so
+abbrev pub flags_in : List Flags → List ℕ → Option Flags
+flags_in [] w = None
+flags_in (f ∷ fs) w = if bytes_eq (flags_text f) w then Some f else flags_in fs w
+
+-- the flags that are written so
+unfoldable pub flags_at : List ℕ → Option Flags
+flags_at w = flags_in all_flags w
+
+-- `is`, a space and a number
+abbrev pub value_at : List ℕ → Option Test
+value_at [] = None
+value_at (a ∷ []) = None
+value_at (a ∷ b ∷ []) = None
+value_at (a ∷ b ∷ c ∷ digits) = if a == 105 && b == 115 && c == 32 then option_map (λ n. test.Value n) (number_at digits) else None
+
+-- the test that is written so
+abbrev pub test_at : List ℕ → Option Test
+test_at w =
+    if bytes_eq w (codes "ok") then Some test.Fine
+    else if bytes_eq w (codes "err") then Some test.Refused
+    else if bytes_eq w (codes "caught") then Some test.Caught
+    else value_at w
 
 -- p with a slot of this kind filled by a word
 abbrev pub fill_word : Kind → Phrase → List ℕ → Option Phrase
 fill_word kind.Thread p w = if is_name w then Some (record p { thread = w }) else None
+fill_word kind.Who p w = if is_thread_word w then Some (record p { thread = w }) else None
 fill_word kind.Procedure p w = if is_name w then Some (record p { procedure = w }) else None
 fill_word kind.Number p w = option_map (λ n. record p { number = n }) (number_at w)
-fill_word kind.Flags p w = if bytes_eq w (codes "-") then Some p else None
-fill_word kind.Me p w = if bytes_eq w (codes "self") then Some p else None
+fill_word kind.Births p w = if bytes_eq w (codes "births") then Some p else None
+fill_word kind.Flags p w = option_map (λ f. record p { flags = f }) (flags_at w)
+fill_word kind.Test p w = None
 fill_word kind.Text p w = None
 
 -- p with its text filled by all that is left: a space and then at least one byte, or nothing
 abbrev pub fill_text : Phrase → List ℕ → Option (Phrase × List ℕ)
 fill_text p [] = Some (record p { text = [] }, [])
 fill_text p (b ∷ bs) = if b == 32 && nat_lt 0 (length bs) && is_text bs then Some (record p { text = bs }, []) else None
+
+-- p with its test filled by all that is left behind one space
+abbrev pub fill_test : Phrase → List ℕ → Option (Phrase × List ℕ)
+fill_test p [] = None
+fill_test p (b ∷ bs) = if b == 32 then option_map (λ t. (record p { test = t }, [])) (test_at bs) else None
 
 -- p with a slot filled by the word behind one space, and what is left behind the word
 abbrev pub fill_spaced : Kind → Phrase → List ℕ → Option (Phrase × List ℕ)
@@ -31,11 +74,13 @@ fill_spaced k p (b ∷ bs) = if b == 32 then option_map (λ q. (q, drop (reach 3
 -- p with the next slot filled, and what is left
 abbrev pub slot_at : Kind → Phrase → List ℕ → Option (Phrase × List ℕ)
 slot_at kind.Text = fill_text
+slot_at kind.Test = fill_test
 slot_at kind.Thread = fill_spaced kind.Thread
+slot_at kind.Who = fill_spaced kind.Who
 slot_at kind.Procedure = fill_spaced kind.Procedure
 slot_at kind.Number = fill_spaced kind.Number
+slot_at kind.Births = fill_spaced kind.Births
 slot_at kind.Flags = fill_spaced kind.Flags
-slot_at kind.Me = fill_spaced kind.Me
 
 -- p with all these slots filled, where nothing is left
 abbrev pub fill : List Kind → Phrase → List ℕ → Option Phrase

@@ -1,11 +1,14 @@
 -- The script of a text, or its first bad line with the first reason that fits.
-use Rattle.std.specs.Prelude.{◌≡◌, ℕ, suc, ◌&&◌, List, [], ◌∷◌, ◌++◌, length, Option, Some, None, Result, Ok, Err, ◌==◌, nat_lt, if◌then◌else◌}
+use Rattle.std.specs.Prelude.{◌≡◌, ℕ, suc, Bool, true, false, ◌&&◌, List, [], ◌∷◌, ◌++◌, length, Option, Some, None, Result, Ok, Err, ◌==◌, nat_lt, if◌then◌else◌}
 use Rattle.std.specs.List.{flat_map}
+use Rattle.std.specs.Option.{is_some}
 use Rattle.lwp_types.specs.TextFields.{is_printable}
 use Rattle.script_text.specs.declared.table.Op.{Op}
 use Rattle.script_text.specs.declared.table.Role.{Role}
 use Rattle.script_text.specs.declared.table.Role.TheVariants as role
 use Rattle.script_text.specs.declared.phrase.Phrase.{Phrase}
+use Rattle.script_text.specs.declared.stage.Stage.{Stage}
+use Rattle.script_text.specs.declared.stage.Stage.TheVariants as stage
 use Rattle.script_text.specs.declared.reason.Reason.{Reason}
 use Rattle.script_text.specs.declared.reason.Reason.TheVariants as reason
 use Rattle.script_text.specs.declared.reason.ReadErr.{ReadErr}
@@ -13,7 +16,7 @@ use Rattle.script_text.specs.declared.reason.ReadErr.TheVariants as err
 use Rattle.script_text.specs.declared.script.Script.{Script}
 use Rattle.script_text.specs.Table.{op_at, role_of}
 use Rattle.script_text.specs.Reading.{first_word, phrase_at}
-use Rattle.script_text.specs.Grammar.{declared_by, last_role, may_stand, is_declared}
+use Rattle.script_text.specs.Grammar.{declared_by, stage_of, may_stand, is_declared}
 use Rattle.script_text.specs.Meaning.{script_of}
 
 -- ---- The lines of a text.
@@ -33,25 +36,39 @@ cut (b ∷ bs) = if b == 10 then ([] ∷ (cut bs).0, (cut bs).1) else onto_first
 
 -- ---- Why a line is bad.
 
--- the reason of a line that plays this part
-abbrev pub role_reason : Role → Reason
-role_reason role.Proc = reason.Proc
-role_reason _ = reason.Statement
+-- whether a statement breaks the rule of `again`: it comes behind one, or it is one that may not end its procedure
+abbrev pub breaks_again : Stage → Role → Bool
+breaks_again stage.Proc role.Again = true
+breaks_again stage.Skipping role.Again = true
+breaks_again stage.Ended role.Statement = true
+breaks_again stage.Ended role.Skip = true
+breaks_again stage.Ended role.Again = true
+breaks_again _ _ = false
+
+-- the reason of a line by the part that its first word plays, and by whether it is the text of a phrase
+abbrev pub role_reason : Stage → Role → Bool → Reason
+role_reason s role.Limit said = reason.Limit
+role_reason s role.Proc said = reason.Proc
+role_reason s r said = if said && breaks_again s r then reason.Again else reason.Statement
 
 -- the reason of a line by its first word
-abbrev pub word_reason : Option Op → Reason
-word_reason None = reason.Statement
-word_reason (Some o) = role_reason (role_of o)
+abbrev pub word_reason : Stage → Option Op → Bool → Reason
+word_reason s None said = reason.Statement
+word_reason s (Some o) said = role_reason s (role_of o) said
 
 -- the first line is to be the header, and the second the pod; behind them the first word decides
-abbrev pub reason_behind : Option Role → Option Op → Reason
-reason_behind None first = reason.Header
-reason_behind (Some role.Header) first = reason.Pod
-reason_behind (Some _) first = word_reason first
+abbrev pub reason_behind : Stage → Option Op → Bool → Reason
+reason_behind stage.Start first said = reason.Header
+reason_behind stage.Header first said = reason.Pod
+reason_behind s first said = word_reason s first said
+
+-- the reason of a bad line of printable bytes at this stage
+abbrev pub reason_of : Stage → List ℕ → Reason
+reason_of s line = reason_behind s (op_at (first_word line)) (is_some (phrase_at line))
 
 -- the reason of a bad line of printable bytes behind these lines
 abbrev pub reason_at : List Phrase → List ℕ → Reason
-reason_at before line = reason_behind (last_role before) (op_at (first_word line))
+reason_at before line = reason_of (stage_of before) line
 
 -- ---- The lines one by one.
 

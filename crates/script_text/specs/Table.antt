@@ -12,28 +12,63 @@ use Rattle.script_text.specs.declared.table.Kind.TheVariants as kind
 abbrev pub word_of : Op → List ℕ
 word_of op.Lwp = codes "lwp"
 word_of op.Pod = codes "pod"
+word_of op.Limit = codes "limit"
 word_of op.Proc = codes "proc"
 word_of op.Create = codes "create"
+word_of op.Destroy = codes "destroy"
+word_of op.Ping = codes "ping"
 word_of op.Yield = codes "yield"
+word_of op.Suspend = codes "suspend"
+word_of op.Resume = codes "resume"
+word_of op.Join = codes "join"
+word_of op.Resched = codes "resched"
+word_of op.SetPri = codes "setpri"
+word_of op.SetMaxPri = codes "setmaxpri"
+word_of op.Me = codes "self"
+word_of op.SetExit = codes "setexit"
+word_of op.GetExit = codes "getexit"
+word_of op.PodExit = codes "podexit"
+word_of op.Threads = codes "threads"
 word_of op.Say = codes "say"
 word_of op.Return = codes "return"
+word_of op.Skip = codes "skip"
+word_of op.Again = codes "again"
 
 -- the part that the line plays
 abbrev pub role_of : Op → Role
 role_of op.Lwp = role.Header
 role_of op.Pod = role.Pod
+role_of op.Limit = role.Limit
 role_of op.Proc = role.Proc
+role_of op.Skip = role.Skip
+role_of op.Again = role.Again
 role_of _ = role.Statement
 
 -- the slots behind the first word
 abbrev pub kinds_of : Op → List Kind
 kinds_of op.Lwp = kind.Number ∷ []
 kinds_of op.Pod = kind.Number ∷ []
+kinds_of op.Limit = kind.Births ∷ kind.Number ∷ []
 kinds_of op.Proc = kind.Procedure ∷ []
 kinds_of op.Create = kind.Thread ∷ kind.Procedure ∷ kind.Number ∷ kind.Flags ∷ []
-kinds_of op.Yield = kind.Me ∷ []
+kinds_of op.Destroy = kind.Who ∷ []
+kinds_of op.Ping = kind.Who ∷ []
+kinds_of op.Yield = kind.Who ∷ []
+kinds_of op.Suspend = kind.Who ∷ []
+kinds_of op.Resume = kind.Who ∷ []
+kinds_of op.Join = kind.Who ∷ []
+kinds_of op.Resched = kind.Number ∷ []
+kinds_of op.SetPri = kind.Who ∷ kind.Number ∷ []
+kinds_of op.SetMaxPri = kind.Number ∷ []
+kinds_of op.Me = []
+kinds_of op.SetExit = kind.Number ∷ []
+kinds_of op.GetExit = []
+kinds_of op.PodExit = kind.Number ∷ []
+kinds_of op.Threads = []
 kinds_of op.Say = kind.Text ∷ []
 kinds_of op.Return = []
+kinds_of op.Skip = kind.Test ∷ []
+kinds_of op.Again = []
 
 -- whether the line starts a procedure that some line must declare
 abbrev pub starts : Op → Bool
@@ -42,7 +77,7 @@ starts _ = false
 
 -- all rows
 abbrev pub ops : List Op
-ops = op.Lwp ∷ op.Pod ∷ op.Proc ∷ op.Create ∷ op.Yield ∷ op.Say ∷ op.Return ∷ []
+ops = op.Lwp ∷ op.Pod ∷ op.Limit ∷ op.Proc ∷ op.Create ∷ op.Destroy ∷ op.Ping ∷ op.Yield ∷ op.Suspend ∷ op.Resume ∷ op.Join ∷ op.Resched ∷ op.SetPri ∷ op.SetMaxPri ∷ op.Me ∷ op.SetExit ∷ op.GetExit ∷ op.PodExit ∷ op.Threads ∷ op.Say ∷ op.Return ∷ op.Skip ∷ op.Again ∷ []
 
 -- the first of these rows with this word
 abbrev pub op_in : List Op → List ℕ → Option Op

@@ -1,29 +1,30 @@
 -- A reader that takes one line after another, as a value.
 use Rattle.std.specs.Prelude.{ℕ, ◌+◌, List, [], ◌∷◌, ◌++◌, length, Option, Some, None, Result, Ok, Err, ◌==◌, if◌then◌else◌, slice_index_or}
 use Rattle.lwp_types.specs.TextFields.{is_printable}
-use Rattle.script_text.specs.declared.table.Role.{Role}
+use Rattle.script_text.specs.declared.stage.Stage.{Stage}
+use Rattle.script_text.specs.declared.stage.Stage.TheVariants as stage
 use Rattle.script_text.specs.declared.phrase.Phrase.{Phrase}
 use Rattle.script_text.specs.declared.reason.Reason.{Reason}
 use Rattle.script_text.specs.declared.reason.Reason.TheVariants as reason
 use Rattle.script_text.specs.declared.reader.Mention.{Mention}
 use Rattle.script_text.specs.declared.reader.Reader.{Reader}
 use Rattle.script_text.specs.declared.script.Script.{Script}
-use Rattle.script_text.specs.Table.{op_at, role_of, starts}
-use Rattle.script_text.specs.Reading.{first_word, phrase_at}
-use Rattle.script_text.specs.Grammar.{may_stand_at}
+use Rattle.script_text.specs.Table.{role_of, starts}
+use Rattle.script_text.specs.Reading.{phrase_at}
+use Rattle.script_text.specs.Grammar.{stage_after, may_stand_at}
 use Rattle.script_text.specs.Meaning.{contains_name, place, added, empty_draft, closed}
-use Rattle.script_text.specs.Spelling.{reason_behind, declared_on}
+use Rattle.script_text.specs.Spelling.{reason_of, declared_on}
 
 -- ---- One line.
 
 -- a line by what it says, if it says anything
-abbrev pub judge_told : Option Role → List (List ℕ) → List ℕ → Option Phrase → Result Phrase Reason
-judge_told last known line None = Err (reason_behind last (op_at (first_word line)))
-judge_told last known line (Some p) = if may_stand_at last known p then Ok p else Err (reason_behind last (op_at (first_word line)))
+abbrev pub judge_told : Stage → List (List ℕ) → List ℕ → Option Phrase → Result Phrase Reason
+judge_told s known line None = Err (reason_of s line)
+judge_told s known line (Some p) = if may_stand_at s known p then Ok p else Err (reason_of s line)
 
 -- what a line says, or why it is bad whatever the lines behind it declare
-abbrev pub judge_alone : Option Role → List (List ℕ) → List ℕ → Result Phrase Reason
-judge_alone last known line = if is_printable line then judge_told last known line (phrase_at line) else Err reason.Bytes
+abbrev pub judge_alone : Stage → List (List ℕ) → List ℕ → Result Phrase Reason
+judge_alone s known line = if is_printable line then judge_told s known line (phrase_at line) else Err reason.Bytes
 
 -- the mention of a procedure that a line starts
 abbrev pub mention_of : ℕ → List (List ℕ) → Phrase → List Mention
@@ -35,7 +36,7 @@ taken r p =
     let d = added r.draft p in
     record r {
       count = r.count + 1;
-      last = Some (role_of p.op);
+      stage = stage_after r.stage (role_of p.op);
       mentions = r.mentions ++ mention_of (r.count + 1) d.script.names.procs p;
       draft = d;
     }
@@ -48,7 +49,7 @@ took r (Err why) = record r { bad = Some why }
 -- behind a bad line no more lines are judged
 abbrev pub judged : Option Reason → Reader → List ℕ → Reader
 judged (Some why) r line = r
-judged None r line = took r (judge_alone r.last r.declared line)
+judged None r line = took r (judge_alone r.stage r.declared line)
 
 -- a reader that knows of more declared procedures
 abbrev pub noted : Reader → List (List ℕ) → Reader
@@ -60,7 +61,7 @@ step r line = noted (judged r.bad r line) (declared_on (phrase_at line))
 
 -- a reader that has read nothing
 abbrev pub start : Reader
-start = record { count = 0; last = None; bad = None; declared = []; mentions = []; draft = empty_draft }
+start = record { count = 0; stage = stage.Start; bad = None; declared = []; mentions = []; draft = empty_draft }
 
 -- ---- The end.
 

@@ -1,12 +1,12 @@
 // A script that grows line by line.
 ghost use Rattle.std.specs.Prelude.{◌≡◌, ◌++◌, ◌∷◌, [], Some, IfOk, OnOk, option_to_list};
-ghost use Rattle.script_text.specs.Meaning.{named, place, statement_at, grown};
+ghost use Rattle.script_text.specs.Meaning.{named, place, who_at, statement_at, grown};
 
 use crate::names::{enter, number_of};
 use crate::phrase::Phrase;
 use crate::table::{Op, Role};
 use crate::{ExitStmt, Names, Proc, Script, Stmt, Who};
-use lwp_types::{Flags, NoMemory, Sequence};
+use lwp_types::{NoMemory, Sequence, Text};
 use std::alloc::Global;
 
 /// The script of the lines so far, and the procedure to which the next statement goes.
@@ -16,12 +16,6 @@ pub struct Draft {
     pub current: Option<Proc>,
 }
 
-const NO_FLAGS: Flags = Flags {
-    suspended: false,
-    nolastrites: false,
-    server: false,
-};
-
 // Enters the names of a line.
 fn name(names: &mut Names, phrase: &Phrase) -> Result<(), NoMemory>
     ensures { OnOk result (names.new ≡ named names.old phrase.now) }
@@ -30,21 +24,54 @@ fn name(names: &mut Names, phrase: &Phrase) -> Result<(), NoMemory>
     enter(&mut names.threads, &phrase.thread)
 }
 
+// Whom a word of a line means, once its name has been entered.
+fn who_at(names: &Sequence<Text>, word: &Text) -> Result<Who, NoMemory>
+    ensures { IfOk result (λ who. who ≡ who_at names.now word.now) }
+{
+    let word = word.bytes();
+    if word == b"self".as_slice() {
+        Ok(Who::Me)
+    } else if word == b"first".as_slice() {
+        Ok(Who::First)
+    } else if word == b"none".as_slice() {
+        Ok(Who::Nobody)
+    } else {
+        Ok(Who::Named(number_of(names.as_slice(), word)?))
+    }
+}
+
 // The statement of a line whose names have been entered.
 fn statement(names: &Names, phrase: &Phrase) -> Result<Option<Stmt>, NoMemory>
     ensures { IfOk result (λ s. s ≡ statement_at phrase.now.op names.now phrase.now) }
 {
+    let number = phrase.number;
+    let who = who_at(&names.threads, &phrase.thread)?;
     let stmt = match phrase.op {
+        Op::Lwp | Op::Pod | Op::Limit | Op::Proc => return Ok(None),
         Op::Create => Stmt::Create {
             name: number_of(names.threads.as_slice(), phrase.thread.bytes())?,
             proc: number_of(names.procs.as_slice(), phrase.procedure.bytes())?,
-            prio: phrase.number,
-            flags: NO_FLAGS,
+            prio: number,
+            flags: phrase.flags,
         },
-        Op::Yield => Stmt::Yield { to: Who::Me },
+        Op::Destroy => Stmt::Destroy { who },
+        Op::Ping => Stmt::Ping { who },
+        Op::Yield => Stmt::Yield { to: who },
+        Op::Suspend => Stmt::Suspend { who },
+        Op::Resume => Stmt::Resume { who },
+        Op::Join => Stmt::Join { who },
+        Op::Resched => Stmt::Resched { prio: number },
+        Op::SetPri => Stmt::SetPri { who, prio: number },
+        Op::SetMaxPri => Stmt::SetMaxPri { prio: number },
+        Op::Me => Stmt::Me,
+        Op::SetExit => Stmt::SetExit { code: number },
+        Op::GetExit => Stmt::GetExit,
+        Op::PodExit => Stmt::PodExit { code: number },
+        Op::Threads => Stmt::Threads,
         Op::Say => Stmt::Say { text: phrase.text },
         Op::Return => Stmt::Return,
-        Op::Lwp | Op::Pod | Op::Proc => return Ok(None),
+        Op::Skip => Stmt::Skip { test: phrase.test },
+        Op::Again => Stmt::Again,
     };
     Ok(Some(stmt))
 }
@@ -71,7 +98,7 @@ fn end(procs: &mut Sequence<Proc>, current: Option<Proc>) -> Result<(), NoMemory
 }
 
 impl Draft {
-    ghost use Rattle.script_text.specs.Meaning.{empty_draft, added, closed};
+    ghost use Rattle.script_text.specs.Meaning.{empty_draft, pushed, added, closed};
 
     /// No lines.
     pub fn new(alloc: Global) -> Draft
@@ -110,7 +137,7 @@ impl Draft {
 
     // One more statement of the procedure.
     fn push_statement(&mut self, phrase: &Phrase) -> Result<(), NoMemory>
-        ensures { OnOk result (self.new ≡ record self.old { current = grown (statement_at phrase.now.op self.old.script.names phrase.now) self.old.current }) }
+        ensures { OnOk result (self.new ≡ pushed self.old phrase.now) }
     {
         let _inside: Option<ExitStmt> = None;
         let stmt = statement(&self.script.names, phrase)?;
@@ -128,8 +155,12 @@ impl Draft {
                 self.script.maxpri = phrase.number;
                 Ok(())
             }
+            Role::Limit => {
+                self.script.births = u64::from(phrase.number);
+                Ok(())
+            }
             Role::Proc => self.begin(alloc, phrase),
-            Role::Statement => self.push_statement(phrase),
+            Role::Statement | Role::Skip | Role::Again => self.push_statement(phrase),
         }
     }
 

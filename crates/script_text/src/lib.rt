@@ -16,6 +16,7 @@ mod reader;
 mod reading;
 mod reason;
 mod script;
+mod stage;
 mod table;
 mod words;
 

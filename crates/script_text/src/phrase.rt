@@ -1,12 +1,14 @@
 // A line, taken apart by its row of the table.
 ghost use Rattle.std.specs.Prelude.{◌≡◌, [], length, Some, None, option_map, if◌then◌else◌};
-ghost use Rattle.script_text.specs.Words.{is_name};
+ghost use Rattle.script_text.specs.Words.{is_name, is_thread_word};
 ghost use Rattle.script_text.specs.Grammar.{blank};
-ghost use Rattle.script_text.specs.Reading.{fill_word, fill_text, slot_at, fill, phrase_at};
+ghost use Rattle.script_text.specs.Lines.{flags_text};
+ghost use Rattle.script_text.specs.Reading.{flags_by, flags_in, flags_at, value_at, test_at, fill_word, fill_text, fill_test, slot_at, fill, phrase_at};
 
+use crate::Test;
 use crate::table::{Kind, Op};
-use crate::words::{is_name, number_at, reach};
-use lwp_types::Text;
+use crate::words::{is_name, is_thread_word, number_at, reach};
+use lwp_types::{Flags, Text};
 
 /// What a line says: its row, and what stands in the slots. A slot that the row doesn't have is empty.
 #[derive(Drop)]
@@ -15,7 +17,19 @@ pub struct Phrase {
     pub thread: Text,
     pub procedure: Text,
     pub number: u32,
+    pub flags: Flags,
+    pub test: Test,
     pub text: Text,
+}
+
+fn flags_by(suspended: bool, nolastrites: bool, server: bool) -> Flags
+    ensures { result ≡ flags_by suspended nolastrites server }
+{
+    Flags {
+        suspended,
+        nolastrites,
+        server,
+    }
 }
 
 fn no_text() -> Text
@@ -35,6 +49,8 @@ fn blank(op: Op) -> Phrase
         thread: no_text(),
         procedure: no_text(),
         number: 0,
+        flags: flags_by(false, false, false),
+        test: Test::Fine,
         text: no_text(),
     }
 }
@@ -46,24 +62,99 @@ fn name_at(word: &[u8]) -> Option<Text>
     if is_name(word) { Text::new(word) } else { None }
 }
 
+// The word, if it means a thread.
+fn thread_at(word: &[u8]) -> Option<Text>
+    ensures { result ≡ (if is_thread_word word.now then Some word.now else None) }
+{
+    if is_thread_word(word) {
+        Text::new(word)
+    } else {
+        None
+    }
+}
+
+fn letters(flags: Flags) -> &'static [u8]
+    ensures { result.now ≡ flags_text flags }
+{
+    match (flags.suspended, flags.nolastrites, flags.server) {
+        (false, false, false) => b"-",
+        (true, false, false) => b"s",
+        (false, true, false) => b"n",
+        (true, true, false) => b"sn",
+        (false, false, true) => b"v",
+        (true, false, true) => b"sv",
+        (false, true, true) => b"nv",
+        (true, true, true) => b"snv",
+    }
+}
+
+fn flags_in(all: &[Flags], word: &[u8]) -> Option<Flags>
+    ensures { result ≡ flags_in all.now word.now }
+{
+    for flags in all {
+        if letters(*flags) == word {
+            return Some(*flags);
+        }
+    }
+    None
+}
+
+#[tactic(auto, unfolding(crate::specs::Reading::flags_at))]
+fn flags_at(word: &[u8]) -> Option<Flags>
+    ensures { result ≡ flags_at word.now }
+{
+    let all = [
+        flags_by(false, false, false),
+        flags_by(true, false, false),
+        flags_by(false, true, false),
+        flags_by(true, true, false),
+        flags_by(false, false, true),
+        flags_by(true, false, true),
+        flags_by(false, true, true),
+        flags_by(true, true, true),
+    ];
+    flags_in(&all, word)
+}
+
+// `is` and a number.
+fn value_at(words: &[u8]) -> Option<Test>
+    ensures { result ≡ value_at words.now }
+{
+    match words {
+        [b'i', b's', b' ', digits @ ..] => number_at(digits).map(Test::Value),
+        _ => None,
+    }
+}
+
+fn test_at(words: &[u8]) -> Option<Test>
+    ensures { result ≡ test_at words.now }
+{
+    if words == b"ok".as_slice() {
+        Some(Test::Fine)
+    } else if words == b"err".as_slice() {
+        Some(Test::Refused)
+    } else if words == b"caught".as_slice() {
+        Some(Test::Caught)
+    } else {
+        value_at(words)
+    }
+}
+
 fn fill_word(kind: Kind, mut phrase: Phrase, word: &[u8]) -> Option<Phrase>
     ensures { result ≡ fill_word kind phrase word.now }
 {
     match kind {
         Kind::Thread => phrase.thread = name_at(word)?,
+        Kind::Who => phrase.thread = thread_at(word)?,
         Kind::Procedure => phrase.procedure = name_at(word)?,
         Kind::Number => phrase.number = number_at(word)?,
-        Kind::Flags => {
-            if word != b"-".as_slice() {
+        Kind::Births => {
+            if word != b"births".as_slice() {
                 return None;
             }
         }
-        Kind::Me => {
-            if word != b"self".as_slice() {
-                return None;
-            }
-        }
-        Kind::Text => return None,
+        Kind::Flags => phrase.flags = flags_at(word)?,
+        Kind::Test | Kind::Text => return None,
     }
     Some(phrase)
 }
@@ -87,11 +178,26 @@ fn fill_text(mut phrase: Phrase, rest: &[u8]) -> Option<(Phrase, &[u8])>
     }
 }
 
+fn fill_test(mut phrase: Phrase, rest: &[u8]) -> Option<(Phrase, &[u8])>
+    ensures { option_map (λ x. (x.0, x.1.now)) result ≡ fill_test phrase rest.now }
+{
+    match rest {
+        [b' ', words @ ..] => {
+            phrase.test = test_at(words)?;
+            Some((phrase, &words[words.len()..]))
+        }
+        _ => None,
+    }
+}
+
 fn slot_at(kind: Kind, phrase: Phrase, rest: &[u8]) -> Option<(Phrase, &[u8])>
     ensures { option_map (λ x. (x.0, x.1.now)) result ≡ slot_at kind phrase rest.now }
 {
     if kind == Kind::Text {
         return fill_text(phrase, rest);
+    }
+    if kind == Kind::Test {
+        return fill_test(phrase, rest);
     }
     match rest {
         [b' ', more @ ..] => {

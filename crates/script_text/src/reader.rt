@@ -2,7 +2,7 @@
 ghost use Rattle.std.specs.Prelude.{◌≡◌, ◌<◌, ◌+◌, ◌++◌, ◌^◌, IfOk, OnOk, Some, None};
 ghost use Rattle.lwp_types.specs.TextFields.{is_printable};
 ghost use Rattle.script_text.specs.Reading.{phrase_at};
-ghost use Rattle.script_text.specs.Grammar.{follows, keeps_rule, may_stand_at, declared_by};
+ghost use Rattle.script_text.specs.Grammar.{keeps_rule, may_stand_at, declared_by};
 ghost use Rattle.script_text.specs.Spelling.{Gives, reason_behind, declared_on};
 ghost use Rattle.script_text.specs.Track.{judge_alone, mention_of, first_missing};
 
@@ -11,6 +11,7 @@ use crate::draft::Draft;
 use crate::names::{contains_name, number_of};
 use crate::phrase::{Phrase, phrase_at};
 use crate::reason::{ReadErr, Reason};
+use crate::stage::Stage;
 use crate::table::{Op, Role};
 use crate::words::reach;
 use lwp_types::{NoMemory, Sequence, Text};
@@ -28,7 +29,7 @@ pub struct Mention {
 #[derive(Drop)]
 pub struct Reader {
     pub count: u32,
-    pub last: Option<Role>,
+    pub stage: Stage,
     pub bad: Option<Reason>,
     pub declared: Sequence<Text>,
     pub mentions: Sequence<Mention>,
@@ -41,59 +42,53 @@ fn is_printable(line: &[u8]) -> bool
     line.iter().all(|b| 32 <= *b && *b <= 126)
 }
 
-fn follows(last: Option<Role>, role: Role) -> bool
-    ensures { result ≡ follows last role }
-{
-    match last {
-        None => role == Role::Header,
-        Some(Role::Header) => role == Role::Pod,
-        Some(Role::Pod) => role == Role::Proc,
-        Some(Role::Proc | Role::Statement) => matches!(role, Role::Proc | Role::Statement),
-    }
-}
-
 fn keeps_rule(known: &[Text], role: Role, phrase: &Phrase) -> bool
     ensures { result ≡ keeps_rule known.now role phrase.now }
 {
     match role {
         Role::Header => phrase.number == 1,
         Role::Pod => 1 <= phrase.number && phrase.number <= 255,
+        Role::Limit => 1 <= phrase.number,
         Role::Proc => !contains_name(known, phrase.procedure.bytes()),
-        Role::Statement => true,
+        Role::Statement | Role::Skip | Role::Again => true,
     }
 }
 
-fn may_stand_at(last: Option<Role>, known: &[Text], phrase: &Phrase) -> bool
-    ensures { result ≡ may_stand_at last known.now phrase.now }
+fn may_stand_at(stage: Stage, known: &[Text], phrase: &Phrase) -> bool
+    ensures { result ≡ may_stand_at stage known.now phrase.now }
 {
     let role = phrase.op.role();
-    follows(last, role) && keeps_rule(known, role, phrase)
+    stage.allows(role) && keeps_rule(known, role, phrase)
 }
 
-fn reason_behind(last: Option<Role>, first: Option<Op>) -> Reason
-    ensures { result ≡ reason_behind last first }
+// The reason of a bad line by its first word, and by whether it is the text of a phrase.
+fn reason_behind(stage: Stage, first: Option<Op>, said: bool) -> Reason
+    ensures { result ≡ reason_behind stage first said }
 {
-    match last {
-        None => Reason::Header,
-        Some(Role::Header) => Reason::Pod,
-        Some(_) => match first {
+    match stage {
+        Stage::Start => Reason::Header,
+        Stage::Header => Reason::Pod,
+        _ => match first {
+            Some(Op::Limit) => Reason::Limit,
             Some(Op::Proc) => Reason::Proc,
+            Some(op) if said && stage.breaks_again(op.role()) => Reason::Again,
             _ => Reason::Statement,
         },
     }
 }
 
 // What the line says, or why it is bad by itself.
-fn judge_alone(last: Option<Role>, known: &[Text], line: &[u8]) -> Result<Phrase, Reason>
-    ensures { result ≡ judge_alone last known.now line.now }
+fn judge_alone(stage: Stage, known: &[Text], line: &[u8]) -> Result<Phrase, Reason>
+    ensures { result ≡ judge_alone stage known.now line.now }
 {
     if !is_printable(line) {
         return Err(Reason::Bytes);
     }
-    let why = reason_behind(last, Op::at(line.split_at(reach(b' ', line)).0));
+    let first = Op::at(line.split_at(reach(b' ', line)).0);
     match phrase_at(line) {
-        Some(phrase) if may_stand_at(last, known, &phrase) => Ok(phrase),
-        _ => Err(why),
+        Some(phrase) if may_stand_at(stage, known, &phrase) => Ok(phrase),
+        Some(_) => Err(reason_behind(stage, first, true)),
+        None => Err(reason_behind(stage, first, false)),
     }
 }
 
@@ -132,7 +127,7 @@ impl Reader {
     {
         Reader {
             count: 0,
-            last: None,
+            stage: Stage::Start,
             bad: None,
             declared: Sequence::new(alloc),
             mentions: Sequence::new(alloc),
@@ -160,7 +155,7 @@ impl Reader {
     {
         self.draft.add(alloc, phrase)?;
         self.count += 1;
-        self.last = Some(phrase.op.role());
+        self.stage = self.stage.after(phrase.op.role());
         self.mention(phrase)
     }
 
@@ -172,7 +167,7 @@ impl Reader {
         if self.bad.is_some() {
             return Ok(());
         }
-        match judge_alone(self.last, self.declared.as_slice(), line) {
+        match judge_alone(self.stage, self.declared.as_slice(), line) {
             Ok(phrase) => self.take(alloc, &phrase),
             Err(why) => {
                 self.bad = Some(why);

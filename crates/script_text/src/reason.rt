@@ -16,11 +16,13 @@ pub enum Reason {
     Bytes,
     Header,
     Pod,
+    /// A line that begins with `limit`, and isn't the third or doesn't say a limit of 1 to 4,294,967,295 births.
     Limit,
     Client,
     Native,
     Proc,
     Post,
+    /// An `again` that may not end its procedure, or a statement behind one.
     Again,
     /// A line that isn't a statement of a procedure, or one that names an undeclared procedure.
     Statement,

@@ -7,14 +7,18 @@ ghost use Rattle.script_text.specs.Table.{role_of, word_of, kinds_of, starts, op
 pub enum Kind {
     /// The name of a thread.
     Thread,
+    /// A word that means a thread.
+    Who,
     /// The name of a procedure.
     Procedure,
     /// A number in decimal.
     Number,
-    /// The flags of a new thread: none.
+    /// What is limited: the births.
+    Births,
+    /// The flags of a new thread.
     Flags,
-    /// The caller itself.
-    Me,
+    /// When a `skip` passes over a statement: all that is left of the line.
+    Test,
     /// All that is left of the line.
     Text,
 }
@@ -24,30 +28,65 @@ pub enum Kind {
 pub enum Op {
     Lwp,
     Pod,
+    Limit,
     Proc,
     Create,
+    Destroy,
+    Ping,
     Yield,
+    Suspend,
+    Resume,
+    Join,
+    Resched,
+    SetPri,
+    SetMaxPri,
+    Me,
+    SetExit,
+    GetExit,
+    PodExit,
+    Threads,
     Say,
     Return,
+    Skip,
+    Again,
 }
 
-/// The part that a line plays in a script.
+/// The part that a line plays in a script. A statement is one that makes a call.
 #[derive(Clone, Copy, Debug, PartialEq, Eq)]
 pub enum Role {
     Header,
     Pod,
+    Limit,
     Proc,
     Statement,
+    Skip,
+    Again,
 }
 
-const OPS: [Op; 7] = [
+const OPS: [Op; 23] = [
     Op::Lwp,
     Op::Pod,
+    Op::Limit,
     Op::Proc,
     Op::Create,
+    Op::Destroy,
+    Op::Ping,
     Op::Yield,
+    Op::Suspend,
+    Op::Resume,
+    Op::Join,
+    Op::Resched,
+    Op::SetPri,
+    Op::SetMaxPri,
+    Op::Me,
+    Op::SetExit,
+    Op::GetExit,
+    Op::PodExit,
+    Op::Threads,
     Op::Say,
     Op::Return,
+    Op::Skip,
+    Op::Again,
 ];
 
 impl Op {
@@ -57,11 +96,27 @@ impl Op {
         match self {
             Op::Lwp => b"lwp",
             Op::Pod => b"pod",
+            Op::Limit => b"limit",
             Op::Proc => b"proc",
             Op::Create => b"create",
+            Op::Destroy => b"destroy",
+            Op::Ping => b"ping",
             Op::Yield => b"yield",
+            Op::Suspend => b"suspend",
+            Op::Resume => b"resume",
+            Op::Join => b"join",
+            Op::Resched => b"resched",
+            Op::SetPri => b"setpri",
+            Op::SetMaxPri => b"setmaxpri",
+            Op::Me => b"self",
+            Op::SetExit => b"setexit",
+            Op::GetExit => b"getexit",
+            Op::PodExit => b"podexit",
+            Op::Threads => b"threads",
             Op::Say => b"say",
             Op::Return => b"return",
+            Op::Skip => b"skip",
+            Op::Again => b"again",
         }
     }
 
@@ -71,7 +126,10 @@ impl Op {
         match self {
             Op::Lwp => Role::Header,
             Op::Pod => Role::Pod,
+            Op::Limit => Role::Limit,
             Op::Proc => Role::Proc,
+            Op::Skip => Role::Skip,
+            Op::Again => Role::Again,
             _ => Role::Statement,
         }
     }
@@ -80,12 +138,19 @@ impl Op {
         ensures { result.now ≡ kinds_of self }
     {
         match self {
-            Op::Lwp | Op::Pod => &[Kind::Number],
+            Op::Lwp | Op::Pod | Op::Resched | Op::SetMaxPri | Op::SetExit | Op::PodExit => &[
+                Kind::Number,
+            ],
+            Op::Limit => &[Kind::Births, Kind::Number],
             Op::Proc => &[Kind::Procedure],
             Op::Create => &[Kind::Thread, Kind::Procedure, Kind::Number, Kind::Flags],
-            Op::Yield => &[Kind::Me],
+            Op::Destroy | Op::Ping | Op::Yield | Op::Suspend | Op::Resume | Op::Join => &[
+                Kind::Who,
+            ],
+            Op::SetPri => &[Kind::Who, Kind::Number],
             Op::Say => &[Kind::Text],
-            Op::Return => &[],
+            Op::Skip => &[Kind::Test],
+            Op::Me | Op::GetExit | Op::Threads | Op::Return | Op::Again => &[],
         }
     }
 

@@ -1,7 +1,7 @@
 // The words of a line.
 ghost use Rattle.std.specs.Prelude.{◌≡◌, ◌≤◌, length};
 ghost use Rattle.std.specs.List.{list_all};
-ghost use Rattle.script_text.specs.Words.{reach, is_name, number_at, is_name_byte, is_reserved, is_misshapen, value_of};
+ghost use Rattle.script_text.specs.Words.{reach, is_name, is_thread_word, number_at, is_name_byte, is_reserved, is_misshapen, value_of};
 
 /// How many bytes come before the first that is `byte`.
 pub fn reach(byte: u8, bytes: &[u8]) -> usize
@@ -51,6 +51,16 @@ pub fn is_name(word: &[u8]) -> bool
                 && !is_reserved(word)
         }
     }
+}
+
+/// Whether the word means a thread.
+pub fn is_thread_word(word: &[u8]) -> bool
+    ensures { result ≡ is_thread_word word.now }
+{
+    is_name(word)
+        || word == b"self".as_slice()
+        || word == b"first".as_slice()
+        || word == b"none".as_slice()
 }
 
 // Whether the word has no digit, or a zero in front that could be left out.
