@@ -159,12 +159,27 @@ fn status_of_words(alloc: Global, words: &[&str]) -> Result<u8, NoMemory> {
 }
 
 #[test]
-fn plan_alone_is_a_command(rt: HostRuntime) -> Result<(), Fail> {
+fn the_words_are_plan_and_how_many_calls(rt: HostRuntime) -> Result<(), Fail> {
     let alloc = rt.alloc();
-    assert_eq!(rt; status_of_words(alloc, &["plan"])?, 0);
-    assert_eq!(rt; status_of_words(alloc, &[])?, 100);
-    assert_eq!(rt; status_of_words(alloc, &["run"])?, 100);
-    assert_eq!(rt; status_of_words(alloc, &["plan", "7"])?, 100);
+    // The script makes 4 calls.
+    for (words, status) in [
+        (["plan"].as_slice(), 0),
+        (&["plan", "1"], 105),
+        (&["plan", "3"], 105),
+        (&["plan", "4"], 0),
+        (&["plan", "1000000"], 0),
+        (&["plan", "1000001"], 100),
+        (&["plan", "4294967300"], 100),
+        (&["plan", "0"], 100),
+        (&["plan", "04"], 100),
+        (&["plan", "+4"], 100),
+        (&["plan", ""], 100),
+        (&["plan", "4", "4"], 100),
+        (&["run"], 100),
+        (&[], 100),
+    ] {
+        assert_eq!(rt; status_of_words(alloc, words)?, status);
+    }
     Ok(())
 }
 
