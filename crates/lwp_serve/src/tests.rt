@@ -116,6 +116,11 @@ fn a_read_that_fails_leaves_all_unwritten(rt: HostRuntime) -> Result<(), Fail> {
     Ok(())
 }
 
+// How many calls were made, where so many bytes of the trace were written and no more: the calls end at bytes 30, 52, 71 and 101.
+fn calls_by(written: usize) -> u64 {
+    1 + u64::from(written >= 30) + u64::from(written >= 52) + u64::from(written >= 71)
+}
+
 #[test]
 fn a_write_that_fails_leaves_a_first_part(rt: HostRuntime) -> Result<(), Fail> {
     let alloc = rt.alloc();
@@ -134,6 +139,7 @@ fn a_write_that_fails_leaves_a_first_part(rt: HostRuntime) -> Result<(), Fail> {
             return Ok(());
         }
         assert_eq!(rt; outcome.status, 102);
+        assert_eq!(rt; outcome.turns, calls_by(outcome.written.len()));
         assert!(rt; TRACE.starts_with(outcome.written.as_slice()));
         assert!(rt; outcome.written.len() < TRACE.len());
     }
