@@ -2,7 +2,8 @@
 use Rattle.lwp_serve.proofs.BuiltLaws.{all-built}
 use Rattle.lwp_serve.specs.Bodies.{Body, bodies_of, body_next}
 use Rattle.lwp_serve.specs.Outcome.{HasRead}
-use Rattle.lwp_serve.specs.Plan.{EndSays, Holds, HoldsNone, IsFaultless, IsPart, IsWhole, RunSays, Stream, opening_names, opening_run}
+use Rattle.lwp_serve.specs.Plan.{AreDue, EndSays, Holds, HoldsNone, IsBroken, IsFaultless, IsPart, IsStopped, IsWhole, RunSays, Stream, ReadSays, lines_after, opening_names, opening_run, session_at, tail_after}
+use Rattle.lwp_serve.specs.Reading.{IsReadOut, IsReadPart, IsReadUp}
 use Rattle.lwp_serve.specs.Planned.{calls_of, halt_of, plan_of, planned_of, setting_of, takes_of, trace_of}
 use Rattle.lwp_serve.specs.declared.session.Session.{Session}
 use Rattle.lwp_serve.specs.declared.session.SessionEnd.{SessionEnd}
@@ -13,11 +14,11 @@ use Rattle.lwp_types.specs.declared.call.PodParams.{PodParams}
 use Rattle.pod_runner.specs.Built.{AllBuilt}
 use Rattle.pod_runner.specs.Due.{IsDefined}
 use Rattle.pod_runner.specs.Eager.{ComesTo, Plan, Planned, plan_over, plan_whole}
-use Rattle.pod_runner.specs.Play.{play}
+use Rattle.pod_runner.specs.Play.{calls_made, play}
 use Rattle.pod_runner.specs.Run as run
-use Rattle.pod_runner.specs.Run.{GoesOn, IsBegun, IsPlanned, Played, Writes, WritesPart}
-use Rattle.pod_runner.specs.Session.{Setting}
-use Rattle.pod_runner.specs.Trace.{left_from, lines, tail_by, trace}
+use Rattle.pod_runner.specs.Run.{AppendsCut, GoesOn, IsBegun, IsPlanned, Played, Writes, WritesPart}
+use Rattle.pod_runner.specs.Session.{Made, Setting}
+use Rattle.pod_runner.specs.Trace.{left_from, lines, made_lines, tail, tail_by, trace}
 use Rattle.script_text.specs.Grammar.{Spells}
 use Rattle.script_text.specs.Limits.{IsSoFar}
 use Rattle.script_text.specs.Lines.{end_text}
@@ -28,8 +29,12 @@ use Rattle.script_text.specs.declared.reason.ReadErr.TheVariants as err
 use Rattle.script_text.specs.Script.{params_of, proc_names}
 use Rattle.script_text.specs.declared.script.Halt.{Halt}
 use Rattle.script_text.specs.declared.script.Script.{Script}
-use Rattle.std.proofs.Common.{Err, List, None, Ok, OnErr, Option, Result, Some, [], ap, append-nil, append_assoc, arith, length, length-take, refl, suc, sym, take, take_all, inr, zero, ℕ, ◌++◌, ◌+◌, ◌≤◌, ◌∙◌, ◌∷◌, ◌≡◌}
+use Rattle.std.proofs.Common.{Err, List, None, Ok, OnErr, Option, Result, Some, [], ap, append-nil, append_assoc, arith, length, length-append, length-take, refl, suc, sym, take, take_all, inr, zero, ℕ, ◌++◌, ◌+◌, ◌-◌, ◌≤◌, ◌∙◌, ◌∷◌, ◌≡◌}
 use Rattle.std.proofs.Math.Seq.{take-append-add, take-length}
+use Rattle.std.proofs.lemmas.List.{drop_all, take-append-le}
+use Rattle.std.proofs.lemmas.List.Concat.{flat_map-append}
+use Rattle.lwp_types.specs.declared.call.Line.{Line}
+use Rattle.pod_runner.specs.Session as Sessions
 
 -- ---- what is told
 
@@ -131,6 +136,48 @@ opening-trace r takes calls = rw (takes, calls) (no-lines (proc_names r.program)
 pub told-before : (r : Played Script) (old : Option (List ℕ)) → r.takes ≡ [] → r.calls ≡ 0 → old ≡ appended old (run.trace_of body_next bodies_of proc_names r)
 told-before r old takes calls = sym (ap (appended old) (opening-trace r takes calls) ∙ appended-nil old)
 
+-- ---- the lines of its first calls
+
+play-is : (script : Script) (turns : ℕ) (r : Played Script) → Plays script turns r → (n : ℕ) → play (run.setting_of body_next bodies_of r) r.takes n ≡ session_at script n
+play-is script turns r h n = ap (λ takes. play (run.setting_of body_next bodies_of r) takes n) h.takes ∙ ap (λ setting. play setting [] n) (setting-is script turns r h)
+
+lines-is : (script : Script) (turns : ℕ) (r : Played Script) → Plays script turns r → (n : ℕ) → run.trace_at body_next bodies_of proc_names r n ≡ lines_after script n
+unfolding lines_after
+lines-is script turns r h n =
+    ap (λ p. lines (proc_names p) (play (run.setting_of body_next bodies_of r) r.takes n).steps) h.program
+    ∙ ap (λ (s : Sessions.Session Body). lines (proc_names script) s.steps) (play-is script turns r h n)
+
+-- the lines of a call more are more
+steps-grow : (procs : List (List ℕ)) (steps more : List Made) → length (lines procs steps) ≤ length (lines procs (steps ++ more))
+steps-grow procs steps more = rw (flat_map-append (made_lines procs) steps more, length-append (lines procs steps) (lines procs more)) (omega arith)
+
+lines-grow : (script : Script) (n : ℕ) → length (lines_after script (n - 1)) ≤ length (lines_after script n)
+unfolding lines_after play
+lines-grow script zero = omega arith
+lines-grow script (suc n) = let back : suc n - 1 ≡ n = omega arith in rw back (steps-grow (proc_names script) (calls_made (setting_of script) n).steps _)
+
+due-of : (script : Script) (turns : ℕ) (r : Played Script) → Plays script turns r → IsDefined (run.setting_of body_next bodies_of r) r.takes r.calls → AreDue script r.calls
+due-of script turns r h due = rw (h.takes, setting-is script turns r h) at due
+
+-- memory was wanting
+pub stopped-of : (script : Script) (turns : ℕ) (r : Played Script) (old new : Option (List ℕ)) → Plays script turns r
+    → new ≡ appended old (run.trace_of body_next bodies_of proc_names r) → IsStopped script old new r.calls
+stopped-of script turns r old new h p = p ∙ ap (appended old) (lines-is script turns r h r.calls)
+
+-- a write of lines failed
+cut-more : (old new : Option (List ℕ)) (least bytes rest : List ℕ) → AppendsCut old new least bytes → AppendsCut old new least (bytes ++ rest)
+cut-more old new least bytes rest h = record {
+  kept = h.kept;
+  told = h.told ∙ ap (appended old) (sym (take-append-le h.kept bytes rest (omega (arith, h.not_all))));
+  some = h.some;
+  not_all = omega (arith, h.not_all, length-append bytes rest);
+}
+
+pub broken-of : (script : Script) (turns : ℕ) (r : Played Script) (old new : Option (List ℕ)) → Plays script turns r
+    → AppendsCut old new (run.trace_before body_next bodies_of proc_names r) (run.trace_of body_next bodies_of proc_names r) → IsBroken turns script old new r.calls
+broken-of script turns r old new h p = cut-more old new (lines_after script (r.calls - 1)) (lines_after script r.calls) (tail_after script turns r.calls)
+    (rw (← lines-is script turns r h (r.calls - 1), ← lines-is script turns r h r.calls) p)
+
 -- ---- the first part of the session
 
 plan-is : (script : Script) (turns : ℕ) → script.posts ≡ [] → plan_of script turns ≡ plan_whole (planned_of script turns) []
@@ -157,14 +204,14 @@ rest-of script turns r h so_far begun = let b = begun script.clients in (
 )
 
 pub part-of : (script : Script) (turns : ℕ) (r : Played Script) (old new : Option (List ℕ)) → Plays script turns r → IsSoFar script → IsBegun body_next bodies_of proc_names r
-    → AppendsPrefix old new (run.trace_of body_next bodies_of proc_names r) → IsPart turns script old new r.calls
-part-of script turns r old new h so_far begun p = let found = rest-of script turns r h so_far begun in
-    record { trace = prefix-more old new (run.trace_of body_next bodies_of proc_names r) found.0 (trace_of script turns) found.1 p; made = found.2 }
+    → IsDefined (run.setting_of body_next bodies_of r) r.takes r.calls → AppendsPrefix old new (run.trace_of body_next bodies_of proc_names r) → IsPart turns script old new r.calls
+part-of script turns r old new h so_far begun due p = let found = rest-of script turns r h so_far begun in
+    record { trace = prefix-more old new (run.trace_of body_next bodies_of proc_names r) found.0 (trace_of script turns) found.1 p; made = found.2; due = due-of script turns r h due }
 
 pub part-all : (script : Script) (turns : ℕ) (r : Played Script) (old new : Option (List ℕ)) → Plays script turns r → IsSoFar script → IsBegun body_next bodies_of proc_names r
-    → new ≡ appended old (run.trace_of body_next bodies_of proc_names r) → IsPart turns script old new r.calls
-part-all script turns r old new h so_far begun p =
-    part-of script turns r old new h so_far begun (prefix-all old new (run.trace_of body_next bodies_of proc_names r) p)
+    → IsDefined (run.setting_of body_next bodies_of r) r.takes r.calls → new ≡ appended old (run.trace_of body_next bodies_of proc_names r) → IsPart turns script old new r.calls
+part-all script turns r old new h so_far begun due p =
+    part-of script turns r old new h so_far begun due (prefix-all old new (run.trace_of body_next bodies_of proc_names r) p)
 
 -- ---- the session to its end
 
@@ -188,9 +235,9 @@ end-trace script turns r halt h so_far planned =
     ∙ ap (λ p. lines (proc_names p) (run.session_of body_next bodies_of r).steps ++ end_text turns [] halt) (sym h.program)
 
 pub whole-of : (script : Script) (turns : ℕ) (r : Played Script) (halt : Halt) (old mid new : Option (List ℕ)) (last : List ℕ) → Plays script turns r → IsSoFar script → IsPlanned body_next bodies_of r halt
-    → mid ≡ appended old (run.trace_of body_next bodies_of proc_names r) → last ≡ end_text turns [] halt → new ≡ appended mid last → IsWhole turns script old new r.calls halt
+    → IsDefined (run.setting_of body_next bodies_of r) r.takes r.calls → mid ≡ appended old (run.trace_of body_next bodies_of proc_names r) → last ≡ end_text turns [] halt → new ≡ appended mid last → IsWhole turns script old new r.calls halt
 unfolding halt_of calls_of takes_of
-whole-of script turns r halt old mid new last h so_far planned g e n =
+whole-of script turns r halt old mid new last h so_far planned due g e n =
     let comes = comes-of script turns r halt h planned in
     let plan : plan_of script turns ≡ run.plan_now body_next bodies_of r = plan-is script turns so_far.no_posts ∙ comes.whole in
     record {
@@ -198,18 +245,50 @@ whole-of script turns r halt old mid new last h so_far planned g e n =
           ∙ ap (appended old) (ap (λ xs. run.trace_of body_next bodies_of proc_names r ++ xs) e ∙ sym (end-trace script turns r halt h so_far planned));
       halted = ap (plan_over (planned_of script turns)) plan ∙ comes.halted;
       made = sym (ap (λ (p : Plan Body). p.calls) plan);
+      due = due-of script turns r h due;
       takes = ap (λ (p : Plan Body). p.takes) plan;
     }
 
 -- the last write failed
 pub part-last : (script : Script) (turns : ℕ) (r : Played Script) (halt : Halt) (old mid new : Option (List ℕ)) (last : List ℕ) → Plays script turns r → IsSoFar script
-    → IsBegun body_next bodies_of proc_names r → IsPlanned body_next bodies_of r halt
-    → mid ≡ appended old (run.trace_of body_next bodies_of proc_names r) → last ≡ end_text turns [] halt → AppendsPrefix mid new last → IsPart turns script old new r.calls
-part-last script turns r halt old mid new last h so_far begun planned g e p = record {
+    → IsBegun body_next bodies_of proc_names r → IsPlanned body_next bodies_of r halt → IsDefined (run.setting_of body_next bodies_of r) r.takes r.calls
+    → mid ≡ appended old (run.trace_of body_next bodies_of proc_names r) → last ≡ end_text turns [] halt → AppendsCut mid new [] last → IsPart turns script old new r.calls
+part-last script turns r halt old mid new last h so_far begun planned due g e p = record {
   trace = prefix-then old mid new (run.trace_of body_next bodies_of proc_names r) last (trace_of script turns)
-      (end-trace script turns r halt h so_far planned ∙ ap (λ xs. run.trace_of body_next bodies_of proc_names r ++ xs) (sym e)) g p;
+      (end-trace script turns r halt h so_far planned ∙ ap (λ xs. run.trace_of body_next bodies_of proc_names r ++ xs) (sym e)) g (p.kept, p.told);
   made = (rest-of script turns r h so_far begun).2;
+  due = due-of script turns r h due;
 }
+
+-- where the run is, the session of the script is after as many calls
+now-is : (script : Script) (turns : ℕ) (r : Played Script) → Plays script turns r → IsSoFar script
+    → run.plan_now body_next bodies_of r ≡ record { session = session_at script r.calls; calls = r.calls; left = script.posts; takes = [] }
+now-is script turns r h so_far =
+    ap (λ session. the_plan session []) (play-is script turns r h r.calls) ∙ ap (λ posts. the_plan (session_at script r.calls) posts) (sym so_far.no_posts)
+  where
+    the_plan : Sessions.Session Body → List Line → Plan Body
+    the_plan session posts = record { session = session; calls = r.calls; left = posts; takes = [] }
+
+-- it broke off behind the lines of its last call
+cut-then : (old mid new : Option (List ℕ)) (least bytes rest : List ℕ) → length least ≤ length bytes → mid ≡ appended old bytes → AppendsCut mid new [] rest → AppendsCut old new least (bytes ++ rest)
+cut-then old mid new least bytes rest h g p = record {
+  kept = length bytes + p.kept;
+  told = p.told ∙ ap (λ w. appended w (take p.kept rest)) g ∙ appended-append old bytes (take p.kept rest) ∙ ap (appended old) (sym (take-append-add bytes rest p.kept));
+  some = omega (arith, h);
+  not_all = omega (arith, p.not_all, length-append bytes rest);
+}
+
+pub broken-last : (script : Script) (turns : ℕ) (r : Played Script) (halt : Halt) (old mid new : Option (List ℕ)) (last : List ℕ) → Plays script turns r → IsSoFar script
+    → IsPlanned body_next bodies_of r halt
+    → mid ≡ appended old (run.trace_of body_next bodies_of proc_names r) → last ≡ end_text turns [] halt → AppendsCut mid new [] last → IsBroken turns script old new r.calls
+unfolding tail_after
+broken-last script turns r halt old mid new last h so_far planned g e p =
+    let tailed : tail_after script turns r.calls ≡ last =
+    ap (tail (planned_of script turns)) (sym (now-is script turns r h so_far))
+    ∙ ap (tail_by turns script.clients []) (comes-of script turns r halt h planned).halted
+    ∙ ap (λ clients. end_text turns (left_from 0 clients []) halt) so_far.no_clients
+    ∙ sym e in
+    rw tailed (cut-then old mid new (lines_after script (r.calls - 1)) (lines_after script r.calls) last (lines-grow script r.calls) (rw (← lines-is script turns r h r.calls) g) p)
 
 -- ---- what was read
 
@@ -224,6 +303,28 @@ holds-of (Some told) bytes script read spells = rw (sym (short-read told (rw (sy
 pub holds-none : (left : Option (List ℕ)) (bytes : List ℕ) → HasRead left bytes → ((script : Script) → Spells bytes script → ⊥) → HoldsNone left
 holds-none None bytes read none = tt
 holds-none (Some told) bytes read none = λ script spells. none script (rw (read, take_all 16777217 told (omega (arith, spells.1.short))) spells)
+
+-- what is a script was read to its end
+out-of : (source : Stream) (script : Script) → Holds source.old script → IsReadUp source.old source.new → IsReadOut source.old source.new
+out-of source script h up = by_told source.old h up
+  where
+    by_told : (old : Option (List ℕ)) → Holds old script → IsReadUp old source.new → IsReadOut old source.new
+    by_told None h up = up
+    by_told (Some told) h up = up ∙ ap (λ xs. Some xs) (drop_all 16777217 told (omega (arith, h.1.short)))
+
+part-of-up : (old new : Option (List ℕ)) → IsReadUp old new → IsReadPart old new
+part-of-up old new up = (16777217, omega arith, up)
+
+pub read-of : (turns : ℕ) (source sink : Stream) (session : Session) (script : Script) (e : SessionEnd) → Holds source.old script → IsReadUp source.old source.new
+    → RunSays turns script sink session e → ReadSays source e
+read-of turns source sink session script (end.Ended status) h up s = out-of source script h up
+read-of turns source sink session script end.Stuck h up s = out-of source script h up
+read-of turns source sink session script end.Spent h up s = out-of source script h up
+read-of turns source sink session script end.WriteFault h up s = out-of source script h up
+read-of turns source sink session script end.NoMemory h up s = part-of-up source.old source.new up
+read-of turns source sink session script end.Usage h up s = s
+read-of turns source sink session script end.ReadFault h up s = absurd s
+read-of turns source sink session script (end.Script line reason) h up s = absurd s
 
 -- bad bytes are read as no script
 pub bad-none : (bytes : List ℕ) (e : ReadErr) (line : ℕ) (why : Reason) → e ≡ err.Bad line why → ((script : Script) → Spells bytes script → IsReadAs script (Err e))

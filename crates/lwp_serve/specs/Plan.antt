@@ -1,6 +1,7 @@
 -- What `plan` comes to, with all that it meets outside.
 use Rattle.lwp_serve.specs.Outcome.{end_of, status_of}
-use Rattle.lwp_serve.specs.Planned.{calls_of, halt_of, takes_of, trace_of}
+use Rattle.lwp_serve.specs.Planned.{calls_of, halt_of, planned_of, setting_of, takes_of, trace_of}
+use Rattle.lwp_serve.specs.Reading.{IsReadOut, IsReadPart, IsReadUp}
 use Rattle.lwp_serve.specs.declared.session.Session.{Session}
 use Rattle.lwp_serve.specs.declared.session.SessionEnd.{SessionEnd}
 use Rattle.lwp_serve.specs.declared.session.SessionEnd.TheVariants as end
@@ -11,9 +12,14 @@ use Rattle.script_text.specs.declared.reason.Reason.TheVariants as reasons
 use Rattle.script_text.specs.declared.script.Halt.{Halt}
 use Rattle.script_text.specs.declared.script.Script.{Script}
 use Rattle.lwp_types.specs.Names.{Names, null_names}
-use Rattle.pod_runner.specs.Run.{Played}
-use Rattle.script_text.specs.Script.{params_of}
-use Rattle.std.specs.Prelude.{List, Option, None, Some, [], false, length, ℕ, ◌≡◌, ◌≤◌, ◌⊎◌}
+use Rattle.lwp_serve.specs.Bodies.{Body}
+use Rattle.pod_runner.specs.Due.{IsDefined}
+use Rattle.pod_runner.specs.Play.{play}
+use Rattle.pod_runner.specs.Run.{AppendsCut, Played}
+use Rattle.pod_runner.specs.Session as Sessions
+use Rattle.pod_runner.specs.Trace.{lines, tail}
+use Rattle.script_text.specs.Script.{params_of, proc_names}
+use Rattle.std.specs.Prelude.{List, Option, None, Some, [], false, length, ℕ, ◌++◌, ◌-◌, ◌≡◌, ◌≤◌, ◌⊎◌}
 
 -- a source or a sink before and after: what it tells, and its count of faults
 pub record Stream : Type 0 where
@@ -44,18 +50,45 @@ abbrev pub HoldsNone : Option (List ℕ) → Type 0
 HoldsNone None = Unit {0}
 HoldsNone (Some told) = (script : Script) → Spells told script → ⊥
 
+-- the session of a script after its first calls, with no line taken
+abbrev pub session_at : Script → ℕ → Sessions.Session Body
+session_at script n = play (setting_of script) [] n
+
+-- each of these calls was due: somebody's turn had come, and the pod had not ended
+abbrev pub AreDue : Script → ℕ → Type 0
+AreDue script n = IsDefined (setting_of script) [] n
+
+-- the lines of the first calls
+unfoldable pub lines_after : Script → ℕ → List ℕ
+lines_after script n = lines (proc_names script) (session_at script n).steps
+
+-- what stands behind these lines, if the session is over by then; else nothing
+unfoldable pub tail_after : Script → ℕ → ℕ → List ℕ
+tail_after script turns n = tail (planned_of script turns) (record { session = session_at script n; calls = n; left = script.posts; takes = [] })
+
 -- what was told before and is told now: the session of a script, to its end; its whole trace was written, so many calls were made,
--- and no line was there to be taken
+-- each of them was due, and no line was there to be taken
 pub record IsWhole (turns : ℕ) (script : Script) (old new : Option (List ℕ)) (calls : ℕ) (halt : Halt) : Type 0 where
   pub trace : new ≡ appended old (trace_of script turns)
   pub halted : halt_of script turns ≡ Some halt
   pub made : calls ≡ calls_of script turns
+  pub due : AreDue script calls
   pub takes : takes_of script turns ≡ []
 
--- the first part of it: the first bytes of its trace were written, and no more calls were made than it makes
+-- the first part of it: the first bytes of its trace were written, no more calls were made than it makes, and each was due
 pub record IsPart (turns : ℕ) (script : Script) (old new : Option (List ℕ)) (calls : ℕ) : Type 0 where
   pub trace : AppendsPrefix old new (trace_of script turns)
   pub made : calls ≤ calls_of script turns
+  pub due : AreDue script calls
+
+-- it stopped between two calls: what was written are the lines of the calls made
+abbrev pub IsStopped : Script → Option (List ℕ) → Option (List ℕ) → ℕ → Type 0
+IsStopped script old new calls = new ≡ appended old (lines_after script calls)
+
+-- it broke off in a write: the lines of all calls but the last were written, and not all that the last call brought: its lines and,
+-- where the session is over by then, the tail
+abbrev pub IsBroken : ℕ → Script → Option (List ℕ) → Option (List ℕ) → ℕ → Type 0
+IsBroken turns script old new calls = AppendsCut old new (lines_after script (calls - 1)) (lines_after script calls ++ tail_after script turns calls)
 
 -- it ended before a script was read
 pub record IsUnread (sink : Stream) (session : Session) : Type 0 where
@@ -67,17 +100,22 @@ abbrev pub IsRun : ℕ → Script → Stream → Session → Type 0
 IsRun turns script sink session =
     IsFaultless sink × ((halt : Halt) × (session.end ≡ end_of halt) × IsWhole turns script sink.old sink.new session.turns halt)
 
--- a session as far as it came
-abbrev pub IsRunPart : ℕ → Script → Stream → Session → Type 0
-IsRunPart turns script sink session = IsPart turns script sink.old sink.new session.turns
+-- a session as far as it came, where a write failed
+abbrev pub IsRunBroken : ℕ → Script → Stream → Session → Type 0
+IsRunBroken turns script sink session =
+    IsPart turns script sink.old sink.new session.turns × IsBroken turns script sink.old sink.new session.turns
+
+-- a session as far as it came, where memory was wanting
+abbrev pub IsRunStopped : ℕ → Script → Stream → Session → Type 0
+IsRunStopped turns script sink session = IsPart turns script sink.old sink.new session.turns × IsStopped script sink.old sink.new session.turns
 
 -- what each end says of the session of a script that was read
 abbrev pub RunSays : ℕ → Script → Stream → Session → SessionEnd → Type 0
 RunSays turns script sink session (end.Ended status) = IsRun turns script sink session
 RunSays turns script sink session end.Stuck = IsRun turns script sink session
 RunSays turns script sink session end.Spent = IsRun turns script sink session
-RunSays turns script sink session end.WriteFault = IsFaulty sink × IsRunPart turns script sink session
-RunSays turns script sink session end.NoMemory = IsFaultless sink × (IsUnread sink session ⊎ IsRunPart turns script sink session)
+RunSays turns script sink session end.WriteFault = IsFaulty sink × IsRunBroken turns script sink session
+RunSays turns script sink session end.NoMemory = IsFaultless sink × (IsUnread sink session ⊎ IsRunStopped turns script sink session)
 RunSays turns script sink session _ = ⊥
 
 -- the same, where that script is the one that the source held
@@ -97,6 +135,15 @@ EndSays turns source sink session end.NoMemory =
     IsFaultless source × IsUnread sink session ⊎ SourceSays source (λ script. RunSays turns script sink session end.NoMemory)
 EndSays turns source sink session e = SourceSays source (λ script. RunSays turns script sink session e)
 
+-- how far each end has read the source: to its end for a script that was run; for bytes that are none, to their end too, unless they
+-- are too many; and never further than one byte past what a script may have
+abbrev pub ReadSays : Stream → SessionEnd → Type 0
+ReadSays source end.Usage = ⊥
+ReadSays source end.ReadFault = IsReadPart source.old source.new
+ReadSays source end.NoMemory = IsReadPart source.old source.new
+ReadSays source (end.Script line reason) = IsReadUp source.old source.new
+ReadSays source e = IsReadOut source.old source.new
+
 -- what a session says of a script that was read
 pub record IsPlayed (turns : ℕ) (script : Script) (sink : Stream) (session : Session) : Type 0 where
   pub status : session.status ≡ status_of session.end
@@ -107,6 +154,7 @@ pub record IsPlayed (turns : ℕ) (script : Script) (sink : Stream) (session : S
 pub record IsPlan (turns : ℕ) (source sink : Stream) (session : Session) : Type 0 where
   pub status : session.status ≡ status_of session.end
   pub taken : session.taken ≡ []
+  pub read : ReadSays source session.end
   pub says : EndSays turns source sink session session.end
 
 -- ---- a run of a script before its first call

@@ -1,27 +1,51 @@
 // What the program does, by its words.
-ghost use Rattle.std.specs.Prelude.{◌≡◌, map, string_bytes};
-ghost use Rattle.lwp_serve.specs.Words.{TopSays, command_of};
+ghost use Rattle.std.specs.Prelude.{◌≡◌, ◌≤◌, IfSome, map, string_bytes};
+ghost use Rattle.lwp_serve.specs.Words.{TopSays, command_of, is_plan, turns_of};
 
 use crate::plan::plan_main;
 use crate::session::{Session, SessionEnd};
 use lwp_types::{Sink, Source};
+use script_text::number_at;
 use std::alloc::Global;
 
-// How many calls a plan allows.
+// How many calls a plan allows, where nobody says so.
 const PLAN_TURNS: u64 = 100_000;
+
+// The most calls that a plan may allow.
+const MOST_TURNS: u64 = 1_000_000;
+
+fn is_plan(word: &[u8]) -> bool
+    ensures { result ≡ is_plan word.now }
+{
+    word == b"plan".as_slice()
+}
+
+// The calls allowed, where a word says so.
+fn turns_of(word: &[u8]) -> Option<u64>
+    ensures { result ≡ turns_of word.now }
+{
+    let turns = u64::from(number_at(word)?);
+    if turns == 0 || turns > MOST_TURNS {
+        return None;
+    }
+    Some(turns)
+}
 
 // The calls allowed, if the words are a command.
 fn command_of(words: &Vec<String>) -> Option<u64>
-    ensures { result ≡ command_of (map string_bytes words.now.items) }
+    ensures value { result ≡ command_of (map string_bytes words.now.items) }
+    ensures least { IfSome result (λ turns. 1 ≤ turns) }
+    ensures most { IfSome result (λ turns. turns ≤ 1000000) }
 {
     match words.as_slice() {
-        [word] if word.as_bytes() == b"plan".as_slice() => Some(PLAN_TURNS),
+        [word] if is_plan(word.as_bytes()) => Some(PLAN_TURNS),
+        [word, turns] if is_plan(word.as_bytes()) => turns_of(turns.as_bytes()),
         _ => None,
     }
 }
 
-/// A session by the program's words, which stand behind its name. The one word `plan` is a command: it allows 100,000 calls.
-/// Where the words are none, nothing is read or written.
+/// A session by the program's words, which stand behind its name. The command is `plan`, which allows 100,000 calls, or `plan
+/// TURNS`, which allows as many as this number says, 1 to 1,000,000. Other words are no command: nothing is read or written then.
 pub fn top<S: Source, K: Sink>(
     alloc: Global,
     words: &Vec<String>,

@@ -2,7 +2,7 @@
 ghost use Rattle.std.specs.Prelude.{◌≡◌, ◌≤◌, IfOk, OnOk, OnErr, IsErrOf};
 ghost use Rattle.lwp_types.specs.Streams.{Rose};
 ghost use Rattle.script_text.specs.Limits.{IsSoFar, IsWithinLimits};
-ghost use Rattle.lwp_serve.specs.Plan.{IsPart, IsPlan, IsPlayed, IsWhole, opening_run};
+ghost use Rattle.lwp_serve.specs.Plan.{IsBroken, IsPart, IsPlan, IsPlayed, IsStopped, IsWhole, opening_run};
 
 use crate::body::ThreadBody;
 use crate::program::ScriptProgram;
@@ -47,6 +47,8 @@ fn run_out<'s, K: Sink>(
     requires so_far { IsSoFar played.old.program }
     ensures whole { IfOk result (λ halt. IsWhole turns played.old.program (K.written sink.old) (K.written sink.new) played.new.calls halt) }
     ensures part { OnErr result (IsPart turns played.old.program (K.written sink.old) (K.written sink.new) played.new.calls) }
+    ensures stopped { IsErrOf result RunErr.NoMemory → IsStopped played.old.program (K.written sink.old) (K.written sink.new) played.new.calls }
+    ensures broken { IsErrOf result RunErr.WriteFault → IsBroken turns played.old.program (K.written sink.old) (K.written sink.new) played.new.calls }
     ensures faults { OnOk result (K.faults sink.new ≡ K.faults sink.old) }
     ensures cause { IsErrOf result RunErr.WriteFault → Rose (K.faults sink.old) (K.faults sink.new) }
     ensures memory { IsErrOf result RunErr.NoMemory → K.faults sink.new ≡ K.faults sink.old }

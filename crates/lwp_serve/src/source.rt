@@ -1,7 +1,8 @@
 // Reading all of a source, as far as a script may be long.
-ghost use Rattle.std.specs.Prelude.{◌≡◌, IfOk, IsErrOf};
+ghost use Rattle.std.specs.Prelude.{◌≡◌, IfOk, OnOk, OnErr, IsErrOf};
 ghost use Rattle.lwp_types.specs.Streams.{Rose};
 ghost use Rattle.lwp_serve.specs.Outcome.{HasRead};
+ghost use Rattle.lwp_serve.specs.Reading.{IsReadPart, IsReadUp};
 
 use lwp_types::{Failed, NoMemory, Source};
 use std::alloc::{AllocError, Global};
@@ -41,9 +42,11 @@ impl From<AllocError> for ReadFailure {
     }
 }
 
-/// Reads to the end, or one byte past what a script may have.
+/// Reads to the end, or one byte past what a script may have, and no further.
 pub fn read_all<S: Source>(alloc: Global, source: &mut S) -> Result<Vec<u8>, ReadFailure>
     ensures read { IfOk result (λ bytes. HasRead (S.left source.old) bytes.items) }
+    ensures up { OnOk result (IsReadUp (S.left source.old) (S.left source.new)) }
+    ensures part { OnErr result (IsReadPart (S.left source.old) (S.left source.new)) }
     ensures same { IfOk result (λ bytes. S.faults source.new ≡ S.faults source.old) }
     ensures fault { IsErrOf result ReadFailure.Fault → Rose (S.faults source.old) (S.faults source.new) }
     ensures memory { IsErrOf result ReadFailure.NoMemory → S.faults source.new ≡ S.faults source.old }

@@ -116,6 +116,11 @@ fn a_read_that_fails_leaves_all_unwritten(rt: HostRuntime) -> Result<(), Fail> {
     Ok(())
 }
 
+// How many calls were made, where so many bytes of the trace were written and no more: the calls end at bytes 30, 52, 71 and 101.
+fn calls_by(written: usize) -> u64 {
+    1 + u64::from(written >= 30) + u64::from(written >= 52) + u64::from(written >= 71)
+}
+
 #[test]
 fn a_write_that_fails_leaves_a_first_part(rt: HostRuntime) -> Result<(), Fail> {
     let alloc = rt.alloc();
@@ -134,6 +139,7 @@ fn a_write_that_fails_leaves_a_first_part(rt: HostRuntime) -> Result<(), Fail> {
             return Ok(());
         }
         assert_eq!(rt; outcome.status, 102);
+        assert_eq!(rt; outcome.turns, calls_by(outcome.written.len()));
         assert!(rt; TRACE.starts_with(outcome.written.as_slice()));
         assert!(rt; outcome.written.len() < TRACE.len());
     }
@@ -159,12 +165,27 @@ fn status_of_words(alloc: Global, words: &[&str]) -> Result<u8, NoMemory> {
 }
 
 #[test]
-fn plan_alone_is_a_command(rt: HostRuntime) -> Result<(), Fail> {
+fn the_words_are_plan_and_how_many_calls(rt: HostRuntime) -> Result<(), Fail> {
     let alloc = rt.alloc();
-    assert_eq!(rt; status_of_words(alloc, &["plan"])?, 0);
-    assert_eq!(rt; status_of_words(alloc, &[])?, 100);
-    assert_eq!(rt; status_of_words(alloc, &["run"])?, 100);
-    assert_eq!(rt; status_of_words(alloc, &["plan", "7"])?, 100);
+    // The script makes 4 calls.
+    for (words, status) in [
+        (["plan"].as_slice(), 0),
+        (&["plan", "1"], 105),
+        (&["plan", "3"], 105),
+        (&["plan", "4"], 0),
+        (&["plan", "1000000"], 0),
+        (&["plan", "1000001"], 100),
+        (&["plan", "4294967300"], 100),
+        (&["plan", "0"], 100),
+        (&["plan", "04"], 100),
+        (&["plan", "+4"], 100),
+        (&["plan", ""], 100),
+        (&["plan", "4", "4"], 100),
+        (&["run"], 100),
+        (&[], 100),
+    ] {
+        assert_eq!(rt; status_of_words(alloc, words)?, status);
+    }
     Ok(())
 }
 

@@ -1,7 +1,7 @@
 -- Appending to what is told.
-use Rattle.std.proofs.Common.{◌≡◌, ℕ, ◌+◌, ◌-◌, length-drop, List, [], ◌++◌, length, take, drop, None, Some, ap, ◌∙◌, sym, refl, append_assoc, append-nil}
+use Rattle.std.proofs.Common.{◌≡◌, ℕ, ◌+◌, ◌-◌, arith, length-append, length-drop, List, [], ◌++◌, length, take, drop, None, Some, ap, ◌∙◌, sym, refl, append_assoc, append-nil}
 use Rattle.std.proofs.Math.Seq.{take-add, take-append-add, take-length}
-use Rattle.pod_runner.specs.Run.{Writes, WritesPart}
+use Rattle.pod_runner.specs.Run.{AppendsCut, Writes, WritesCut, WritesPart}
 use Rattle.std.specs.Prelude.{Option, Result, OnErr, Ok, Err}
 use Rattle.lwp_types.specs.Streams.{appended, AppendsPrefix}
 
@@ -36,6 +36,19 @@ writes_on old new before out after e h base g = h ∙ rw (g, e) (appended-append
 pub part_on : (old new : Option (List ℕ)) (before out after : List ℕ) → after ≡ before ++ out → AppendsPrefix old new out → WritesPart old new before after
 part_on old new before out after e h base g =
     (length before + h.0, h.1 ∙ rw (g, e, take-append-add before out h.0) (appended-append base before (take h.0 out)))
+
+-- some bytes are missing: what was written is the first part all the same
+pub prefix_cut : (old new : Option (List ℕ)) (least bytes : List ℕ) → AppendsCut old new least bytes → AppendsPrefix old new bytes
+prefix_cut old new least bytes h = (h.kept, h.told)
+
+-- the same behind what stood there before
+pub cut_on : (old new : Option (List ℕ)) (before out after : List ℕ) → after ≡ before ++ out → AppendsCut old new [] out → WritesCut old new before before after
+cut_on old new before out after e h base g = record {
+  kept = length before + h.kept;
+  told = h.told ∙ rw (g, e, take-append-add before out h.kept) (appended-append base before (take h.kept out));
+  some = omega arith;
+  not_all = rw e (omega (arith, length-append before out, h.not_all));
+}
 
 pub writes_same : (w : Option (List ℕ)) (t : List ℕ) → Writes w w t t
 writes_same w t base h = h

@@ -11,7 +11,7 @@ use Rattle.pod_runner.specs.Trace.{lines, trace}
 use Rattle.pod_runner.specs.declared.phase.Phase.{Phase}
 use Rattle.pod_runner.specs.declared.session.Took.{Took}
 use Rattle.script_text.specs.declared.script.Halt.{Halt}
-use Rattle.std.specs.Prelude.{Bool, List, Option, [], length, ℕ, ◌++◌, ◌≡◌, ◌≤◌}
+use Rattle.std.specs.Prelude.{Bool, List, Option, [], length, take, ℕ, ◌++◌, ◌-◌, ◌<◌, ◌≡◌, ◌≤◌}
 
 -- a run: what it plays, and how far it is
 pub record Played (P : Type 0) : Type 0 where
@@ -35,9 +35,17 @@ setting_of next bodies run = record { next = next; bodies = bodies run.program; 
 abbrev pub session_of : {B P : Type 0} → Next B → (P → List B) → Played P → Session B
 session_of next bodies run = play (setting_of next bodies run) run.takes run.calls
 
+-- the lines of its steps up to this call
+abbrev pub trace_at : {B P : Type 0} → Next B → (P → List B) → (P → List (List ℕ)) → Played P → ℕ → List ℕ
+trace_at next bodies proc_names run n = lines (proc_names run.program) (play (setting_of next bodies run) run.takes n).steps
+
 -- the lines of its steps so far
 abbrev pub trace_of : {B P : Type 0} → Next B → (P → List B) → (P → List (List ℕ)) → Played P → List ℕ
-trace_of next bodies proc_names run = lines (proc_names run.program) (session_of next bodies run).steps
+trace_of next bodies proc_names run = trace_at next bodies proc_names run run.calls
+
+-- the same, without the lines of its last call
+abbrev pub trace_before : {B P : Type 0} → Next B → (P → List B) → (P → List (List ℕ)) → Played P → List ℕ
+trace_before next bodies proc_names run = trace_at next bodies proc_names run (run.calls - 1)
 
 -- where it stands
 abbrev pub phase_now : {B P : Type 0} → Next B → (P → List B) → Played P → Phase
@@ -62,6 +70,17 @@ Writes old new before after = (base : Option (List ℕ)) → old ≡ appended ba
 -- the same, but only as far as some prefix of the longer one
 abbrev pub WritesPart : Option (List ℕ) → Option (List ℕ) → List ℕ → List ℕ → Type 0
 WritesPart old new before after = (base : Option (List ℕ)) → old ≡ appended base before → AppendsPrefix base new after
+
+-- what is told, with the first of these bytes at its end: as many as `least` has, or more, and not all
+pub record AppendsCut (old new : Option (List ℕ)) (least bytes : List ℕ) : Type 0 where
+  pub kept : ℕ
+  pub told : new ≡ appended old (take kept bytes)
+  pub some : length least ≤ kept
+  pub not_all : kept < length bytes
+
+-- what is told goes from a trace to a longer one that is cut off, behind all of `least`
+abbrev pub WritesCut : Option (List ℕ) → Option (List ℕ) → List ℕ → List ℕ → List ℕ → Type 0
+WritesCut old new before least after = (base : Option (List ℕ)) → old ≡ appended base before → AppendsCut base new least after
 
 -- the same run, further on
 pub record GoesOn {P : Type 0} (old new : Played P) : Type 0 where

@@ -4,7 +4,7 @@ ghost use Rattle.lwp_types.specs.Streams.{Rose};
 ghost use Rattle.pod_runner.specs.Built.{AllBuilt};
 ghost use Rattle.pod_runner.specs.Due.{IsDefined};
 ghost use Rattle.pod_runner.specs.Phase.{phase_of_halt};
-ghost use Rattle.pod_runner.specs.Run.{setting_of, phase_now, trace_of, IsBegun, IsPlanned, Writes, WritesPart, GoesOn};
+ghost use Rattle.pod_runner.specs.Run.{setting_of, phase_now, trace_before, trace_of, IsBegun, IsPlanned, Writes, WritesCut, WritesPart, GoesOn};
 
 use crate::playing::Run;
 use crate::{Phase, RunErr};
@@ -12,6 +12,8 @@ use lwp_types::{Body, Program, Sink};
 use script_text::Halt;
 
 /// Makes calls until the end. A run that has taken no line plays the session planned without lines, whoever the clients are.
+/// Where it fails, the lines of all calls that it counts are written, but for the last ones of the last call after a write that
+/// failed.
 pub fn run<B: Body, P: Program<B>, K: Sink>(
     run: &mut Run<B, P>,
     sink: &mut K,
@@ -25,6 +27,8 @@ pub fn run<B: Body, P: Program<B>, K: Sink>(
     ensures calls { run.new.calls ≤ run.old.turns }
     ensures whole { OnOk result (Writes (K.written sink.old) (K.written sink.new) (trace_of B.next P.bodies P.proc_names run.old) (trace_of B.next P.bodies P.proc_names run.new)) }
     ensures part { OnErr result (WritesPart (K.written sink.old) (K.written sink.new) (trace_of B.next P.bodies P.proc_names run.old) (trace_of B.next P.bodies P.proc_names run.new)) }
+    ensures stopped { IsErrOf result RunErr.NoMemory → Writes (K.written sink.old) (K.written sink.new) (trace_of B.next P.bodies P.proc_names run.old) (trace_of B.next P.bodies P.proc_names run.new) }
+    ensures cut { IsErrOf result RunErr.WriteFault → WritesCut (K.written sink.old) (K.written sink.new) (trace_of B.next P.bodies P.proc_names run.old) (trace_before B.next P.bodies P.proc_names run.new) (trace_of B.next P.bodies P.proc_names run.new) }
     ensures halt { IfOk result (λ halt. phase_now B.next P.bodies run.new ≡ phase_of_halt halt) }
     ensures planned { run.old.takes ≡ [] → IfOk result (IsPlanned B.next P.bodies run.new) }
     ensures begun { run.old.takes ≡ [] → IsBegun B.next P.bodies P.proc_names run.new }

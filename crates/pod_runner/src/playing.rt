@@ -3,7 +3,7 @@ ghost use Rattle.std.specs.Prelude.{◌≡◌, ◌≤◌, ◌<◌, ◌^◌, ◌+
 ghost use Rattle.lwp_types.specs.Streams.{Rose};
 ghost use Rattle.pod_runner.specs.Built.{AllBuilt};
 ghost use Rattle.pod_runner.specs.Due.{IsDefined};
-ghost use Rattle.pod_runner.specs.Run.{setting_of, phase_now, trace_of, names_like, Writes, WritesPart, GoesOn};
+ghost use Rattle.pod_runner.specs.Run.{setting_of, phase_now, trace_of, names_like, Writes, WritesCut, WritesPart, GoesOn};
 ghost use Rattle.pod_runner.specs.declared.phase.Phase.TheVariants as phase;
 
 use crate::parts::Parts;
@@ -125,7 +125,8 @@ impl<B: Body, P: Program<B>> Run<B, P> {
         self.parts.phase(self.turns, self.calls)
     }
 
-    /// One call, and its lines. After an error the run has failed.
+    /// One call, and its lines. After an error the run has failed: a call whose lines could not all be written is counted, a call
+    /// for which memory was wanting isn't, and none of its lines is written.
     pub fn turn<K: Sink>(&mut self, sink: &mut K) -> Result<(), RunErr>
         requires sound { self.old.failed ≡ false }
         requires due { phase_now B.next P.bodies self.old ≡ phase.Turn }
@@ -134,6 +135,9 @@ impl<B: Body, P: Program<B>> Run<B, P> {
         ensures takes { self.new.takes ≡ self.old.takes }
         ensures calls { OnOk result ((self.new.calls ≡ self.old.calls + 1) × (self.new.failed ≡ false)) }
         ensures failed { OnErr result ((self.old.calls ≤ self.new.calls) × (self.new.calls ≤ self.old.calls + 1) × (self.new.failed ≡ true)) }
+        ensures uncounted { IsErrOf result RunErr.NoMemory → (self.new.calls ≡ self.old.calls) × (K.written sink.new ≡ K.written sink.old) }
+        ensures counted { IsErrOf result RunErr.WriteFault → self.new.calls ≡ self.old.calls + 1 }
+        ensures cut { IsErrOf result RunErr.WriteFault → WritesCut (K.written sink.old) (K.written sink.new) (trace_of B.next P.bodies P.proc_names self.old) (trace_of B.next P.bodies P.proc_names self.old) (trace_of B.next P.bodies P.proc_names self.new) }
         ensures whole { OnOk result (Writes (K.written sink.old) (K.written sink.new) (trace_of B.next P.bodies P.proc_names self.old) (trace_of B.next P.bodies P.proc_names self.new)) }
         ensures part { OnErr result (WritesPart (K.written sink.old) (K.written sink.new) (trace_of B.next P.bodies P.proc_names self.old) (trace_of B.next P.bodies P.proc_names self.new)) }
         ensures made { IsDefined (setting_of B.next P.bodies self.old) self.old.takes self.old.calls → IsDefined (setting_of B.next P.bodies self.new) self.new.takes self.new.calls }

@@ -1,16 +1,17 @@
 // Writing.
-ghost use Rattle.std.specs.Prelude.{◌≡◌, ◌++◌, IfOk, OnOk, OnErr, option_copied};
-ghost use Rattle.lwp_types.specs.Streams.{appended, AppendsPrefix, HasCause};
+ghost use Rattle.std.specs.Prelude.{◌≡◌, ◌++◌, [], IfOk, OnOk, OnErr, option_copied};
+ghost use Rattle.lwp_types.specs.Streams.{appended, HasCause};
+ghost use Rattle.pod_runner.specs.Run.{AppendsCut};
 ghost use Rattle.script_text.specs.Lines.{step_lines};
 
 use lwp_types::{Effects, Failed, Line, NoMemory, Sink, Text};
 use script_text::trace_line;
 use std::alloc::Global;
 
-/// Writes the bytes, or fails after some of them.
+/// Writes the bytes, or fails after some of them, before the last.
 pub fn write_all<K: Sink>(sink: &mut K, bytes: &[u8]) -> Result<(), Failed>
     ensures ok { OnOk result (K.written sink.new ≡ appended (K.written sink.old) bytes.now) }
-    ensures err { OnErr result (AppendsPrefix (K.written sink.old) (K.written sink.new) bytes.now) }
+    ensures err { OnErr result (AppendsCut (K.written sink.old) (K.written sink.new) [] bytes.now) }
     ensures cause { HasCause (K.faults sink.old) (K.faults sink.new) result }
 {
     let mut done = 0;

@@ -24,6 +24,7 @@ pub use lines::{end_lines, trace_line};
 pub use reading::read_script;
 pub use reason::{ReadErr, Reason};
 pub use script::{ExitStmt, Halt, Names, Native, NativeKind, Proc, Script, Stmt, Test, Who};
+pub use words::number_at;
 
 #[cfg(test)]
 mod tests;
