@@ -55,7 +55,7 @@ moved next bodies live t row call after effects mid rows names h there polls a e
 
 -- the next call is one that the pod carries out
 pub built_call : {B : Type 0} (next : Next B) (live : Live B) (t : ℕ) (row : Row B) → choice live.state ≡ Some t → slice_get live.rows (place_of t live.rows) ≡ Some row
-    → IsTrue (is_next_built next live) → IsTrue (is_built t (next row.body (polled_as t live.names) row.answer).0)
+    → IsTrue (is_next_built next live) → IsTrue (is_built (next row.body (polled_as t live.names) row.answer).0)
 built_call next live t row h there built = rw (h, row_of-place t live.rows, there) at built
 
 -- the same, by the place of the row, with its lines
@@ -80,7 +80,7 @@ moves_none next bodies procs live t out h past none = let m = move_no_row next b
 pub built_at : {B : Type 0} (next : Next B) (live : Live B) (t i : ℕ) (known : Names) (call : Call) (mid : List (Row B)) (names : Names)
     → choice live.state ≡ Some t → i ≡ place_of t live.rows → i < length live.rows → known ≡ polled_as t live.names
     → ((row : Row B) → slice_get live.rows i ≡ Some row → Polls next row known call i live.rows mid names)
-    → IsTrue (is_next_built next live) → IsTrue (is_built t call)
+    → IsTrue (is_next_built next live) → IsTrue (is_built call)
 built_at next live t i known call mid names h at there k polls built =
     let found = slice_get_present live.rows i there in
     let is : slice_get live.rows (place_of t live.rows) ≡ Some found.0 = ap (slice_get live.rows) (sym at) ∙ found.1 in

@@ -12,7 +12,7 @@ use Rattle.std.specs.Prelude.{Bool, IsTrue, List, None, Option, Some, true, ℕ}
 -- the call that a row's body gives next, as thread t
 abbrev pub is_row_built : {B : Type 0} → Next B → Live B → ℕ → Option (Row B) → Bool
 is_row_built next live t None = true
-is_row_built next live t (Some row) = is_built t (next row.body (polled_as t live.names) row.answer).0
+is_row_built next live t (Some row) = is_built (next row.body (polled_as t live.names) row.answer).0
 
 -- the same of the thread that was chosen, if one was
 abbrev pub is_chosen_built : {B : Type 0} → Next B → Live B → Option ℕ → Bool

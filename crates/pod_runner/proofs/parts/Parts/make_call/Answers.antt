@@ -5,7 +5,7 @@ use Rattle.pod_runner.proofs.parts.Parts.make_call.Goals as goal
 pub call-requires-clause-built : goal.call-requires-clause-built
 call-requires-clause-built g c =
     let chosen = chosen_from c.args.self.now.pod c.args.tid c.requires.current in
-    rw c.requires.current (built_at g.B.Body.next (live_of c.args.self.now) c.args.tid c.args.i c.set_me.new.self c.in_ok-call.call c.poll_at.new.rows.items c.poll_at.new.env chosen c.requires.place c.requires.within c.set_me.ensures c.in_ok-call.ensures c.requires.built)
+    built_at g.B.Body.next (live_of c.args.self.now) c.args.tid c.args.i c.set_me.new.self c.in_ok-call.call c.poll_at.new.rows.items c.poll_at.new.env chosen c.requires.place c.requires.within c.set_me.ensures c.in_ok-call.ensures c.requires.built
 
 pub returns : goal.returns
 returns g c =
