@@ -1,6 +1,6 @@
 -- The death of a thread: what the pod does comes to what the machine says.
-use Rattle.std.proofs.Common.{◌≡◌, ◌≢◌, ℕ, suc, ◌+◌, ◌<◌, ◌≤◌, Bool, true, false, not, cond, List, [], ◌∷◌, ◌++◌, length, length-append, append_assoc, append-nil, map, Some, None, inl, inr, refl, sym, ap, ◌∙◌, arith}
-use Rattle.std.specs.Prelude.{Option, ◌==◌, ◌&&◌, ◌||◌, if◌then◌else◌, is_some, nat_le, nat_lt, option_map, unwrap_or, IsTrue}
+use Rattle.std.proofs.Common.{◌≡◌, ◌≢◌, ℕ, suc, ◌+◌, ◌<◌, ◌≤◌, Bool, true, false, not, cond, List, [], ◌∷◌, ◌++◌, length, length-append, append_assoc, append-nil, Some, None, inl, inr, refl, sym, ap, ◌∙◌, arith}
+use Rattle.std.specs.Prelude.{◌==◌, ◌&&◌, ◌||◌, is_some, nat_lt, option_map, unwrap_or}
 use Rattle.std.specs.List.{AllByRecursion, filter, find, list_all}
 use Rattle.std.proofs.lemmas.List.{length-map}
 use Rattle.std.proofs.lemmas.Bool.{cases_eq, eq-eqb, ne_eqb}
@@ -9,14 +9,12 @@ use Rattle.lwp_types.specs.declared.call.Effect.{Effect}
 use Rattle.lwp_types.specs.Case.{unanswered}
 use Rattle.lwp_types.specs.Death.{bury, death, return_from}
 use Rattle.lwp_types.specs.State.{rises}
-use Rattle.lwp_types.specs.Marks.{frames}
 use Rattle.lwp_types.specs.State.{Outcome, State, ThreadRow, and_then, block_set, for_each, in_order, is_not_blocked, is_number, is_suspended_in, marks_in, marks_set, numbers, passes, suspension_set, with_block, with_marks, with_suspension, without}
 use Rattle.lwp_types.specs.Unblock.{unblock, unblocked}
 use Rattle.lwp_types.specs.declared.call.Answer.{Answer}
 use Rattle.lwp_types.specs.declared.call.Effect.TheVariants as effect
 use Rattle.lwp_types.specs.declared.rows.Block.{Block}
 use Rattle.lwp_types.specs.declared.rows.Block.TheVariants as block
-use Rattle.lwp_types.specs.declared.rows.Mark.{Mark}
 use Rattle.lwp_types.specs.declared.rows.Mark.TheVariants as mark
 use Rattle.lwp_calls.specs.Parts.{whole}
 use Rattle.lwp_calls.specs.Roll.{left, set_aside}

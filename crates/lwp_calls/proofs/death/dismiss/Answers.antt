@@ -1,4 +1,4 @@
-use Rattle.std.proofs.Common.{◌≡◌, ◌∙◌, sym, Some, None}
+use Rattle.std.proofs.Common.{◌∙◌, sym}
 use Rattle.lwp_calls.specs.Parts.{whole}
 use Rattle.lwp_types.specs.State.{State}
 use Rattle.lwp_calls.proofs.Deaths.{Dismissing-next, dismissed-effects, dismissed-state, fewer}

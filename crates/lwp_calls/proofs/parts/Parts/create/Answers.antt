@@ -1,9 +1,8 @@
-use Rattle.std.proofs.Common.{◌≡◌, ◌∙◌, ◌<◌, ◌≤◌, sym, ap, refl, arith, true, false, length}
+use Rattle.std.proofs.Common.{sym, refl, arith, length}
 use Rattle.lwp_types.specs.Case.{unless}
-use Rattle.lwp_calls.proofs.Compare.{lt-true, lt-false, le-true, le-false, no_priority, zero_priority, a_priority, differ}
+use Rattle.lwp_calls.proofs.Compare.{le-true, le-false, no_priority, zero_priority, a_priority}
 use Rattle.lwp_calls.proofs.parts.Parts.create.Goals.{then-prio-eq0-via-then-prio-eq0, then-prio-eq0-via-else-prio-eq0+then-prio-maxpri}
 use Rattle.lwp_calls.proofs.Creates.{no-room, room-left}
-use Rattle.lwp_types.specs.Threads.{created}
 use Rattle.lwp_calls.proofs.parts.Parts.create.Goals as goal
 
 pub returns-then-number-self-clause-ok : goal.returns-then-number-self-clause-ok
