@@ -16,14 +16,12 @@ use Rattle.lwp_types.specs.declared.rows.Letter.{Letter}
 use Rattle.rendezvous.specs.Mailbag.{Mailbag}
 use Rattle.std.proofs.lemmas.List.Sums.{count_by-le-length, length-filter}
 use Rattle.lwp_types.specs.State.{rises}
-use Rattle.lwp_types.specs.Marks.{frames}
 use Rattle.lwp_types.specs.State.{Outcome, State, ThreadRow, and_then, block_set, for_each, in_order, is_not_blocked, is_number, is_suspended_in, marks_in, marks_set, numbers, passes, suspension_set, with_block, with_marks, with_suspension, without}
 use Rattle.lwp_types.specs.Unblock.{nonexist, unblock, unblocked}
 use Rattle.lwp_types.specs.declared.call.Answer.{Answer}
 use Rattle.lwp_types.specs.declared.call.Effect.TheVariants as effect
 use Rattle.lwp_types.specs.declared.rows.Block.{Block}
 use Rattle.lwp_types.specs.declared.rows.Block.TheVariants as block
-use Rattle.lwp_types.specs.declared.rows.Mark.{Mark}
 use Rattle.lwp_types.specs.declared.rows.Mark.TheVariants as mark
 use Rattle.lwp_calls.specs.Parts.{IsPosted, sends, whole}
 use Rattle.lwp_calls.specs.Roll.{left, set_aside}

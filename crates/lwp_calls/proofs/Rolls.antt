@@ -1,7 +1,7 @@
 -- What a roll is asked, and what each change of it comes to, in the machine's words.
-use Rattle.std.proofs.Common.{◌≡◌, ℕ, suc, ◌+◌, ◌<◌, ◌≤◌, Bool, true, false, not, cond, List, [], ◌∷◌, ◌++◌, length, map, Some, None, inl, inr, refl, length-append, sym, ap, ◌∙◌, arith}
-use Rattle.std.specs.Prelude.{Option, ◌==◌, ◌&&◌, if◌then◌else◌, is_some, option_map, IsTrue, nat_lt}
-use Rattle.std.specs.List.{filter, find, fold}
+use Rattle.std.proofs.Common.{◌≡◌, ℕ, suc, ◌<◌, Bool, true, false, not, cond, List, [], ◌∷◌, ◌++◌, length, map, Some, None, inl, inr, refl, length-append, sym, ap, ◌∙◌, arith}
+use Rattle.std.specs.Prelude.{Option, ◌==◌, ◌&&◌, is_some, option_map}
+use Rattle.std.specs.List.{find, fold}
 use Rattle.lwp_types.specs.Choice as machine
 use Rattle.lwp_types.specs.Choice.{better_by}
 use Rattle.lwp_types.specs.State as state

@@ -1,9 +1,8 @@
 -- The scheduler's threads and the registry's, side by side: what is found in one is found in both, and what is done to one is done
 -- to the machine's rows.
-use Rattle.std.proofs.Common.{◌≡◌, ℕ, suc, ◌+◌, ◌<◌, Bool, true, false, not, cond, List, [], ◌∷◌, ◌++◌, length, map, Some, None, inl, inr, refl, sym, ap, ◌∙◌, arith}
-use Rattle.std.specs.Prelude.{Option, ◌==◌, ◌&&◌, is_some, option_map, unwrap_or, IsTrue, nat_lt}
+use Rattle.std.proofs.Common.{◌≡◌, ℕ, suc, ◌<◌, Bool, true, false, not, cond, List, [], ◌∷◌, ◌++◌, length, map, Some, None, refl, sym, ap, ◌∙◌}
+use Rattle.std.specs.Prelude.{Option, ◌==◌, ◌&&◌, is_some, option_map, unwrap_or, nat_lt}
 use Rattle.std.specs.List.{AllByRecursion, filter, find, list_all}
-use Rattle.std.proofs.lemmas.Bool.{cases_eq, eq-eqb, ne_eqb}
 use Rattle.lwp_types.specs.Choice as machine
 use Rattle.lwp_calls.specs.Waits.{waiting, waits_for}
 use Rattle.lwp_calls.specs.declared.rows.Awaited.{Awaited}

@@ -65,10 +65,9 @@ impl Pod {
         ensures may_run { IfSome result (λ t. IsTrue (is_eligible_in self.now t)) }
     {
         if self.parts.ended {
-            None
-        } else {
-            self.parts.roll.current()
+            return None;
         }
+        self.parts.roll.current()
     }
 
     /// Why it is nobody's turn, if so.

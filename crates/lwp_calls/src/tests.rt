@@ -146,9 +146,8 @@ fn a_death_tells_who_has_joined(rt: HostRuntime) -> Result<(), Fail> {
 
 #[test]
 fn a_pod_waits_for_a_suspended_thread_but_not_for_a_server(rt: HostRuntime) -> Result<(), Fail> {
-    for (server, end) in [(true, PodEnd::Ended(0)), (false, PodEnd::Idle)] {
-        let last = [(b'd', 0, 0), (b'e', 0, 0)];
-        let want = if server { &last[..] } else { &last[..1] };
+    let last = [(b'd', 0, 0), (b'e', 0, 0)];
+    for (server, count, end) in [(true, 2, PodEnd::Ended(0)), (false, 1, PodEnd::Idle)] {
         let mut pod = Pod::new(rt.alloc(), PARAMS).map_err(|_| "no memory")?;
         let mut effects = Effects::new(rt.alloc()).map_err(|_| "no memory")?;
         let flags = Flags {
@@ -159,7 +158,7 @@ fn a_pod_waits_for_a_suspended_thread_but_not_for_a_server(rt: HostRuntime) -> R
         let text = Text::new(b"hello").ok_or("no text")?;
         assert!(rt; does(&mut pod, &mut effects, create(2, flags), &[(b't', 0, 1)]));
         assert!(rt; does(&mut pod, &mut effects, Call::Say { text }, &[(b'=', 0, 0)]));
-        assert!(rt; does(&mut pod, &mut effects, Call::Return, want));
+        assert!(rt; does(&mut pod, &mut effects, Call::Return, &last[..count]));
         assert_eq!(rt; pod.current(), None);
         assert_eq!(rt; pod.ending(), Some(end));
     }

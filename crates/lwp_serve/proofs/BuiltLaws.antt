@@ -26,7 +26,8 @@ use Rattle.script_body.specs.Calls.{call_of}
 use Rattle.script_body.specs.Naming.{condition_named_by, monitor_named_by, named, named_by, thread_named_by}
 use Rattle.script_body.specs.Frame.{without_handler}
 use Rattle.script_body.specs.ScriptBody.{ScriptBody, frame_above, is_return, polled_by, returned, script_next, stmt_after, taken, taken_by, taken_caught, taken_plain, taken_refused, unhandled, caught_at, with_sender_by, with_top}
-use Rattle.script_body.specs.Walk.{first_stmt, next_stmt}
+use Rattle.script_body.specs.Walk.{first_stmt, meets, next_stmt}
+use Rattle.script_text.specs.Limits.{is_so_far}
 use Rattle.script_text.specs.Script.{stmts_at, stmts_of}
 use Rattle.script_text.specs.declared.script.Native.{Native}
 use Rattle.script_text.specs.declared.script.Proc.{Proc}
@@ -34,14 +35,6 @@ use Rattle.script_text.specs.declared.script.Script.{Script}
 use Rattle.script_text.specs.declared.script.Stmt.{Stmt}
 use Rattle.script_text.specs.declared.script.Stmt.TheVariants as stmt
 use Rattle.script_text.specs.declared.script.Who.TheVariants as who
-
--- a statement whose call is carried out so far
-abbrev pub is_so_far : Stmt → Bool
-is_so_far (stmt.Create name number prio flags) = true
-is_so_far (stmt.Yield who.Me) = true
-is_so_far (stmt.Say text) = true
-is_so_far stmt.Return = true
-is_so_far _ = false
 
 first : (a b : Bool) → IsTrue (a && b) → IsTrue a
 first true b h = refl
@@ -73,46 +66,37 @@ next-stmt : (a : Answer) (stmts : List Stmt) (over : Bool) (place : ℕ) (rest :
     → IsTrue (list_all is_so_far stmts) → IsTrue (list_all is_so_far rest) → IsTrue (is_so_far (next_stmt a stmts over place rest).stmt)
 next-stmt a stmts over place [] h k = refl
 next-stmt a stmts true place (s ∷ rest) h k = next-stmt a stmts false (place + 1) rest h (second _ _ k)
-next-stmt a stmts false place (s ∷ rest) h k = by_stmt s k
+next-stmt a stmts false place (s ∷ rest) h k = by_stmt s (first _ _ k) (λ over. next-stmt a stmts over (place + 1) rest h (second _ _ k))
   where
-    by_stmt : (s : Stmt) → IsTrue (is_so_far s && list_all is_so_far rest) → IsTrue (is_so_far (next_stmt a stmts false place (s ∷ rest)).stmt)
-    by_stmt (stmt.Skip test) k = absurd (let no : false ≡ true = k in cc)
-    by_stmt stmt.Again k = absurd (let no : false ≡ true = k in cc)
-    by_stmt s k = first _ (list_all is_so_far rest) k
+    by_stmt : (s : Stmt) → IsTrue (is_so_far s) → ((over : Bool) → IsTrue (is_so_far (next_stmt a stmts over (place + 1) rest).stmt)) → IsTrue (is_so_far (next_stmt a stmts false place (s ∷ rest)).stmt)
+    by_stmt (stmt.Skip test) k later = later (meets a test)
+    by_stmt stmt.Again k later = first-stmt stmts h
+    by_stmt s k later = k
 
 -- the call of such a statement
-call-built : (script : Script) (sender : ℕ) (names : Names) (s : Stmt) → IsTrue (is_so_far s) → IsTrue (is_built names.me (call_of script sender names s))
+call-built : (script : Script) (sender : ℕ) (names : Names) (s : Stmt) → IsTrue (is_so_far s) → IsTrue (is_built (call_of script sender names s))
 call-built script sender names (stmt.Create name number prio flags) h = refl
-call-built script sender names (stmt.Yield who.Me) h = eq-eqb names.me names.me refl
+call-built script sender names (stmt.Destroy w) h = refl
+call-built script sender names (stmt.Ping w) h = refl
+call-built script sender names (stmt.Yield w) h = refl
+call-built script sender names (stmt.Suspend w) h = refl
+call-built script sender names (stmt.Resume w) h = refl
+call-built script sender names (stmt.Join w) h = refl
+call-built script sender names (stmt.Resched prio) h = refl
+call-built script sender names (stmt.SetPri w prio) h = refl
+call-built script sender names (stmt.SetMaxPri prio) h = refl
+call-built script sender names stmt.Me h = refl
+call-built script sender names (stmt.SetExit code) h = refl
+call-built script sender names stmt.GetExit h = refl
+call-built script sender names (stmt.PodExit code) h = refl
+call-built script sender names stmt.Threads h = refl
 call-built script sender names (stmt.Say text) h = refl
 call-built script sender names stmt.Return h = refl
+call-built script sender names (stmt.Skip test) h = refl
+call-built script sender names stmt.Again h = refl
 call-built script sender names _ h = absurd (let no : false ≡ true = h in cc)
 
 -- ---- a thread's next call
-
--- who is polled stays the same
-thread-me : (name : ℕ) (a : Answer) (names : Names) → (thread_named_by name a names).me ≡ names.me
-thread-me name (answer.Thread t) names = refl
-thread-me name _ names = refl
-
-monitor-me : (name : ℕ) (a : Answer) (names : Names) → (monitor_named_by name a names).me ≡ names.me
-monitor-me name (answer.Monitor m) names = refl
-monitor-me name _ names = refl
-
-condition-me : (name : ℕ) (a : Answer) (names : Names) → (condition_named_by name a names).me ≡ names.me
-condition-me name (answer.Cond c) names = refl
-condition-me name _ names = refl
-
-stmt-me : (a : Answer) (s : Stmt) (names : Names) → (named_by a s names).me ≡ names.me
-stmt-me a (stmt.Create name number prio flags) names = thread-me name a names
-stmt-me a (stmt.Agent name event) names = thread-me name a names
-stmt-me a (stmt.MonCreate name) names = monitor-me name a names
-stmt-me a (stmt.CvCreate name mon) names = condition-me name a names
-stmt-me a _ names = refl
-
-named-me : (a : Answer) (last : Option Stmt) (names : Names) → (named a last names).me ≡ names.me
-named-me a None names = refl
-named-me a (Some s) names = stmt-me a s names
 
 -- an answer that is taken leaves the script
 abbrev Keeps : Script → Option ScriptBody → Type 0
@@ -192,15 +176,13 @@ after-so-far b a h =
     next-stmt a (stmts_at b.script b.top.number) false b.top.place (drop b.top.place (stmts_at b.script b.top.number)) all (all-drop b.top.place _ all)
 
 -- the next call of its threads is one that the pod carries out
-next-built : (b : ScriptBody) (names : Names) (a : Answer) → SoFar b.script → IsTrue (is_built names.me (script_next b names a).0)
+next-built : (b : ScriptBody) (names : Names) (a : Answer) → SoFar b.script → IsTrue (is_built (script_next b names a).0)
 unfolding script_next
 next-built b names a h = by_taken (taken b a) (taken-keeps b a)
   where
-    by_taken : (now : Option ScriptBody) → Keeps b.script now → IsTrue (is_built names.me (polled_by b names a now).0)
+    by_taken : (now : Option ScriptBody) → Keeps b.script now → IsTrue (is_built (polled_by b names a now).0)
     by_taken None k = refl
-    by_taken (Some now) k =
-        let built = call-built now.script now.sender (named a b.last names) (stmt_after a now).stmt (after-so-far now a (rw k h)) in
-        rw named-me at built
+    by_taken (Some now) k = call-built now.script now.sender (named a b.last names) (stmt_after a now).stmt (after-so-far now a (rw k h))
 
 -- ---- sessions
 
@@ -334,7 +316,7 @@ row-built : (script : Script) (live : Live Body) (t : ℕ) (row : Option (Row Bo
 row-built script live t None h k = refl
 row-built script live t (Some row) h k = by_body row.body k
   where
-    by_body : (b : Body) → Runs script b → IsTrue (is_built t (body_next b (polled_as t live.names) row.answer).0)
+    by_body : (b : Body) → Runs script b → IsTrue (is_built (body_next b (polled_as t live.names) row.answer).0)
     by_body (Scripted b) k = next-built b (polled_as t live.names) row.answer (rw k h)
     by_body (Serving b) k = absurd k
     by_body (Storing b) k = absurd k

@@ -25,3 +25,5 @@ pub use texts::fault_text;
 
 #[cfg(test)]
 mod tests;
+#[cfg(test)]
+mod thread_tests;

@@ -13,7 +13,7 @@ const TRACE: &[u8] =
 
 // A session's status, how many calls it made, and what it wrote.
 #[derive(Drop)]
-struct Outcome {
+pub struct Outcome {
     status: u8,
     turns: u64,
     written: Vec<u8>,
@@ -41,14 +41,14 @@ fn plan(
 }
 
 // The same, where nothing fails.
-fn plain(alloc: Global, script: &[u8], turns: u64) -> Result<Outcome, NoMemory>
+pub fn plain(alloc: Global, script: &[u8], turns: u64) -> Result<Outcome, NoMemory>
     requires least { 1 ≤ turns }
     requires most { turns ≤ 1000000 }
 {
     plan(alloc, script, turns, Vec::new(alloc), Vec::new(alloc))
 }
 
-fn is(outcome: &Outcome, status: u8, turns: u64, written: &[u8]) -> bool {
+pub fn is(outcome: &Outcome, status: u8, turns: u64, written: &[u8]) -> bool {
     outcome.status == status && outcome.turns == turns && outcome.written.as_slice() == written
 }
 
