@@ -1,22 +1,29 @@
 -- The death of a thread: what the pod does comes to what the machine says.
-use Rattle.std.proofs.Common.{◌≡◌, ◌≢◌, ℕ, suc, ◌+◌, ◌<◌, ◌≤◌, Bool, true, false, not, cond, List, [], ◌∷◌, ◌++◌, length, length-append, append_assoc, append-nil, Some, None, inl, inr, refl, sym, ap, ◌∙◌, arith}
-use Rattle.std.specs.Prelude.{◌==◌, ◌&&◌, ◌||◌, is_some, nat_lt, option_map, unwrap_or}
+use Rattle.std.proofs.Common.{◌≡◌, ◌≢◌, ℕ, suc, ◌+◌, ◌<◌, ◌≤◌, Bool, true, false, not, cond, count_by, List, [], ◌∷◌, ◌++◌, length, length-append, append_assoc, append-nil, map, Some, None, inl, inr, refl, sym, ap, ◌∙◌, arith}
+use Rattle.std.specs.Prelude.{Option, ◌==◌, ◌&&◌, ◌||◌, if◌then◌else◌, is_some, nat_le, nat_lt, option_map, unwrap_or, IsTrue}
 use Rattle.std.specs.List.{AllByRecursion, filter, find, list_all}
 use Rattle.std.proofs.lemmas.List.{length-map}
 use Rattle.std.proofs.lemmas.Bool.{cases_eq, eq-eqb, ne_eqb}
 use Rattle.std.proofs.lemmas.Bool.Decides.{nat_tests}
 use Rattle.lwp_types.specs.declared.call.Effect.{Effect}
 use Rattle.lwp_types.specs.Case.{unanswered}
-use Rattle.lwp_types.specs.Death.{bury, death, return_from}
+use Rattle.lwp_calls.proofs.Posts.{letters-fit}
+use Rattle.lwp_types.specs.CountLaws.{count-cons, one, one-le}
+use Rattle.lwp_types.specs.Counts.{is_sending}
+use Rattle.lwp_types.specs.Death.{bury, death, refuse_sender, refuse_senders, return_from}
+use Rattle.lwp_types.specs.Letters.{is_to, senders_to, without_letter}
+use Rattle.lwp_types.specs.declared.rows.Letter.{Letter}
+use Rattle.rendezvous.specs.Mailbag.{Mailbag}
+use Rattle.std.proofs.lemmas.List.Sums.{count_by-le-length, length-filter}
 use Rattle.lwp_types.specs.State.{rises}
 use Rattle.lwp_types.specs.State.{Outcome, State, ThreadRow, and_then, block_set, for_each, in_order, is_not_blocked, is_number, is_suspended_in, marks_in, marks_set, numbers, passes, suspension_set, with_block, with_marks, with_suspension, without}
-use Rattle.lwp_types.specs.Unblock.{unblock, unblocked}
+use Rattle.lwp_types.specs.Unblock.{nonexist, unblock, unblocked}
 use Rattle.lwp_types.specs.declared.call.Answer.{Answer}
 use Rattle.lwp_types.specs.declared.call.Effect.TheVariants as effect
 use Rattle.lwp_types.specs.declared.rows.Block.{Block}
 use Rattle.lwp_types.specs.declared.rows.Block.TheVariants as block
 use Rattle.lwp_types.specs.declared.rows.Mark.TheVariants as mark
-use Rattle.lwp_calls.specs.Parts.{whole}
+use Rattle.lwp_calls.specs.Parts.{IsPosted, sends, whole}
 use Rattle.lwp_calls.specs.Roll.{left, set_aside}
 use Rattle.lwp_calls.specs.Waits.{dismissed, last_answer, waiting, waiting_in, waits_for}
 use Rattle.lwp_calls.specs.declared.rows.Awaited.{Awaited}
@@ -47,6 +54,16 @@ not-later u (row ∷ rows) h =
     let less : u < row.number = from-lt u row.number (first _ _ h) in
     rw (ne_eqb row.number u (λ e. omega (arith, less))) (ap (λ rs. row ∷ rs) (not-later u rows (second _ _ h)))
 
+-- who waits for something of a thread waits for no reply
+no-reply : (what : Awaited) (t : ℕ) (b : Block) → waits_for what t b ≡ true → is_sending b ≡ false
+no-reply what t block.Not h = refl
+no-reply what t (block.Joining u) h = refl
+no-reply awaited.Death t block.Sending h = absurd (let no : false ≡ true = h in cc)
+no-reply awaited.Letter t block.Sending h = absurd (let no : false ≡ true = h in cc)
+no-reply what t (block.Receiving from) h = refl
+no-reply what t (block.Entering m) h = refl
+no-reply what t (block.Waiting c) h = refl
+
 module _ (what : Awaited) (t : ℕ) where
   -- who goes on waits no more, and the others wait as before
   waiting-rest : (u : ℕ) (rows : List ThreadRow) → rises (numbers rows) ≡ true → option_map (λ (row : ThreadRow). row.number) (find (λ row. waits_for what t row.block) rows) ≡ Some u
@@ -66,6 +83,27 @@ module _ (what : Awaited) (t : ℕ) where
           let others : with_block u block.Not rows ≡ rows = not-later u rows (rw (sym same) (first _ _ rising)) in
           rw (eq-eqb row.number u same, for-nothing what t, others) (ap (λ n. n ∷ waiting what t rows) same)
       by_head false is h later = rw (drops (row.number == u) is) (later h)
+
+  -- who waits so waits for no reply
+  not-below : (u : ℕ) (rows : List ThreadRow) → list_all (λ m. nat_lt u m) (numbers rows) ≡ true → option_map (λ (row : ThreadRow). row.number) (find (λ row. waits_for what t row.block) rows) ≡ Some u → ⊥
+  not-below u [] below h = absurd (cc)
+  not-below u (row ∷ rows) below h = by_head (waits_for what t row.block) h (λ k. not-below u rows (second _ _ below) k)
+    where
+      by_head : (b : Bool) → option_map (λ (row : ThreadRow). row.number) (cond b (Some row) (find (λ row. waits_for what t row.block) rows)) ≡ Some u
+          → (option_map (λ (row : ThreadRow). row.number) (find (λ row. waits_for what t row.block) rows) ≡ Some u → ⊥) → ⊥
+      by_head true h later = let same : row.number ≡ u = (let e : Some row.number ≡ Some u = h in cc) in let less = from-lt u row.number (first _ _ below) in absurd (omega (arith, same, less))
+      by_head false h later = later h
+
+  pub waiting-quiet : (u : ℕ) (rows : List ThreadRow) → rises (numbers rows) ≡ true → option_map (λ (row : ThreadRow). row.number) (find (λ row. waits_for what t row.block) rows) ≡ Some u
+      → sends rows u ≡ false
+  waiting-quiet u [] rising h = absurd (cc)
+  waiting-quiet u (row ∷ rows) rising h = by_head (waits_for what t row.block) refl h (λ k. waiting-quiet u rows (second _ _ rising) k)
+    where
+      by_head : (b : Bool) → waits_for what t row.block ≡ b → option_map (λ (row : ThreadRow). row.number) (cond b (Some row) (find (λ row. waits_for what t row.block) rows)) ≡ Some u
+          → (option_map (λ (row : ThreadRow). row.number) (find (λ row. waits_for what t row.block) rows) ≡ Some u → sends rows u ≡ false)
+          → sends (row ∷ rows) u ≡ false
+      by_head true is h later = let same : row.number ≡ u = (let e : Some row.number ≡ Some u = h in cc) in rw (eq-eqb row.number u same) (no-reply what t row.block is)
+      by_head false is h later = rw (ne_eqb row.number u (λ e. not-below u rows (rw (sym e) (first _ _ rising)) h)) (later h)
 
   waiting-none : (rows : List ThreadRow) → option_map (λ (row : ThreadRow). row.number) (find (λ row. waits_for what t row.block) rows) ≡ None → waiting what t rows ≡ []
   waiting-none [] h = refl
@@ -129,6 +167,17 @@ module _ (a : Answer) where
   each-answered [] s = refl
   each-answered (u ∷ us) s = ap suc (each-answered us (unblocked s u))
 
+-- the same, where the letter of each goes as well
+refused-keeps : (P : State → Type 0) → ((u : ℕ) (s : State) → P s → P (unblocked (record s { letters = without_letter u s.letters }) u)) → (us : List ℕ) (s : State) → P s → P (for_each refuse_sender us s).after
+unfolding for_each and_then
+refused-keeps P keeps [] s h = h
+refused-keeps P keeps (u ∷ us) s h = refused-keeps P keeps us (unblocked (record s { letters = without_letter u s.letters }) u) (keeps u s h)
+
+each-refused : (us : List ℕ) (s : State) → length (for_each refuse_sender us s).effects ≡ length us
+unfolding for_each and_then
+each-refused [] s = refl
+each-refused (u ∷ us) s = ap suc (each-refused us (unblocked (record s { letters = without_letter u s.letters }) u))
+
 same-thread : (t u : ℕ) (b : Block) (rows : List ThreadRow) → is_some (find (is_number t) (with_block u b rows)) ≡ is_some (find (is_number t) rows)
 same-thread t u b [] = refl
 same-thread t u b (row ∷ rows) = by_head (row.number == t) (same-thread t u b rows)
@@ -160,31 +209,29 @@ no-more what t u (row ∷ rows) = by_head (row.number == u) (waits_for what t ro
     by_head true c is rest = rw (for-nothing what t) (by_wait c rest)
     by_head false c is rest = rw is (same c rest)
 
--- nobody waits for both
-either : (t : ℕ) (b : Block) → (waits_for awaited.Letter t b && waits_for awaited.Death t b) ≡ false
-either t block.Not = refl
-either t (block.Joining u) = refl
-either t block.Sending = refl
-either t (block.Receiving None) = refl
-either t (block.Receiving (Some u)) = and_false (u == t)
-  where
-    and_false : (c : Bool) → (c && false) ≡ false
-    and_false true = refl
-    and_false false = refl
-either t (block.Entering m) = refl
-either t (block.Waiting c) = refl
+-- nobody waits for two of these
+abbrev only_one : Bool → Bool → Bool → Type 0
+only_one a b c = one a + (one b + one c) ≤ 1
 
-at-most-all : (t : ℕ) (rows : List ThreadRow) → length (waiting awaited.Letter t rows) + length (waiting awaited.Death t rows) ≤ length rows
-at-most-all t [] = omega arith
-at-most-all t (row ∷ rows) = by_head (waits_for awaited.Letter t row.block) (waits_for awaited.Death t row.block) (either t row.block) (at-most-all t rows)
+either : (t : ℕ) (b : Block) → only_one (is_sending b) (waits_for awaited.Letter t b) (waits_for awaited.Death t b)
+either t block.Not = omega arith
+either t (block.Joining u) = omega (arith, one-le (u == t))
+either t block.Sending = omega arith
+either t (block.Receiving None) = omega arith
+either t (block.Receiving (Some u)) = omega (arith, one-le (u == t))
+either t (block.Entering m) = omega arith
+either t (block.Waiting c) = omega arith
+
+waiting-cons : (what : Awaited) (t : ℕ) (row : ThreadRow) (rows : List ThreadRow) → length (waiting what t (row ∷ rows)) ≡ one (waits_for what t row.block) + length (waiting what t rows)
+waiting-cons what t row rows = by_head (waits_for what t row.block)
   where
-    by_head : (b c : Bool) → (b && c) ≡ false → length (waiting awaited.Letter t rows) + length (waiting awaited.Death t rows) ≤ length rows
-        → length (numbers (cond b (row ∷ filter (λ row. waits_for awaited.Letter t row.block) rows) (filter (λ row. waits_for awaited.Letter t row.block) rows)))
-        + length (numbers (cond c (row ∷ filter (λ row. waits_for awaited.Death t row.block) rows) (filter (λ row. waits_for awaited.Death t row.block) rows))) ≤ length (row ∷ rows)
-    by_head true true h rest = absurd (cc)
-    by_head true false h rest = omega (arith, rest)
-    by_head false true h rest = omega (arith, rest)
-    by_head false false h rest = omega (arith, rest)
+    by_head : (b : Bool) → length (numbers (cond b (row ∷ filter (λ row. waits_for what t row.block) rows) (filter (λ row. waits_for what t row.block) rows))) ≡ one b + length (waiting what t rows)
+    by_head true = omega arith
+    by_head false = omega arith
+
+at-most-all : (t : ℕ) (rows : List ThreadRow) → count_by (λ (row : ThreadRow). is_sending row.block) rows + (length (waiting awaited.Letter t rows) + length (waiting awaited.Death t rows)) ≤ length rows
+at-most-all t [] = omega arith
+at-most-all t (row ∷ rows) = omega (arith, either t row.block, count-cons (λ (row : ThreadRow). is_sending row.block) row rows, waiting-cons awaited.Letter t row rows, waiting-cons awaited.Death t row rows, at-most-all t rows)
 
 -- ---- a dying thread, as the pod has it and as the machine has it
 
@@ -277,6 +324,27 @@ module _ (t : ℕ) where
   each-bared a (u ∷ us) s h = ap (λ x. and_then (record { after = x; effects = effect.Answered u a ∷ [] }) (for_each (unblock a) us)) (unblocked-bared u s h.0)
       ∙ ap (λ (o : Outcome). record { after = o.after; effects = effect.Answered u a ∷ o.effects }) (each-bared a us (unblocked s u) h.1)
 
+  -- the senders to it, none of which it is, are told
+  each-refused-bared : (us : List ℕ) (s : State) → Others us
+      → for_each refuse_sender us (bared s) ≡ record { after = bared (for_each refuse_sender us s).after; effects = (for_each refuse_sender us s).effects }
+  unfolding for_each and_then Others
+  each-refused-bared [] s h = refl
+  each-refused-bared (u ∷ us) s h = ap (λ x. and_then (record { after = x; effects = effect.Answered u nonexist ∷ [] }) (for_each refuse_sender us)) (unblocked-bared u (record s { letters = without_letter u s.letters }) h.0)
+      ∙ ap (λ (o : Outcome). record { after = o.after; effects = effect.Answered u nonexist ∷ o.effects }) (each-refused-bared us (unblocked (record s { letters = without_letter u s.letters }) u) h.1)
+
+  other-senders : (letters : List Letter) → Others (senders_to (without_letter t letters) t)
+  unfolding Others
+  other-senders [] = tt
+  other-senders (letter ∷ letters) = elim (cases_eq letter.from t) [
+    | inl e ↦ rw (eq-eqb letter.from t e) (other-senders letters)
+    | inr away ↦ rw (ne_eqb letter.from t away) (by_head (is_to t letter) away (other-senders letters))
+  ]
+    where
+      by_head : (b : Bool) → letter.from ≢ t → Others (senders_to (without_letter t letters) t)
+          → Others (map (λ (letter : Letter). letter.from) (cond b (letter ∷ filter (is_to t) (without_letter t letters)) (filter (is_to t) (without_letter t letters))))
+      by_head true away rest = (away, rest)
+      by_head false away rest = rest
+
   waiting-bared : (what : Awaited) (x : ℕ) (rows : List ThreadRow) → waiting what x (with_marks t [] (with_suspension t false rows)) ≡ waiting what x rows
   waiting-bared what x [] = refl
   waiting-bared what x (row ∷ rows) = by_head (waits_for what x row.block) (waiting-bared what x rows)
@@ -326,6 +394,11 @@ module _ (t : ℕ) where
   each-out a [] s h out = out
   each-out a (u ∷ us) s h out = each-out a us (unblocked s u) h.1 (out-unblocked u s h.0 out)
 
+  refused-out : (us : List ℕ) (s : State) → Others us → Out s → Out (for_each refuse_sender us s).after
+  unfolding for_each and_then Others
+  refused-out [] s h out = out
+  refused-out (u ∷ us) s h out = refused-out us (unblocked (record s { letters = without_letter u s.letters }) u) h.1 (out-unblocked u (record s { letters = without_letter u s.letters }) h.0 out)
+
   without-twice : (ts : List ℕ) → without t (without t ts) ≡ without t ts
   without-twice [] = refl
   without-twice (u ∷ ts) = by_head (u == t) refl (without-twice ts)
@@ -353,75 +426,85 @@ module _ (t : ℕ) where
       by_head true rest = refl
       by_head false rest = rest
 
-  module _ (roll : State) (status procs : ℕ) (ended : Bool) (frame : marks_in roll t ≡ mark.Frame ∷ []) where
+  -- who waits for nothing waits for no reply
+  free-quiet : (rows : List ThreadRow) → list_all is_free rows ≡ true → sends rows t ≡ false
+  free-quiet [] h = refl
+  free-quiet (row ∷ rows) h = by_head (row.number == t) (first _ _ h) (free-quiet rows (second _ _ h))
+    where
+      quiet : (b : Block) → is_not_blocked b ≡ true → is_sending b ≡ false
+      quiet block.Not h = refl
+      quiet (block.Joining u) h = refl
+      quiet block.Sending h = absurd (let no : false ≡ true = h in cc)
+      quiet (block.Receiving from) h = refl
+      quiet (block.Entering m) h = refl
+      quiet (block.Waiting c) h = refl
+
+      by_head : (c : Bool) → (not c || is_not_blocked row.block) ≡ true → sends rows t ≡ false → passes (λ (row : ThreadRow). is_sending row.block) (cond c (Some row) (find (is_number t) rows)) ≡ false
+      by_head true is rest = quiet row.block is
+      by_head false is rest = rest
+
+  module _ (roll : State) (letters : List Letter) (status procs : ℕ) (ended : Bool) (frame : marks_in roll t ≡ mark.Frame ∷ []) where
     abbrev alive : State
-    alive = whole roll status procs ended
+    alive = whole roll letters status procs ended
 
     abbrev aside : State
-    aside = set_aside alive t
+    aside = whole (set_aside roll t) (without_letter t letters) status procs ended
 
-    -- who waits for a letter of it, and then who waits for its death
+    -- whoever sent to it, then who waits for a letter of it, and then who waits for its death
+    abbrev pub asked : Outcome
+    asked = refuse_senders t aside
+
     abbrev pub told : Outcome
-    told = dismissed awaited.Letter t aside
+    told = dismissed awaited.Letter t asked.after
 
     abbrev pub gone : Outcome
     gone = dismissed awaited.Death t told.after
 
-    death-begun : death t alive ≡ and_then (dismissed awaited.Letter t (bared aside)) (λ s. and_then (dismissed awaited.Death t s) (λ s. and_then (bury t s) (λ s. record { after = s; effects = [] })))
+    abbrev to_bury : State → Outcome
+    to_bury s = and_then (bury t s) (λ s. record { after = s; effects = [] })
+
+    death-begun : death t alive ≡ and_then (refuse_senders t (bared aside)) (λ s. and_then (dismissed awaited.Letter t s) (λ s. and_then (dismissed awaited.Death t s) to_bury))
     unfolding in_order and_then for_each
     death-begun = rw (marks-withdrawn roll.threads, frame, suspension-twice (with_block t block.Not roll.threads)) refl
+
+    refused-bared : refuse_senders t (bared aside) ≡ record { after = bared asked.after; effects = asked.effects }
+    refused-bared = each-refused-bared (senders_to (without_letter t letters) t) aside (other-senders letters)
 
     free-aside : Free aside
     free-aside = free-suspended true (with_block t block.Not roll.threads) ∙ free-set roll.threads
 
+    free-asked : Free asked.after
+    free-asked = refused-keeps Free (λ u s h. free-unblocked u s.threads h) (senders_to (without_letter t letters) t) aside free-aside
+
     free-told : Free told.after
-    free-told = each-keeps (last_answer awaited.Letter) Free (λ u s h. free-unblocked u s.threads h) (waiting awaited.Letter t aside.threads) aside free-aside
+    free-told = each-keeps (last_answer awaited.Letter) Free (λ u s h. free-unblocked u s.threads h) (waiting awaited.Letter t asked.after.threads) asked.after free-asked
+
+    free-gone : Free gone.after
+    free-gone = each-keeps (last_answer awaited.Death) Free (λ u s h. free-unblocked u s.threads h) (waiting awaited.Death t told.after.threads) told.after free-told
+
+    pub quiet-gone : sends gone.after.threads t ≡ false
+    quiet-gone = free-quiet gone.after.threads free-gone
 
     out-gone : Out gone.after
     out-gone = each-out (last_answer awaited.Death) (waiting awaited.Death t told.after.threads) told.after (others-wait awaited.Death t told.after.threads free-told)
-        (each-out (last_answer awaited.Letter) (waiting awaited.Letter t aside.threads) aside (others-wait awaited.Letter t aside.threads free-aside) (without-twice roll.order))
+        (each-out (last_answer awaited.Letter) (waiting awaited.Letter t asked.after.threads) asked.after (others-wait awaited.Letter t asked.after.threads free-asked)
+        (refused-out (senders_to (without_letter t letters) t) aside (other-senders letters) (without-twice roll.order)))
 
-    pub death-is : death t alive ≡ record { after = left gone.after t; effects = told.effects ++ (gone.effects ++ effect.Died t ∷ []) }
+    pub death-is : death t alive ≡ record { after = left gone.after t; effects = asked.effects ++ (told.effects ++ (gone.effects ++ effect.Died t ∷ [])) }
     unfolding and_then
     death-is = death-begun
-        ∙ ap (λ (o : Outcome). and_then o (λ s. and_then (dismissed awaited.Death t s) (λ s. and_then (bury t s) (λ s. record { after = s; effects = [] })))) (dismissed-bared awaited.Letter aside free-aside)
-        ∙ ap (λ (o : Outcome). and_then (record { after = bared told.after; effects = told.effects }) (λ s. and_then o (λ s. and_then (bury t s) (λ s. record { after = s; effects = [] })))) (dismissed-bared awaited.Death told.after free-told)
-        ∙ ap (λ rows. record { after = record gone.after { threads = rows }; effects = told.effects ++ (gone.effects ++ effect.Died t ∷ []) }) (left-bared gone.after.threads)
-        ∙ ap (λ ts. record { after = record gone.after { threads = filter (λ (row : ThreadRow). not (row.number == t)) gone.after.threads; order = ts }; effects = told.effects ++ (gone.effects ++ effect.Died t ∷ []) }) (sym out-gone)
-
-    -- ---- there is room for what is told
-
-    length-aside : length aside.threads ≡ length roll.threads
-    length-aside = length-map (with_block t block.Not roll.threads) (suspension_set t true) ∙ length-map roll.threads (block_set t block.Not)
-
-    few-deaths : length (waiting awaited.Death t told.after.threads) ≤ length (waiting awaited.Death t aside.threads)
-    few-deaths = each-keeps (last_answer awaited.Letter) (λ s. length (waiting awaited.Death t s.threads) ≤ length (waiting awaited.Death t aside.threads))
-        (λ u s h. let less = no-more awaited.Death t u s.threads in omega (arith, h, less)) (waiting awaited.Letter t aside.threads) aside (omega arith)
-
-    pub room-told : (n : ℕ) → n + length roll.threads < 2048 → n + length (waiting awaited.Letter t aside.threads) < 2048
-    room-told n h = omega (arith, h, at-most-all t aside.threads, length-aside)
-
-    pub room-gone : (n : ℕ) → n + length roll.threads < 2048 → (n + length told.effects) + length (waiting awaited.Death t told.after.threads) < 2048
-    room-gone n h = omega (arith, h, at-most-all t aside.threads, length-aside, few-deaths, each-answered (last_answer awaited.Letter) (waiting awaited.Letter t aside.threads) aside)
-
-    pub room-died : (n : ℕ) → n + length roll.threads < 2048 → (n + length told.effects) + length gone.effects < 2048
-    room-died n h = omega (arith, room-gone n h, each-answered (last_answer awaited.Death) (waiting awaited.Death t told.after.threads) told.after)
-
-    pub most-told : length told.effects + length gone.effects ≤ length roll.threads
-    most-told = omega (
-      arith,
-      at-most-all t aside.threads,
-      length-aside,
-      few-deaths,
-      each-answered (last_answer awaited.Letter) (waiting awaited.Letter t aside.threads) aside,
-      each-answered (last_answer awaited.Death) (waiting awaited.Death t told.after.threads) told.after,
-    )
+        ∙ ap (λ (o : Outcome). and_then o (λ s. and_then (dismissed awaited.Letter t s) (λ s. and_then (dismissed awaited.Death t s) to_bury))) refused-bared
+        ∙ ap (λ (o : Outcome). and_then (record { after = bared asked.after; effects = asked.effects }) (λ s. and_then o (λ s. and_then (dismissed awaited.Death t s) to_bury))) (dismissed-bared awaited.Letter asked.after free-asked)
+        ∙ ap (λ (o : Outcome). and_then (record { after = bared asked.after; effects = asked.effects }) (λ s. and_then (record { after = bared told.after; effects = told.effects }) (λ s. and_then o to_bury))) (dismissed-bared awaited.Death told.after free-told)
+        ∙ ap (λ rows. record { after = record gone.after { threads = rows }; effects = asked.effects ++ (told.effects ++ (gone.effects ++ effect.Died t ∷ [])) }) (left-bared gone.after.threads)
+        ∙ ap (λ ts. record { after = record gone.after { threads = filter (λ (row : ThreadRow). not (row.number == t)) gone.after.threads; order = ts }; effects = asked.effects ++ (told.effects ++ (gone.effects ++ effect.Died t ∷ [])) }) (sym out-gone)
 
     -- it lives until the end
     pub lives-on : is_some (find (is_number t) roll.threads) ≡ true → is_some (find (is_number t) gone.after.threads) ≡ true
     lives-on h = each-keeps (last_answer awaited.Death) (λ s. is_some (find (is_number t) s.threads) ≡ true) (λ u s h. same-thread t u block.Not s.threads ∙ h) (waiting awaited.Death t told.after.threads) told.after
-        (each-keeps (last_answer awaited.Letter) (λ s. is_some (find (is_number t) s.threads) ≡ true) (λ u s h. same-thread t u block.Not s.threads ∙ h) (waiting awaited.Letter t aside.threads) aside
-        (same-suspended (with_block t block.Not roll.threads) ∙ same-thread t t block.Not roll.threads ∙ h))
+        (each-keeps (last_answer awaited.Letter) (λ s. is_some (find (is_number t) s.threads) ≡ true) (λ u s h. same-thread t u block.Not s.threads ∙ h) (waiting awaited.Letter t asked.after.threads) asked.after
+        (refused-keeps (λ s. is_some (find (is_number t) s.threads) ≡ true) (λ u s h. same-thread t u block.Not s.threads ∙ h) (senders_to (without_letter t letters) t) aside
+        (same-suspended (with_block t block.Not roll.threads) ∙ same-thread t t block.Not roll.threads ∙ h)))
       where
         same-suspended : (rows : List ThreadRow) → is_some (find (is_number t) (with_suspension t true rows)) ≡ is_some (find (is_number t) rows)
         same-suspended [] = refl
@@ -432,10 +515,57 @@ module _ (t : ℕ) where
             by_head true rest = refl
             by_head false rest = rest
 
+    -- ---- there is room for what is told
+
+    length-aside : length aside.threads ≡ length roll.threads
+    length-aside = length-map (with_block t block.Not roll.threads) (suspension_set t true) ∙ length-map roll.threads (block_set t block.Not)
+
+    waiting-asked : (what : Awaited) → length (waiting what t asked.after.threads) ≤ length (waiting what t aside.threads)
+    waiting-asked what = refused-keeps (λ s. length (waiting what t s.threads) ≤ length (waiting what t aside.threads))
+        (λ u s h. let less = no-more what t u s.threads in omega (arith, h, less)) (senders_to (without_letter t letters) t) aside (omega arith)
+
+    few-deaths : length (waiting awaited.Death t told.after.threads) ≤ length (waiting awaited.Death t asked.after.threads)
+    few-deaths = each-keeps (last_answer awaited.Letter) (λ s. length (waiting awaited.Death t s.threads) ≤ length (waiting awaited.Death t asked.after.threads))
+        (λ u s h. let less = no-more awaited.Death t u s.threads in omega (arith, h, less)) (waiting awaited.Letter t asked.after.threads) asked.after (omega arith)
+
+    module _ (mail : Mailbag) (posted : IsPosted aside.threads mail) (same : mail.letters ≡ without_letter t letters) where
+      few-senders : length (senders_to (without_letter t letters) t) ≤ count_by (λ (row : ThreadRow). is_sending row.block) aside.threads
+      few-senders =
+          let fewer : length (senders_to mail.letters t) ≤ length mail.letters = omega (arith, length-map (filter (is_to t) mail.letters) (λ (letter : Letter). letter.from), length-filter (is_to t) mail.letters, count_by-le-length (is_to t) mail.letters) in
+          let as_many : length (senders_to mail.letters t) ≡ length (senders_to (without_letter t letters) t) = ap (λ ls. length (senders_to ls t)) same in
+          omega (arith, fewer, as_many, letters-fit posted)
+
+      all-few : length (senders_to (without_letter t letters) t) + (length (waiting awaited.Letter t asked.after.threads) + length (waiting awaited.Death t told.after.threads)) ≤ length roll.threads
+      all-few = omega (arith, few-senders, at-most-all t aside.threads, length-aside, waiting-asked awaited.Letter, waiting-asked awaited.Death, few-deaths)
+
+      count-asked : length asked.effects ≡ length (senders_to (without_letter t letters) t)
+      count-asked = each-refused (senders_to (without_letter t letters) t) aside
+
+      count-told : length told.effects ≡ length (waiting awaited.Letter t asked.after.threads)
+      count-told = each-answered (last_answer awaited.Letter) (waiting awaited.Letter t asked.after.threads) asked.after
+
+      count-gone : length gone.effects ≡ length (waiting awaited.Death t told.after.threads)
+      count-gone = each-answered (last_answer awaited.Death) (waiting awaited.Death t told.after.threads) told.after
+
+      pub room-asked : (n : ℕ) → n + length roll.threads < 2048 → n + length (senders_to (without_letter t letters) t) < 2048
+      room-asked n h = omega (arith, h, all-few)
+
+      pub room-told : (n : ℕ) → n + length roll.threads < 2048 → (n + length asked.effects) + length (waiting awaited.Letter t asked.after.threads) < 2048
+      room-told n h = omega (arith, h, all-few, count-asked)
+
+      pub room-gone : (n : ℕ) → n + length roll.threads < 2048 → ((n + length asked.effects) + length told.effects) + length (waiting awaited.Death t told.after.threads) < 2048
+      room-gone n h = omega (arith, h, all-few, count-asked, count-told)
+
+      pub room-died : (n : ℕ) → n + length roll.threads < 2048 → ((n + length asked.effects) + length told.effects) + length gone.effects < 2048
+      room-died n h = omega (arith, h, all-few, count-asked, count-told, count-gone)
+
+      pub most-told : (length asked.effects + length told.effects) + length gone.effects ≤ length roll.threads
+      most-told = omega (arith, all-few, count-asked, count-told, count-gone)
+
     -- a return from the only frame is the death
     pub return-is : return_from alive t ≡ unanswered (death t alive)
     return-is = rw frame refl
 
 -- what was there before, and then all of it in order
-pub four : (a b c d : List Effect) → ((a ++ b) ++ c) ++ d ≡ a ++ (b ++ (c ++ d))
-four a b c d = append_assoc (a ++ b) c d ∙ append_assoc a b (c ++ d)
+pub five : (a b c d e : List Effect) → (((a ++ b) ++ c) ++ d) ++ e ≡ a ++ (b ++ (c ++ (d ++ e)))
+five a b c d e = append_assoc ((a ++ b) ++ c) d e ∙ append_assoc (a ++ b) c (d ++ e) ∙ append_assoc a b (c ++ (d ++ e))

@@ -7,3 +7,6 @@ pub mod Compare
 pub mod Deaths
 pub mod Steps
 pub mod Creates
+pub mod Posts
+pub mod Refusals
+pub mod Mails

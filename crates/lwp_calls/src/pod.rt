@@ -10,6 +10,7 @@ ghost use Rattle.lwp_calls.specs.Pod.{current_of, ending_of};
 use crate::parts::Parts;
 use crate::roll::Roll;
 use lwp_types::{Answer, Call, Effect, Effects, NoMemory, PodParams, Tid};
+use rendezvous::Mail;
 use std::alloc::Global;
 use std::marker::Model;
 
@@ -45,8 +46,12 @@ impl Pod {
         requires procs { 1 ≤ params.procs }
         ensures { IfOk result (λ pod. pod ≡ opening params) }
     {
+        let roll = Roll::new(alloc, params.maxpri, params.births)?;
+        let mut mail = Mail::new(alloc);
+        mail.reserve(1)?;
         let parts = Parts {
-            roll: Roll::new(alloc, params.maxpri, params.births)?,
+            roll,
+            mail,
             status: 0,
             procs: params.procs,
             ended: false,
@@ -141,6 +146,11 @@ impl Pod {
             Call::GetExit => Some(Answer::Value(i64::from(self.parts.status))),
             Call::PodExit { code } => self.parts.pod_exit(code),
             Call::Threads => Some(self.parts.threads(self.alloc)?),
+            Call::Send { to, room, text } => self.parts.send(tid, to, room, text, effects),
+            Call::Recv { from, mode } => self.parts.receive(tid, &from, mode),
+            Call::Reply { to, text } => Some(self.parts.reply(tid, to, text, effects)),
+            Call::Senders => Some(self.parts.senders(tid)?),
+            Call::Receivers => Some(self.parts.receivers(self.alloc, tid)?),
             Call::Return => self.parts.retire(tid, effects),
             Call::Say { .. } => Some(Answer::Value(0)),
             _ => unreachable!(),

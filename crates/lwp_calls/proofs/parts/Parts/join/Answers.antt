@@ -1,5 +1,9 @@
 use Rattle.std.proofs.Common.{sym, refl}
 use Rattle.lwp_types.specs.Case.{unless}
+use Rattle.lwp_calls.proofs.Compare.{lt-true, lt-false, le-true, le-false, no_priority, zero_priority, a_priority, differ}
+use Rattle.lwp_calls.proofs.Posts.{IsPosted-quiet, runs-quiet}
+use Rattle.lwp_types.specs.State.{thread_of}
+use Rattle.lwp_types.specs.declared.rows.Block.TheVariants as block
 use Rattle.lwp_calls.proofs.parts.Parts.join.Goals as goal
 
 pub returns-then-not-is_thread : goal.returns-then-not-is_thread
@@ -13,3 +17,6 @@ returns-then-eq c = rw (← c.self.view_is, sym c.if-not-is_thread.ensures, sym 
 pub returns : goal.returns
 unfolding unless
 returns c = rw (← c.self.view_is, sym c.if-not-is_thread.ensures, sym c.if-eq.ensures, c.block.ensures) refl
+
+pub invariant_of-self : goal.invariant_of-self
+invariant_of-self c = rw c.block.ensures (IsPosted-quiet c.self.invariant c.args.caller (block.Joining c.args.tid) refl (runs-quiet (thread_of c.self.inside.roll c.args.caller) (rw (← c.self.view_is) at c.requires)))
