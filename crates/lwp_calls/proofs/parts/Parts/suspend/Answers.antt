@@ -1,4 +1,4 @@
-use Rattle.std.proofs.Common.{true, false, sym, refl}
+use Rattle.std.proofs.Common.{sym, refl, true}
 use Rattle.lwp_types.specs.Case.{unless}
 use Rattle.lwp_calls.proofs.Compare.{lt-true, lt-false, le-true, le-false, no_priority, zero_priority, a_priority, differ}
 use Rattle.lwp_calls.proofs.Posts.{IsPosted-changed}
