@@ -96,9 +96,9 @@ record Plain (n : ℕ) (d : Draft) : Type 0 where
   clients : d.script.clients ≡ []
   natives : d.script.natives ≡ []
   posts : d.script.posts ≡ []
-  mons : d.script.names.mons ≡ []
   conds : d.script.names.conds ≡ []
   threads : length d.script.names.threads ≤ n
+  mons : length d.script.names.mons ≤ n
   done : all_so_far d.script.procs
   begun : all_so_far (option_to_list d.current)
 
@@ -123,6 +123,19 @@ row_so_far op.SetExit names p = refl
 row_so_far op.GetExit names p = refl
 row_so_far op.PodExit names p = refl
 row_so_far op.Threads names p = refl
+row_so_far op.Send names p = refl
+row_so_far op.Recv names p = refl
+row_so_far op.Reply names p = refl
+row_so_far op.Senders names p = refl
+row_so_far op.Receivers names p = refl
+row_so_far op.MonCreate names p = refl
+row_so_far op.MonDestroy names p = refl
+row_so_far op.Enter names p = refl
+row_so_far op.CondEnter names p = refl
+row_so_far op.MonExit names p = refl
+row_so_far op.MonBreak names p = refl
+row_so_far op.MonWaiters names p = refl
+row_so_far op.Monitors names p = refl
 row_so_far op.Say names p = refl
 row_so_far op.Return names p = refl
 row_so_far op.Skip names p = refl
@@ -143,9 +156,9 @@ entered_plain n d p h = record {
   clients = h.clients;
   natives = h.natives;
   posts = h.posts;
-  mons = h.mons;
   conds = h.conds;
   threads = omega (arith, h.threads, enter_short d.script.names.threads p.thread);
+  mons = omega (arith, h.mons, enter_short d.script.names.mons p.monitor);
   done = h.done;
   begun = h.begun;
 }
@@ -169,7 +182,7 @@ plain_on n d (p ∷ ps) h =
     subst (λ (m : ℕ). Plain m (fold added (added d p) ps)) (omega arith) more
 
 plain_start : Plain 0 empty_draft
-plain_start = record { clients = refl; natives = refl; posts = refl; mons = refl; conds = refl; threads = omega arith; done = refl; begun = refl }
+plain_start = record { clients = refl; natives = refl; posts = refl; conds = refl; threads = omega arith; mons = omega arith; done = refl; begun = refl }
 
 -- ---- The greatest priority.
 
@@ -319,7 +332,7 @@ lines_within text s lines h =
       some_procs = omega (arith, procs, h.some);
       few_procs = rw plain.natives (omega (arith, procs, few_declared lines, short));
       few_threads = omega (arith, plain.threads, short);
-      few_mons = rw plain.mons (omega arith);
+      few_mons = omega (arith, plain.mons, short);
       few_conds = rw plain.conds (omega arith);
     }
 

@@ -5,7 +5,7 @@ use Rattle.std.specs.List.{flat_map, AllByRecursion, list_all}
 use Rattle.std.specs.Str.{bytes_eq, all_ascii_digits}
 use Rattle.std.specs.Fmt.{decimal}
 use Rattle.std.specs.Char.{is_ascii_digit}
-use Rattle.std.proofs.lemmas.Bool.{leb-true, lt-ltb, ltb-true, ne_eqb, eqb-true}
+use Rattle.std.proofs.lemmas.Bool.{leb-true, le-leb, lt-ltb, ltb-true, ne_eqb, eqb-true}
 use Rattle.std.proofs.lemmas.Option.{cond_some, option_and_then_some}
 use Rattle.std.proofs.lemmas.List.{append-nil, take_at, drop_at, take-append-drop}
 use Rattle.std.proofs.lemmas.Slice.Eq.{bytes_eq-Decides}
@@ -18,13 +18,15 @@ use Rattle.script_text.specs.declared.phrase.Phrase.{Phrase}
 use Rattle.script_text.specs.declared.script.Test.{Test}
 use Rattle.script_text.specs.declared.script.Test.TheVariants as test
 use Rattle.lwp_types.specs.declared.call.Flags.{Flags}
-use Rattle.script_text.specs.Words.{is_lowercase, is_reserved, is_name, is_thread_word, is_name_byte, number_at, reach}
+use Rattle.lwp_types.specs.declared.call.Mode.{Mode}
+use Rattle.lwp_types.specs.declared.call.Mode.TheVariants as mode
+use Rattle.script_text.specs.Words.{is_lowercase, is_reserved, is_name, is_thread_word, is_source_word, is_name_byte, number_at, reach}
 use Rattle.script_text.specs.Table.{op_in, op_at, ops, kinds_of, word_of}
 use Rattle.lwp_types.specs.TextFields.{is_text}
-use Rattle.script_text.specs.Lines.{spaced, flags_text}
+use Rattle.script_text.specs.Lines.{spaced, flags_text, mode_text}
 use Rattle.script_text.specs.Grammar.{test_text, TestFits, slot_text, phrase_text, SlotFits, IsPhrase, blank, copy_slot, copy_slots, needed, IsNeeded}
-use Rattle.script_text.specs.Reading.{flags_by, all_flags, flags_in, flags_at, value_at, test_at, fill_word, fill_text, fill_test, fill_spaced, slot_at, fill, first_word, phrase_at}
-use Rattle.script_text.proofs.WordLemmas.{both, thread_word, Stops, reach-append, number_again, number_found, own}
+use Rattle.script_text.specs.Reading.{flags_by, all_flags, flags_in, flags_at, within_room, room_at, mode_at, value_at, test_at, fill_word, fill_text, fill_test, fill_spaced, slot_at, fill, first_word, phrase_at}
+use Rattle.script_text.proofs.WordLemmas.{both, thread_word, source_word, Stops, reach-append, number_again, number_found, own}
 
 -- ---- Rows.
 
@@ -57,6 +59,19 @@ op_again op.SetExit = refl
 op_again op.GetExit = refl
 op_again op.PodExit = refl
 op_again op.Threads = refl
+op_again op.Send = refl
+op_again op.Recv = refl
+op_again op.Reply = refl
+op_again op.Senders = refl
+op_again op.Receivers = refl
+op_again op.MonCreate = refl
+op_again op.MonDestroy = refl
+op_again op.Enter = refl
+op_again op.CondEnter = refl
+op_again op.MonExit = refl
+op_again op.MonBreak = refl
+op_again op.MonWaiters = refl
+op_again op.Monitors = refl
 op_again op.Say = refl
 op_again op.Return = refl
 op_again op.Skip = refl
@@ -83,6 +98,19 @@ word_is_whole op.SetExit = refl
 word_is_whole op.GetExit = refl
 word_is_whole op.PodExit = refl
 word_is_whole op.Threads = refl
+word_is_whole op.Send = refl
+word_is_whole op.Recv = refl
+word_is_whole op.Reply = refl
+word_is_whole op.Senders = refl
+word_is_whole op.Receivers = refl
+word_is_whole op.MonCreate = refl
+word_is_whole op.MonDestroy = refl
+word_is_whole op.Enter = refl
+word_is_whole op.CondEnter = refl
+word_is_whole op.MonExit = refl
+word_is_whole op.MonBreak = refl
+word_is_whole op.MonWaiters = refl
+word_is_whole op.Monitors = refl
 word_is_whole op.Say = refl
 word_is_whole op.Return = refl
 word_is_whole op.Skip = refl
@@ -90,16 +118,20 @@ word_is_whole op.Again = refl
 
 -- ---- Slots of different kinds don't touch each other.
 
--- the field that a kind fills; two kinds of words for threads share one
+-- the field that a kind fills; three kinds of words for threads share one
 abbrev field_number : Kind → ℕ
 field_number kind.Thread = 0
 field_number kind.Who = 0
+field_number kind.Source = 0
 field_number kind.Procedure = 1
-field_number kind.Number = 2
-field_number kind.Births = 3
-field_number kind.Flags = 4
-field_number kind.Test = 5
-field_number kind.Text = 6
+field_number kind.Monitor = 2
+field_number kind.Number = 3
+field_number kind.Room = 4
+field_number kind.Births = 5
+field_number kind.Flags = 6
+field_number kind.Mode = 7
+field_number kind.Test = 8
+field_number kind.Text = 9
 
 abbrev pub same_field : Kind → Kind → Bool
 same_field j k = eqb (field_number j) (field_number k)
@@ -108,10 +140,14 @@ same_field j k = eqb (field_number j) (field_number k)
 abbrev pub takes_rest : Kind → Bool
 takes_rest kind.Thread = false
 takes_rest kind.Who = false
+takes_rest kind.Source = false
 takes_rest kind.Procedure = false
+takes_rest kind.Monitor = false
 takes_rest kind.Number = false
+takes_rest kind.Room = false
 takes_rest kind.Births = false
 takes_rest kind.Flags = false
+takes_rest kind.Mode = false
 takes_rest kind.Test = true
 takes_rest kind.Text = true
 
@@ -148,6 +184,19 @@ rows op.SetExit = refl
 rows op.GetExit = refl
 rows op.PodExit = refl
 rows op.Threads = refl
+rows op.Send = refl
+rows op.Recv = refl
+rows op.Reply = refl
+rows op.Senders = refl
+rows op.Receivers = refl
+rows op.MonCreate = refl
+rows op.MonDestroy = refl
+rows op.Enter = refl
+rows op.CondEnter = refl
+rows op.MonExit = refl
+rows op.MonBreak = refl
+rows op.MonWaiters = refl
+rows op.Monitors = refl
 rows op.Say = refl
 rows op.Return = refl
 rows op.Skip = refl
@@ -160,20 +209,28 @@ slot_value p k = copy_slot k p (blank op.Return)
 text_from_value : (p q : Phrase) (k : Kind) → slot_value p k ≡ slot_value q k → slot_text p k ≡ slot_text q k
 text_from_value p q kind.Thread e = ap (λ (v : Phrase). slot_text v kind.Thread) e
 text_from_value p q kind.Who e = ap (λ (v : Phrase). slot_text v kind.Who) e
+text_from_value p q kind.Source e = ap (λ (v : Phrase). slot_text v kind.Source) e
 text_from_value p q kind.Procedure e = ap (λ (v : Phrase). slot_text v kind.Procedure) e
+text_from_value p q kind.Monitor e = ap (λ (v : Phrase). slot_text v kind.Monitor) e
 text_from_value p q kind.Number e = ap (λ (v : Phrase). slot_text v kind.Number) e
+text_from_value p q kind.Room e = ap (λ (v : Phrase). slot_text v kind.Room) e
 text_from_value p q kind.Births e = ap (λ (v : Phrase). slot_text v kind.Births) e
 text_from_value p q kind.Flags e = ap (λ (v : Phrase). slot_text v kind.Flags) e
+text_from_value p q kind.Mode e = ap (λ (v : Phrase). slot_text v kind.Mode) e
 text_from_value p q kind.Test e = ap (λ (v : Phrase). slot_text v kind.Test) e
 text_from_value p q kind.Text e = ap (λ (v : Phrase). slot_text v kind.Text) e
 
 fits_from_value : (p q : Phrase) (k : Kind) → slot_value p k ≡ slot_value q k → SlotFits p k → SlotFits q k
 fits_from_value p q kind.Thread e h = subst (λ (v : Phrase). SlotFits v kind.Thread) e h
 fits_from_value p q kind.Who e h = subst (λ (v : Phrase). SlotFits v kind.Who) e h
+fits_from_value p q kind.Source e h = subst (λ (v : Phrase). SlotFits v kind.Source) e h
 fits_from_value p q kind.Procedure e h = subst (λ (v : Phrase). SlotFits v kind.Procedure) e h
+fits_from_value p q kind.Monitor e h = subst (λ (v : Phrase). SlotFits v kind.Monitor) e h
 fits_from_value p q kind.Number e h = subst (λ (v : Phrase). SlotFits v kind.Number) e h
+fits_from_value p q kind.Room e h = subst (λ (v : Phrase). SlotFits v kind.Room) e h
 fits_from_value p q kind.Births e h = subst (λ (v : Phrase). SlotFits v kind.Births) e h
 fits_from_value p q kind.Flags e h = subst (λ (v : Phrase). SlotFits v kind.Flags) e h
+fits_from_value p q kind.Mode e h = subst (λ (v : Phrase). SlotFits v kind.Mode) e h
 fits_from_value p q kind.Test e h = subst (λ (v : Phrase). SlotFits v kind.Test) e h
 fits_from_value p q kind.Text e h = subst (λ (v : Phrase). SlotFits v kind.Text) e h
 
@@ -183,19 +240,31 @@ record Filled (k : Kind) (p q : Phrase) : Type 0 where
   others : (j : Kind) → same_field j k ≡ false → slot_value q j ≡ slot_value p j
 
 fills_thread : (p : Phrase) (w : List ℕ) → Filled kind.Thread p (record p { thread = w })
-fills_thread p w = record { op = refl; others = λ j ne. elim j as (λ i. same_field i kind.Thread ≡ false → slot_value (record p { thread = w }) i ≡ slot_value p i) [ kind.Thread ↦ λ f. absurd cc | kind.Who ↦ λ f. absurd cc | _ ↦ λ f. refl ] ne }
+fills_thread p w = record { op = refl; others = λ j ne. elim j as (λ i. same_field i kind.Thread ≡ false → slot_value (record p { thread = w }) i ≡ slot_value p i) [ kind.Thread ↦ λ f. absurd cc | kind.Who ↦ λ f. absurd cc | kind.Source ↦ λ f. absurd cc | _ ↦ λ f. refl ] ne }
 
 fills_who : (p : Phrase) (w : List ℕ) → Filled kind.Who p (record p { thread = w })
-fills_who p w = record { op = refl; others = λ j ne. elim j as (λ i. same_field i kind.Who ≡ false → slot_value (record p { thread = w }) i ≡ slot_value p i) [ kind.Who ↦ λ f. absurd cc | kind.Thread ↦ λ f. absurd cc | _ ↦ λ f. refl ] ne }
+fills_who p w = record { op = refl; others = λ j ne. elim j as (λ i. same_field i kind.Who ≡ false → slot_value (record p { thread = w }) i ≡ slot_value p i) [ kind.Thread ↦ λ f. absurd cc | kind.Who ↦ λ f. absurd cc | kind.Source ↦ λ f. absurd cc | _ ↦ λ f. refl ] ne }
+
+fills_source : (p : Phrase) (w : List ℕ) → Filled kind.Source p (record p { thread = w })
+fills_source p w = record { op = refl; others = λ j ne. elim j as (λ i. same_field i kind.Source ≡ false → slot_value (record p { thread = w }) i ≡ slot_value p i) [ kind.Thread ↦ λ f. absurd cc | kind.Who ↦ λ f. absurd cc | kind.Source ↦ λ f. absurd cc | _ ↦ λ f. refl ] ne }
 
 fills_proc : (p : Phrase) (w : List ℕ) → Filled kind.Procedure p (record p { procedure = w })
 fills_proc p w = record { op = refl; others = λ j ne. elim j as (λ i. same_field i kind.Procedure ≡ false → slot_value (record p { procedure = w }) i ≡ slot_value p i) [ kind.Procedure ↦ λ f. absurd cc | _ ↦ λ f. refl ] ne }
 
+fills_monitor : (p : Phrase) (w : List ℕ) → Filled kind.Monitor p (record p { monitor = w })
+fills_monitor p w = record { op = refl; others = λ j ne. elim j as (λ i. same_field i kind.Monitor ≡ false → slot_value (record p { monitor = w }) i ≡ slot_value p i) [ kind.Monitor ↦ λ f. absurd cc | _ ↦ λ f. refl ] ne }
+
 fills_number : (p : Phrase) (w : ℕ) → Filled kind.Number p (record p { number = w })
 fills_number p w = record { op = refl; others = λ j ne. elim j as (λ i. same_field i kind.Number ≡ false → slot_value (record p { number = w }) i ≡ slot_value p i) [ kind.Number ↦ λ f. absurd cc | _ ↦ λ f. refl ] ne }
 
+fills_room : (p : Phrase) (w : ℕ) → Filled kind.Room p (record p { room = w })
+fills_room p w = record { op = refl; others = λ j ne. elim j as (λ i. same_field i kind.Room ≡ false → slot_value (record p { room = w }) i ≡ slot_value p i) [ kind.Room ↦ λ f. absurd cc | _ ↦ λ f. refl ] ne }
+
 fills_flags : (p : Phrase) (w : Flags) → Filled kind.Flags p (record p { flags = w })
 fills_flags p w = record { op = refl; others = λ j ne. elim j as (λ i. same_field i kind.Flags ≡ false → slot_value (record p { flags = w }) i ≡ slot_value p i) [ kind.Flags ↦ λ f. absurd cc | _ ↦ λ f. refl ] ne }
+
+fills_mode : (p : Phrase) (w : Mode) → Filled kind.Mode p (record p { mode = w })
+fills_mode p w = record { op = refl; others = λ j ne. elim j as (λ i. same_field i kind.Mode ≡ false → slot_value (record p { mode = w }) i ≡ slot_value p i) [ kind.Mode ↦ λ f. absurd cc | _ ↦ λ f. refl ] ne }
 
 fills_test : (p : Phrase) (w : Test) → Filled kind.Test p (record p { test = w })
 fills_test p w = record { op = refl; others = λ j ne. elim j as (λ i. same_field i kind.Test ≡ false → slot_value (record p { test = w }) i ≡ slot_value p i) [ kind.Test ↦ λ f. absurd cc | _ ↦ λ f. refl ] ne }
@@ -206,7 +275,34 @@ fills_text p w = record { op = refl; others = λ j ne. elim j as (λ i. same_fie
 fills_nothing : (k : Kind) (p : Phrase) → Filled k p p
 fills_nothing k p = record { op = refl; others = λ j ne. refl }
 
--- ---- Flags and tests.
+-- ---- Rooms, flags, modes and tests.
+
+-- a room that is read was written so
+room_found : (w : List ℕ) (n : ℕ) → room_at w ≡ Some n → (w ≡ decimal n) × (n ≤ 240)
+room_found w n e =
+    option_and_then_some within_room (number_at w) n e
+    (λ m i f.
+    let t = cond_some (leb m 240) m n f in
+    let d = number_found w m i in
+    (d.0 ∙ ap decimal t.1, subst (λ x. x ≤ 240) t.1 (leb-true m 240 t.0)))
+
+-- a room that is written is read
+room_again : (n : ℕ) → n ≤ 240 → room_at (decimal n) ≡ Some n
+room_again n h = rw (number_again n (omega arith), le-leb n 240 h) refl
+
+-- a mode that is read was written so
+mode_found : (w : List ℕ) (m : Mode) → mode_at w ≡ Some m → w ≡ mode_text m
+mode_found w m e = elim (bytes_eq w (codes "poll")) as (λ v. bytes_eq w (codes "poll") ≡ v → cond v (Some mode.Poll) (cond (bytes_eq w (codes "wait")) (Some mode.Block) None) ≡ Some m → w ≡ mode_text m) [
+  | true ↦ λ i f. let h : mode.Poll ≡ m = cc in subst (λ (x : Mode). w ≡ mode_text x) h ((bytes_eq-Decides w (codes "poll")).0 i)
+  | false ↦ λ i f.
+      let t = cond_some (bytes_eq w (codes "wait")) mode.Block m f in
+      subst (λ (x : Mode). w ≡ mode_text x) t.1 ((bytes_eq-Decides w (codes "wait")).0 t.0)
+] refl e
+
+-- a mode that is written is read
+mode_again : (m : Mode) → mode_at (mode_text m) ≡ Some m
+mode_again mode.Poll = refl
+mode_again mode.Block = refl
 
 flags_in_found : (fs : List Flags) (w : List ℕ) (f : Flags) → flags_in fs w ≡ Some f → w ≡ flags_text f
 flags_in_found [] w f e = absurd cc
@@ -287,6 +383,12 @@ word_found kind.Thread p q w e =
 word_found kind.Who p q w e =
     let b = cond_some (is_thread_word w) (record p { thread = w }) q e in
     subst (λ x. FilledWith kind.Who p x (32 ∷ w)) b.1 (record { filled = fills_who p w; text_is = refl; fits = b.0 })
+word_found kind.Source p q w e =
+    let b = cond_some (is_source_word w) (record p { thread = w }) q e in
+    subst (λ x. FilledWith kind.Source p x (32 ∷ w)) b.1 (record { filled = fills_source p w; text_is = refl; fits = b.0 })
+word_found kind.Monitor p q w e =
+    let b = cond_some (is_name w) (record p { monitor = w }) q e in
+    subst (λ x. FilledWith kind.Monitor p x (32 ∷ w)) b.1 (record { filled = fills_monitor p w; text_is = refl; fits = b.0 })
 word_found kind.Procedure p q w e =
     let b = cond_some (is_name w) (record p { procedure = w }) q e in
     subst (λ x. FilledWith kind.Procedure p x (32 ∷ w)) b.1 (record { filled = fills_proc p w; text_is = refl; fits = b.0 })
@@ -297,6 +399,13 @@ word_found kind.Number p q w e = elim (number_at w) as (λ o. number_at w ≡ o 
       let h : record p { number = n } ≡ q = cc in
       subst (λ x. FilledWith kind.Number p x (32 ∷ w)) h (record { filled = fills_number p n; text_is = ap (λ t. 32 ∷ t) g.0; fits = g.1 })
 ] refl e
+word_found kind.Room p q w e = elim (room_at w) as (λ o. room_at w ≡ o → option_map (λ n. record p { room = n }) o ≡ Some q → FilledWith kind.Room p q (32 ∷ w)) [
+  | None ↦ λ i f. absurd cc
+  | Some n ↦ λ i f.
+      let g = room_found w n i in
+      let h : record p { room = n } ≡ q = cc in
+      subst (λ x. FilledWith kind.Room p x (32 ∷ w)) h (record { filled = fills_room p n; text_is = ap (λ t. 32 ∷ t) g.0; fits = g.1 })
+] refl e
 word_found kind.Births p q w e =
     let b = cond_some (bytes_eq w (codes "births")) p q e in
     subst (λ x. FilledWith kind.Births p x (32 ∷ w)) b.1 (record { filled = fills_nothing kind.Births p; text_is = ap (λ t. 32 ∷ t) ((bytes_eq-Decides w (codes "births")).0 b.0); fits = tt })
@@ -305,6 +414,12 @@ word_found kind.Flags p q w e = elim (flags_at w) as (λ o. flags_at w ≡ o →
   | Some flags ↦ λ i f.
       let h : record p { flags = flags } ≡ q = cc in
       subst (λ x. FilledWith kind.Flags p x (32 ∷ w)) h (record { filled = fills_flags p flags; text_is = ap (λ t. 32 ∷ t) (flags_found w flags i); fits = tt })
+] refl e
+word_found kind.Mode p q w e = elim (mode_at w) as (λ o. mode_at w ≡ o → option_map (λ m. record p { mode = m }) o ≡ Some q → FilledWith kind.Mode p q (32 ∷ w)) [
+  | None ↦ λ i f. absurd cc
+  | Some m ↦ λ i f.
+      let h : record p { mode = m } ≡ q = cc in
+      subst (λ x. FilledWith kind.Mode p x (32 ∷ w)) h (record { filled = fills_mode p m; text_is = ap (λ t. 32 ∷ t) (mode_found w m i); fits = tt })
 ] refl e
 word_found kind.Test p q w e = absurd cc
 word_found kind.Text p q w e = absurd cc
@@ -365,6 +480,10 @@ slot_found kind.Births p rest x e = spaced_found kind.Births p rest x e
 slot_found kind.Thread p rest x e = spaced_found kind.Thread p rest x e
 slot_found kind.Procedure p rest x e = spaced_found kind.Procedure p rest x e
 slot_found kind.Number p rest x e = spaced_found kind.Number p rest x e
+slot_found kind.Source p rest x e = spaced_found kind.Source p rest x e
+slot_found kind.Monitor p rest x e = spaced_found kind.Monitor p rest x e
+slot_found kind.Room p rest x e = spaced_found kind.Room p rest x e
+slot_found kind.Mode p rest x e = spaced_found kind.Mode p rest x e
 slot_found kind.Flags p rest x e = spaced_found kind.Flags p rest x e
 
 -- the text was taken slot by slot, to its end
@@ -441,7 +560,14 @@ digits_are_whole (b ∷ bs) h = elim (eqb b 32) as (λ v. eqb b 32 ≡ v → con
 ] refl
 
 thread_word_is_whole : (w : List ℕ) → is_thread_word w ≡ true → reach 32 w ≡ length w
-thread_word_is_whole w h = thread_word (λ v. reach 32 v ≡ length v) w h (name_is_whole w) refl refl refl
+thread_word_is_whole w h = thread_word (λ v. reach 32 v ≡ length v) w h (name_is_whole w) refl refl refl refl
+
+source_word_is_whole : (w : List ℕ) → is_source_word w ≡ true → reach 32 w ≡ length w
+source_word_is_whole w h = source_word (λ v. reach 32 v ≡ length v) w h (thread_word_is_whole w) refl
+
+mode_is_whole : (m : Mode) → reach 32 (mode_text m) ≡ length (mode_text m)
+mode_is_whole mode.Poll = refl
+mode_is_whole mode.Block = refl
 
 flags_are_whole : (f : Flags) → reach 32 (flags_text f) ≡ length (flags_text f)
 flags_are_whole f = by_letters f.suspended f.nolastrites f.server
@@ -473,6 +599,11 @@ slot_again kind.Procedure p q after h s l = spaced_again kind.Procedure q (recor
 slot_again kind.Number p q after h s l =
     spaced_again kind.Number q (record q { number = p.number }) (decimal p.number) after (digits_are_whole (decimal p.number) (digits_decimal own p.number (omega arith))) s (rw (number_again p.number h) refl)
 slot_again kind.Who p q after h s l = spaced_again kind.Who q (record q { thread = p.thread }) p.thread after (thread_word_is_whole p.thread h) s (rw h refl)
+slot_again kind.Source p q after h s l = spaced_again kind.Source q (record q { thread = p.thread }) p.thread after (source_word_is_whole p.thread h) s (rw h refl)
+slot_again kind.Monitor p q after h s l = spaced_again kind.Monitor q (record q { monitor = p.monitor }) p.monitor after (name_is_whole p.monitor h) s (rw h refl)
+slot_again kind.Room p q after h s l =
+    spaced_again kind.Room q (record q { room = p.room }) (decimal p.room) after (digits_are_whole (decimal p.room) (digits_decimal own p.room (omega arith))) s (rw (room_again p.room h) refl)
+slot_again kind.Mode p q after h s l = spaced_again kind.Mode q (record q { mode = p.mode }) (mode_text p.mode) after (mode_is_whole p.mode) s (rw (mode_again p.mode) refl)
 slot_again kind.Births p q after h s l = spaced_again kind.Births q q (codes "births") after refl s refl
 slot_again kind.Flags p q after h s l = spaced_again kind.Flags q (record q { flags = p.flags }) (flags_text p.flags) after (flags_are_whole p.flags) s (rw (flags_again p.flags) refl)
 slot_again kind.Test p q after h s l =
@@ -490,6 +621,10 @@ places_stop p (kind.Who ∷ ks) r = refl
 places_stop p (kind.Procedure ∷ ks) r = refl
 places_stop p (kind.Number ∷ ks) r = refl
 places_stop p (kind.Births ∷ ks) r = refl
+places_stop p (kind.Source ∷ ks) r = refl
+places_stop p (kind.Monitor ∷ ks) r = refl
+places_stop p (kind.Room ∷ ks) r = refl
+places_stop p (kind.Mode ∷ ks) r = refl
 places_stop p (kind.Flags ∷ ks) r = refl
 places_stop p (kind.Test ∷ ks) r = refl
 places_stop p (kind.Text ∷ []) r = rw append-nil (of_text p.text)

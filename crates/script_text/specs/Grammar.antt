@@ -3,6 +3,7 @@ use Rattle.std.specs.Prelude.{◌≡◌, ℕ, ◌<◌, ◌≤◌, ◌^◌, Bool,
 use Rattle.std.specs.List.{flat_map, AllByRecursion}
 use Rattle.std.specs.Fmt.{decimal}
 use Rattle.lwp_types.specs.TextFields.{is_printable, is_text}
+use Rattle.lwp_types.specs.declared.call.Mode.TheVariants as mode
 use Rattle.script_text.specs.declared.table.Op.{Op}
 use Rattle.script_text.specs.declared.table.Role.{Role}
 use Rattle.script_text.specs.declared.table.Role.TheVariants as role
@@ -14,9 +15,9 @@ use Rattle.script_text.specs.declared.stage.Stage.TheVariants as stage
 use Rattle.script_text.specs.declared.script.Script.{Script}
 use Rattle.script_text.specs.declared.script.Test.{Test}
 use Rattle.script_text.specs.declared.script.Test.TheVariants as test
-use Rattle.script_text.specs.Words.{is_name, is_thread_word}
+use Rattle.script_text.specs.Words.{is_name, is_thread_word, is_source_word}
 use Rattle.script_text.specs.Table.{word_of, role_of, kinds_of, starts}
-use Rattle.script_text.specs.Lines.{spaced, flags_text}
+use Rattle.script_text.specs.Lines.{spaced, flags_text, mode_text}
 use Rattle.script_text.specs.Meaning.{contains_name, script_of}
 
 -- ---- A line.
@@ -32,10 +33,14 @@ test_text (test.Value n) = codes "is " ++ decimal n
 abbrev pub slot_text : Phrase → Kind → List ℕ
 slot_text p kind.Thread = 32 ∷ p.thread
 slot_text p kind.Who = 32 ∷ p.thread
+slot_text p kind.Source = 32 ∷ p.thread
 slot_text p kind.Procedure = 32 ∷ p.procedure
+slot_text p kind.Monitor = 32 ∷ p.monitor
 slot_text p kind.Number = 32 ∷ decimal p.number
+slot_text p kind.Room = 32 ∷ decimal p.room
 slot_text p kind.Births = codes " births"
 slot_text p kind.Flags = 32 ∷ flags_text p.flags
+slot_text p kind.Mode = 32 ∷ mode_text p.mode
 slot_text p kind.Test = 32 ∷ test_text p.test
 slot_text p kind.Text = spaced p.text
 
@@ -54,10 +59,14 @@ TestFits (test.Value n) = n < 2 ^ 32
 abbrev pub SlotFits : Phrase → Kind → Type 0
 SlotFits p kind.Thread = IsTrue (is_name p.thread)
 SlotFits p kind.Who = IsTrue (is_thread_word p.thread)
+SlotFits p kind.Source = IsTrue (is_source_word p.thread)
 SlotFits p kind.Procedure = IsTrue (is_name p.procedure)
+SlotFits p kind.Monitor = IsTrue (is_name p.monitor)
 SlotFits p kind.Number = p.number < 2 ^ 32
+SlotFits p kind.Room = p.room ≤ 240
 SlotFits p kind.Births = Unit {0}
 SlotFits p kind.Flags = Unit {0}
+SlotFits p kind.Mode = Unit {0}
 SlotFits p kind.Test = TestFits p.test
 SlotFits p kind.Text = IsTrue (is_text p.text)
 
@@ -67,16 +76,20 @@ IsPhrase p = AllByRecursion (SlotFits p) (kinds_of p.op)
 
 -- a first word with nothing behind it
 abbrev pub blank : Op → Phrase
-blank o = record { op = o; thread = []; procedure = []; number = 0; flags = record { suspended = false; nolastrites = false; server = false }; test = test.Fine; text = [] }
+blank o = record { op = o; thread = []; procedure = []; monitor = []; number = 0; room = 0; flags = record { suspended = false; nolastrites = false; server = false }; mode = mode.Poll; test = test.Fine; text = [] }
 
 -- q with p's slot of this kind
 abbrev pub copy_slot : Kind → Phrase → Phrase → Phrase
 copy_slot kind.Thread p q = record q { thread = p.thread }
 copy_slot kind.Who p q = record q { thread = p.thread }
+copy_slot kind.Source p q = record q { thread = p.thread }
 copy_slot kind.Procedure p q = record q { procedure = p.procedure }
+copy_slot kind.Monitor p q = record q { monitor = p.monitor }
 copy_slot kind.Number p q = record q { number = p.number }
+copy_slot kind.Room p q = record q { room = p.room }
 copy_slot kind.Births p q = q
 copy_slot kind.Flags p q = record q { flags = p.flags }
+copy_slot kind.Mode p q = record q { mode = p.mode }
 copy_slot kind.Test p q = record q { test = p.test }
 copy_slot kind.Text p q = record q { text = p.text }
 

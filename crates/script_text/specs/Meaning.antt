@@ -35,7 +35,7 @@ enter names w = if is_name w && not (contains_name names w) then names ++ w ∷ 
 
 -- the names, and those of one more line
 abbrev pub named : Names → Phrase → Names
-named names p = record names { procs = enter names.procs p.procedure; threads = enter names.threads p.thread }
+named names p = record names { procs = enter names.procs p.procedure; threads = enter names.threads p.thread; mons = enter names.mons p.monitor }
 
 -- ---- Statements.
 
@@ -44,8 +44,42 @@ abbrev pub who_at : List (List ℕ) → List ℕ → Who
 who_at names w =
     if bytes_eq w (codes "self") then who.Me
     else if bytes_eq w (codes "first") then who.First
+    else if bytes_eq w (codes "sender") then who.Sender
     else if bytes_eq w (codes "none") then who.Nobody
     else who.Named (place names w)
+
+-- from whom a word says to receive, where the threads are called so; None is anybody
+abbrev pub from_at : List (List ℕ) → List ℕ → Option Who
+from_at names w = if bytes_eq w (codes "any") then None else Some (who_at names w)
+
+-- a statement that names nothing
+abbrev pub plain_statement : Op → Phrase → Option Stmt
+plain_statement op.Resched p = Some (stmt.Resched p.number)
+plain_statement op.SetMaxPri p = Some (stmt.SetMaxPri p.number)
+plain_statement op.Me p = Some stmt.Me
+plain_statement op.SetExit p = Some (stmt.SetExit p.number)
+plain_statement op.GetExit p = Some stmt.GetExit
+plain_statement op.PodExit p = Some (stmt.PodExit p.number)
+plain_statement op.Threads p = Some stmt.Threads
+plain_statement op.Senders p = Some stmt.Senders
+plain_statement op.Receivers p = Some stmt.Receivers
+plain_statement op.Monitors p = Some stmt.Monitors
+plain_statement op.Say p = Some (stmt.Say p.text)
+plain_statement op.Return p = Some stmt.Return
+plain_statement op.Skip p = Some (stmt.Skip p.test)
+plain_statement op.Again p = Some stmt.Again
+plain_statement _ p = None
+
+-- a statement that names a monitor, which has this number, or one that names nothing
+abbrev pub monitor_statement : Op → ℕ → Phrase → Option Stmt
+monitor_statement op.MonCreate m p = Some (stmt.MonCreate m)
+monitor_statement op.MonDestroy m p = Some (stmt.MonDestroy m)
+monitor_statement op.Enter m p = Some (stmt.Enter m)
+monitor_statement op.CondEnter m p = Some (stmt.CondEnter m)
+monitor_statement op.MonExit m p = Some (stmt.MonExit m)
+monitor_statement op.MonBreak m p = Some (stmt.MonBreak m)
+monitor_statement op.MonWaiters m p = Some (stmt.MonWaiters m)
+monitor_statement o m p = plain_statement o p
 
 -- the statement of a line, if its row is one of a statement
 abbrev pub statement_at : Op → Names → Phrase → Option Stmt
@@ -56,19 +90,11 @@ statement_at op.Yield names p = Some (stmt.Yield (who_at names.threads p.thread)
 statement_at op.Suspend names p = Some (stmt.Suspend (who_at names.threads p.thread))
 statement_at op.Resume names p = Some (stmt.Resume (who_at names.threads p.thread))
 statement_at op.Join names p = Some (stmt.Join (who_at names.threads p.thread))
-statement_at op.Resched names p = Some (stmt.Resched p.number)
 statement_at op.SetPri names p = Some (stmt.SetPri (who_at names.threads p.thread) p.number)
-statement_at op.SetMaxPri names p = Some (stmt.SetMaxPri p.number)
-statement_at op.Me names p = Some stmt.Me
-statement_at op.SetExit names p = Some (stmt.SetExit p.number)
-statement_at op.GetExit names p = Some stmt.GetExit
-statement_at op.PodExit names p = Some (stmt.PodExit p.number)
-statement_at op.Threads names p = Some stmt.Threads
-statement_at op.Say names p = Some (stmt.Say p.text)
-statement_at op.Return names p = Some stmt.Return
-statement_at op.Skip names p = Some (stmt.Skip p.test)
-statement_at op.Again names p = Some stmt.Again
-statement_at _ names p = None
+statement_at op.Send names p = Some (stmt.Send (who_at names.threads p.thread) p.room p.text)
+statement_at op.Recv names p = Some (stmt.Recv (from_at names.threads p.thread) p.mode)
+statement_at op.Reply names p = Some (stmt.Reply (who_at names.threads p.thread) p.text)
+statement_at o names p = monitor_statement o (place names.mons p.monitor) p
 
 -- the procedure with one more statement
 abbrev pub grown : Option Stmt → Option Proc → Option Proc

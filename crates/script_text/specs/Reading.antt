@@ -1,5 +1,5 @@
 -- What a line says, taken from left to right.
-use Rattle.std.specs.Prelude.{ℕ, Bool, true, false, ◌&&◌, ◌==◌, nat_lt, List, [], ◌∷◌, length, take, drop, Option, Some, None, option_map, option_and_then, if◌then◌else◌, codes}
+use Rattle.std.specs.Prelude.{ℕ, Bool, true, false, ◌&&◌, ◌==◌, nat_lt, nat_le, List, [], ◌∷◌, length, take, drop, Option, Some, None, option_map, option_and_then, if◌then◌else◌, codes}
 use Rattle.std.specs.Str.{bytes_eq}
 use Rattle.lwp_types.specs.TextFields.{is_text}
 use Rattle.script_text.specs.declared.table.Kind.{Kind}
@@ -8,8 +8,10 @@ use Rattle.script_text.specs.declared.phrase.Phrase.{Phrase}
 use Rattle.script_text.specs.declared.script.Test.{Test}
 use Rattle.script_text.specs.declared.script.Test.TheVariants as test
 use Rattle.lwp_types.specs.declared.call.Flags.{Flags}
+use Rattle.lwp_types.specs.declared.call.Mode.{Mode}
+use Rattle.lwp_types.specs.declared.call.Mode.TheVariants as mode
 use Rattle.script_text.specs.Lines.{flags_text}
-use Rattle.script_text.specs.Words.{is_name, is_thread_word, number_at, reach}
+use Rattle.script_text.specs.Words.{is_name, is_thread_word, is_source_word, number_at, reach}
 use Rattle.script_text.specs.Table.{op_at, kinds_of}
 use Rattle.script_text.specs.Grammar.{blank}
 
@@ -45,14 +47,30 @@ test_at w =
     else if bytes_eq w (codes "caught") then Some test.Caught
     else value_at w
 
+-- the number, where a text may have so many bytes
+abbrev pub within_room : ℕ → Option ℕ
+within_room n = if nat_le n 240 then Some n else None
+
+-- the room that is written so
+abbrev pub room_at : List ℕ → Option ℕ
+room_at w = option_and_then within_room (number_at w)
+
+-- whether to wait, written so
+abbrev pub mode_at : List ℕ → Option Mode
+mode_at w = if bytes_eq w (codes "poll") then Some mode.Poll else if bytes_eq w (codes "wait") then Some mode.Block else None
+
 -- p with a slot of this kind filled by a word
 abbrev pub fill_word : Kind → Phrase → List ℕ → Option Phrase
 fill_word kind.Thread p w = if is_name w then Some (record p { thread = w }) else None
 fill_word kind.Who p w = if is_thread_word w then Some (record p { thread = w }) else None
+fill_word kind.Source p w = if is_source_word w then Some (record p { thread = w }) else None
 fill_word kind.Procedure p w = if is_name w then Some (record p { procedure = w }) else None
+fill_word kind.Monitor p w = if is_name w then Some (record p { monitor = w }) else None
 fill_word kind.Number p w = option_map (λ n. record p { number = n }) (number_at w)
+fill_word kind.Room p w = option_map (λ n. record p { room = n }) (room_at w)
 fill_word kind.Births p w = if bytes_eq w (codes "births") then Some p else None
 fill_word kind.Flags p w = option_map (λ f. record p { flags = f }) (flags_at w)
+fill_word kind.Mode p w = option_map (λ m. record p { mode = m }) (mode_at w)
 fill_word kind.Test p w = None
 fill_word kind.Text p w = None
 
@@ -77,10 +95,14 @@ slot_at kind.Text = fill_text
 slot_at kind.Test = fill_test
 slot_at kind.Thread = fill_spaced kind.Thread
 slot_at kind.Who = fill_spaced kind.Who
+slot_at kind.Source = fill_spaced kind.Source
 slot_at kind.Procedure = fill_spaced kind.Procedure
+slot_at kind.Monitor = fill_spaced kind.Monitor
 slot_at kind.Number = fill_spaced kind.Number
+slot_at kind.Room = fill_spaced kind.Room
 slot_at kind.Births = fill_spaced kind.Births
 slot_at kind.Flags = fill_spaced kind.Flags
+slot_at kind.Mode = fill_spaced kind.Mode
 
 -- p with all these slots filled, where nothing is left
 abbrev pub fill : List Kind → Phrase → List ℕ → Option Phrase

@@ -8,6 +8,27 @@ use Rattle.script_text.specs.declared.table.Role.TheVariants as role
 use Rattle.script_text.specs.declared.table.Kind.{Kind}
 use Rattle.script_text.specs.declared.table.Kind.TheVariants as kind
 
+-- the first word of a line about monitors
+abbrev pub monitor_word : Op → List ℕ
+monitor_word op.MonCreate = codes "moncreate"
+monitor_word op.MonDestroy = codes "mondestroy"
+monitor_word op.Enter = codes "enter"
+monitor_word op.CondEnter = codes "condenter"
+monitor_word op.MonExit = codes "monexit"
+monitor_word op.MonBreak = codes "monbreak"
+monitor_word op.MonWaiters = codes "monwaiters"
+monitor_word op.Monitors = codes "monitors"
+monitor_word _ = []
+
+-- the first word of a line about letters, or about monitors
+abbrev pub letter_word : Op → List ℕ
+letter_word op.Send = codes "send"
+letter_word op.Recv = codes "recv"
+letter_word op.Reply = codes "reply"
+letter_word op.Senders = codes "senders"
+letter_word op.Receivers = codes "receivers"
+letter_word o = monitor_word o
+
 -- the first word
 abbrev pub word_of : Op → List ℕ
 word_of op.Lwp = codes "lwp"
@@ -33,6 +54,7 @@ word_of op.Say = codes "say"
 word_of op.Return = codes "return"
 word_of op.Skip = codes "skip"
 word_of op.Again = codes "again"
+word_of o = letter_word o
 
 -- the part that the line plays
 abbrev pub role_of : Op → Role
@@ -65,6 +87,19 @@ kinds_of op.SetExit = kind.Number ∷ []
 kinds_of op.GetExit = []
 kinds_of op.PodExit = kind.Number ∷ []
 kinds_of op.Threads = []
+kinds_of op.Send = kind.Who ∷ kind.Room ∷ kind.Text ∷ []
+kinds_of op.Recv = kind.Source ∷ kind.Mode ∷ []
+kinds_of op.Reply = kind.Who ∷ kind.Text ∷ []
+kinds_of op.Senders = []
+kinds_of op.Receivers = []
+kinds_of op.MonCreate = kind.Monitor ∷ []
+kinds_of op.MonDestroy = kind.Monitor ∷ []
+kinds_of op.Enter = kind.Monitor ∷ []
+kinds_of op.CondEnter = kind.Monitor ∷ []
+kinds_of op.MonExit = kind.Monitor ∷ []
+kinds_of op.MonBreak = kind.Monitor ∷ []
+kinds_of op.MonWaiters = kind.Monitor ∷ []
+kinds_of op.Monitors = []
 kinds_of op.Say = kind.Text ∷ []
 kinds_of op.Return = []
 kinds_of op.Skip = kind.Test ∷ []
@@ -77,7 +112,7 @@ starts _ = false
 
 -- all rows
 abbrev pub ops : List Op
-ops = op.Lwp ∷ op.Pod ∷ op.Limit ∷ op.Proc ∷ op.Create ∷ op.Destroy ∷ op.Ping ∷ op.Yield ∷ op.Suspend ∷ op.Resume ∷ op.Join ∷ op.Resched ∷ op.SetPri ∷ op.SetMaxPri ∷ op.Me ∷ op.SetExit ∷ op.GetExit ∷ op.PodExit ∷ op.Threads ∷ op.Say ∷ op.Return ∷ op.Skip ∷ op.Again ∷ []
+ops = op.Lwp ∷ op.Pod ∷ op.Limit ∷ op.Proc ∷ op.Create ∷ op.Destroy ∷ op.Ping ∷ op.Yield ∷ op.Suspend ∷ op.Resume ∷ op.Join ∷ op.Resched ∷ op.SetPri ∷ op.SetMaxPri ∷ op.Me ∷ op.SetExit ∷ op.GetExit ∷ op.PodExit ∷ op.Threads ∷ op.Send ∷ op.Recv ∷ op.Reply ∷ op.Senders ∷ op.Receivers ∷ op.MonCreate ∷ op.MonDestroy ∷ op.Enter ∷ op.CondEnter ∷ op.MonExit ∷ op.MonBreak ∷ op.MonWaiters ∷ op.Monitors ∷ op.Say ∷ op.Return ∷ op.Skip ∷ op.Again ∷ []
 
 -- the first of these rows with this word
 abbrev pub op_in : List Op → List ℕ → Option Op

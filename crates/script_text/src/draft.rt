@@ -1,6 +1,6 @@
 // A script that grows line by line.
 ghost use Rattle.std.specs.Prelude.{◌≡◌, ◌++◌, ◌∷◌, [], Some, IfOk, OnOk, option_to_list};
-ghost use Rattle.script_text.specs.Meaning.{named, place, who_at, statement_at, grown};
+ghost use Rattle.script_text.specs.Meaning.{named, place, who_at, from_at, plain_statement, monitor_statement, statement_at, grown};
 
 use crate::names::{enter, number_of};
 use crate::phrase::Phrase;
@@ -21,7 +21,8 @@ fn name(names: &mut Names, phrase: &Phrase) -> Result<(), NoMemory>
     ensures { OnOk result (names.new ≡ named names.old phrase.now) }
 {
     enter(&mut names.procs, &phrase.procedure)?;
-    enter(&mut names.threads, &phrase.thread)
+    enter(&mut names.threads, &phrase.thread)?;
+    enter(&mut names.mons, &phrase.monitor)
 }
 
 // Whom a word of a line means, once its name has been entered.
@@ -33,10 +34,63 @@ fn who_at(names: &Sequence<Text>, word: &Text) -> Result<Who, NoMemory>
         Ok(Who::Me)
     } else if word == b"first".as_slice() {
         Ok(Who::First)
+    } else if word == b"sender".as_slice() {
+        Ok(Who::Sender)
     } else if word == b"none".as_slice() {
         Ok(Who::Nobody)
     } else {
         Ok(Who::Named(number_of(names.as_slice(), word)?))
+    }
+}
+
+// From whom a word says to receive.
+fn from_at(names: &Sequence<Text>, word: &Text) -> Result<Option<Who>, NoMemory>
+    ensures { IfOk result (λ from. from ≡ from_at names.now word.now) }
+{
+    if word.bytes() == b"any".as_slice() {
+        Ok(None)
+    } else {
+        Ok(Some(who_at(names, word)?))
+    }
+}
+
+// A statement that names nothing.
+fn plain_statement(phrase: &Phrase) -> Option<Stmt>
+    ensures { result ≡ plain_statement phrase.now.op phrase.now }
+{
+    let number = phrase.number;
+    match phrase.op {
+        Op::Resched => Some(Stmt::Resched { prio: number }),
+        Op::SetMaxPri => Some(Stmt::SetMaxPri { prio: number }),
+        Op::Me => Some(Stmt::Me),
+        Op::SetExit => Some(Stmt::SetExit { code: number }),
+        Op::GetExit => Some(Stmt::GetExit),
+        Op::PodExit => Some(Stmt::PodExit { code: number }),
+        Op::Threads => Some(Stmt::Threads),
+        Op::Senders => Some(Stmt::Senders),
+        Op::Receivers => Some(Stmt::Receivers),
+        Op::Monitors => Some(Stmt::Monitors),
+        Op::Say => Some(Stmt::Say { text: phrase.text }),
+        Op::Return => Some(Stmt::Return),
+        Op::Skip => Some(Stmt::Skip { test: phrase.test }),
+        Op::Again => Some(Stmt::Again),
+        _ => None,
+    }
+}
+
+// A statement that names the monitor of this number, or nothing.
+fn monitor_statement(mon: u32, phrase: &Phrase) -> Option<Stmt>
+    ensures { result ≡ monitor_statement phrase.now.op mon phrase.now }
+{
+    match phrase.op {
+        Op::MonCreate => Some(Stmt::MonCreate { mon }),
+        Op::MonDestroy => Some(Stmt::MonDestroy { mon }),
+        Op::Enter => Some(Stmt::Enter { mon }),
+        Op::CondEnter => Some(Stmt::CondEnter { mon }),
+        Op::MonExit => Some(Stmt::MonExit { mon }),
+        Op::MonBreak => Some(Stmt::MonBreak { mon }),
+        Op::MonWaiters => Some(Stmt::MonWaiters { mon }),
+        _ => plain_statement(phrase),
     }
 }
 
@@ -45,9 +99,9 @@ fn statement(names: &Names, phrase: &Phrase) -> Result<Option<Stmt>, NoMemory>
     ensures { IfOk result (λ s. s ≡ statement_at phrase.now.op names.now phrase.now) }
 {
     let number = phrase.number;
+    let text = phrase.text;
     let who = who_at(&names.threads, &phrase.thread)?;
     let stmt = match phrase.op {
-        Op::Lwp | Op::Pod | Op::Limit | Op::Proc => return Ok(None),
         Op::Create => Stmt::Create {
             name: number_of(names.threads.as_slice(), phrase.thread.bytes())?,
             proc: number_of(names.procs.as_slice(), phrase.procedure.bytes())?,
@@ -60,18 +114,21 @@ fn statement(names: &Names, phrase: &Phrase) -> Result<Option<Stmt>, NoMemory>
         Op::Suspend => Stmt::Suspend { who },
         Op::Resume => Stmt::Resume { who },
         Op::Join => Stmt::Join { who },
-        Op::Resched => Stmt::Resched { prio: number },
         Op::SetPri => Stmt::SetPri { who, prio: number },
-        Op::SetMaxPri => Stmt::SetMaxPri { prio: number },
-        Op::Me => Stmt::Me,
-        Op::SetExit => Stmt::SetExit { code: number },
-        Op::GetExit => Stmt::GetExit,
-        Op::PodExit => Stmt::PodExit { code: number },
-        Op::Threads => Stmt::Threads,
-        Op::Say => Stmt::Say { text: phrase.text },
-        Op::Return => Stmt::Return,
-        Op::Skip => Stmt::Skip { test: phrase.test },
-        Op::Again => Stmt::Again,
+        Op::Send => Stmt::Send {
+            to: who,
+            room: phrase.room,
+            text,
+        },
+        Op::Recv => Stmt::Recv {
+            from: from_at(&names.threads, &phrase.thread)?,
+            mode: phrase.mode,
+        },
+        Op::Reply => Stmt::Reply { to: who, text },
+        _ => {
+            let mon = number_of(names.mons.as_slice(), phrase.monitor.bytes())?;
+            return Ok(monitor_statement(mon, phrase));
+        }
     };
     Ok(Some(stmt))
 }

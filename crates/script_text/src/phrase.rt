@@ -1,14 +1,14 @@
 // A line, taken apart by its row of the table.
 ghost use Rattle.std.specs.Prelude.{◌≡◌, [], length, Some, None, option_map, if◌then◌else◌};
-ghost use Rattle.script_text.specs.Words.{is_name, is_thread_word};
+ghost use Rattle.script_text.specs.Words.{is_name, is_thread_word, is_source_word};
 ghost use Rattle.script_text.specs.Grammar.{blank};
 ghost use Rattle.script_text.specs.Lines.{flags_text};
-ghost use Rattle.script_text.specs.Reading.{flags_by, flags_in, flags_at, value_at, test_at, fill_word, fill_text, fill_test, slot_at, fill, phrase_at};
+ghost use Rattle.script_text.specs.Reading.{flags_by, flags_in, flags_at, room_at, mode_at, value_at, test_at, fill_word, fill_text, fill_test, slot_at, fill, phrase_at};
 
 use crate::Test;
 use crate::table::{Kind, Op};
-use crate::words::{is_name, is_thread_word, number_at, reach};
-use lwp_types::{Flags, Text};
+use crate::words::{is_name, is_source_word, is_thread_word, number_at, reach};
+use lwp_types::{Flags, Mode, Text};
 
 /// What a line says: its row, and what stands in the slots. A slot that the row doesn't have is empty.
 #[derive(Drop)]
@@ -16,8 +16,11 @@ pub struct Phrase {
     pub op: Op,
     pub thread: Text,
     pub procedure: Text,
+    pub monitor: Text,
     pub number: u32,
+    pub room: u8,
     pub flags: Flags,
+    pub mode: Mode,
     pub test: Test,
     pub text: Text,
 }
@@ -48,8 +51,11 @@ fn blank(op: Op) -> Phrase
         op,
         thread: no_text(),
         procedure: no_text(),
+        monitor: no_text(),
         number: 0,
+        room: 0,
         flags: flags_by(false, false, false),
+        mode: Mode::Poll,
         test: Test::Fine,
         text: no_text(),
     }
@@ -68,6 +74,39 @@ fn thread_at(word: &[u8]) -> Option<Text>
 {
     if is_thread_word(word) {
         Text::new(word)
+    } else {
+        None
+    }
+}
+
+// The word, if it says from whom to receive.
+fn source_at(word: &[u8]) -> Option<Text>
+    ensures { result ≡ (if is_source_word word.now then Some word.now else None) }
+{
+    if is_source_word(word) {
+        Text::new(word)
+    } else {
+        None
+    }
+}
+
+// A number of bytes that a text may have.
+fn room_at(word: &[u8]) -> Option<u8>
+    ensures { result ≡ room_at word.now }
+{
+    match number_at(word) {
+        Some(room) if room <= 240 => Some(room as u8),
+        _ => None,
+    }
+}
+
+fn mode_at(word: &[u8]) -> Option<Mode>
+    ensures { result ≡ mode_at word.now }
+{
+    if word == b"poll".as_slice() {
+        Some(Mode::Poll)
+    } else if word == b"wait".as_slice() {
+        Some(Mode::Block)
     } else {
         None
     }
@@ -146,14 +185,18 @@ fn fill_word(kind: Kind, mut phrase: Phrase, word: &[u8]) -> Option<Phrase>
     match kind {
         Kind::Thread => phrase.thread = name_at(word)?,
         Kind::Who => phrase.thread = thread_at(word)?,
+        Kind::Source => phrase.thread = source_at(word)?,
         Kind::Procedure => phrase.procedure = name_at(word)?,
+        Kind::Monitor => phrase.monitor = name_at(word)?,
         Kind::Number => phrase.number = number_at(word)?,
+        Kind::Room => phrase.room = room_at(word)?,
         Kind::Births => {
             if word != b"births".as_slice() {
                 return None;
             }
         }
         Kind::Flags => phrase.flags = flags_at(word)?,
+        Kind::Mode => phrase.mode = mode_at(word)?,
         Kind::Test | Kind::Text => return None,
     }
     Some(phrase)

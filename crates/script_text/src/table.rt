@@ -1,6 +1,6 @@
 // The table of lines.
 ghost use Rattle.std.specs.Prelude.{◌≡◌};
-ghost use Rattle.script_text.specs.Table.{role_of, word_of, kinds_of, starts, op_in, op_at};
+ghost use Rattle.script_text.specs.Table.{role_of, monitor_word, letter_word, word_of, kinds_of, starts, op_in, op_at};
 
 /// What stands in a slot of a line.
 #[derive(Clone, Copy, Debug, PartialEq, Eq)]
@@ -9,14 +9,22 @@ pub enum Kind {
     Thread,
     /// A word that means a thread.
     Who,
+    /// A word that says from whom to receive.
+    Source,
     /// The name of a procedure.
     Procedure,
+    /// The name of a monitor.
+    Monitor,
     /// A number in decimal.
     Number,
+    /// How many bytes a reply may have.
+    Room,
     /// What is limited: the births.
     Births,
     /// The flags of a new thread.
     Flags,
+    /// Whether to wait for a letter.
+    Mode,
     /// When a `skip` passes over a statement: all that is left of the line.
     Test,
     /// All that is left of the line.
@@ -45,6 +53,19 @@ pub enum Op {
     GetExit,
     PodExit,
     Threads,
+    Send,
+    Recv,
+    Reply,
+    Senders,
+    Receivers,
+    MonCreate,
+    MonDestroy,
+    Enter,
+    CondEnter,
+    MonExit,
+    MonBreak,
+    MonWaiters,
+    Monitors,
     Say,
     Return,
     Skip,
@@ -63,7 +84,7 @@ pub enum Role {
     Again,
 }
 
-const OPS: [Op; 23] = [
+const OPS: [Op; 36] = [
     Op::Lwp,
     Op::Pod,
     Op::Limit,
@@ -83,6 +104,19 @@ const OPS: [Op; 23] = [
     Op::GetExit,
     Op::PodExit,
     Op::Threads,
+    Op::Send,
+    Op::Recv,
+    Op::Reply,
+    Op::Senders,
+    Op::Receivers,
+    Op::MonCreate,
+    Op::MonDestroy,
+    Op::Enter,
+    Op::CondEnter,
+    Op::MonExit,
+    Op::MonBreak,
+    Op::MonWaiters,
+    Op::Monitors,
     Op::Say,
     Op::Return,
     Op::Skip,
@@ -90,6 +124,38 @@ const OPS: [Op; 23] = [
 ];
 
 impl Op {
+    // The first word of a line about monitors.
+    fn monitor_word(self) -> &'static [u8]
+        ensures { result.now ≡ monitor_word self }
+    {
+        match self {
+            Op::MonCreate => b"moncreate",
+            Op::MonDestroy => b"mondestroy",
+            Op::Enter => b"enter",
+            Op::CondEnter => b"condenter",
+            Op::MonExit => b"monexit",
+            Op::MonBreak => b"monbreak",
+            Op::MonWaiters => b"monwaiters",
+            Op::Monitors => b"monitors",
+            _ => b"",
+        }
+    }
+
+    // The first word of a line about letters, or about monitors.
+    fn letter_word(self) -> &'static [u8]
+        ensures { result.now ≡ letter_word self }
+    {
+        match self {
+            Op::Send => b"send",
+            Op::Recv => b"recv",
+            Op::Reply => b"reply",
+            Op::Senders => b"senders",
+            Op::Receivers => b"receivers",
+            _ => self.monitor_word(),
+        }
+    }
+
+    /// The first word.
     pub fn word(self) -> &'static [u8]
         ensures { result.now ≡ word_of self }
     {
@@ -117,6 +183,7 @@ impl Op {
             Op::Return => b"return",
             Op::Skip => b"skip",
             Op::Again => b"again",
+            _ => self.letter_word(),
         }
     }
 
@@ -148,9 +215,26 @@ impl Op {
                 Kind::Who,
             ],
             Op::SetPri => &[Kind::Who, Kind::Number],
+            Op::Send => &[Kind::Who, Kind::Room, Kind::Text],
+            Op::Recv => &[Kind::Source, Kind::Mode],
+            Op::Reply => &[Kind::Who, Kind::Text],
+            Op::MonCreate
+            | Op::MonDestroy
+            | Op::Enter
+            | Op::CondEnter
+            | Op::MonExit
+            | Op::MonBreak
+            | Op::MonWaiters => &[Kind::Monitor],
             Op::Say => &[Kind::Text],
             Op::Skip => &[Kind::Test],
-            Op::Me | Op::GetExit | Op::Threads | Op::Return | Op::Again => &[],
+            Op::Me
+            | Op::GetExit
+            | Op::Threads
+            | Op::Senders
+            | Op::Receivers
+            | Op::Monitors
+            | Op::Return
+            | Op::Again => &[],
         }
     }
 

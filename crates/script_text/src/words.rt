@@ -1,7 +1,7 @@
 // The words of a line.
 ghost use Rattle.std.specs.Prelude.{◌≡◌, ◌≤◌, length};
 ghost use Rattle.std.specs.List.{list_all};
-ghost use Rattle.script_text.specs.Words.{reach, is_name, is_thread_word, number_at, is_name_byte, is_reserved, is_misshapen, value_of};
+ghost use Rattle.script_text.specs.Words.{reach, is_name, is_thread_word, is_source_word, number_at, is_name_byte, is_reserved, is_misshapen, value_of};
 
 /// How many bytes come before the first that is `byte`.
 pub fn reach(byte: u8, bytes: &[u8]) -> usize
@@ -60,7 +60,15 @@ pub fn is_thread_word(word: &[u8]) -> bool
     is_name(word)
         || word == b"self".as_slice()
         || word == b"first".as_slice()
+        || word == b"sender".as_slice()
         || word == b"none".as_slice()
+}
+
+/// Whether the word says from whom to receive.
+pub fn is_source_word(word: &[u8]) -> bool
+    ensures { result ≡ is_source_word word.now }
+{
+    is_thread_word(word) || word == b"any".as_slice()
 }
 
 // Whether the word has no digit, or a zero in front that could be left out.
