@@ -1,7 +1,7 @@
 -- What the calls on letters come to, by what was found.
 use Rattle.lwp_calls.proofs.Posts.{IsPosted-marked, sender-waits}
 use Rattle.lwp_calls.specs.Parts.{IsPosted, sends}
-use Rattle.lwp_types.specs.Case.{Case, answered, refused, unanswered, unless, with_zero}
+use Rattle.lwp_types.specs.Case.{answered, refused, unanswered, unless, with_zero}
 use Rattle.lwp_types.specs.FirstLaws.{find-filter}
 use Rattle.lwp_types.specs.Letters.{as_received, is_letter_of, is_to, receive, receive_by, received_from, replied, reply, unreceived}
 use Rattle.lwp_types.specs.State.{State, ThreadRow, is_thread, passes, still}
@@ -14,10 +14,10 @@ use Rattle.lwp_types.specs.declared.call.Mode.TheVariants as mode
 use Rattle.lwp_types.specs.declared.rows.Block.TheVariants as block
 use Rattle.lwp_types.specs.declared.rows.Letter.{Letter}
 use Rattle.rendezvous.specs.Mailbag.{Mailbag, marked, refusal}
-use Rattle.std.proofs.Common.{Bool, List, None, Some, [], ap, cond, false, inl, inr, length, not, refl, sym, true, ℕ, ◌∙◌, ◌∷◌, ◌≡◌, ◌≢◌}
-use Rattle.std.proofs.lemmas.Bool.{cases_eq, eq-eqb, ne_eqb}
+use Rattle.std.proofs.Common.{Bool, List, None, Some, [], ap, cond, false, inl, inr, length, refl, sym, true, ℕ, ◌∙◌, ◌∷◌, ◌≡◌}
+use Rattle.std.proofs.lemmas.Bool.{cases_eq, ne_eqb}
 use Rattle.std.specs.List.{find}
-use Rattle.std.specs.Prelude.{Option, is_none, nat_lt, option_map, ◌&&◌, ◌==◌, ◌||◌}
+use Rattle.std.specs.Prelude.{Option, is_none, nat_lt, option_map, ◌&&◌, ◌==◌}
 
 -- ---- a receive
 

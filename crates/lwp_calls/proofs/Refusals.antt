@@ -1,5 +1,4 @@
 -- The senders to a dying thread, one after the other.
-use Rattle.lwp_calls.proofs.Posts.{letters-without_other, letters-without_same}
 use Rattle.lwp_types.specs.CountLaws.{count-cons, one}
 use Rattle.lwp_types.specs.Death.{refuse_sender, refuse_senders}
 use Rattle.lwp_types.specs.Letters.{is_letter_of, is_to, letters_of, senders_to, without_letter}
@@ -9,10 +8,10 @@ use Rattle.lwp_types.specs.declared.call.Effect.{Effect}
 use Rattle.lwp_types.specs.declared.call.Effect.TheVariants as effect
 use Rattle.lwp_types.specs.declared.rows.Letter.{Letter}
 use Rattle.rendezvous.specs.Mailbag.{first_to, without_found}
-use Rattle.std.proofs.Common.{Bool, List, None, Some, [], ap, append-nil, append_assoc, arith, cond, count_by, false, inl, inr, length, length-append, map, not, refl, suc, sym, true, ℕ, ◌+◌, ◌++◌, ◌<◌, ◌∙◌, ◌∷◌, ◌≡◌, ◌≢◌, ◌≤◌}
-use Rattle.std.proofs.lemmas.Bool.{cases_eq, eq-eqb, ne_eqb}
-use Rattle.std.specs.List.{filter, find}
-use Rattle.std.specs.Prelude.{Option, option_map, ◌==◌}
+use Rattle.std.proofs.Common.{Bool, List, None, Some, [], ap, append-nil, append_assoc, arith, cond, false, length, length-append, map, not, refl, suc, sym, true, ℕ, ◌+◌, ◌++◌, ◌<◌, ◌∙◌, ◌∷◌, ◌≡◌, ◌≤◌}
+use Rattle.std.proofs.lemmas.Bool.{eq-eqb}
+use Rattle.std.specs.List.{filter}
+use Rattle.std.specs.Prelude.{Option, option_map}
 
 -- without a letter of somebody who has none
 without-none : (x : ℕ) (letters : List Letter) → letters_of letters x ≡ 0 → without_letter x letters ≡ letters

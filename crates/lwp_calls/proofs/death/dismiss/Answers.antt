@@ -1,4 +1,4 @@
-use Rattle.std.proofs.Common.{◌≡◌, ◌∙◌, refl, sym, Some, None}
+use Rattle.std.proofs.Common.{◌∙◌, refl, sym}
 use Rattle.lwp_types.specs.declared.rows.Block.TheVariants as block
 use Rattle.lwp_calls.proofs.Posts.{IsPosted-quiet}
 use Rattle.lwp_calls.specs.Parts.{whole}

@@ -1,12 +1,8 @@
-use Rattle.std.proofs.Common.{◌≡◌, ◌∙◌, ◌+◌, ◌++◌, ◌<◌, ap, arith, length, refl, sym, Some, None}
-use Rattle.std.specs.Prelude.{option_map}
+use Rattle.std.proofs.Common.{◌∙◌, ◌++◌, ap, arith, refl, sym}
 use Rattle.lwp_calls.specs.Parts.{whole}
 use Rattle.lwp_types.specs.Death.{refuse_senders}
-use Rattle.lwp_types.specs.Letters.{senders_to}
 use Rattle.lwp_types.specs.State.{State}
 use Rattle.lwp_types.specs.declared.rows.Block.TheVariants as block
-use Rattle.lwp_types.specs.declared.rows.Letter.{Letter}
-use Rattle.rendezvous.specs.Mailbag.{first_to}
 use Rattle.lwp_calls.proofs.Posts.{IsPosted-answered, first-waits, one-each, sends-blocked}
 use Rattle.lwp_calls.proofs.Refusals.{Refusing-next, fewer, popped-none, popped-some, refused-effects, refused-state}
 use Rattle.lwp_calls.proofs.death.refuse_senders.Goals as goal

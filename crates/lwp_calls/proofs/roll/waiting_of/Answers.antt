@@ -1,4 +1,4 @@
-use Rattle.std.proofs.Common.{◌∙◌, ◌≡◌, ◌+◌, ◌++◌, [], ◌∷◌, sym, ap, append_assoc, drop}
+use Rattle.std.proofs.Common.{◌∙◌, ◌+◌, ◌++◌, [], ◌∷◌, sym, ap, append_assoc, drop}
 use Rattle.lwp_calls.specs.Roll.{all_waiting}
 use Rattle.lwp_calls.proofs.Living.{drop-some}
 use Rattle.lwp_calls.proofs.roll.waiting_of.Goals.{then-waits_for+in_ok-push, else-waits_for}

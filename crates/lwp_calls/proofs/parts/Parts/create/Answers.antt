@@ -1,9 +1,9 @@
-use Rattle.std.proofs.Common.{◌≡◌, ◌∙◌, ◌+◌, ◌<◌, ◌≤◌, sym, ap, refl, arith, true, false, length}
+use Rattle.std.proofs.Common.{◌+◌, sym, refl, arith, length}
 use Rattle.lwp_types.specs.Case.{unless}
 use Rattle.lwp_calls.proofs.Compare.{le-true, le-false, no_priority, zero_priority, a_priority}
 use Rattle.lwp_calls.proofs.parts.Parts.create.Goals.{then-prio-eq0-via-then-prio-eq0, then-prio-eq0-via-else-prio-eq0+then-prio-maxpri}
 use Rattle.lwp_calls.proofs.Creates.{no-room, room-left}
-use Rattle.lwp_types.specs.Threads.{born, created}
+use Rattle.lwp_types.specs.Threads.{born}
 use Rattle.lwp_calls.proofs.Posts.{IsPosted-push}
 use Rattle.lwp_calls.proofs.parts.Parts.create.Goals as goal
 

@@ -1,6 +1,5 @@
 use Rattle.std.proofs.Common.{sym, refl}
 use Rattle.lwp_types.specs.Case.{unless}
-use Rattle.lwp_calls.proofs.Compare.{lt-true, lt-false, le-true, le-false, no_priority, zero_priority, a_priority, differ}
 use Rattle.lwp_calls.proofs.Posts.{IsPosted-quiet, runs-quiet}
 use Rattle.lwp_types.specs.State.{thread_of}
 use Rattle.lwp_types.specs.declared.rows.Block.TheVariants as block

@@ -1,8 +1,7 @@
-use Rattle.std.proofs.Common.{◌≡◌, ◌∙◌, ap, false, refl, sym, true, Some, None}
-use Rattle.std.specs.Prelude.{option_map, ◌==◌}
+use Rattle.std.proofs.Common.{◌≡◌, ◌∙◌, refl, sym}
 use Rattle.lwp_types.specs.Case.{unless}
 use Rattle.lwp_types.specs.Letters.{receive, receive_by, unreceived}
-use Rattle.lwp_types.specs.State.{State, is_thread, thread_of}
+use Rattle.lwp_types.specs.State.{State, thread_of}
 use Rattle.lwp_types.specs.declared.rows.Block.TheVariants as block
 use Rattle.lwp_calls.specs.Parts.{whole}
 use Rattle.lwp_calls.proofs.Mails.{IsPosted-taken, receives-any, receives-found, receives-later, receives-named, receives-nothing}

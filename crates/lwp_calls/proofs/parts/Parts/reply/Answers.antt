@@ -1,8 +1,7 @@
-use Rattle.std.proofs.Common.{◌≡◌, ◌∙◌, ap, append-nil, length, refl, sym, true, Some, None}
+use Rattle.std.proofs.Common.{◌≡◌, ◌∙◌, ap, append-nil, length, refl, sym, Some, None}
 use Rattle.std.specs.Result.{result_err}
 use Rattle.lwp_types.specs.Case.{refused, unless, with_zero}
 use Rattle.lwp_types.specs.Letters.{received_from, replied, reply}
-use Rattle.lwp_types.specs.State.{is_thread, passes}
 use Rattle.lwp_types.specs.declared.call.LwpErr.TheVariants as error
 use Rattle.lwp_types.specs.declared.rows.Block.TheVariants as block
 use Rattle.rendezvous.specs.Mailbag.{refusal}

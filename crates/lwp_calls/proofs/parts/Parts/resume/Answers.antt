@@ -1,6 +1,5 @@
 use Rattle.std.proofs.Common.{sym, refl, false}
 use Rattle.lwp_types.specs.Case.{unless}
-use Rattle.lwp_calls.proofs.Compare.{lt-true, lt-false, le-true, le-false, no_priority, zero_priority, a_priority, differ}
 use Rattle.lwp_calls.proofs.Posts.{IsPosted-changed}
 use Rattle.lwp_types.specs.State.{suspension_set}
 use Rattle.lwp_calls.proofs.parts.Parts.resume.Goals as goal

@@ -1,7 +1,7 @@
 use Rattle.std.proofs.Common.{◌≡◌, ◌∙◌, ◌∷◌, ◌++◌, [], append-nil, false, refl, sym, true}
 use Rattle.lwp_types.specs.Case.{refused, unanswered, unless}
 use Rattle.lwp_types.specs.Letters.{as_answer, as_received, post, send, takes_from}
-use Rattle.lwp_types.specs.State.{Outcome, State, passes, thread_of}
+use Rattle.lwp_types.specs.State.{State, passes, thread_of}
 use Rattle.lwp_types.specs.Unblock.{blocked, unblocked}
 use Rattle.lwp_types.specs.declared.call.Effect.TheVariants as effect
 use Rattle.lwp_types.specs.declared.call.LwpErr.TheVariants as error
