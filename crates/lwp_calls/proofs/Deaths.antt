@@ -1,5 +1,5 @@
 -- The death of a thread: what the pod does comes to what the machine says.
-use Rattle.std.proofs.Common.{◌≡◌, ◌≢◌, ℕ, suc, ◌+◌, ◌<◌, ◌≤◌, Bool, true, false, not, cond, List, [], ◌∷◌, ◌++◌, length, length-append, append_assoc, append-nil, map, Some, None, inl, inr, refl, sym, ap, ◌∙◌, arith}
+use Rattle.std.proofs.Common.{◌≡◌, ◌≢◌, ℕ, suc, ◌+◌, ◌<◌, ◌≤◌, Bool, true, false, not, cond, count_by, reverse, List, [], ◌∷◌, ◌++◌, length, length-append, append_assoc, append-nil, map, Some, None, inl, inr, refl, sym, ap, ◌∙◌, arith}
 use Rattle.std.specs.Prelude.{Option, ◌==◌, ◌&&◌, ◌||◌, if◌then◌else◌, is_some, nat_le, nat_lt, option_map, unwrap_or, IsTrue}
 use Rattle.std.specs.List.{AllByRecursion, filter, find, list_all}
 use Rattle.std.proofs.lemmas.List.{length-map}
@@ -7,11 +7,25 @@ use Rattle.std.proofs.lemmas.Bool.{cases_eq, eq-eqb, ne_eqb}
 use Rattle.std.proofs.lemmas.Bool.Decides.{nat_tests}
 use Rattle.lwp_types.specs.declared.call.Effect.{Effect}
 use Rattle.lwp_types.specs.Case.{unanswered}
-use Rattle.lwp_types.specs.Death.{bury, death, return_from}
+use Rattle.lwp_calls.proofs.Best.{chosen-same}
+use Rattle.lwp_calls.proofs.Blocked.{priority-changed}
+use Rattle.lwp_calls.proofs.Holds.{IsHeld-changed, IsHeld-forgotten, requests-fit, rows-without, to-enter-blocks}
+use Rattle.lwp_calls.proofs.Releases.{Unasked, next-other, release-unasked, releases-fewer, releases-keep}
+use Rattle.lwp_calls.specs.Held.{IsHeld, enters, is_to_enter}
+use Rattle.lwp_types.specs.Agents.{agents_of, end_agent}
+use Rattle.lwp_types.specs.CountLaws.{count-cons, one, one-le}
+use Rattle.lwp_types.specs.Death.{bury, death, end_agents, refuse_sender, refuse_senders, release_all, return_from}
+use Rattle.lwp_types.specs.Letters.{senders_to}
+use Rattle.lwp_types.specs.Release.{grant, is_owned_by, next_owner, release, requests_of, without_lock, without_request}
+use Rattle.lwp_types.specs.declared.rows.Lock.{Lock}
+use Rattle.lwp_types.specs.declared.rows.Request.{Request}
+use Rattle.monitors.specs.MonitorTable as table
+use Rattle.monitors.specs.MonitorTable.{MonitorTable, forgotten, machine_row}
+use Rattle.monitors.specs.declared.requests.EntryRequest.{EntryRequest}
 use Rattle.lwp_types.specs.State.{rises}
 use Rattle.lwp_types.specs.Marks.{frames}
-use Rattle.lwp_types.specs.State.{Outcome, State, ThreadRow, and_then, block_set, for_each, in_order, is_not_blocked, is_number, is_suspended_in, marks_in, marks_set, numbers, passes, suspension_set, with_block, with_marks, with_suspension, without}
-use Rattle.lwp_types.specs.Unblock.{unblock, unblocked}
+use Rattle.lwp_types.specs.State.{Outcome, State, ThreadRow, and_then, block_set, for_each, in_order, is_not_blocked, is_number, is_suspended_in, marks_in, marks_set, numbers, passes, priority_in, suspension_set, with_block, with_marks, with_suspension, without}
+use Rattle.lwp_types.specs.Unblock.{unblock, unblocked, zero_answer}
 use Rattle.lwp_types.specs.declared.call.Answer.{Answer}
 use Rattle.lwp_types.specs.declared.call.Effect.TheVariants as effect
 use Rattle.lwp_types.specs.declared.rows.Block.{Block}
@@ -162,31 +176,29 @@ no-more what t u (row ∷ rows) = by_head (row.number == u) (waits_for what t ro
     by_head true c is rest = rw (for-nothing what t) (by_wait c rest)
     by_head false c is rest = rw is (same c rest)
 
--- nobody waits for both
-either : (t : ℕ) (b : Block) → (waits_for awaited.Letter t b && waits_for awaited.Death t b) ≡ false
-either t block.Not = refl
-either t (block.Joining u) = refl
-either t block.Sending = refl
-either t (block.Receiving None) = refl
-either t (block.Receiving (Some u)) = and_false (u == t)
-  where
-    and_false : (c : Bool) → (c && false) ≡ false
-    and_false true = refl
-    and_false false = refl
-either t (block.Entering m) = refl
-either t (block.Waiting c) = refl
+-- nobody waits for two of these
+abbrev only_one : Bool → Bool → Bool → Type 0
+only_one a b c = one a + (one b + one c) ≤ 1
 
-at-most-all : (t : ℕ) (rows : List ThreadRow) → length (waiting awaited.Letter t rows) + length (waiting awaited.Death t rows) ≤ length rows
-at-most-all t [] = omega arith
-at-most-all t (row ∷ rows) = by_head (waits_for awaited.Letter t row.block) (waits_for awaited.Death t row.block) (either t row.block) (at-most-all t rows)
+either : (t : ℕ) (b : Block) → only_one (is_to_enter b) (waits_for awaited.Letter t b) (waits_for awaited.Death t b)
+either t block.Not = omega arith
+either t (block.Joining u) = omega (arith, one-le (u == t))
+either t block.Sending = omega arith
+either t (block.Receiving None) = omega arith
+either t (block.Receiving (Some u)) = omega (arith, one-le (u == t))
+either t (block.Entering m) = omega arith
+either t (block.Waiting c) = omega arith
+
+waiting-cons : (what : Awaited) (t : ℕ) (row : ThreadRow) (rows : List ThreadRow) → length (waiting what t (row ∷ rows)) ≡ one (waits_for what t row.block) + length (waiting what t rows)
+waiting-cons what t row rows = by_head (waits_for what t row.block)
   where
-    by_head : (b c : Bool) → (b && c) ≡ false → length (waiting awaited.Letter t rows) + length (waiting awaited.Death t rows) ≤ length rows
-        → length (numbers (cond b (row ∷ filter (λ row. waits_for awaited.Letter t row.block) rows) (filter (λ row. waits_for awaited.Letter t row.block) rows)))
-        + length (numbers (cond c (row ∷ filter (λ row. waits_for awaited.Death t row.block) rows) (filter (λ row. waits_for awaited.Death t row.block) rows))) ≤ length (row ∷ rows)
-    by_head true true h rest = absurd (cc)
-    by_head true false h rest = omega (arith, rest)
-    by_head false true h rest = omega (arith, rest)
-    by_head false false h rest = omega (arith, rest)
+    by_head : (b : Bool) → length (numbers (cond b (row ∷ filter (λ row. waits_for what t row.block) rows) (filter (λ row. waits_for what t row.block) rows))) ≡ one b + length (waiting what t rows)
+    by_head true = omega arith
+    by_head false = omega arith
+
+at-most-all : (t : ℕ) (rows : List ThreadRow) → count_by (λ (row : ThreadRow). is_to_enter row.block) rows + (length (waiting awaited.Letter t rows) + length (waiting awaited.Death t rows)) ≤ length rows
+at-most-all t [] = omega arith
+at-most-all t (row ∷ rows) = omega (arith, either t row.block, count-cons (λ (row : ThreadRow). is_to_enter row.block) row rows, waiting-cons awaited.Letter t row rows, waiting-cons awaited.Death t row rows, at-most-all t rows)
 
 -- ---- a dying thread, as the pod has it and as the machine has it
 
@@ -279,6 +291,27 @@ module _ (t : ℕ) where
   each-bared a (u ∷ us) s h = ap (λ x. and_then (record { after = x; effects = effect.Answered u a ∷ [] }) (for_each (unblock a) us)) (unblocked-bared u s h.0)
       ∙ ap (λ (o : Outcome). record { after = o.after; effects = effect.Answered u a ∷ o.effects }) (each-bared a us (unblocked s u) h.1)
 
+  -- a monitor goes to the same thread, which isn't this one
+  next-bared : (m : ℕ) (s : State) → next_owner (bared s) m ≡ next_owner s m
+  next-bared m s = chosen-same (λ (r : Request). priority_in (bared s) r.tid) (λ (r : Request). priority_in s r.tid)
+      (λ r. priority-changed (marks_set t []) (λ row. refl) (λ row. refl) r.tid (with_suspension t false s.threads) ∙ priority-changed (suspension_set t false) (λ row. refl) (λ row. refl) r.tid s.threads)
+      (requests_of s.requests m)
+
+  release-bared : (m : ℕ) (s : State) → Unasked t s → release m (bared s) ≡ record { after = bared (release m s).after; effects = (release m s).effects }
+  release-bared m s asks = ap (λ o. grant o (record (bared s) { locks = without_lock m s.locks })) (next-bared m s) ∙ by_next (next_owner s m) refl
+    where
+      by_next : (o : Option Request) → next_owner s m ≡ o
+          → grant o (record (bared s) { locks = without_lock m s.locks }) ≡ record { after = bared (grant o (record s { locks = without_lock m s.locks })).after; effects = (grant o (record s { locks = without_lock m s.locks })).effects }
+      by_next None next = refl
+      by_next (Some r) next = ap (λ x. record { after = x; effects = effect.Answered r.tid zero_answer ∷ [] })
+          (unblocked-bared r.tid (record s { locks = without_lock m s.locks ++ record { mon = r.mon; owner = r.tid; depth = r.depth } ∷ []; requests = without_request r.tid s.requests }) (next-other t m s asks r next))
+
+  releases-bared : (ms : List ℕ) (s : State) → Unasked t s → for_each release ms (bared s) ≡ record { after = bared (for_each release ms s).after; effects = (for_each release ms s).effects }
+  unfolding for_each and_then
+  releases-bared [] s asks = refl
+  releases-bared (m ∷ ms) s asks = ap (λ (o : Outcome). and_then o (for_each release ms)) (release-bared m s asks)
+      ∙ ap (λ (o : Outcome). record { after = o.after; effects = (release m s).effects ++ o.effects }) (releases-bared ms (release m s).after (release-unasked t m s asks))
+
   waiting-bared : (what : Awaited) (x : ℕ) (rows : List ThreadRow) → waiting what x (with_marks t [] (with_suspension t false rows)) ≡ waiting what x rows
   waiting-bared what x [] = refl
   waiting-bared what x (row ∷ rows) = by_head (waits_for what x row.block) (waiting-bared what x rows)
@@ -355,76 +388,155 @@ module _ (t : ℕ) where
       by_head true rest = refl
       by_head false rest = rest
 
-  module _ (roll : State) (status procs : ℕ) (ended : Bool) (frame : marks_in roll t ≡ mark.Frame ∷ []) where
+  -- who waits for nothing doesn't wait to enter
+  free-quiet : (rows : List ThreadRow) → list_all is_free rows ≡ true → enters rows t ≡ false
+  free-quiet [] h = refl
+  free-quiet (row ∷ rows) h = by_head (row.number == t) (first _ _ h) (free-quiet rows (second _ _ h))
+    where
+      by_head : (c : Bool) → (not c || is_not_blocked row.block) ≡ true → enters rows t ≡ false
+          → passes (λ (row : ThreadRow). is_to_enter row.block) (cond c (Some row) (find (is_number t) rows)) ≡ false
+      by_head true free rest = to-enter-blocks row.block free
+      by_head false free rest = rest
+
+  -- with no agents none ends, and with no letters nobody is told
+  no-agents : (s : State) → s.agents ≡ [] → end_agents t s ≡ record { after = s; effects = [] }
+  unfolding for_each
+  no-agents s none = ap (λ agents. for_each end_agent (agents_of agents t) s) none
+
+  no-letters : (s : State) → s.letters ≡ [] → refuse_senders t s ≡ record { after = s; effects = [] }
+  unfolding for_each
+  no-letters s none = ap (λ letters. for_each refuse_sender (senders_to letters t) s) none
+
+  module _ (roll : State) (mons : MonitorTable) (status procs : ℕ) (ended : Bool) (frame : marks_in roll t ≡ mark.Frame ∷ []) (held : IsHeld roll.threads roll.limit mons) where
     abbrev alive : State
-    alive = whole roll status procs ended
+    alive = whole roll mons status procs ended
 
     abbrev aside : State
-    aside = set_aside alive t
+    aside = whole (set_aside roll t) (forgotten mons t) status procs ended
 
-    -- who waits for a letter of it, and then who waits for its death
+    -- who enters its monitors, then who waits for a letter of it, and then who waits for its death
+    abbrev pub freed : Outcome
+    freed = release_all t aside
+
     abbrev pub told : Outcome
-    told = dismissed awaited.Letter t aside
+    told = dismissed awaited.Letter t freed.after
 
     abbrev pub gone : Outcome
     gone = dismissed awaited.Death t told.after
 
-    death-begun : death t alive ≡ and_then (dismissed awaited.Letter t (bared aside)) (λ s. and_then (dismissed awaited.Death t s) (λ s. and_then (bury t s) (λ s. record { after = s; effects = [] })))
+    abbrev last_of_it : State → Outcome
+    last_of_it s = and_then (dismissed awaited.Letter t s) (λ s. and_then (dismissed awaited.Death t s) (λ s. and_then (bury t s) (λ s. record { after = s; effects = [] })))
+
+    death-begun : death t alive ≡ and_then (release_all t (bared aside)) (λ s. and_then (end_agents t s) (λ s. and_then (refuse_senders t s) last_of_it))
     unfolding in_order and_then for_each
-    death-begun = rw (marks-withdrawn roll.threads, frame, suspension-twice (with_block t block.Not roll.threads)) refl
+    death-begun = rw (marks-withdrawn roll.threads, frame, suspension-twice (with_block t block.Not roll.threads), rows-without t mons.requests) refl
+
+    pub unasked-aside : Unasked t aside
+    unasked-aside = unasked mons.requests
+      where
+        unasked : (rs : List EntryRequest) → AllByRecursion (λ (r : Request). r.tid ≢ t) (map machine_row (table.without_request t rs))
+        unasked [] = tt
+        unasked (r ∷ rs) = elim (cases_eq r.tid t) [
+          | inl e ↦ rw (eq-eqb r.tid t e) (unasked rs)
+          | inr away ↦ rw (ne_eqb r.tid t away) (away, unasked rs)
+        ]
+
+    -- what stays while its monitors go to others
+    freed-keeps : (P : State → Type 0) → ((s : State) (locks : List Lock) (rs : List Request) → P s → P (record s { locks = locks; requests = rs })) → ((u : ℕ) (s : State) → u ≢ t → P s → P (unblocked s u)) → P aside → P freed.after
+    freed-keeps P stays keeps h = releases-keep t P stays keeps (map (λ (lock : Lock). lock.mon) (filter (is_owned_by t) (reverse mons.locks))) aside unasked-aside h
 
     free-aside : Free aside
     free-aside = free-suspended true (with_block t block.Not roll.threads) ∙ free-set roll.threads
 
+    free-freed : Free freed.after
+    free-freed = freed-keeps Free (λ s locks rs h. h) (λ u s away h. free-unblocked u s.threads h) free-aside
+
     free-told : Free told.after
-    free-told = each-keeps (last_answer awaited.Letter) Free (λ u s h. free-unblocked u s.threads h) (waiting awaited.Letter t aside.threads) aside free-aside
+    free-told = each-keeps (last_answer awaited.Letter) Free (λ u s h. free-unblocked u s.threads h) (waiting awaited.Letter t freed.after.threads) freed.after free-freed
+
+    free-gone : Free gone.after
+    free-gone = each-keeps (last_answer awaited.Death) Free (λ u s h. free-unblocked u s.threads h) (waiting awaited.Death t told.after.threads) told.after free-told
 
     out-gone : Out gone.after
     out-gone = each-out (last_answer awaited.Death) (waiting awaited.Death t told.after.threads) told.after (others-wait awaited.Death t told.after.threads free-told)
-        (each-out (last_answer awaited.Letter) (waiting awaited.Letter t aside.threads) aside (others-wait awaited.Letter t aside.threads free-aside) (without-twice roll.order))
+        (each-out (last_answer awaited.Letter) (waiting awaited.Letter t freed.after.threads) freed.after (others-wait awaited.Letter t freed.after.threads free-freed)
+        (freed-keeps Out (λ s locks rs h. h) (λ u s away h. out-unblocked u s away h) (without-twice roll.order)))
 
-    pub death-is : death t alive ≡ record { after = left gone.after t; effects = told.effects ++ (gone.effects ++ effect.Died t ∷ []) }
+    freed-bared : release_all t (bared aside) ≡ record { after = bared freed.after; effects = freed.effects }
+    freed-bared = releases-bared (map (λ (lock : Lock). lock.mon) (filter (is_owned_by t) (reverse mons.locks))) aside unasked-aside
+
+    agents-freed : freed.after.agents ≡ []
+    agents-freed = freed-keeps (λ s. s.agents ≡ []) (λ s locks rs h. h) (λ u s away h. h) refl
+
+    letters-freed : freed.after.letters ≡ []
+    letters-freed = freed-keeps (λ s. s.letters ≡ []) (λ s locks rs h. h) (λ u s away h. h) refl
+
+    pub death-is : death t alive ≡ record { after = left gone.after t; effects = freed.effects ++ (told.effects ++ (gone.effects ++ effect.Died t ∷ [])) }
     unfolding and_then
     death-is = death-begun
-        ∙ ap (λ (o : Outcome). and_then o (λ s. and_then (dismissed awaited.Death t s) (λ s. and_then (bury t s) (λ s. record { after = s; effects = [] })))) (dismissed-bared awaited.Letter aside free-aside)
-        ∙ ap (λ (o : Outcome). and_then (record { after = bared told.after; effects = told.effects }) (λ s. and_then o (λ s. and_then (bury t s) (λ s. record { after = s; effects = [] })))) (dismissed-bared awaited.Death told.after free-told)
-        ∙ ap (λ rows. record { after = record gone.after { threads = rows }; effects = told.effects ++ (gone.effects ++ effect.Died t ∷ []) }) (left-bared gone.after.threads)
-        ∙ ap (λ ts. record { after = record gone.after { threads = filter (λ (row : ThreadRow). not (row.number == t)) gone.after.threads; order = ts }; effects = told.effects ++ (gone.effects ++ effect.Died t ∷ []) }) (sym out-gone)
+        ∙ ap (λ (o : Outcome). and_then o (λ s. and_then (end_agents t s) (λ s. and_then (refuse_senders t s) last_of_it))) freed-bared
+        ∙ ap (λ (o : Outcome). and_then (record { after = bared freed.after; effects = freed.effects }) (λ s. and_then o (λ s. and_then (refuse_senders t s) last_of_it))) (no-agents (bared freed.after) agents-freed)
+        ∙ ap (λ (o : Outcome). and_then (record { after = bared freed.after; effects = freed.effects }) (λ s. and_then o last_of_it)) (no-letters (bared freed.after) letters-freed)
+        ∙ ap (λ (o : Outcome). and_then (record { after = bared freed.after; effects = freed.effects }) (λ s. and_then o (λ s. and_then (dismissed awaited.Death t s) (λ s. and_then (bury t s) (λ s. record { after = s; effects = [] }))))) (dismissed-bared awaited.Letter freed.after free-freed)
+        ∙ ap (λ (o : Outcome). and_then (record { after = bared freed.after; effects = freed.effects }) (λ s. and_then (record { after = bared told.after; effects = told.effects }) (λ s. and_then o (λ s. and_then (bury t s) (λ s. record { after = s; effects = [] }))))) (dismissed-bared awaited.Death told.after free-told)
+        ∙ ap (λ rows. record { after = record gone.after { threads = rows }; effects = freed.effects ++ (told.effects ++ (gone.effects ++ effect.Died t ∷ [])) }) (left-bared gone.after.threads)
+        ∙ ap (λ ts. record { after = record gone.after { threads = filter (λ (row : ThreadRow). not (row.number == t)) gone.after.threads; order = ts }; effects = freed.effects ++ (told.effects ++ (gone.effects ++ effect.Died t ∷ [])) }) (sym out-gone)
 
     -- ---- there is room for what is told
 
     length-aside : length aside.threads ≡ length roll.threads
     length-aside = length-map (with_block t block.Not roll.threads) (suspension_set t true) ∙ length-map roll.threads (block_set t block.Not)
 
-    few-deaths : length (waiting awaited.Death t told.after.threads) ≤ length (waiting awaited.Death t aside.threads)
-    few-deaths = each-keeps (last_answer awaited.Letter) (λ s. length (waiting awaited.Death t s.threads) ≤ length (waiting awaited.Death t aside.threads))
-        (λ u s h. let less = no-more awaited.Death t u s.threads in omega (arith, h, less)) (waiting awaited.Letter t aside.threads) aside (omega arith)
+    pub held-aside : IsHeld aside.threads roll.limit (forgotten mons t)
+    held-aside = IsHeld-changed (IsHeld-forgotten held t block.Not refl) (suspension_set t true) (λ row. refl) (λ row. refl) (λ row. refl)
 
-    pub room-told : (n : ℕ) → n + length roll.threads < 2048 → n + length (waiting awaited.Letter t aside.threads) < 2048
-    room-told n h = omega (arith, h, at-most-all t aside.threads, length-aside)
+    fewer-waiting : (what : Awaited) → length (waiting what t freed.after.threads) ≤ length (waiting what t aside.threads)
+    fewer-waiting what = freed-keeps (λ s. length (waiting what t s.threads) ≤ length (waiting what t aside.threads)) (λ s locks rs h. h) (λ u s away h. let less = no-more what t u s.threads in omega (arith, h, less)) (omega arith)
 
-    pub room-gone : (n : ℕ) → n + length roll.threads < 2048 → (n + length told.effects) + length (waiting awaited.Death t told.after.threads) < 2048
-    room-gone n h = omega (arith, h, at-most-all t aside.threads, length-aside, few-deaths, each-answered (last_answer awaited.Letter) (waiting awaited.Letter t aside.threads) aside)
+    few-deaths : length (waiting awaited.Death t told.after.threads) ≤ length (waiting awaited.Death t freed.after.threads)
+    few-deaths = each-keeps (last_answer awaited.Letter) (λ s. length (waiting awaited.Death t s.threads) ≤ length (waiting awaited.Death t freed.after.threads))
+        (λ u s h. let less = no-more awaited.Death t u s.threads in omega (arith, h, less)) (waiting awaited.Letter t freed.after.threads) freed.after (omega arith)
 
-    pub room-died : (n : ℕ) → n + length roll.threads < 2048 → (n + length told.effects) + length gone.effects < 2048
-    room-died n h = omega (arith, room-gone n h, each-answered (last_answer awaited.Death) (waiting awaited.Death t told.after.threads) told.after)
+    few-requests : length aside.requests ≤ count_by (λ (row : ThreadRow). is_to_enter row.block) aside.threads
+    few-requests = omega (arith, requests-fit held-aside, length-map (table.without_request t mons.requests) machine_row)
 
-    pub most-told : length told.effects + length gone.effects ≤ length roll.threads
-    most-told = omega (
-      arith,
-      at-most-all t aside.threads,
-      length-aside,
-      few-deaths,
-      each-answered (last_answer awaited.Letter) (waiting awaited.Letter t aside.threads) aside,
-      each-answered (last_answer awaited.Death) (waiting awaited.Death t told.after.threads) told.after,
-    )
+    all-few : length aside.requests + (length (waiting awaited.Letter t freed.after.threads) + length (waiting awaited.Death t told.after.threads)) ≤ length roll.threads
+    all-few = omega (arith, few-requests, at-most-all t aside.threads, length-aside, fewer-waiting awaited.Letter, fewer-waiting awaited.Death, few-deaths)
+
+    count-freed : length freed.effects ≤ length aside.requests
+    count-freed = omega (arith, releases-fewer (map (λ (lock : Lock). lock.mon) (filter (is_owned_by t) (reverse mons.locks))) aside)
+
+    count-told : length told.effects ≡ length (waiting awaited.Letter t freed.after.threads)
+    count-told = each-answered (last_answer awaited.Letter) (waiting awaited.Letter t freed.after.threads) freed.after
+
+    count-gone : length gone.effects ≡ length (waiting awaited.Death t told.after.threads)
+    count-gone = each-answered (last_answer awaited.Death) (waiting awaited.Death t told.after.threads) told.after
+
+    pub room-freed : (n : ℕ) → n + length roll.threads < 2048 → n + length aside.requests < 2048
+    room-freed n h = omega (arith, h, all-few)
+
+    pub room-told : (n : ℕ) → n + length roll.threads < 2048 → (n + length freed.effects) + length (waiting awaited.Letter t freed.after.threads) < 2048
+    room-told n h = omega (arith, h, all-few, count-freed)
+
+    pub room-gone : (n : ℕ) → n + length roll.threads < 2048 → ((n + length freed.effects) + length told.effects) + length (waiting awaited.Death t told.after.threads) < 2048
+    room-gone n h = omega (arith, h, all-few, count-freed, count-told)
+
+    pub room-died : (n : ℕ) → n + length roll.threads < 2048 → ((n + length freed.effects) + length told.effects) + length gone.effects < 2048
+    room-died n h = omega (arith, h, all-few, count-freed, count-told, count-gone)
+
+    pub most-told : (length freed.effects + length told.effects) + length gone.effects ≤ length roll.threads
+    most-told = omega (arith, all-few, count-freed, count-told, count-gone)
 
     -- it lives until the end
     pub lives-on : is_some (find (is_number t) roll.threads) ≡ true → is_some (find (is_number t) gone.after.threads) ≡ true
-    lives-on h = each-keeps (last_answer awaited.Death) (λ s. is_some (find (is_number t) s.threads) ≡ true) (λ u s h. same-thread t u block.Not s.threads ∙ h) (waiting awaited.Death t told.after.threads) told.after
-        (each-keeps (last_answer awaited.Letter) (λ s. is_some (find (is_number t) s.threads) ≡ true) (λ u s h. same-thread t u block.Not s.threads ∙ h) (waiting awaited.Letter t aside.threads) aside
-        (same-suspended (with_block t block.Not roll.threads) ∙ same-thread t t block.Not roll.threads ∙ h))
+    lives-on h = each-keeps (last_answer awaited.Death) Lives (λ u s h. same-thread t u block.Not s.threads ∙ h) (waiting awaited.Death t told.after.threads) told.after
+        (each-keeps (last_answer awaited.Letter) Lives (λ u s h. same-thread t u block.Not s.threads ∙ h) (waiting awaited.Letter t freed.after.threads) freed.after
+        (freed-keeps Lives (λ s locks rs h. h) (λ u s away h. same-thread t u block.Not s.threads ∙ h)
+        (same-suspended (with_block t block.Not roll.threads) ∙ same-thread t t block.Not roll.threads ∙ h)))
       where
+        Lives : State → Type 0
+        Lives s = is_some (find (is_number t) s.threads) ≡ true
+
         same-suspended : (rows : List ThreadRow) → is_some (find (is_number t) (with_suspension t true rows)) ≡ is_some (find (is_number t) rows)
         same-suspended [] = refl
         same-suspended (row ∷ rows) = by_head (row.number == t) (same-suspended rows)
@@ -434,10 +546,14 @@ module _ (t : ℕ) where
             by_head true rest = refl
             by_head false rest = rest
 
+    -- to the end it doesn't wait to enter
+    pub quiet-gone : enters gone.after.threads t ≡ false
+    quiet-gone = free-quiet gone.after.threads free-gone
+
     -- a return from the only frame is the death
     pub return-is : return_from alive t ≡ unanswered (death t alive)
     return-is = rw frame refl
 
 -- what was there before, and then all of it in order
-pub four : (a b c d : List Effect) → ((a ++ b) ++ c) ++ d ≡ a ++ (b ++ (c ++ d))
-four a b c d = append_assoc (a ++ b) c d ∙ append_assoc a b (c ++ d)
+pub five : (a b c d e : List Effect) → (((a ++ b) ++ c) ++ d) ++ e ≡ a ++ (b ++ (c ++ (d ++ e)))
+five a b c d e = append_assoc ((a ++ b) ++ c) d e ∙ append_assoc (a ++ b) c (d ++ e) ∙ append_assoc a b (c ++ (d ++ e))

@@ -7,3 +7,8 @@ pub mod Compare
 pub mod Deaths
 pub mod Steps
 pub mod Creates
+pub mod Blocked
+pub mod Best
+pub mod Holds
+pub mod Releases
+pub mod Waiters

@@ -1,7 +1,8 @@
 // The death of a thread.
-ghost use Rattle.std.specs.Prelude.{◌≡◌, ◌<◌, ◌≤◌, ◌+◌, ◌++◌, length, IsTrue};
+ghost use Rattle.std.specs.List.{AllByRecursion};
+ghost use Rattle.std.specs.Prelude.{◌≡◌, ◌≢◌, ◌<◌, ◌≤◌, ◌+◌, ◌++◌, length, IsTrue};
 ghost use Rattle.lwp_types.specs.Case.{unanswered};
-ghost use Rattle.lwp_types.specs.Death.{death, return_from};
+ghost use Rattle.lwp_types.specs.Death.{death, release_all, return_from};
 ghost use Rattle.lwp_types.specs.State.{is_thread};
 ghost use Rattle.lwp_calls.specs.Waits.{dismissed, waiting};
 
@@ -24,7 +25,19 @@ fn dismiss(parts: &mut Parts, what: Awaited, tid: Tid, effects: &mut Effects)
     }
 }
 
-/// A thread dies: whoever waits for a letter of it learns that it is gone, and whoever has joined it goes on.
+// The thread leaves all its monitors, the last acquired first, and whoever enters one of them next goes on.
+fn release_all(parts: &mut Parts, tid: Tid, effects: &mut Effects)
+    requires asks { AllByRecursion (λ r. r.tid ≢ tid) parts.old.requests }
+    requires room { length effects.old + length parts.old.requests < 2048 }
+    ensures after { parts.new ≡ (release_all tid parts.old).after }
+    ensures effects { effects.new ≡ effects.old ++ (release_all tid parts.old).effects }
+{
+    while let Some(mon) = parts.mons.last_held(tid) {
+        parts.release(mon, effects);
+    }
+}
+
+/// A thread dies: its monitors pass to whoever is next, whoever waits for a letter of it learns that it is gone, and whoever has joined it goes on.
 pub fn die(parts: &mut Parts, tid: Tid, effects: &mut Effects)
     requires lives { IsTrue (is_thread parts.old tid) }
     requires room { length effects.old < 1000 }
@@ -34,6 +47,8 @@ pub fn die(parts: &mut Parts, tid: Tid, effects: &mut Effects)
     ensures is_return { return_from parts.old tid ≡ unanswered (death tid parts.old) }
 {
     parts.roll.set_aside(tid);
+    parts.mons.forget(tid);
+    release_all(parts, tid, effects);
     dismiss(parts, Awaited::Letter, tid, effects);
     dismiss(parts, Awaited::Death, tid, effects);
     parts.roll.leave(tid);

@@ -8,6 +8,7 @@
 
 mod death;
 mod lives;
+mod locks;
 mod numbers;
 mod parts;
 mod pod;

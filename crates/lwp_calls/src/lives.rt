@@ -27,6 +27,7 @@ impl Parts {
         if !self.roll.has_room() {
             return Ok(Answer::Refused(LwpErr::NoRoom));
         }
+        self.mons.reserve(self.roll.len() + 1)?;
         let tid = self.roll.create(prio, flags)?;
         Ok(Answer::Thread(tid))
     }

@@ -1,11 +1,13 @@
 // What a pod holds.
 use crate::roll::Roll;
+use monitors::Monitors;
 use std::marker::Model;
 
-/// The threads of a pod and its numbers, seen as the machine's state.
+/// The threads of a pod, its monitors and its numbers, seen as the machine's state.
 #[derive(Drop)]
 pub struct Parts {
     pub roll: Roll,
+    pub mons: Monitors,
     pub status: u8,
     pub procs: u32,
     pub ended: bool,
@@ -13,9 +15,12 @@ pub struct Parts {
 
 impl Model for Parts {
     ghost use Rattle.lwp_types.specs.State.{State};
+    ghost use Rattle.lwp_calls.specs.Held.{IsHeld};
     ghost use Rattle.lwp_calls.specs.Parts.{whole};
 
     ghost Value = { State };
 
-    ghost view = { λ p. whole p.roll p.status p.procs p.ended };
+    ghost view = { λ p. whole p.roll p.mons p.status p.procs p.ended };
+
+    ghost invariant = { λ p. IsHeld p.roll.threads p.roll.limit p.mons };
 }

@@ -3,13 +3,14 @@ ghost use Rattle.std.specs.Prelude.{◌≡◌, ◌≤◌, ◌<◌, ◌+◌, ◌^
 ghost use Rattle.lwp_types.specs.Choice.{is_eligible_in};
 ghost use Rattle.lwp_types.specs.State.{is_id, opening};
 ghost use Rattle.lwp_types.specs.Step.{case_of, step, end_effects, ends, own_effects};
-ghost use Rattle.lwp_calls.specs.Built.{is_built, asks_memory};
+ghost use Rattle.lwp_calls.specs.Built.{asks_memory, is_built, is_for_monitors};
 ghost use Rattle.lwp_calls.specs.Comes.{ComesTo};
 ghost use Rattle.lwp_calls.specs.Pod.{current_of, ending_of};
 
 use crate::parts::Parts;
 use crate::roll::Roll;
 use lwp_types::{Answer, Call, Effect, Effects, NoMemory, PodParams, Tid};
+use monitors::Monitors;
 use std::alloc::Global;
 use std::marker::Model;
 
@@ -45,8 +46,12 @@ impl Pod {
         requires procs { 1 ≤ params.procs }
         ensures { IfOk result (λ pod. pod ≡ opening params) }
     {
+        let roll = Roll::new(alloc, params.maxpri, params.births)?;
+        let mut mons = Monitors::new(alloc, params.births);
+        mons.reserve(1)?;
         let parts = Parts {
-            roll: Roll::new(alloc, params.maxpri, params.births)?,
+            roll,
+            mons,
             status: 0,
             procs: params.procs,
             ended: false,
@@ -143,6 +148,35 @@ impl Pod {
             Call::Threads => Some(self.parts.threads(self.alloc)?),
             Call::Return => self.parts.retire(tid, effects),
             Call::Say { .. } => Some(Answer::Value(0)),
+            _ => self.on_monitors(tid, call, effects)?,
+        };
+        Ok(own)
+    }
+
+    // The same, of a call on monitors.
+    fn on_monitors(
+        &mut self,
+        tid: Tid,
+        call: &Call,
+        effects: &mut Effects,
+    ) -> Result<Option<Answer>, NoMemory>
+        requires may_run { IsTrue (is_eligible_in self.old tid) }
+        requires monitors { IsTrue (is_for_monitors call.now) }
+        requires room { length effects.old ≤ 1 }
+        ensures ok { IfOk result (λ own. ComesTo (case_of self.old tid call.now) self.new effects.old effects.new own) }
+        ensures most { length effects.new ≤ 1026 }
+        ensures err { OnErr result (self.new ≡ self.old) }
+        ensures memory { IsErr result → IsTrue (asks_memory call.now) }
+    {
+        let own = match *call {
+            Call::MonCreate => Some(self.parts.monitor_create()?),
+            Call::MonDestroy { mon } => Some(self.parts.monitor_destroy(mon)),
+            Call::Enter { mon } => self.parts.enter(tid, mon),
+            Call::CondEnter { mon } => Some(self.parts.cond_enter(tid, mon)),
+            Call::MonExit { mon } => Some(self.parts.monitor_exit(tid, mon, effects)),
+            Call::MonBreak { mon } => Some(self.parts.monitor_break(mon, effects)),
+            Call::Monitors => Some(self.parts.monitors()?),
+            Call::MonWaiters { mon } => Some(self.parts.monitor_waiters(mon)?),
             _ => unreachable!(),
         };
         Ok(own)

@@ -300,6 +300,14 @@ impl Roll {
         self.sched.maxpri()
     }
 
+    /// How many threads live.
+    pub fn len(&self) -> usize
+        ensures value { result ≡ length self.now.threads }
+        ensures few { result ≤ 1024 }
+    {
+        self.registry.len()
+    }
+
     /// The first thread that waits for this of thread `tid`, in the order of birth.
     pub fn waiting(&self, what: Awaited, tid: Tid) -> Option<Tid>
         ensures first { result ≡ waiting_in what self.now tid }

@@ -4,6 +4,7 @@ use Rattle.lwp_calls.proofs.Compare.{lt-true, lt-false, le-true, le-false, no_pr
 use Rattle.lwp_calls.proofs.parts.Parts.set_priority.Goals.{then-prio-eq0-via-then-prio-eq0, then-prio-eq0-via-else-prio-eq0+then-prio-maxpri}
 use Rattle.std.proofs.Common.{rules, to_z, of_z, w64, pos}
 use Rattle.lwp_types.specs.State.{priority_in}
+use Rattle.lwp_calls.proofs.Holds.{IsHeld-prioritized, rows-requeued}
 use Rattle.lwp_calls.proofs.parts.Parts.set_priority.Goals as goal
 
 pub returns-then-not-is_thread : goal.returns-then-not-is_thread
@@ -20,4 +21,7 @@ returns-then-prio-eq0 c = elim c.then-prio-eq0.branch [
 pub returns : goal.returns
 unfolding unless
 returns c = let same : to_z w64 (of_z w64 c.from.result) ≡ pos (priority_in c.self.inside.roll c.args.tid) = search rules in
-    rw (← c.self.view_is, sym c.if-not-is_thread.ensures, a_priority c.args.prio c.self.inside.roll.maxpri (omega arith) (omega (arith, c.maxpri.ensures, c.if-prio-maxpri.false)), c.set_prio.ensures.after, same) refl
+    rw (← c.self.view_is, sym c.if-not-is_thread.ensures, a_priority c.args.prio c.self.inside.roll.maxpri (omega arith) (omega (arith, c.maxpri.ensures, c.if-prio-maxpri.false)), c.set_prio-before.ensures.after, c.requeue.ensures, rows-requeued, same) refl
+
+pub invariant_of-self : goal.invariant_of-self
+invariant_of-self c = rw (c.set_prio-before.ensures.after, c.requeue.ensures) (IsHeld-prioritized c.self.invariant c.args.tid c.args.prio (sym c.if-not-is_thread.ensures))

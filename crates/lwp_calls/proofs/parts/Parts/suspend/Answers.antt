@@ -1,6 +1,8 @@
 use Rattle.std.proofs.Common.{◌≡◌, ◌∙◌, ◌<◌, ◌≤◌, sym, ap, refl, arith, true, false, length}
 use Rattle.lwp_types.specs.Case.{unless}
 use Rattle.lwp_calls.proofs.Compare.{lt-true, lt-false, le-true, le-false, no_priority, zero_priority, a_priority, differ}
+use Rattle.lwp_calls.proofs.Holds.{IsHeld-changed}
+use Rattle.lwp_types.specs.State.{suspension_set}
 use Rattle.lwp_calls.proofs.parts.Parts.suspend.Goals as goal
 
 pub returns-then-not-is_thread : goal.returns-then-not-is_thread
@@ -10,3 +12,6 @@ returns-then-not-is_thread c = rw (← c.self.view_is, sym c.if-not-is_thread.en
 pub returns : goal.returns
 unfolding unless
 returns c = rw (← c.self.view_is, sym c.if-not-is_thread.ensures, c.suspend.ensures) refl
+
+pub invariant_of-self : goal.invariant_of-self
+invariant_of-self c = rw c.suspend.ensures (IsHeld-changed c.self.invariant (suspension_set c.args.tid true) (λ row. refl) (λ row. refl) (λ row. refl))
