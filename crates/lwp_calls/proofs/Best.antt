@@ -3,7 +3,7 @@ use Rattle.lwp_types.specs.Choice.{best_by, better_by}
 use Rattle.lwp_types.specs.CountLaws.{count-append, count-cons, count-filter-le, one}
 use Rattle.lwp_types.specs.First.{IsFirstBest}
 use Rattle.lwp_types.specs.FirstLaws.{finds_best}
-use Rattle.std.proofs.Common.{Bool, List, MatchOption, None, Some, [], ap, arith, cond, count_by, false, refl, true, ℕ, ◌+◌, ◌++◌, ◌∙◌, ◌∷◌, ◌≡◌, ◌≤◌}
+use Rattle.std.proofs.Common.{Bool, List, MatchOption, None, Some, [], ap, arith, cond, count_by, false, refl, true, ℕ, ◌∙◌, ◌∷◌, ◌≡◌, ◌≤◌}
 use Rattle.std.specs.List.{AllByRecursion, filter, fold}
 use Rattle.std.specs.Prelude.{Option, nat_le}
 

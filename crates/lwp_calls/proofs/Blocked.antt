@@ -4,8 +4,8 @@ use Rattle.lwp_types.specs.Choice.{is_eligible}
 use Rattle.lwp_types.specs.CountLaws.{count-cons, count-failed, count-filter-le, length-failed, one, one-le}
 use Rattle.lwp_types.specs.State.{ThreadRow, block_set, is_not_blocked, is_number, passes, priority_set, with_block, with_priority}
 use Rattle.lwp_types.specs.declared.rows.Block.{Block}
-use Rattle.std.proofs.Common.{Bool, List, None, Some, [], ap, arith, cond, count_by, false, inl, inr, length, map, not, refl, sym, true, ℕ, ◌+◌, ◌++◌, ◌<◌, ◌∙◌, ◌∷◌, ◌≡◌, ◌≢◌, ◌≤◌}
-use Rattle.std.proofs.lemmas.Bool.{cases_eq, eq-eqb, eqb-true, ne_eqb}
+use Rattle.std.proofs.Common.{Bool, List, None, Some, [], ap, arith, cond, count_by, false, inl, inr, length, map, not, refl, sym, true, ℕ, ◌++◌, ◌<◌, ◌∙◌, ◌∷◌, ◌≡◌, ◌≢◌, ◌≤◌}
+use Rattle.std.proofs.lemmas.Bool.{cases_eq, eq-eqb, ne_eqb}
 use Rattle.std.proofs.lemmas.List.Sums.{count_by-le-length}
 use Rattle.std.specs.List.{filter, find}
 use Rattle.std.specs.Prelude.{Option, is_some, option_map, unwrap_or, ◌&&◌, ◌==◌}
@@ -161,6 +161,12 @@ module _ (test : Block → Bool) where
           → (is_some (find (is_number t) rows) ≡ true → waits_so test rows t ≡ false → count_by (λ (row : ThreadRow). test row.block) rows < length rows) → count_by (λ (row : ThreadRow). test row.block) (row ∷ rows) < length (row ∷ rows)
       by_head true lives before rest = omega (arith, count-cons (λ (row : ThreadRow). test row.block) row rows, ap one before, count_by-le-length (λ (row : ThreadRow). test row.block) rows)
       by_head false lives before rest = omega (arith, count-cons (λ (row : ThreadRow). test row.block) row rows, one-le (test row.block), rest lives before)
+
+-- who waits in one way doesn't in another
+pub waits-apart : (test other : Block → Bool) → ((b : Block) → test b ≡ true → other b ≡ false) → (o : Option ThreadRow)
+    → passes (λ (row : ThreadRow). test row.block) o ≡ true → passes (λ (row : ThreadRow). other row.block) o ≡ false
+waits-apart test other never None h = refl
+waits-apart test other never (Some row) h = never row.block h
 
 -- ---- priorities
 

@@ -4,7 +4,7 @@ use Rattle.lwp_types.specs.First.{IsFirstBest}
 use Rattle.lwp_types.specs.State.{passes}
 use Rattle.pod_sched.specs.Schedule.{IsOrdered, Schedule, is_eligible, is_eligible_in, is_of, prio_in}
 use Rattle.pod_sched.specs.declared.rows.Known.{Known}
-use Rattle.std.proofs.Common.{◌≡◌, ℕ, ◌+◌, ◌<◌, ◌≤◌, Bool, true, false, cond, List, [], ◌∷◌, ◌++◌, Some, None, refl, sym, ◌∙◌, arith, subst}
+use Rattle.std.proofs.Common.{◌≡◌, ℕ, ◌<◌, ◌≤◌, Bool, true, false, cond, List, [], ◌∷◌, ◌++◌, Some, None, refl, sym, ◌∙◌, arith, subst}
 use Rattle.std.proofs.lemmas.Bool.{eq-eqb}
 use Rattle.std.specs.List.{count_by, find}
 use Rattle.std.specs.Prelude.{Option, ◌==◌, ◌&&◌, MatchOption, IsTrue, IfSome}

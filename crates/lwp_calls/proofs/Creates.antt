@@ -1,5 +1,5 @@
 -- Whether another thread may be created.
-use Rattle.std.proofs.Common.{◌≡◌, ℕ, ◌<◌, ◌≤◌, Bool, true, false, not, cond, refl, sym}
+use Rattle.std.proofs.Common.{◌≡◌, ℕ, Bool, true, false, not, cond, refl, sym}
 use Rattle.std.specs.Prelude.{nat_le, nat_lt, ◌&&◌}
 use Rattle.lwp_types.specs.Case.{Case}
 use Rattle.lwp_calls.proofs.Compare.{le-not-lt}

@@ -1,6 +1,6 @@
 -- The death of a thread: what the pod does comes to what the machine says.
 use Rattle.std.proofs.Common.{◌≡◌, ◌≢◌, ℕ, suc, ◌+◌, ◌<◌, ◌≤◌, Bool, true, false, not, cond, count_by, reverse, List, [], ◌∷◌, ◌++◌, length, length-append, append_assoc, append-nil, map, Some, None, inl, inr, refl, sym, ap, ◌∙◌, arith}
-use Rattle.std.specs.Prelude.{Option, ◌==◌, ◌&&◌, ◌||◌, if◌then◌else◌, is_some, nat_le, nat_lt, option_map, unwrap_or, IsTrue}
+use Rattle.std.specs.Prelude.{Option, ◌==◌, ◌&&◌, ◌||◌, is_some, nat_lt, option_map, unwrap_or}
 use Rattle.std.specs.List.{AllByRecursion, filter, find, list_all}
 use Rattle.std.proofs.lemmas.List.{length-map}
 use Rattle.std.proofs.lemmas.Bool.{cases_eq, eq-eqb, ne_eqb}
@@ -11,11 +11,17 @@ use Rattle.lwp_calls.proofs.Best.{chosen-same}
 use Rattle.lwp_calls.proofs.Blocked.{priority-changed}
 use Rattle.lwp_calls.proofs.Holds.{IsHeld-changed, IsHeld-forgotten, requests-fit, rows-without, to-enter-blocks}
 use Rattle.lwp_calls.proofs.Releases.{Unasked, next-other, release-unasked, releases-fewer, releases-keep}
-use Rattle.lwp_calls.specs.Held.{IsHeld, enters, is_to_enter}
+use Rattle.lwp_calls.proofs.Posts.{IsPosted-aside, letters-fit, sending-blocked}
+use Rattle.lwp_calls.specs.Held.{IsHeld, enters, is_to_enter, waits_so}
+use Rattle.lwp_types.specs.Counts.{is_sending}
+use Rattle.rendezvous.specs.Mailbag as mailbag
+use Rattle.rendezvous.specs.Mailbag.{Mailbag}
+use Rattle.lwp_types.specs.declared.rows.Letter.{Letter}
+use Rattle.std.proofs.lemmas.List.Sums.{count_by-le-length, length-filter}
 use Rattle.lwp_types.specs.Agents.{agents_of, end_agent}
 use Rattle.lwp_types.specs.CountLaws.{count-cons, one, one-le}
 use Rattle.lwp_types.specs.Death.{bury, death, end_agents, refuse_sender, refuse_senders, release_all, return_from}
-use Rattle.lwp_types.specs.Letters.{senders_to}
+use Rattle.lwp_types.specs.Letters.{is_to, senders_to, without_letter}
 use Rattle.lwp_types.specs.Release.{grant, is_owned_by, next_owner, release, requests_of, without_lock, without_request}
 use Rattle.lwp_types.specs.declared.rows.Lock.{Lock}
 use Rattle.lwp_types.specs.declared.rows.Request.{Request}
@@ -23,16 +29,14 @@ use Rattle.monitors.specs.MonitorTable as table
 use Rattle.monitors.specs.MonitorTable.{MonitorTable, forgotten, machine_row}
 use Rattle.monitors.specs.declared.requests.EntryRequest.{EntryRequest}
 use Rattle.lwp_types.specs.State.{rises}
-use Rattle.lwp_types.specs.Marks.{frames}
 use Rattle.lwp_types.specs.State.{Outcome, State, ThreadRow, and_then, block_set, for_each, in_order, is_not_blocked, is_number, is_suspended_in, marks_in, marks_set, numbers, passes, priority_in, suspension_set, with_block, with_marks, with_suspension, without}
-use Rattle.lwp_types.specs.Unblock.{unblock, unblocked, zero_answer}
+use Rattle.lwp_types.specs.Unblock.{nonexist, unblock, unblocked, zero_answer}
 use Rattle.lwp_types.specs.declared.call.Answer.{Answer}
 use Rattle.lwp_types.specs.declared.call.Effect.TheVariants as effect
 use Rattle.lwp_types.specs.declared.rows.Block.{Block}
 use Rattle.lwp_types.specs.declared.rows.Block.TheVariants as block
-use Rattle.lwp_types.specs.declared.rows.Mark.{Mark}
 use Rattle.lwp_types.specs.declared.rows.Mark.TheVariants as mark
-use Rattle.lwp_calls.specs.Parts.{whole}
+use Rattle.lwp_calls.specs.Parts.{IsPosted, sends, whole}
 use Rattle.lwp_calls.specs.Roll.{left, set_aside}
 use Rattle.lwp_calls.specs.Waits.{dismissed, last_answer, waiting, waiting_in, waits_for}
 use Rattle.lwp_calls.specs.declared.rows.Awaited.{Awaited}
@@ -145,6 +149,17 @@ module _ (a : Answer) where
   each-answered [] s = refl
   each-answered (u ∷ us) s = ap suc (each-answered us (unblocked s u))
 
+-- the same, where the letter of each goes as well
+refused-keeps : (P : State → Type 0) → ((u : ℕ) (s : State) → P s → P (unblocked (record s { letters = without_letter u s.letters }) u)) → (us : List ℕ) (s : State) → P s → P (for_each refuse_sender us s).after
+unfolding for_each and_then
+refused-keeps P keeps [] s h = h
+refused-keeps P keeps (u ∷ us) s h = refused-keeps P keeps us (unblocked (record s { letters = without_letter u s.letters }) u) (keeps u s h)
+
+each-refused : (us : List ℕ) (s : State) → length (for_each refuse_sender us s).effects ≡ length us
+unfolding for_each and_then
+each-refused [] s = refl
+each-refused (u ∷ us) s = ap suc (each-refused us (unblocked (record s { letters = without_letter u s.letters }) u))
+
 same-thread : (t u : ℕ) (b : Block) (rows : List ThreadRow) → is_some (find (is_number t) (with_block u b rows)) ≡ is_some (find (is_number t) rows)
 same-thread t u b [] = refl
 same-thread t u b (row ∷ rows) = by_head (row.number == t) (same-thread t u b rows)
@@ -177,10 +192,10 @@ no-more what t u (row ∷ rows) = by_head (row.number == u) (waits_for what t ro
     by_head false c is rest = rw is (same c rest)
 
 -- nobody waits for two of these
-abbrev only_one : Bool → Bool → Bool → Type 0
-only_one a b c = one a + (one b + one c) ≤ 1
+abbrev only_one : Bool → Bool → Bool → Bool → Type 0
+only_one a b c d = one a + (one b + (one c + one d)) ≤ 1
 
-either : (t : ℕ) (b : Block) → only_one (is_to_enter b) (waits_for awaited.Letter t b) (waits_for awaited.Death t b)
+either : (t : ℕ) (b : Block) → only_one (is_to_enter b) (is_sending b) (waits_for awaited.Letter t b) (waits_for awaited.Death t b)
 either t block.Not = omega arith
 either t (block.Joining u) = omega (arith, one-le (u == t))
 either t block.Sending = omega arith
@@ -196,9 +211,18 @@ waiting-cons what t row rows = by_head (waits_for what t row.block)
     by_head true = omega arith
     by_head false = omega arith
 
-at-most-all : (t : ℕ) (rows : List ThreadRow) → count_by (λ (row : ThreadRow). is_to_enter row.block) rows + (length (waiting awaited.Letter t rows) + length (waiting awaited.Death t rows)) ≤ length rows
+at-most-all : (t : ℕ) (rows : List ThreadRow)
+    → count_by (λ (row : ThreadRow). is_to_enter row.block) rows + (count_by (λ (row : ThreadRow). is_sending row.block) rows + (length (waiting awaited.Letter t rows) + length (waiting awaited.Death t rows))) ≤ length rows
 at-most-all t [] = omega arith
-at-most-all t (row ∷ rows) = omega (arith, either t row.block, count-cons (λ (row : ThreadRow). is_to_enter row.block) row rows, waiting-cons awaited.Letter t row rows, waiting-cons awaited.Death t row rows, at-most-all t rows)
+at-most-all t (row ∷ rows) = omega (
+  arith,
+  either t row.block,
+  count-cons (λ (row : ThreadRow). is_to_enter row.block) row rows,
+  count-cons (λ (row : ThreadRow). is_sending row.block) row rows,
+  waiting-cons awaited.Letter t row rows,
+  waiting-cons awaited.Death t row rows,
+  at-most-all t rows,
+)
 
 -- ---- a dying thread, as the pod has it and as the machine has it
 
@@ -312,6 +336,27 @@ module _ (t : ℕ) where
   releases-bared (m ∷ ms) s asks = ap (λ (o : Outcome). and_then o (for_each release ms)) (release-bared m s asks)
       ∙ ap (λ (o : Outcome). record { after = o.after; effects = (release m s).effects ++ o.effects }) (releases-bared ms (release m s).after (release-unasked t m s asks))
 
+  -- the senders to it, none of which it is, are told
+  each-refused-bared : (us : List ℕ) (s : State) → Others us
+      → for_each refuse_sender us (bared s) ≡ record { after = bared (for_each refuse_sender us s).after; effects = (for_each refuse_sender us s).effects }
+  unfolding for_each and_then Others
+  each-refused-bared [] s h = refl
+  each-refused-bared (u ∷ us) s h = ap (λ x. and_then (record { after = x; effects = effect.Answered u nonexist ∷ [] }) (for_each refuse_sender us)) (unblocked-bared u (record s { letters = without_letter u s.letters }) h.0)
+      ∙ ap (λ (o : Outcome). record { after = o.after; effects = effect.Answered u nonexist ∷ o.effects }) (each-refused-bared us (unblocked (record s { letters = without_letter u s.letters }) u) h.1)
+
+  other-senders : (letters : List Letter) → Others (senders_to (without_letter t letters) t)
+  unfolding Others
+  other-senders [] = tt
+  other-senders (letter ∷ letters) = elim (cases_eq letter.from t) [
+    | inl e ↦ rw (eq-eqb letter.from t e) (other-senders letters)
+    | inr away ↦ rw (ne_eqb letter.from t away) (by_head (is_to t letter) away (other-senders letters))
+  ]
+    where
+      by_head : (b : Bool) → letter.from ≢ t → Others (senders_to (without_letter t letters) t)
+          → Others (map (λ (letter : Letter). letter.from) (cond b (letter ∷ filter (is_to t) (without_letter t letters)) (filter (is_to t) (without_letter t letters))))
+      by_head true away rest = (away, rest)
+      by_head false away rest = rest
+
   waiting-bared : (what : Awaited) (x : ℕ) (rows : List ThreadRow) → waiting what x (with_marks t [] (with_suspension t false rows)) ≡ waiting what x rows
   waiting-bared what x [] = refl
   waiting-bared what x (row ∷ rows) = by_head (waits_for what x row.block) (waiting-bared what x rows)
@@ -361,6 +406,11 @@ module _ (t : ℕ) where
   each-out a [] s h out = out
   each-out a (u ∷ us) s h out = each-out a us (unblocked s u) h.1 (out-unblocked u s h.0 out)
 
+  refused-out : (us : List ℕ) (s : State) → Others us → Out s → Out (for_each refuse_sender us s).after
+  unfolding for_each and_then Others
+  refused-out [] s h out = out
+  refused-out (u ∷ us) s h out = refused-out us (unblocked (record s { letters = without_letter u s.letters }) u) h.1 (out-unblocked u (record s { letters = without_letter u s.letters }) h.0 out)
+
   without-twice : (ts : List ℕ) → without t (without t ts) ≡ without t ts
   without-twice [] = refl
   without-twice (u ∷ ts) = by_head (u == t) refl (without-twice ts)
@@ -388,46 +438,52 @@ module _ (t : ℕ) where
       by_head true rest = refl
       by_head false rest = rest
 
-  -- who waits for nothing doesn't wait to enter
-  free-quiet : (rows : List ThreadRow) → list_all is_free rows ≡ true → enters rows t ≡ false
-  free-quiet [] h = refl
-  free-quiet (row ∷ rows) h = by_head (row.number == t) (first _ _ h) (free-quiet rows (second _ _ h))
+  -- who waits for nothing doesn't wait so
+  free-quiet : (test : Block → Bool) → ((b : Block) → is_not_blocked b ≡ true → test b ≡ false) → (rows : List ThreadRow) → list_all is_free rows ≡ true → waits_so test rows t ≡ false
+  free-quiet test never [] h = refl
+  free-quiet test never (row ∷ rows) h = by_head (row.number == t) (first _ _ h) (free-quiet test never rows (second _ _ h))
     where
-      by_head : (c : Bool) → (not c || is_not_blocked row.block) ≡ true → enters rows t ≡ false
-          → passes (λ (row : ThreadRow). is_to_enter row.block) (cond c (Some row) (find (is_number t) rows)) ≡ false
-      by_head true free rest = to-enter-blocks row.block free
+      by_head : (c : Bool) → (not c || is_not_blocked row.block) ≡ true → waits_so test rows t ≡ false
+          → passes (λ (row : ThreadRow). test row.block) (cond c (Some row) (find (is_number t) rows)) ≡ false
+      by_head true free rest = never row.block free
       by_head false free rest = rest
 
-  -- with no agents none ends, and with no letters nobody is told
+  -- with no agents none ends
   no-agents : (s : State) → s.agents ≡ [] → end_agents t s ≡ record { after = s; effects = [] }
   unfolding for_each
   no-agents s none = ap (λ agents. for_each end_agent (agents_of agents t) s) none
 
-  no-letters : (s : State) → s.letters ≡ [] → refuse_senders t s ≡ record { after = s; effects = [] }
-  unfolding for_each
-  no-letters s none = ap (λ letters. for_each refuse_sender (senders_to letters t) s) none
-
-  module _ (roll : State) (mons : MonitorTable) (status procs : ℕ) (ended : Bool) (frame : marks_in roll t ≡ mark.Frame ∷ []) (held : IsHeld roll.threads roll.limit mons) where
+  module _ (roll : State) (mail : Mailbag) (mons : MonitorTable) (status procs : ℕ) (ended : Bool) (frame : marks_in roll t ≡ mark.Frame ∷ [])
+      (posted : IsPosted roll.threads mail) (held : IsHeld roll.threads roll.limit mons) where
     abbrev alive : State
-    alive = whole roll mons status procs ended
+    alive = whole roll mail.letters mons status procs ended
 
     abbrev aside : State
-    aside = whole (set_aside roll t) (forgotten mons t) status procs ended
+    aside = whole (set_aside roll t) (without_letter t mail.letters) (forgotten mons t) status procs ended
 
-    -- who enters its monitors, then who waits for a letter of it, and then who waits for its death
+    -- who enters its monitors, then whoever sent to it, then who waits for a letter of it, and then who waits for its death
     abbrev pub freed : Outcome
     freed = release_all t aside
 
+    abbrev pub asked : Outcome
+    asked = refuse_senders t freed.after
+
     abbrev pub told : Outcome
-    told = dismissed awaited.Letter t freed.after
+    told = dismissed awaited.Letter t asked.after
 
     abbrev pub gone : Outcome
     gone = dismissed awaited.Death t told.after
 
-    abbrev last_of_it : State → Outcome
-    last_of_it s = and_then (dismissed awaited.Letter t s) (λ s. and_then (dismissed awaited.Death t s) (λ s. and_then (bury t s) (λ s. record { after = s; effects = [] })))
+    abbrev to_bury : State → Outcome
+    to_bury s = and_then (bury t s) (λ s. record { after = s; effects = [] })
 
-    death-begun : death t alive ≡ and_then (release_all t (bared aside)) (λ s. and_then (end_agents t s) (λ s. and_then (refuse_senders t s) last_of_it))
+    abbrev from_freed : (State → Outcome) → Outcome
+    from_freed more = and_then (record { after = bared freed.after; effects = freed.effects }) more
+
+    abbrev from_asked : (State → Outcome) → Outcome
+    from_asked more = from_freed (λ s. and_then (record { after = bared asked.after; effects = asked.effects }) more)
+
+    death-begun : death t alive ≡ and_then (release_all t (bared aside)) (λ s. and_then (end_agents t s) (λ s. and_then (refuse_senders t s) (λ s. and_then (dismissed awaited.Letter t s) (λ s. and_then (dismissed awaited.Death t s) to_bury))))
     unfolding in_order and_then for_each
     death-begun = rw (marks-withdrawn roll.threads, frame, suspension-twice (with_block t block.Not roll.threads), rows-without t mons.requests) refl
 
@@ -445,42 +501,53 @@ module _ (t : ℕ) where
     freed-keeps : (P : State → Type 0) → ((s : State) (locks : List Lock) (rs : List Request) → P s → P (record s { locks = locks; requests = rs })) → ((u : ℕ) (s : State) → u ≢ t → P s → P (unblocked s u)) → P aside → P freed.after
     freed-keeps P stays keeps h = releases-keep t P stays keeps (map (λ (lock : Lock). lock.mon) (filter (is_owned_by t) (reverse mons.locks))) aside unasked-aside h
 
+    agents-freed : freed.after.agents ≡ []
+    agents-freed = freed-keeps (λ s. s.agents ≡ []) (λ s locks rs h. h) (λ u s away h. h) refl
+
+    letters-freed : freed.after.letters ≡ without_letter t mail.letters
+    letters-freed = freed-keeps (λ s. s.letters ≡ without_letter t mail.letters) (λ s locks rs h. h) (λ u s away h. h) refl
+
+    -- it isn't one of those who sent to it
+    others-asked : Others (senders_to freed.after.letters t)
+    others-asked = rw letters-freed (other-senders mail.letters)
+
     free-aside : Free aside
     free-aside = free-suspended true (with_block t block.Not roll.threads) ∙ free-set roll.threads
 
     free-freed : Free freed.after
     free-freed = freed-keeps Free (λ s locks rs h. h) (λ u s away h. free-unblocked u s.threads h) free-aside
 
+    free-asked : Free asked.after
+    free-asked = refused-keeps Free (λ u s h. free-unblocked u s.threads h) (senders_to freed.after.letters t) freed.after free-freed
+
     free-told : Free told.after
-    free-told = each-keeps (last_answer awaited.Letter) Free (λ u s h. free-unblocked u s.threads h) (waiting awaited.Letter t freed.after.threads) freed.after free-freed
+    free-told = each-keeps (last_answer awaited.Letter) Free (λ u s h. free-unblocked u s.threads h) (waiting awaited.Letter t asked.after.threads) asked.after free-asked
 
     free-gone : Free gone.after
     free-gone = each-keeps (last_answer awaited.Death) Free (λ u s h. free-unblocked u s.threads h) (waiting awaited.Death t told.after.threads) told.after free-told
 
     out-gone : Out gone.after
     out-gone = each-out (last_answer awaited.Death) (waiting awaited.Death t told.after.threads) told.after (others-wait awaited.Death t told.after.threads free-told)
-        (each-out (last_answer awaited.Letter) (waiting awaited.Letter t freed.after.threads) freed.after (others-wait awaited.Letter t freed.after.threads free-freed)
-        (freed-keeps Out (λ s locks rs h. h) (λ u s away h. out-unblocked u s away h) (without-twice roll.order)))
+        (each-out (last_answer awaited.Letter) (waiting awaited.Letter t asked.after.threads) asked.after (others-wait awaited.Letter t asked.after.threads free-asked)
+        (refused-out (senders_to freed.after.letters t) freed.after others-asked
+        (freed-keeps Out (λ s locks rs h. h) (λ u s away h. out-unblocked u s away h) (without-twice roll.order))))
 
     freed-bared : release_all t (bared aside) ≡ record { after = bared freed.after; effects = freed.effects }
     freed-bared = releases-bared (map (λ (lock : Lock). lock.mon) (filter (is_owned_by t) (reverse mons.locks))) aside unasked-aside
 
-    agents-freed : freed.after.agents ≡ []
-    agents-freed = freed-keeps (λ s. s.agents ≡ []) (λ s locks rs h. h) (λ u s away h. h) refl
+    asked-bared : refuse_senders t (bared freed.after) ≡ record { after = bared asked.after; effects = asked.effects }
+    asked-bared = each-refused-bared (senders_to freed.after.letters t) freed.after others-asked
 
-    letters-freed : freed.after.letters ≡ []
-    letters-freed = freed-keeps (λ s. s.letters ≡ []) (λ s locks rs h. h) (λ u s away h. h) refl
-
-    pub death-is : death t alive ≡ record { after = left gone.after t; effects = freed.effects ++ (told.effects ++ (gone.effects ++ effect.Died t ∷ [])) }
+    pub death-is : death t alive ≡ record { after = left gone.after t; effects = freed.effects ++ (asked.effects ++ (told.effects ++ (gone.effects ++ effect.Died t ∷ []))) }
     unfolding and_then
     death-is = death-begun
-        ∙ ap (λ (o : Outcome). and_then o (λ s. and_then (end_agents t s) (λ s. and_then (refuse_senders t s) last_of_it))) freed-bared
-        ∙ ap (λ (o : Outcome). and_then (record { after = bared freed.after; effects = freed.effects }) (λ s. and_then o (λ s. and_then (refuse_senders t s) last_of_it))) (no-agents (bared freed.after) agents-freed)
-        ∙ ap (λ (o : Outcome). and_then (record { after = bared freed.after; effects = freed.effects }) (λ s. and_then o last_of_it)) (no-letters (bared freed.after) letters-freed)
-        ∙ ap (λ (o : Outcome). and_then (record { after = bared freed.after; effects = freed.effects }) (λ s. and_then o (λ s. and_then (dismissed awaited.Death t s) (λ s. and_then (bury t s) (λ s. record { after = s; effects = [] }))))) (dismissed-bared awaited.Letter freed.after free-freed)
-        ∙ ap (λ (o : Outcome). and_then (record { after = bared freed.after; effects = freed.effects }) (λ s. and_then (record { after = bared told.after; effects = told.effects }) (λ s. and_then o (λ s. and_then (bury t s) (λ s. record { after = s; effects = [] }))))) (dismissed-bared awaited.Death told.after free-told)
-        ∙ ap (λ rows. record { after = record gone.after { threads = rows }; effects = freed.effects ++ (told.effects ++ (gone.effects ++ effect.Died t ∷ [])) }) (left-bared gone.after.threads)
-        ∙ ap (λ ts. record { after = record gone.after { threads = filter (λ (row : ThreadRow). not (row.number == t)) gone.after.threads; order = ts }; effects = freed.effects ++ (told.effects ++ (gone.effects ++ effect.Died t ∷ [])) }) (sym out-gone)
+        ∙ ap (λ (o : Outcome). and_then o (λ s. and_then (end_agents t s) (λ s. and_then (refuse_senders t s) (λ s. and_then (dismissed awaited.Letter t s) (λ s. and_then (dismissed awaited.Death t s) to_bury))))) freed-bared
+        ∙ ap (λ (o : Outcome). from_freed (λ s. and_then o (λ s. and_then (refuse_senders t s) (λ s. and_then (dismissed awaited.Letter t s) (λ s. and_then (dismissed awaited.Death t s) to_bury))))) (no-agents (bared freed.after) agents-freed)
+        ∙ ap (λ (o : Outcome). from_freed (λ s. and_then o (λ s. and_then (dismissed awaited.Letter t s) (λ s. and_then (dismissed awaited.Death t s) to_bury)))) asked-bared
+        ∙ ap (λ (o : Outcome). from_asked (λ s. and_then o (λ s. and_then (dismissed awaited.Death t s) to_bury))) (dismissed-bared awaited.Letter asked.after free-asked)
+        ∙ ap (λ (o : Outcome). from_asked (λ s. and_then (record { after = bared told.after; effects = told.effects }) (λ s. and_then o to_bury))) (dismissed-bared awaited.Death told.after free-told)
+        ∙ ap (λ rows. record { after = record gone.after { threads = rows }; effects = freed.effects ++ (asked.effects ++ (told.effects ++ (gone.effects ++ effect.Died t ∷ []))) }) (left-bared gone.after.threads)
+        ∙ ap (λ ts. record { after = record gone.after { threads = filter (λ (row : ThreadRow). not (row.number == t)) gone.after.threads; order = ts }; effects = freed.effects ++ (asked.effects ++ (told.effects ++ (gone.effects ++ effect.Died t ∷ []))) }) (sym out-gone)
 
     -- ---- there is room for what is told
 
@@ -490,24 +557,51 @@ module _ (t : ℕ) where
     pub held-aside : IsHeld aside.threads roll.limit (forgotten mons t)
     held-aside = IsHeld-changed (IsHeld-forgotten held t block.Not refl) (suspension_set t true) (λ row. refl) (λ row. refl) (λ row. refl)
 
-    fewer-waiting : (what : Awaited) → length (waiting what t freed.after.threads) ≤ length (waiting what t aside.threads)
-    fewer-waiting what = freed-keeps (λ s. length (waiting what t s.threads) ≤ length (waiting what t aside.threads)) (λ s locks rs h. h) (λ u s away h. let less = no-more what t u s.threads in omega (arith, h, less)) (omega arith)
+    pub posted-aside : IsPosted aside.threads (mailbag.forgotten mail t)
+    posted-aside = IsPosted-aside posted t
 
-    few-deaths : length (waiting awaited.Death t told.after.threads) ≤ length (waiting awaited.Death t freed.after.threads)
-    few-deaths = each-keeps (last_answer awaited.Letter) (λ s. length (waiting awaited.Death t s.threads) ≤ length (waiting awaited.Death t freed.after.threads))
-        (λ u s h. let less = no-more awaited.Death t u s.threads in omega (arith, h, less)) (waiting awaited.Letter t freed.after.threads) freed.after (omega arith)
+    waiting-freed : (what : Awaited) → length (waiting what t freed.after.threads) ≤ length (waiting what t aside.threads)
+    waiting-freed what = freed-keeps (λ s. length (waiting what t s.threads) ≤ length (waiting what t aside.threads)) (λ s locks rs h. h) (λ u s away h. let less = no-more what t u s.threads in omega (arith, h, less)) (omega arith)
+
+    waiting-asked : (what : Awaited) → length (waiting what t asked.after.threads) ≤ length (waiting what t freed.after.threads)
+    waiting-asked what = refused-keeps (λ s. length (waiting what t s.threads) ≤ length (waiting what t freed.after.threads))
+        (λ u s h. let less = no-more what t u s.threads in omega (arith, h, less)) (senders_to freed.after.letters t) freed.after (omega arith)
+
+    few-deaths : length (waiting awaited.Death t told.after.threads) ≤ length (waiting awaited.Death t asked.after.threads)
+    few-deaths = each-keeps (last_answer awaited.Letter) (λ s. length (waiting awaited.Death t s.threads) ≤ length (waiting awaited.Death t asked.after.threads))
+        (λ u s h. let less = no-more awaited.Death t u s.threads in omega (arith, h, less)) (waiting awaited.Letter t asked.after.threads) asked.after (omega arith)
 
     few-requests : length aside.requests ≤ count_by (λ (row : ThreadRow). is_to_enter row.block) aside.threads
     few-requests = omega (arith, requests-fit held-aside, length-map (table.without_request t mons.requests) machine_row)
 
-    all-few : length aside.requests + (length (waiting awaited.Letter t freed.after.threads) + length (waiting awaited.Death t told.after.threads)) ≤ length roll.threads
-    all-few = omega (arith, few-requests, at-most-all t aside.threads, length-aside, fewer-waiting awaited.Letter, fewer-waiting awaited.Death, few-deaths)
+    few-senders : length (senders_to freed.after.letters t) ≤ count_by (λ (row : ThreadRow). is_sending row.block) aside.threads
+    few-senders = rw letters-freed (fewer (without_letter t mail.letters) (letters-fit posted-aside))
+      where
+        fewer : (letters : List Letter) → length letters ≤ count_by (λ (row : ThreadRow). is_sending row.block) aside.threads → length (senders_to letters t) ≤ count_by (λ (row : ThreadRow). is_sending row.block) aside.threads
+        fewer letters fit = omega (arith, fit, length-map (filter (is_to t) letters) (λ (letter : Letter). letter.from), length-filter (is_to t) letters, count_by-le-length (is_to t) letters)
+
+    all-few : length aside.requests + (length (senders_to freed.after.letters t) + (length (waiting awaited.Letter t asked.after.threads) + length (waiting awaited.Death t told.after.threads))) ≤ length roll.threads
+    all-few = omega (
+      arith,
+      few-requests,
+      few-senders,
+      at-most-all t aside.threads,
+      length-aside,
+      waiting-freed awaited.Letter,
+      waiting-freed awaited.Death,
+      waiting-asked awaited.Letter,
+      waiting-asked awaited.Death,
+      few-deaths,
+    )
 
     count-freed : length freed.effects ≤ length aside.requests
     count-freed = omega (arith, releases-fewer (map (λ (lock : Lock). lock.mon) (filter (is_owned_by t) (reverse mons.locks))) aside)
 
-    count-told : length told.effects ≡ length (waiting awaited.Letter t freed.after.threads)
-    count-told = each-answered (last_answer awaited.Letter) (waiting awaited.Letter t freed.after.threads) freed.after
+    count-asked : length asked.effects ≡ length (senders_to freed.after.letters t)
+    count-asked = each-refused (senders_to freed.after.letters t) freed.after
+
+    count-told : length told.effects ≡ length (waiting awaited.Letter t asked.after.threads)
+    count-told = each-answered (last_answer awaited.Letter) (waiting awaited.Letter t asked.after.threads) asked.after
 
     count-gone : length gone.effects ≡ length (waiting awaited.Death t told.after.threads)
     count-gone = each-answered (last_answer awaited.Death) (waiting awaited.Death t told.after.threads) told.after
@@ -515,24 +609,28 @@ module _ (t : ℕ) where
     pub room-freed : (n : ℕ) → n + length roll.threads < 2048 → n + length aside.requests < 2048
     room-freed n h = omega (arith, h, all-few)
 
-    pub room-told : (n : ℕ) → n + length roll.threads < 2048 → (n + length freed.effects) + length (waiting awaited.Letter t freed.after.threads) < 2048
-    room-told n h = omega (arith, h, all-few, count-freed)
+    pub room-asked : (n : ℕ) → n + length roll.threads < 2048 → (n + length freed.effects) + length (senders_to freed.after.letters t) < 2048
+    room-asked n h = omega (arith, h, all-few, count-freed)
 
-    pub room-gone : (n : ℕ) → n + length roll.threads < 2048 → ((n + length freed.effects) + length told.effects) + length (waiting awaited.Death t told.after.threads) < 2048
-    room-gone n h = omega (arith, h, all-few, count-freed, count-told)
+    pub room-told : (n : ℕ) → n + length roll.threads < 2048 → ((n + length freed.effects) + length asked.effects) + length (waiting awaited.Letter t asked.after.threads) < 2048
+    room-told n h = omega (arith, h, all-few, count-freed, count-asked)
 
-    pub room-died : (n : ℕ) → n + length roll.threads < 2048 → ((n + length freed.effects) + length told.effects) + length gone.effects < 2048
-    room-died n h = omega (arith, h, all-few, count-freed, count-told, count-gone)
+    pub room-gone : (n : ℕ) → n + length roll.threads < 2048 → (((n + length freed.effects) + length asked.effects) + length told.effects) + length (waiting awaited.Death t told.after.threads) < 2048
+    room-gone n h = omega (arith, h, all-few, count-freed, count-asked, count-told)
 
-    pub most-told : (length freed.effects + length told.effects) + length gone.effects ≤ length roll.threads
-    most-told = omega (arith, all-few, count-freed, count-told, count-gone)
+    pub room-died : (n : ℕ) → n + length roll.threads < 2048 → (((n + length freed.effects) + length asked.effects) + length told.effects) + length gone.effects < 2048
+    room-died n h = omega (arith, h, all-few, count-freed, count-asked, count-told, count-gone)
+
+    pub most-told : ((length freed.effects + length asked.effects) + length told.effects) + length gone.effects ≤ length roll.threads
+    most-told = omega (arith, all-few, count-freed, count-asked, count-told, count-gone)
 
     -- it lives until the end
     pub lives-on : is_some (find (is_number t) roll.threads) ≡ true → is_some (find (is_number t) gone.after.threads) ≡ true
     lives-on h = each-keeps (last_answer awaited.Death) Lives (λ u s h. same-thread t u block.Not s.threads ∙ h) (waiting awaited.Death t told.after.threads) told.after
-        (each-keeps (last_answer awaited.Letter) Lives (λ u s h. same-thread t u block.Not s.threads ∙ h) (waiting awaited.Letter t freed.after.threads) freed.after
+        (each-keeps (last_answer awaited.Letter) Lives (λ u s h. same-thread t u block.Not s.threads ∙ h) (waiting awaited.Letter t asked.after.threads) asked.after
+        (refused-keeps Lives (λ u s h. same-thread t u block.Not s.threads ∙ h) (senders_to freed.after.letters t) freed.after
         (freed-keeps Lives (λ s locks rs h. h) (λ u s away h. same-thread t u block.Not s.threads ∙ h)
-        (same-suspended (with_block t block.Not roll.threads) ∙ same-thread t t block.Not roll.threads ∙ h)))
+        (same-suspended (with_block t block.Not roll.threads) ∙ same-thread t t block.Not roll.threads ∙ h))))
       where
         Lives : State → Type 0
         Lives s = is_some (find (is_number t) s.threads) ≡ true
@@ -546,14 +644,17 @@ module _ (t : ℕ) where
             by_head true rest = refl
             by_head false rest = rest
 
-    -- to the end it doesn't wait to enter
-    pub quiet-gone : enters gone.after.threads t ≡ false
-    quiet-gone = free-quiet gone.after.threads free-gone
+    -- to the end it waits neither to enter nor for a reply
+    pub outside-gone : enters gone.after.threads t ≡ false
+    outside-gone = free-quiet is_to_enter to-enter-blocks gone.after.threads free-gone
+
+    pub quiet-gone : sends gone.after.threads t ≡ false
+    quiet-gone = free-quiet is_sending sending-blocked gone.after.threads free-gone
 
     -- a return from the only frame is the death
     pub return-is : return_from alive t ≡ unanswered (death t alive)
     return-is = rw frame refl
 
 -- what was there before, and then all of it in order
-pub five : (a b c d e : List Effect) → (((a ++ b) ++ c) ++ d) ++ e ≡ a ++ (b ++ (c ++ (d ++ e)))
-five a b c d e = append_assoc ((a ++ b) ++ c) d e ∙ append_assoc (a ++ b) c (d ++ e) ∙ append_assoc a b (c ++ (d ++ e))
+pub six : (a b c d e f : List Effect) → ((((a ++ b) ++ c) ++ d) ++ e) ++ f ≡ a ++ (b ++ (c ++ (d ++ (e ++ f))))
+six a b c d e f = append_assoc (((a ++ b) ++ c) ++ d) e f ∙ append_assoc ((a ++ b) ++ c) d (e ++ f) ∙ append_assoc (a ++ b) c (d ++ (e ++ f)) ∙ append_assoc a b (c ++ (d ++ (e ++ f)))

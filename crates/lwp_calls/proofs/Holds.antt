@@ -1,11 +1,12 @@
 -- What the threads and the monitors have in common is kept, call by call.
 use Rattle.lwp_calls.proofs.Best.{all-kept, chosen-counts, none-chosen}
-use Rattle.lwp_calls.proofs.Blocked.{fewer-waiters, no-more-than-waiters, others_of, priority-changed, priority-here, priority-left, priority-other, priority-push, waits-changed, waits-here, waits-left, waits-other, waits-push, waits-quiet, waits-there}
-use Rattle.lwp_calls.specs.Held.{IsHeld, enters, is_to_enter, priority_of, requests_by, requests_for, waits_so}
-use Rattle.lwp_types.specs.Choice.{best_by, better_by}
-use Rattle.lwp_types.specs.CountLaws.{any_counted, count-append, count-cons, count-failed, count-filter, count-filter-le, count-map, count-push, count_agree, count_any, count_found, count_not_found, find_none, length-failed, one, one-le}
-use Rattle.lwp_types.specs.First.{IsFirstBest}
-use Rattle.lwp_types.specs.FirstLaws.{best_passes, finds_best}
+use Rattle.lwp_calls.proofs.Blocked.{fewer-waiters, no-more-than-waiters, others_of, priority-changed, priority-here, priority-left, priority-other, priority-push, runs-quiet, waits-changed, waits-here, waits-left, waits-other, waits-push, waits-quiet, waits-there}
+use Rattle.lwp_calls.specs.Held.{IsHeld, enters, is_to_enter, priority_of, requests_by, requests_for}
+use Rattle.lwp_types.specs.Choice.{best_by, better_by, is_eligible}
+use Rattle.lwp_types.specs.Counts.{is_sending}
+use Rattle.lwp_types.specs.Letters.{takes_from}
+use Rattle.lwp_types.specs.CountLaws.{count-cons, count-failed, count-filter, count-filter-le, count-map, count-push, count_agree, count_any, count_found, count_not_found, length-failed, one}
+use Rattle.lwp_types.specs.FirstLaws.{best_passes}
 use Rattle.lwp_types.specs.ListLaws.{All-push, All-weaker}
 use Rattle.lwp_types.specs.Locks.{depth_set, is_owned_by_other, with_depth, with_entry}
 use Rattle.lwp_types.specs.Case.{Case}
@@ -17,12 +18,13 @@ use Rattle.lwp_types.specs.declared.call.Effect.TheVariants as effect
 use Rattle.lwp_calls.specs.Parts.{whole}
 use Rattle.lwp_types.specs.declared.rows.Block.{Block}
 use Rattle.lwp_types.specs.declared.rows.Block.TheVariants as block
+use Rattle.lwp_types.specs.declared.rows.Letter.{Letter}
 use Rattle.lwp_types.specs.declared.rows.Lock.{Lock}
 use Rattle.lwp_types.specs.declared.rows.Request.{Request}
 use Rattle.monitors.specs.MonitorTable as table
 use Rattle.monitors.specs.MonitorTable.{MonitorTable, forgotten, freed, has_request, is_free, is_request_of, is_unwanted, machine_row, next_request, released, requested, requests_of, requeued, reserved, with_grant, without_request}
 use Rattle.monitors.specs.declared.requests.EntryRequest.{EntryRequest}
-use Rattle.std.proofs.Common.{Bool, List, MatchOption, None, Some, [], ap, arith, cond, count_by, false, inl, inr, is_none, length, map, not, refl, suc, sym, true, ℕ, ◌+◌, ◌++◌, ◌<◌, ◌∙◌, ◌∷◌, ◌≡◌, ◌≢◌, ◌≤◌}
+use Rattle.std.proofs.Common.{Bool, List, MatchOption, None, Some, [], ap, arith, cond, count_by, false, inl, inr, is_none, length, map, not, refl, sym, true, ℕ, ◌+◌, ◌++◌, ◌<◌, ◌∙◌, ◌∷◌, ◌≡◌, ◌≢◌, ◌≤◌}
 use Rattle.std.proofs.lemmas.Bool.{cases_eq, eq-eqb, eqb-true, ne_eqb}
 use Rattle.std.proofs.lemmas.Bool.Decides.{nat_tests}
 use Rattle.std.proofs.lemmas.List.{length-map, length_push}
@@ -38,6 +40,36 @@ to-enter-blocks block.Sending h = refl
 to-enter-blocks (block.Receiving from) h = refl
 to-enter-blocks (block.Entering m) h = absurd (let no : false ≡ true = h in cc)
 to-enter-blocks (block.Waiting c) h = refl
+
+-- who may run doesn't
+pub runs-out : (o : Option ThreadRow) → passes is_eligible o ≡ true → passes (λ (row : ThreadRow). is_to_enter row.block) o ≡ false
+runs-out o runs = runs-quiet is_to_enter to-enter-blocks o runs
+
+-- who does waits for no reply, and the other way round
+pub no-reply-entering : (b : Block) → is_to_enter b ≡ true → is_sending b ≡ false
+no-reply-entering block.Not h = refl
+no-reply-entering (block.Joining u) h = refl
+no-reply-entering block.Sending h = absurd (let no : false ≡ true = h in cc)
+no-reply-entering (block.Receiving from) h = refl
+no-reply-entering (block.Entering m) h = refl
+no-reply-entering (block.Waiting c) h = refl
+
+pub sending-out : (b : Block) → is_sending b ≡ true → is_to_enter b ≡ false
+sending-out block.Not h = refl
+sending-out (block.Joining u) h = refl
+sending-out block.Sending h = refl
+sending-out (block.Receiving from) h = refl
+sending-out (block.Entering m) h = absurd (let no : false ≡ true = h in cc)
+sending-out (block.Waiting c) h = refl
+
+-- nor does who waits for a letter
+pub taker-out : (x : ℕ) (b : Block) → takes_from x b ≡ true → is_to_enter b ≡ false
+taker-out x block.Not h = refl
+taker-out x (block.Joining u) h = refl
+taker-out x block.Sending h = refl
+taker-out x (block.Receiving from) h = refl
+taker-out x (block.Entering m) h = absurd (let no : false ≡ true = h in cc)
+taker-out x (block.Waiting c) h = refl
 
 one-true : (b : Bool) → 1 ≤ one b → b ≡ true
 one-true true h = refl
@@ -358,30 +390,30 @@ module _ (weight : ℕ → ℕ) where
       → best_by (λ (q : Request). weight q.tid) (release.requests_of (map machine_row rs) m) ≡ option_map machine_row (best_by (λ (q : EntryRequest). q.prio) (filter (λ (r : EntryRequest). r.mon == m) rs))
   next-row m rs h = best-row m rs None tt h
 
-module _ (roll : State) (mons : MonitorTable) (status procs : ℕ) (ended : Bool) (held : IsHeld roll.threads roll.limit mons) (m : ℕ) where
+module _ (roll : State) (letters : List Letter) (mons : MonitorTable) (status procs : ℕ) (ended : Bool) (held : IsHeld roll.threads roll.limit mons) (m : ℕ) where
   abbrev now : State
-  now = whole roll mons status procs ended
+  now = whole roll letters mons status procs ended
 
   begun : release.release m now ≡ release.grant (option_map machine_row (next_request mons m)) (record now { locks = without_lock m mons.locks })
   begun = ap (λ o. release.grant o (record now { locks = without_lock m mons.locks })) (next-row (priority_of roll.threads) m mons.requests held.prios)
 
   -- the release of a monitor, as the machine has it
   pub release-some : (u : ℕ) → table.next_owner mons m ≡ Some u
-      → release.release m now ≡ record { after = whole (unblocked roll u) (released mons m) status procs ended; effects = effect.Answered u zero_answer ∷ [] }
+      → release.release m now ≡ record { after = whole (unblocked roll u) letters (released mons m) status procs ended; effects = effect.Answered u zero_answer ∷ [] }
   release-some u is = begun ∙ by_next (next_request mons m) is
     where
       by_next : (o : Option EntryRequest) → option_map (λ (r : EntryRequest). r.tid) o ≡ Some u
-          → release.grant (option_map machine_row o) (record now { locks = without_lock m mons.locks }) ≡ record { after = whole (unblocked roll u) (with_grant (freed mons m) o) status procs ended; effects = effect.Answered u zero_answer ∷ [] }
+          → release.grant (option_map machine_row o) (record now { locks = without_lock m mons.locks }) ≡ record { after = whole (unblocked roll u) letters (with_grant (freed mons m) o) status procs ended; effects = effect.Answered u zero_answer ∷ [] }
       by_next None h = absurd (cc)
       by_next (Some r) h =
           let same : u ≡ r.tid = (let e : Some r.tid ≡ Some u = h in cc) in
-          rw same (ap (λ rs. record { after = record (whole (unblocked roll r.tid) (with_grant (freed mons m) (Some r)) status procs ended) { requests = rs }; effects = effect.Answered r.tid zero_answer ∷ [] }) (sym (rows-without r.tid mons.requests)))
+          rw same (ap (λ rs. record { after = record (whole (unblocked roll r.tid) letters (with_grant (freed mons m) (Some r)) status procs ended) { requests = rs }; effects = effect.Answered r.tid zero_answer ∷ [] }) (sym (rows-without r.tid mons.requests)))
 
-  pub release-none : table.next_owner mons m ≡ None → release.release m now ≡ record { after = whole roll (released mons m) status procs ended; effects = [] }
+  pub release-none : table.next_owner mons m ≡ None → release.release m now ≡ record { after = whole roll letters (released mons m) status procs ended; effects = [] }
   release-none is = begun ∙ by_next (next_request mons m) is
     where
       by_next : (o : Option EntryRequest) → option_map (λ (r : EntryRequest). r.tid) o ≡ None
-          → release.grant (option_map machine_row o) (record now { locks = without_lock m mons.locks }) ≡ record { after = whole roll (with_grant (freed mons m) o) status procs ended; effects = [] }
+          → release.grant (option_map machine_row o) (record now { locks = without_lock m mons.locks }) ≡ record { after = whole roll letters (with_grant (freed mons m) o) status procs ended; effects = [] }
       by_next None h = refl
       by_next (Some r) h = absurd (cc)
 

@@ -7,6 +7,9 @@ pub mod Compare
 pub mod Deaths
 pub mod Steps
 pub mod Creates
+pub mod Posts
+pub mod Refusals
+pub mod Mails
 pub mod Blocked
 pub mod Best
 pub mod Holds

@@ -1,6 +1,6 @@
 -- The living in their registry, one by one.
-use Rattle.std.proofs.Common.{◌≡◌, ◌≢◌, ℕ, zero, suc, ◌+◌, ◌<◌, ◌≤◌, Bool, true, false, not, cond, List, [], ◌∷◌, ◌++◌, drop, length, map, Some, None, inl, inr, refl, sym, ap, ◌∙◌, arith}
-use Rattle.std.specs.Prelude.{Option, option_copied, is_some, Result, Ok, Err, OnOk, IsErr, ◌==◌, option_map, slice_index}
+use Rattle.std.proofs.Common.{◌≡◌, ℕ, zero, suc, ◌+◌, ◌<◌, ◌≤◌, Bool, true, false, not, cond, List, [], ◌∷◌, drop, length, map, Some, None, inl, inr, refl, sym, ap, ◌∙◌, arith}
+use Rattle.std.specs.Prelude.{Option, option_copied, is_some, Result, Ok, Err, OnOk, IsErr, ◌==◌, slice_index}
 use Rattle.std.specs.Borrow.{Bor}
 use Rattle.std.specs.List.{AllByRecursion, find, slice_get}
 use Rattle.lwp_calls.specs.Roll.{AreOne}
@@ -16,7 +16,7 @@ use Rattle.lwp_types.specs.declared.rows.Block.{Block}
 use Rattle.lwp_types.specs.declared.rows.Block.TheVariants as block
 use Rattle.lwp_calls.specs.Roll.{block_set}
 use Rattle.lwp_calls.specs.declared.rows.LiveThread.{LiveThread}
-use Rattle.stale_ids.specs.Register.{AreRising, is_of, numbers, value_of, value_set, with_value}
+use Rattle.stale_ids.specs.Register.{AreRising, numbers, value_of, with_value}
 
 -- a list from its i-th element on
 drop-suc : {A : Type 0} (xs : List A) (i : ℕ) (x : A) → slice_get xs i ≡ Some x → drop i xs ≡ x ∷ drop (suc i) xs

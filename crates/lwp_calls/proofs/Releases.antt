@@ -1,16 +1,15 @@
 -- The monitors of a dying thread, one after the other.
 use Rattle.lwp_calls.proofs.Best.{all-kept, chosen-counts, chosen-has}
-use Rattle.lwp_types.specs.CountLaws.{count-cons, count-filter-le, count-reverse, count_any, find_none, length-failed, one, count_not_found}
+use Rattle.lwp_types.specs.CountLaws.{count-cons, count-reverse, length-failed, one, count_not_found}
 use Rattle.lwp_types.specs.Death.{release_all}
-use Rattle.lwp_types.specs.Release.{grant, is_lock, is_owned_by, last_lock, lock_of, locks_on, next_owner, release, requests_of, without_lock, without_request}
+use Rattle.lwp_types.specs.Release.{grant, is_lock, is_owned_by, last_lock, lock_of, locks_on, next_owner, release, without_lock, without_request}
 use Rattle.lwp_types.specs.State.{Outcome, State, and_then, for_each, priority_in}
-use Rattle.lwp_types.specs.Unblock.{unblock, unblocked, zero_answer}
+use Rattle.lwp_types.specs.Unblock.{unblocked}
 use Rattle.lwp_types.specs.declared.call.Effect.{Effect}
-use Rattle.lwp_types.specs.declared.call.Effect.TheVariants as effect
 use Rattle.lwp_types.specs.declared.rows.Lock.{Lock}
 use Rattle.lwp_types.specs.declared.rows.Request.{Request}
-use Rattle.std.proofs.Common.{Bool, List, None, Some, [], ap, append-nil, append_assoc, arith, cond, count_by, false, inl, inr, is_none, length, length-append, map, not, refl, reverse, suc, sym, true, ℕ, ◌+◌, ◌++◌, ◌<◌, ◌∙◌, ◌∷◌, ◌≡◌, ◌≢◌, ◌≤◌}
-use Rattle.std.proofs.lemmas.Bool.{cases_eq, eq-eqb, eqb-true, ne_eqb}
+use Rattle.std.proofs.Common.{Bool, List, None, Some, [], ap, append-nil, append_assoc, arith, cond, false, is_none, length, length-append, map, not, refl, reverse, suc, sym, true, ℕ, ◌+◌, ◌++◌, ◌<◌, ◌∙◌, ◌∷◌, ◌≡◌, ◌≢◌, ◌≤◌}
+use Rattle.std.proofs.lemmas.Bool.{eq-eqb, ne_eqb}
 use Rattle.std.proofs.lemmas.List.{reverse-append}
 use Rattle.std.proofs.lemmas.List.Elements.{filter-append}
 use Rattle.std.specs.List.{AllByRecursion, filter, find}

@@ -1,11 +1,11 @@
 -- What a roll is asked, and what each change of it comes to, in the machine's words.
-use Rattle.std.proofs.Common.{◌≡◌, ℕ, suc, ◌+◌, ◌<◌, ◌≤◌, Bool, true, false, not, cond, List, [], ◌∷◌, ◌++◌, length, map, Some, None, inl, inr, refl, length-append, sym, ap, ◌∙◌, arith}
-use Rattle.std.specs.Prelude.{Option, ◌==◌, ◌&&◌, if◌then◌else◌, is_some, option_map, IsTrue, nat_lt}
-use Rattle.std.specs.List.{filter, find, fold}
+use Rattle.std.proofs.Common.{◌≡◌, ℕ, suc, ◌<◌, Bool, true, false, not, cond, List, [], ◌∷◌, ◌++◌, length, map, Some, None, inl, inr, refl, length-append, sym, ap, ◌∙◌, arith}
+use Rattle.std.specs.Prelude.{Option, ◌==◌, ◌&&◌, is_some, option_map}
+use Rattle.std.specs.List.{find, fold}
 use Rattle.lwp_types.specs.Choice as machine
 use Rattle.lwp_types.specs.Choice.{better_by}
 use Rattle.lwp_types.specs.State as state
-use Rattle.lwp_types.specs.State.{is_empty, is_not_blocked, passes, to_end, without}
+use Rattle.lwp_types.specs.State.{ThreadRow, is_empty, is_not_blocked, passes, to_end, without}
 use Rattle.lwp_types.specs.Threads as threads
 use Rattle.lwp_types.specs.Unblock as unblock
 use Rattle.lwp_types.specs.declared.call.Flags.{Flags}
@@ -13,9 +13,10 @@ use Rattle.lwp_types.specs.declared.rows.Block.{Block}
 use Rattle.lwp_types.specs.declared.rows.Block.TheVariants as block
 use Rattle.lwp_types.specs.declared.rows.Mark.TheVariants as mark
 use Rattle.lwp_calls.specs.Roll as roll
-use Rattle.lwp_calls.specs.Waits.{waiting_in}
+use Rattle.lwp_calls.specs.Waits.{waiting, waiting_in}
+use Rattle.lwp_types.specs.Letters.{takes_from}
 use Rattle.lwp_calls.specs.declared.rows.Awaited.{Awaited}
-use Rattle.lwp_calls.specs.Roll.{IsOne, IsRoll, all_serve, block_set, first_waiting, row_of, rows_of, state_of, waits}
+use Rattle.lwp_calls.specs.Roll.{IsOne, IsRoll, all_serve, all_waiting, block_set, first_waiting, row_of, rows_of, state_of, waits}
 use Rattle.lwp_calls.specs.declared.rows.LiveThread.{LiveThread}
 use Rattle.lwp_calls.proofs.Sides
 use Rattle.lwp_calls.proofs.Living
@@ -73,7 +74,13 @@ module _ (s : Schedule) (r : Register LiveThread) (h : IsRoll s r) where
   frame-alone t is = Sides.marks-shown _ _ (Sides.shown t s.threads r.live h.one) is
 
   pub waits-same : (t : ℕ) → state.is_blocked_in (state_of s r) t ≡ passes waits (register.value_of t r.live)
-  waits-same t = Sides.waits-rows t s.threads r.live h.one
+  waits-same t = Sides.waits-rows (λ b. not (is_not_blocked b)) t s.threads r.live h.one
+
+  pub takes-same : (x t : ℕ) → passes (λ (row : ThreadRow). takes_from x row.block) (state.thread_of (state_of s r) t) ≡ passes (λ (live : LiveThread). takes_from x live.block) (register.value_of t r.live)
+  takes-same x t = Sides.waits-rows (takes_from x) t s.threads r.live h.one
+
+  pub all_waiting-same : (what : Awaited) (t : ℕ) → waiting what t (state_of s r).threads ≡ all_waiting what t r.live
+  all_waiting-same what t = Sides.all_waiting-rows what t s.threads r.live h.one
 
   pub length-same : length (state_of s r).threads ≡ length r.live
   length-same = Sides.length-rows s.threads r.live h.one

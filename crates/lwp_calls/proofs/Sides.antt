@@ -1,11 +1,10 @@
 -- The scheduler's threads and the registry's, side by side: what is found in one is found in both, and what is done to one is done
 -- to the machine's rows.
-use Rattle.std.proofs.Common.{◌≡◌, ℕ, suc, ◌+◌, ◌<◌, Bool, true, false, not, cond, List, [], ◌∷◌, ◌++◌, length, map, Some, None, inl, inr, refl, sym, ap, ◌∙◌, arith}
-use Rattle.std.specs.Prelude.{Option, ◌==◌, ◌&&◌, is_some, option_map, unwrap_or, IsTrue, nat_lt}
+use Rattle.std.proofs.Common.{◌≡◌, ℕ, suc, ◌<◌, Bool, true, false, not, cond, List, [], ◌∷◌, ◌++◌, length, map, Some, None, refl, sym, ap, ◌∙◌}
+use Rattle.std.specs.Prelude.{Option, ◌==◌, ◌&&◌, is_some, option_map, unwrap_or, nat_lt}
 use Rattle.std.specs.List.{AllByRecursion, filter, find, list_all}
-use Rattle.std.proofs.lemmas.Bool.{cases_eq, eq-eqb, ne_eqb}
 use Rattle.lwp_types.specs.Choice as machine
-use Rattle.lwp_calls.specs.Waits.{waits_for}
+use Rattle.lwp_calls.specs.Waits.{waiting, waits_for}
 use Rattle.lwp_calls.specs.declared.rows.Awaited.{Awaited}
 use Rattle.lwp_types.specs.State as state
 use Rattle.lwp_types.specs.State.{ThreadRow, is_not_blocked, is_number, numbers, passes}
@@ -13,7 +12,7 @@ use Rattle.lwp_types.specs.declared.rows.Block.{Block}
 use Rattle.lwp_calls.proofs.Compare.{lt-true}
 use Rattle.lwp_types.specs.State.{rises}
 use Rattle.lwp_types.specs.declared.rows.Mark.TheVariants as mark
-use Rattle.lwp_calls.specs.Roll.{AreOne, IsOne, all_serve, block_set, first_waiting, row_of, rows_of, waits}
+use Rattle.lwp_calls.specs.Roll.{AreOne, IsOne, all_serve, all_waiting, block_set, first_waiting, row_of, rows_of}
 use Rattle.lwp_calls.specs.declared.rows.LiveThread.{LiveThread}
 use Rattle.pod_sched.specs.Schedule as sched
 use Rattle.pod_sched.specs.declared.rows.Known.{Known}
@@ -199,17 +198,30 @@ waiting-rows what t (k ∷ ks) (p ∷ ps) h = by_head (waits_for what t p.1.bloc
     by_head true rest = ap Some h.0.number
     by_head false rest = rest
 
--- who waits for something, by its row
-pub waits-rows : (t : ℕ) (ks : List Known) (ps : List (ℕ × LiveThread)) → AreOne ks ps
-    → passes (λ (row : ThreadRow). not (is_not_blocked row.block)) (find (is_number t) (rows_of ks ps)) ≡ passes waits (register.value_of t ps)
-waits-rows t [] [] h = refl
-waits-rows t [] (p ∷ ps) h = absurd h
-waits-rows t (k ∷ ks) [] h = absurd h
-waits-rows t (k ∷ ks) (p ∷ ps) h = by_head (k.tid == t) (p.0 == t) (ap (λ n. n == t) h.0.number) (waits-rows t ks ps h.1)
+-- all that wait for this
+pub all_waiting-rows : (what : Awaited) (t : ℕ) (ks : List Known) (ps : List (ℕ × LiveThread)) → AreOne ks ps → waiting what t (rows_of ks ps) ≡ all_waiting what t ps
+all_waiting-rows what t [] [] h = refl
+all_waiting-rows what t [] (p ∷ ps) h = absurd h
+all_waiting-rows what t (k ∷ ks) [] h = absurd h
+all_waiting-rows what t (k ∷ ks) (p ∷ ps) h = by_head (waits_for what t p.1.block) (all_waiting-rows what t ks ps h.1)
   where
-    by_head : (c d : Bool) → c ≡ d → passes (λ (row : ThreadRow). not (is_not_blocked row.block)) (find (is_number t) (rows_of ks ps)) ≡ passes waits (register.value_of t ps)
-        → passes (λ (row : ThreadRow). not (is_not_blocked row.block)) (cond c (Some (row_of k p.1)) (find (is_number t) (rows_of ks ps)))
-        ≡ passes waits (option_map (λ (l : ℕ × LiveThread). l.1) (cond d (Some p) (find (register.is_of t) ps)))
+    by_head : (c : Bool) → waiting what t (rows_of ks ps) ≡ all_waiting what t ps
+        → numbers (cond c (row_of k p.1 ∷ filter (λ row. waits_for what t row.block) (rows_of ks ps)) (filter (λ row. waits_for what t row.block) (rows_of ks ps)))
+        ≡ map (λ (l : ℕ × LiveThread). l.0) (cond c (p ∷ filter (λ (l : ℕ × LiveThread). waits_for what t l.1.block) ps) (filter (λ (l : ℕ × LiveThread). waits_for what t l.1.block) ps))
+    by_head true rest = ap (λ n. n ∷ waiting what t (rows_of ks ps)) h.0.number ∙ ap (λ ns. p.0 ∷ ns) rest
+    by_head false rest = rest
+
+-- what a thread waits for, by its row
+pub waits-rows : (test : Block → Bool) (t : ℕ) (ks : List Known) (ps : List (ℕ × LiveThread)) → AreOne ks ps
+    → passes (λ (row : ThreadRow). test row.block) (find (is_number t) (rows_of ks ps)) ≡ passes (λ (live : LiveThread). test live.block) (register.value_of t ps)
+waits-rows test t [] [] h = refl
+waits-rows test t [] (p ∷ ps) h = absurd h
+waits-rows test t (k ∷ ks) [] h = absurd h
+waits-rows test t (k ∷ ks) (p ∷ ps) h = by_head (k.tid == t) (p.0 == t) (ap (λ n. n == t) h.0.number) (waits-rows test t ks ps h.1)
+  where
+    by_head : (c d : Bool) → c ≡ d → passes (λ (row : ThreadRow). test row.block) (find (is_number t) (rows_of ks ps)) ≡ passes (λ (live : LiveThread). test live.block) (register.value_of t ps)
+        → passes (λ (row : ThreadRow). test row.block) (cond c (Some (row_of k p.1)) (find (is_number t) (rows_of ks ps)))
+        ≡ passes (λ (live : LiveThread). test live.block) (option_map (λ (l : ℕ × LiveThread). l.1) (cond d (Some p) (find (register.is_of t) ps)))
     by_head true true e rest = refl
     by_head false false e rest = rest
     by_head true false e rest = absurd (cc)

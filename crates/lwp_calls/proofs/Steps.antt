@@ -1,5 +1,5 @@
 -- The thread whose turn it is.
-use Rattle.std.proofs.Common.{◌≡◌, ℕ, Bool, true, false, cond, Some, None, refl, ◌∙◌}
+use Rattle.std.proofs.Common.{◌≡◌, ℕ, Bool, true, false, cond, Some, None, refl}
 use Rattle.std.specs.Prelude.{Option, is_some, IsTrue}
 use Rattle.lwp_types.specs.Choice.{choice, is_eligible, is_eligible_in}
 use Rattle.lwp_types.specs.State.{State, ThreadRow, is_thread, passes, thread_of}

@@ -3,14 +3,15 @@ use Rattle.lwp_calls.specs.Held.{is_to_enter, waits_so}
 use Rattle.lwp_calls.specs.Waits.{waits_for}
 use Rattle.lwp_calls.specs.declared.rows.Awaited.{Awaited}
 use Rattle.lwp_calls.specs.declared.rows.Awaited.TheVariants as awaited
+use Rattle.lwp_types.specs.Counts.{is_sending}
 use Rattle.lwp_types.specs.State.{ThreadRow, numbers, rises}
 use Rattle.lwp_types.specs.declared.rows.Block.{Block}
 use Rattle.lwp_types.specs.declared.rows.Block.TheVariants as block
-use Rattle.std.proofs.Common.{Bool, List, None, Some, [], ap, arith, cond, false, refl, sym, true, ℕ, ◌<◌, ◌∙◌, ◌∷◌, ◌≡◌}
+use Rattle.std.proofs.Common.{Bool, List, Some, [], arith, cond, false, refl, sym, true, ℕ, ◌<◌, ◌∷◌, ◌≡◌}
 use Rattle.std.proofs.lemmas.Bool.{eq-eqb, ne_eqb}
 use Rattle.std.proofs.lemmas.Bool.Decides.{nat_tests}
 use Rattle.std.specs.List.{find, list_all}
-use Rattle.std.specs.Prelude.{Option, nat_lt, option_map, ◌&&◌, ◌==◌}
+use Rattle.std.specs.Prelude.{Option, nat_lt, option_map, ◌&&◌}
 
 -- it doesn't wait to enter
 pub enters-nothing : (what : Awaited) (t : ℕ) (b : Block) → waits_for what t b ≡ true → is_to_enter b ≡ false
@@ -21,6 +22,16 @@ enters-nothing what t (block.Receiving from) h = refl
 enters-nothing awaited.Death t (block.Entering m) h = absurd (let no : false ≡ true = h in cc)
 enters-nothing awaited.Letter t (block.Entering m) h = absurd (let no : false ≡ true = h in cc)
 enters-nothing what t (block.Waiting c) h = refl
+
+-- nor for a reply
+pub awaits-no-reply : (what : Awaited) (t : ℕ) (b : Block) → waits_for what t b ≡ true → is_sending b ≡ false
+awaits-no-reply what t block.Not h = refl
+awaits-no-reply what t (block.Joining u) h = refl
+awaits-no-reply awaited.Death t block.Sending h = absurd (let no : false ≡ true = h in cc)
+awaits-no-reply awaited.Letter t block.Sending h = absurd (let no : false ≡ true = h in cc)
+awaits-no-reply what t (block.Receiving from) h = refl
+awaits-no-reply what t (block.Entering m) h = refl
+awaits-no-reply what t (block.Waiting c) h = refl
 
 first : (a b : Bool) → (a && b) ≡ true → a ≡ true
 first true b h = refl
@@ -46,9 +57,9 @@ module _ (what : Awaited) (t : ℕ) (test : Block → Bool) (never : (b : Block)
       by_head false h later = later h
 
   -- the first that waits for this
-  pub waits-apart : (u : ℕ) (rows : List ThreadRow) → rises (numbers rows) ≡ true → First rows ≡ Some u → waits_so test rows u ≡ false
-  waits-apart u [] rising h = absurd (cc)
-  waits-apart u (row ∷ rows) rising h = by_head (waits_for what t row.block) refl h (λ k. waits-apart u rows (second _ _ rising) k)
+  pub first-apart : (u : ℕ) (rows : List ThreadRow) → rises (numbers rows) ≡ true → First rows ≡ Some u → waits_so test rows u ≡ false
+  first-apart u [] rising h = absurd (cc)
+  first-apart u (row ∷ rows) rising h = by_head (waits_for what t row.block) refl h (λ k. first-apart u rows (second _ _ rising) k)
     where
       by_head : (b : Bool) → waits_for what t row.block ≡ b → option_map (λ (row : ThreadRow). row.number) (cond b (Some row) (find (λ row. waits_for what t row.block) rows)) ≡ Some u
           → (First rows ≡ Some u → waits_so test rows u ≡ false) → waits_so test (row ∷ rows) u ≡ false

@@ -10,7 +10,7 @@ use Rattle.pod_sched.specs.Schedule.{Schedule}
 use Rattle.pod_sched.specs.declared.rows.Known.{Known}
 use Rattle.stale_ids.specs.Register.{Register}
 use Rattle.std.specs.List.{filter, find, list_all}
-use Rattle.std.specs.Prelude.{Bool, List, Option, if◌then◌else◌, option_map, [], false, length, not, true, ℕ, ◌==◌, ◌≡◌, ◌≤◌, ◌∷◌}
+use Rattle.std.specs.Prelude.{Bool, List, Option, if◌then◌else◌, option_map, [], false, length, map, not, true, ℕ, ◌==◌, ◌≡◌, ◌≤◌, ◌∷◌}
 
 -- a thread of the machine: what the scheduler knows of it, and what the registry has of it
 abbrev pub row_of : Known → LiveThread → ThreadRow
@@ -81,6 +81,10 @@ waits live = not (is_not_blocked live.block)
 -- the first that waits for this of thread t
 abbrev pub first_waiting : Awaited → ℕ → List (ℕ × LiveThread) → Option ℕ
 first_waiting what t living = option_map (λ live. live.0) (find (λ live. waits_for what t live.1.block) living)
+
+-- all that do
+abbrev pub all_waiting : Awaited → ℕ → List (ℕ × LiveThread) → List ℕ
+all_waiting what t living = map (λ live. live.0) (filter (λ live. waits_for what t live.1.block) living)
 
 -- a thread of the registry, with another block where it is t
 abbrev pub block_set : ℕ → Block → ℕ × LiveThread → ℕ × LiveThread

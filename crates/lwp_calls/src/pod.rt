@@ -11,6 +11,7 @@ use crate::parts::Parts;
 use crate::roll::Roll;
 use lwp_types::{Answer, Call, Effect, Effects, NoMemory, PodParams, Tid};
 use monitors::Monitors;
+use rendezvous::Mail;
 use std::alloc::Global;
 use std::marker::Model;
 
@@ -47,10 +48,13 @@ impl Pod {
         ensures { IfOk result (λ pod. pod ≡ opening params) }
     {
         let roll = Roll::new(alloc, params.maxpri, params.births)?;
+        let mut mail = Mail::new(alloc);
+        mail.reserve(1)?;
         let mut mons = Monitors::new(alloc, params.births);
         mons.reserve(1)?;
         let parts = Parts {
             roll,
+            mail,
             mons,
             status: 0,
             procs: params.procs,
@@ -146,6 +150,11 @@ impl Pod {
             Call::GetExit => Some(Answer::Value(i64::from(self.parts.status))),
             Call::PodExit { code } => self.parts.pod_exit(code),
             Call::Threads => Some(self.parts.threads(self.alloc)?),
+            Call::Send { to, room, text } => self.parts.send(tid, to, room, text, effects),
+            Call::Recv { from, mode } => self.parts.receive(tid, &from, mode),
+            Call::Reply { to, text } => Some(self.parts.reply(tid, to, text, effects)),
+            Call::Senders => Some(self.parts.senders(tid)?),
+            Call::Receivers => Some(self.parts.receivers(self.alloc, tid)?),
             Call::Return => self.parts.retire(tid, effects),
             Call::Say { .. } => Some(Answer::Value(0)),
             _ => self.on_monitors(tid, call, effects)?,

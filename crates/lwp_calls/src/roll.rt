@@ -2,13 +2,14 @@
 ghost use Rattle.std.specs.Prelude.{◌≡◌, ◌≤◌, ◌<◌, ◌^◌, ◌&&◌, ◌∷◌, [], false, nat_lt, length, map, option_map, IsTrue, IfOk, OnOk, OnErr, IfSome, MatchOption, Some};
 ghost use Rattle.std.specs.List.{list_all, slice_get};
 ghost use Rattle.lwp_types.specs.State.{rises};
-ghost use Rattle.lwp_calls.specs.Waits.{waiting_in};
+ghost use Rattle.lwp_calls.specs.Waits.{waiting, waiting_in};
 ghost use Rattle.lwp_types.specs.Choice.{choice, is_eligible_in, is_over};
 ghost use Rattle.lwp_types.specs.declared.rows.Mark.TheVariants as mark;
-ghost use Rattle.lwp_types.specs.State.{is_blocked_in, is_not_blocked, is_thread, marks_in, numbers, opening, passes, priority_in};
+ghost use Rattle.lwp_types.specs.State.{is_blocked_in, is_not_blocked, is_thread, marks_in, numbers, opening, passes, priority_in, thread_of};
+ghost use Rattle.lwp_types.specs.Letters.{takes_from};
 ghost use Rattle.lwp_types.specs.Threads.{created, prioritized, rescheduled, resumed, suspended, yielded};
 ghost use Rattle.lwp_types.specs.Unblock.{blocked, unblocked};
-ghost use Rattle.lwp_calls.specs.Roll.{all_serve, block_set, first_waiting, left, set_aside, waits};
+ghost use Rattle.lwp_calls.specs.Roll.{all_serve, all_waiting, block_set, first_waiting, left, set_aside, waits};
 ghost use Rattle.stale_ids.specs.Register as register;
 
 use crate::rows::{Awaited, LiveThread};
@@ -87,6 +88,35 @@ fn numbers_of(alloc: Global, registry: &Registry<LiveThread>) -> Result<IdList, 
         ids.push(registry.nth(i))?;
     }
     Ok(ids)
+}
+
+// The numbers of those of the living that wait for this of the thread.
+fn waiting_of(
+    alloc: Global,
+    registry: &Registry<LiveThread>,
+    what: Awaited,
+    tid: Tid,
+) -> Result<IdList, NoMemory>
+    ensures { IfOk result (λ ids. ids ≡ all_waiting what tid registry.now.live) }
+{
+    let mut ids = IdList::new(alloc);
+    for i in 0..registry.len() {
+        let (other, live) = nth_of(registry, i);
+        if live.waits_for(what, tid) {
+            ids.push(other.number)?;
+        }
+    }
+    Ok(ids)
+}
+
+// Whether the live thread waits for a letter that this sender may write.
+fn takes_from(registry: &Registry<LiveThread>, tid: Tid, sender: Tid) -> bool
+    ensures { result ≡ passes (λ live. takes_from sender live.block) (register.value_of tid registry.now.live) }
+{
+    match registry.get(tid.number) {
+        Some(live) => live.takes_from(sender),
+        None => false,
+    }
 }
 
 // Says of a live thread what it waits for.
@@ -316,6 +346,20 @@ impl Roll {
     {
         let _count = self.registry.len();
         first_waiting(&self.registry, what, tid)
+    }
+
+    /// All threads that wait for this of thread `tid`, in the order of birth.
+    pub fn waiting_ids(&self, alloc: Global, what: Awaited, tid: Tid) -> Result<IdList, NoMemory>
+        ensures { IfOk result (λ ids. ids ≡ waiting what tid self.now.threads) }
+    {
+        waiting_of(alloc, &self.registry, what, tid)
+    }
+
+    /// Whether the thread waits for a letter that `sender` may write.
+    pub fn takes_from(&self, tid: Tid, sender: Tid) -> bool
+        ensures { result ≡ passes (λ row. takes_from sender row.block) (thread_of self.now tid) }
+    {
+        takes_from(&self.registry, tid, sender)
     }
 
     /// The threads that live, in the order of birth.

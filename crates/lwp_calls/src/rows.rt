@@ -1,5 +1,6 @@
 // What a pod keeps of a thread beside the scheduler.
 ghost use Rattle.std.specs.Prelude.{◌≡◌};
+ghost use Rattle.lwp_types.specs.Letters.{takes_from};
 ghost use Rattle.lwp_calls.specs.Waits.{last_answer, waits_for};
 
 use lwp_types::{Answer, Block, Flags, LwpErr, Tid};
@@ -38,6 +39,16 @@ impl LiveThread {
         match (what, self.block) {
             (Awaited::Death, Block::Joining(other)) => other == tid,
             (Awaited::Letter, Block::Receiving(Some(from))) => from == tid,
+            _ => false,
+        }
+    }
+
+    /// Whether it waits for a letter that this sender may write.
+    pub fn takes_from(&self, sender: Tid) -> bool
+        ensures { result ≡ takes_from sender self.now.block }
+    {
+        match self.block {
+            Block::Receiving(from) => from.is_none_or(|named| named == sender),
             _ => false,
         }
     }

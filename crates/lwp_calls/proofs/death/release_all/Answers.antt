@@ -1,4 +1,4 @@
-use Rattle.std.proofs.Common.{◌≡◌, ◌∙◌, sym, ap, refl, Some, None, ℕ, ◌≤◌}
+use Rattle.std.proofs.Common.{◌∙◌, sym, ap, ℕ, ◌≤◌}
 use Rattle.std.specs.Prelude.{option_map}
 use Rattle.lwp_calls.proofs.Releases.{Releasing-next, fewer-held, last-held, released-effects, released-state}
 use Rattle.lwp_types.specs.Release.{last_lock, locks_on}

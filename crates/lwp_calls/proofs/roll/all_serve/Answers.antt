@@ -1,4 +1,4 @@
-use Rattle.std.proofs.Common.{◌∙◌, ◌≡◌, ◌+◌, sym, ap, true, false, drop}
+use Rattle.std.proofs.Common.{◌∙◌, ◌+◌, sym, ap, true, false, drop}
 use Rattle.std.specs.Prelude.{◌&&◌}
 use Rattle.lwp_calls.specs.Roll.{all_serve}
 use Rattle.lwp_calls.proofs.Living.{drop-some, unnot}

@@ -1,4 +1,4 @@
-use Rattle.std.proofs.Common.{◌∙◌, ◌≡◌, ◌+◌, ◌<◌, sym, ap, refl, true, false, not, map, arith, length}
+use Rattle.std.proofs.Common.{◌∙◌, sym, ap}
 use Rattle.lwp_calls.specs.Roll.{waits}
 use Rattle.lwp_types.specs.State.{passes}
 use Rattle.lwp_calls.proofs.Living.{drop-some, waits-for}

@@ -1,7 +1,5 @@
 use Rattle.std.proofs.Common.{◌∙◌, ◌≡◌, Some, sym, ap}
 use Rattle.std.specs.Prelude.{option_copied}
-use Rattle.std.specs.List.{slice_get}
-use Rattle.lwp_calls.specs.declared.rows.LiveThread.{LiveThread}
 use Rattle.stale_ids.specs.Register.{value_of}
 use Rattle.lwp_calls.proofs.Living.{copied-some, nth-own}
 use Rattle.lwp_calls.proofs.roll.nth_of.Goals as goal

@@ -1,4 +1,4 @@
-use Rattle.std.proofs.Common.{◌∙◌, ◌≡◌, sym, ap, refl, true, false, not, map}
+use Rattle.std.proofs.Common.{◌∙◌, sym, ap}
 use Rattle.lwp_calls.proofs.Living.{written-block, block-absent}
 use Rattle.stale_ids.specs.Register.{value_of}
 use Rattle.lwp_calls.proofs.roll.set_block.Goals as goal

@@ -1,6 +1,5 @@
-use Rattle.std.proofs.Common.{◌≡◌, ◌∙◌, ◌<◌, ◌≤◌, sym, ap, refl, arith, true, false, length}
+use Rattle.std.proofs.Common.{◌≡◌, sym, refl}
 use Rattle.lwp_types.specs.Case.{unless}
-use Rattle.lwp_calls.proofs.Compare.{lt-true, lt-false, le-true, le-false, no_priority, zero_priority, a_priority, differ}
 use Rattle.lwp_types.specs.Case.{unanswered, with_zero, refused}
 use Rattle.lwp_types.specs.Death.{death, destroy}
 use Rattle.lwp_types.specs.declared.call.LwpErr.TheVariants as error

@@ -1,4 +1,4 @@
-use Rattle.std.proofs.Common.{◌≡◌, ◌∙◌, ◌<◌, ◌≤◌, ◌+◌, ◌++◌, ◌∷◌, [], Some, None, sym, ap, refl, arith, true, false, length, append-nil}
+use Rattle.std.proofs.Common.{◌≡◌, refl, arith}
 use Rattle.lwp_types.specs.Case.{unless}
 use Rattle.lwp_types.specs.Locks.{depth_in}
 use Rattle.lwp_types.specs.Release.{lock_of}
@@ -13,7 +13,7 @@ returns-then-depth-ge-MOST_DEPTH c =
     rw (← c.self.view_is, deepest-own c.args.tid (lock_of c.self.inside.mons.locks c.args.mon) (rw (← c.self.view_is) at c.requires.open), le-true 65535 (depth_in c.self.inside.mons.locks c.args.mon) (omega (arith, c.depth.ensures, c.if-depth-ge-MOST_DEPTH.true))) refl
 
 pub invariant_of-self : goal.invariant_of-self
-invariant_of-self c = rw c.enter.ensures.after (IsHeld-entered c.self.invariant c.args.tid c.args.mon (lock_of c.self.inside.mons.locks c.args.mon))
+invariant_of-self c = rw c.enter.ensures.after (c.self.invariant.0, IsHeld-entered c.self.invariant.1 c.args.tid c.args.mon (lock_of c.self.inside.mons.locks c.args.mon))
 
 pub returns : goal.returns
 unfolding unless

@@ -1,4 +1,4 @@
-use Rattle.std.proofs.Common.{◌≡◌, ◌∙◌, ◌<◌, ◌≤◌, ◌+◌, ◌++◌, ◌∷◌, [], Some, None, sym, ap, refl, arith, true, false, length, append-nil}
+use Rattle.std.proofs.Common.{◌≡◌, sym, refl, append-nil}
 use Rattle.lwp_types.specs.Case.{unless}
 use Rattle.lwp_calls.proofs.Holds.{none-owner}
 use Rattle.lwp_types.specs.Case.{with_zero}

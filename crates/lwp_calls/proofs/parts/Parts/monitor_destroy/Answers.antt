@@ -1,4 +1,4 @@
-use Rattle.std.proofs.Common.{◌≡◌, ◌∙◌, ◌<◌, ◌≤◌, ◌+◌, ◌++◌, ◌∷◌, [], Some, None, sym, ap, refl, arith, true, false, length, append-nil}
+use Rattle.std.proofs.Common.{◌∙◌, sym, ap, refl}
 use Rattle.lwp_types.specs.Case.{unless}
 use Rattle.lwp_calls.proofs.Holds.{IsHeld-live, some-owner, unwanted-free}
 use Rattle.lwp_types.specs.Release.{lock_of}
@@ -16,10 +16,10 @@ unfolding unless
 returns-then-is_some c = rw (← c.self.view_is, sym c.if-not-is_live.ensures, sym (some-owner (lock_of c.self.inside.mons.locks c.args.mon)), sym c.owner.ensures, sym c.if-is_some.ensures) refl
 
 pub destroy-requires-clause-unwanted : goal.destroy-requires-clause-unwanted
-destroy-requires-clause-unwanted c = unwanted-free c.self.invariant c.args.mon (ap not (sym (some-owner (lock_of c.self.inside.mons.locks c.args.mon)) ∙ ap is_some (sym c.owner.ensures) ∙ sym c.if-is_some.ensures))
+destroy-requires-clause-unwanted c = unwanted-free c.self.invariant.1 c.args.mon (ap not (sym (some-owner (lock_of c.self.inside.mons.locks c.args.mon)) ∙ ap is_some (sym c.owner.ensures) ∙ sym c.if-is_some.ensures))
 
 pub invariant_of-self : goal.invariant_of-self
-invariant_of-self c = rw c.destroy.ensures (IsHeld-live c.self.invariant (without c.args.mon c.self.inside.mons.monitors) c.self.inside.mons.births)
+invariant_of-self c = rw c.destroy.ensures (c.self.invariant.0, IsHeld-live c.self.invariant.1 (without c.args.mon c.self.inside.mons.monitors) c.self.inside.mons.births)
 
 pub returns : goal.returns
 unfolding unless

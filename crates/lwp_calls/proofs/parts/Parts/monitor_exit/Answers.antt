@@ -1,4 +1,4 @@
-use Rattle.std.proofs.Common.{◌≡◌, ◌∙◌, ◌<◌, ◌≤◌, ◌+◌, ◌++◌, ◌∷◌, [], Some, None, sym, ap, refl, arith, true, false, length, append-nil}
+use Rattle.std.proofs.Common.{◌≡◌, sym, refl, arith, append-nil}
 use Rattle.lwp_types.specs.Case.{unless}
 use Rattle.lwp_calls.proofs.Compare.{le-false, le-true}
 use Rattle.lwp_calls.proofs.Holds.{IsHeld-deeper}
@@ -18,7 +18,7 @@ unfolding unless
 returns-then-not-is_own-clause-comes c = rw (sym c.if-not-is_own.ensures, ← c.self.view_is, sym c.if-not-is_live.ensures) (record { state = refl; others = sym (append-nil c.args.effects.now); answer = refl })
 
 pub invariant_of-self : goal.invariant_of-self
-invariant_of-self c = rw (c.exit.ensures.after, le-false (depth_in c.self.inside.mons.locks c.args.mon) 1 (omega (arith, c.depth.ensures, c.if-depth-le1.false))) (IsHeld-deeper c.self.invariant c.args.mon (depth_in c.self.inside.mons.locks c.args.mon - 1))
+invariant_of-self c = rw (c.exit.ensures.after, le-false (depth_in c.self.inside.mons.locks c.args.mon) 1 (omega (arith, c.depth.ensures, c.if-depth-le1.false))) (c.self.invariant.0, IsHeld-deeper c.self.invariant.1 c.args.mon (depth_in c.self.inside.mons.locks c.args.mon - 1))
 
 pub returns-clause-comes : goal.returns-clause-comes
 unfolding unless

@@ -1,6 +1,6 @@
-use Rattle.std.proofs.Common.{◌≡◌, ◌∙◌, ◌<◌, ◌≤◌, sym, ap, refl, arith, true, false, length}
+use Rattle.std.proofs.Common.{sym, refl, arith}
 use Rattle.lwp_types.specs.Case.{unless}
-use Rattle.lwp_calls.proofs.Compare.{lt-true, lt-false, le-true, le-false, no_priority, zero_priority, a_priority, differ}
+use Rattle.lwp_calls.proofs.Compare.{lt-true, lt-false, no_priority, zero_priority, a_priority}
 use Rattle.lwp_calls.proofs.parts.Parts.resched.Goals.{then-prio-eq0-via-then-prio-eq0, then-prio-eq0-via-else-prio-eq0+then-prio-maxpri}
 use Rattle.lwp_calls.proofs.parts.Parts.resched.Goals as goal
 

@@ -1,6 +1,6 @@
-use Rattle.std.proofs.Common.{◌≡◌, ◌∙◌, ◌<◌, ◌≤◌, sym, ap, refl, arith, true, false, length}
+use Rattle.std.proofs.Common.{refl, arith}
 use Rattle.lwp_types.specs.Case.{unless}
-use Rattle.lwp_calls.proofs.Compare.{lt-true, lt-false, le-true, le-false, no_priority, zero_priority, a_priority, differ}
+use Rattle.lwp_calls.proofs.Compare.{lt-true, lt-false}
 use Rattle.lwp_calls.proofs.parts.Parts.set_exit.Goals as goal
 
 pub returns-then-code-gt-MOST_STATUS : goal.returns-then-code-gt-MOST_STATUS

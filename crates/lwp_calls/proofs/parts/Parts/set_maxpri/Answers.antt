@@ -1,7 +1,6 @@
-use Rattle.std.proofs.Common.{◌≡◌, ◌∙◌, ◌<◌, ◌≤◌, sym, ap, refl, arith, true, false, length}
+use Rattle.std.proofs.Common.{refl, arith}
 use Rattle.lwp_types.specs.Case.{unless}
-use Rattle.lwp_calls.proofs.Compare.{lt-true, lt-false, le-true, le-false, no_priority, zero_priority, a_priority, differ}
-use Rattle.std.specs.Prelude.{nat_lt, ◌||◌}
+use Rattle.lwp_calls.proofs.Compare.{lt-true, lt-false}
 use Rattle.lwp_calls.proofs.parts.Parts.set_maxpri.Goals.{then-prio-maxpri-via-then-prio-maxpri, then-prio-maxpri-via-else-prio-maxpri+then-prio-gt-MOST_PRIORITY}
 use Rattle.lwp_calls.proofs.parts.Parts.set_maxpri.Goals as goal
 

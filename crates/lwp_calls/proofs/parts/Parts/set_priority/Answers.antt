@@ -1,9 +1,11 @@
-use Rattle.std.proofs.Common.{◌≡◌, ◌∙◌, ◌<◌, ◌≤◌, sym, ap, refl, arith, true, false, length}
+use Rattle.std.proofs.Common.{◌≡◌, sym, refl, arith}
 use Rattle.lwp_types.specs.Case.{unless}
-use Rattle.lwp_calls.proofs.Compare.{lt-true, lt-false, le-true, le-false, no_priority, zero_priority, a_priority, differ}
+use Rattle.lwp_calls.proofs.Compare.{no_priority, zero_priority, a_priority}
 use Rattle.lwp_calls.proofs.parts.Parts.set_priority.Goals.{then-prio-eq0-via-then-prio-eq0, then-prio-eq0-via-else-prio-eq0+then-prio-maxpri}
 use Rattle.std.proofs.Common.{rules, to_z, of_z, w64, pos}
 use Rattle.lwp_types.specs.State.{priority_in}
+use Rattle.lwp_calls.proofs.Posts.{IsPosted-changed}
+use Rattle.lwp_types.specs.State.{priority_set}
 use Rattle.lwp_calls.proofs.Holds.{IsHeld-prioritized, rows-requeued}
 use Rattle.lwp_calls.proofs.parts.Parts.set_priority.Goals as goal
 
@@ -24,4 +26,7 @@ returns c = let same : to_z w64 (of_z w64 c.from.result) ≡ pos (priority_in c.
     rw (← c.self.view_is, sym c.if-not-is_thread.ensures, a_priority c.args.prio c.self.inside.roll.maxpri (omega arith) (omega (arith, c.maxpri.ensures, c.if-prio-maxpri.false)), c.set_prio-before.ensures.after, c.requeue.ensures, rows-requeued, same) refl
 
 pub invariant_of-self : goal.invariant_of-self
-invariant_of-self c = rw (c.set_prio-before.ensures.after, c.requeue.ensures) (IsHeld-prioritized c.self.invariant c.args.tid c.args.prio (sym c.if-not-is_thread.ensures))
+invariant_of-self c = rw (c.set_prio-before.ensures.after, c.requeue.ensures) (
+  IsPosted-changed c.self.invariant.0 (priority_set c.args.tid c.args.prio) (λ row. refl) (λ row. refl),
+  IsHeld-prioritized c.self.invariant.1 c.args.tid c.args.prio (sym c.if-not-is_thread.ensures),
+)

@@ -1,5 +1,4 @@
-use Rattle.std.proofs.Common.{◌∙◌, ◌≡◌, sym, ap, refl, true, false, not, map}
-use Rattle.lwp_types.specs.declared.rows.Block.TheVariants as block
+use Rattle.std.proofs.Common.{◌∙◌, sym}
 use Rattle.lwp_calls.proofs.Rolls as Rolls
 use Rattle.lwp_calls.proofs.roll.Roll.block.Goals as goal
 

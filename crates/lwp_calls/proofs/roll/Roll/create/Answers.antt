@@ -1,4 +1,4 @@
-use Rattle.std.proofs.Common.{ℕ, ◌∙◌, ◌≡◌, ◌+◌, ◌<◌, sym, ap, refl, true, false, not, map, arith, length}
+use Rattle.std.proofs.Common.{◌≡◌, ◌+◌, ◌<◌, arith, length}
 use Rattle.lwp_types.specs.declared.rows.Block.TheVariants as block
 use Rattle.pod_sched.specs.Schedule as sched
 use Rattle.stale_ids.specs.Register as register

@@ -1,4 +1,4 @@
-use Rattle.std.proofs.Common.{◌∙◌, ◌≡◌, sym, ap, refl, true, false, not, map}
+use Rattle.std.proofs.Common.{◌∙◌, sym}
 use Rattle.lwp_calls.proofs.Chosen.{chosen_runs, if_some-same}
 use Rattle.lwp_types.specs.Choice.{is_eligible_in}
 use Rattle.pod_sched.specs.Schedule as sched

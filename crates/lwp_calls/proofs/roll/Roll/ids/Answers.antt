@@ -1,5 +1,3 @@
-use Rattle.std.proofs.Common.{◌∙◌, ◌≡◌, ◌+◌, ◌<◌, sym, ap, refl, true, false, not, map, arith, length}
-use Rattle.std.specs.Prelude.{IfOk}
 use Rattle.lwp_calls.proofs.Rolls
 use Rattle.lwp_calls.proofs.roll.Roll.ids.Goals as goal
 

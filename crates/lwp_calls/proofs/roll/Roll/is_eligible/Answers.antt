@@ -1,4 +1,4 @@
-use Rattle.std.proofs.Common.{◌∙◌, sym, ap, refl}
+use Rattle.std.proofs.Common.{◌∙◌, sym}
 use Rattle.lwp_calls.proofs.Rolls as Rolls
 use Rattle.lwp_calls.proofs.roll.Roll.is_eligible.Goals as goal
 

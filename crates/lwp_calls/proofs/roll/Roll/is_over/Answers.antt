@@ -1,4 +1,4 @@
-use Rattle.std.proofs.Common.{◌∙◌, ◌≡◌, ◌+◌, ◌<◌, sym, ap, refl, true, false, not, map, arith, length}
+use Rattle.std.proofs.Common.{◌∙◌, ◌≡◌, sym, refl, true, false}
 use Rattle.std.specs.Prelude.{◌&&◌}
 use Rattle.lwp_types.specs.State.{is_empty}
 use Rattle.pod_sched.specs.Schedule.{prio_in}

@@ -1,4 +1,4 @@
-use Rattle.std.proofs.Common.{◌∙◌, ◌≡◌, ◌+◌, ◌<◌, sym, ap, refl, true, false, not, map, arith, length}
+use Rattle.std.proofs.Common.{◌∙◌, sym}
 use Rattle.lwp_calls.proofs.Rolls as Rolls
 use Rattle.lwp_calls.proofs.roll.Roll.leave.Goals as goal
 

@@ -1,4 +1,4 @@
-use Rattle.std.proofs.Common.{◌∙◌, sym, ap, refl}
+use Rattle.std.proofs.Common.{◌∙◌, sym}
 use Rattle.lwp_calls.proofs.Rolls
 use Rattle.lwp_calls.proofs.roll.Roll.len.Goals as goal
 

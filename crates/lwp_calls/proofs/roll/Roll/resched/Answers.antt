@@ -1,4 +1,3 @@
-use Rattle.std.proofs.Common.{◌∙◌, sym, ap, refl}
 use Rattle.lwp_calls.proofs.Rolls as Rolls
 use Rattle.lwp_calls.proofs.roll.Roll.resched.Goals as goal
 

@@ -1,5 +1,4 @@
-use Rattle.std.proofs.Common.{◌∙◌, ◌≡◌, ◌+◌, ◌<◌, sym, ap, refl, true, false, not, map, arith, length}
-use Rattle.std.specs.Prelude.{IsTrue, IfSome}
+use Rattle.std.proofs.Common.{◌∙◌, sym}
 use Rattle.lwp_types.specs.State.{is_blocked_in, passes}
 use Rattle.lwp_calls.specs.Roll.{state_of, waits}
 use Rattle.stale_ids.specs.Register.{value_of}
