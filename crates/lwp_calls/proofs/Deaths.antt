@@ -1,23 +1,36 @@
 -- The death of a thread: what the pod does comes to what the machine says.
-use Rattle.std.proofs.Common.{◌≡◌, ◌≢◌, ℕ, suc, ◌+◌, ◌<◌, ◌≤◌, Bool, true, false, not, cond, count_by, List, [], ◌∷◌, ◌++◌, length, length-append, append_assoc, append-nil, map, Some, None, inl, inr, refl, sym, ap, ◌∙◌, arith}
-use Rattle.std.specs.Prelude.{◌==◌, ◌&&◌, ◌||◌, is_some, nat_lt, option_map, unwrap_or}
+use Rattle.std.proofs.Common.{◌≡◌, ◌≢◌, ℕ, suc, ◌+◌, ◌<◌, ◌≤◌, Bool, true, false, not, cond, count_by, reverse, List, [], ◌∷◌, ◌++◌, length, length-append, append_assoc, append-nil, map, Some, None, inl, inr, refl, sym, ap, ◌∙◌, arith}
+use Rattle.std.specs.Prelude.{Option, ◌==◌, ◌&&◌, ◌||◌, is_some, nat_lt, option_map, unwrap_or}
 use Rattle.std.specs.List.{AllByRecursion, filter, find, list_all}
 use Rattle.std.proofs.lemmas.List.{length-map}
 use Rattle.std.proofs.lemmas.Bool.{cases_eq, eq-eqb, ne_eqb}
 use Rattle.std.proofs.lemmas.Bool.Decides.{nat_tests}
 use Rattle.lwp_types.specs.declared.call.Effect.{Effect}
 use Rattle.lwp_types.specs.Case.{unanswered}
-use Rattle.lwp_calls.proofs.Posts.{letters-fit}
-use Rattle.lwp_types.specs.CountLaws.{count-cons, one, one-le}
+use Rattle.lwp_calls.proofs.Best.{chosen-same}
+use Rattle.lwp_calls.proofs.Blocked.{priority-changed}
+use Rattle.lwp_calls.proofs.Holds.{IsHeld-changed, IsHeld-forgotten, requests-fit, rows-without, to-enter-blocks}
+use Rattle.lwp_calls.proofs.Releases.{Unasked, next-other, release-unasked, releases-fewer, releases-keep}
+use Rattle.lwp_calls.proofs.Posts.{IsPosted-aside, letters-fit, sending-blocked}
+use Rattle.lwp_calls.specs.Held.{IsHeld, enters, is_to_enter, waits_so}
 use Rattle.lwp_types.specs.Counts.{is_sending}
-use Rattle.lwp_types.specs.Death.{bury, death, refuse_sender, refuse_senders, return_from}
-use Rattle.lwp_types.specs.Letters.{is_to, senders_to, without_letter}
-use Rattle.lwp_types.specs.declared.rows.Letter.{Letter}
+use Rattle.rendezvous.specs.Mailbag as mailbag
 use Rattle.rendezvous.specs.Mailbag.{Mailbag}
+use Rattle.lwp_types.specs.declared.rows.Letter.{Letter}
 use Rattle.std.proofs.lemmas.List.Sums.{count_by-le-length, length-filter}
+use Rattle.lwp_types.specs.Agents.{agents_of, end_agent}
+use Rattle.lwp_types.specs.CountLaws.{count-cons, one, one-le}
+use Rattle.lwp_types.specs.Death.{bury, death, end_agents, refuse_sender, refuse_senders, release_all, return_from}
+use Rattle.lwp_types.specs.Letters.{is_to, senders_to, without_letter}
+use Rattle.lwp_types.specs.Release.{grant, is_owned_by, next_owner, release, requests_of, without_lock, without_request}
+use Rattle.lwp_types.specs.declared.rows.Lock.{Lock}
+use Rattle.lwp_types.specs.declared.rows.Request.{Request}
+use Rattle.monitors.specs.MonitorTable as table
+use Rattle.monitors.specs.MonitorTable.{MonitorTable, forgotten, machine_row}
+use Rattle.monitors.specs.declared.requests.EntryRequest.{EntryRequest}
 use Rattle.lwp_types.specs.State.{rises}
-use Rattle.lwp_types.specs.State.{Outcome, State, ThreadRow, and_then, block_set, for_each, in_order, is_not_blocked, is_number, is_suspended_in, marks_in, marks_set, numbers, passes, suspension_set, with_block, with_marks, with_suspension, without}
-use Rattle.lwp_types.specs.Unblock.{nonexist, unblock, unblocked}
+use Rattle.lwp_types.specs.State.{Outcome, State, ThreadRow, and_then, block_set, for_each, in_order, is_not_blocked, is_number, is_suspended_in, marks_in, marks_set, numbers, passes, priority_in, suspension_set, with_block, with_marks, with_suspension, without}
+use Rattle.lwp_types.specs.Unblock.{nonexist, unblock, unblocked, zero_answer}
 use Rattle.lwp_types.specs.declared.call.Answer.{Answer}
 use Rattle.lwp_types.specs.declared.call.Effect.TheVariants as effect
 use Rattle.lwp_types.specs.declared.rows.Block.{Block}
@@ -54,16 +67,6 @@ not-later u (row ∷ rows) h =
     let less : u < row.number = from-lt u row.number (first _ _ h) in
     rw (ne_eqb row.number u (λ e. omega (arith, less))) (ap (λ rs. row ∷ rs) (not-later u rows (second _ _ h)))
 
--- who waits for something of a thread waits for no reply
-no-reply : (what : Awaited) (t : ℕ) (b : Block) → waits_for what t b ≡ true → is_sending b ≡ false
-no-reply what t block.Not h = refl
-no-reply what t (block.Joining u) h = refl
-no-reply awaited.Death t block.Sending h = absurd (let no : false ≡ true = h in cc)
-no-reply awaited.Letter t block.Sending h = absurd (let no : false ≡ true = h in cc)
-no-reply what t (block.Receiving from) h = refl
-no-reply what t (block.Entering m) h = refl
-no-reply what t (block.Waiting c) h = refl
-
 module _ (what : Awaited) (t : ℕ) where
   -- who goes on waits no more, and the others wait as before
   waiting-rest : (u : ℕ) (rows : List ThreadRow) → rises (numbers rows) ≡ true → option_map (λ (row : ThreadRow). row.number) (find (λ row. waits_for what t row.block) rows) ≡ Some u
@@ -83,27 +86,6 @@ module _ (what : Awaited) (t : ℕ) where
           let others : with_block u block.Not rows ≡ rows = not-later u rows (rw (sym same) (first _ _ rising)) in
           rw (eq-eqb row.number u same, for-nothing what t, others) (ap (λ n. n ∷ waiting what t rows) same)
       by_head false is h later = rw (drops (row.number == u) is) (later h)
-
-  -- who waits so waits for no reply
-  not-below : (u : ℕ) (rows : List ThreadRow) → list_all (λ m. nat_lt u m) (numbers rows) ≡ true → option_map (λ (row : ThreadRow). row.number) (find (λ row. waits_for what t row.block) rows) ≡ Some u → ⊥
-  not-below u [] below h = absurd (cc)
-  not-below u (row ∷ rows) below h = by_head (waits_for what t row.block) h (λ k. not-below u rows (second _ _ below) k)
-    where
-      by_head : (b : Bool) → option_map (λ (row : ThreadRow). row.number) (cond b (Some row) (find (λ row. waits_for what t row.block) rows)) ≡ Some u
-          → (option_map (λ (row : ThreadRow). row.number) (find (λ row. waits_for what t row.block) rows) ≡ Some u → ⊥) → ⊥
-      by_head true h later = let same : row.number ≡ u = (let e : Some row.number ≡ Some u = h in cc) in let less = from-lt u row.number (first _ _ below) in absurd (omega (arith, same, less))
-      by_head false h later = later h
-
-  pub waiting-quiet : (u : ℕ) (rows : List ThreadRow) → rises (numbers rows) ≡ true → option_map (λ (row : ThreadRow). row.number) (find (λ row. waits_for what t row.block) rows) ≡ Some u
-      → sends rows u ≡ false
-  waiting-quiet u [] rising h = absurd (cc)
-  waiting-quiet u (row ∷ rows) rising h = by_head (waits_for what t row.block) refl h (λ k. waiting-quiet u rows (second _ _ rising) k)
-    where
-      by_head : (b : Bool) → waits_for what t row.block ≡ b → option_map (λ (row : ThreadRow). row.number) (cond b (Some row) (find (λ row. waits_for what t row.block) rows)) ≡ Some u
-          → (option_map (λ (row : ThreadRow). row.number) (find (λ row. waits_for what t row.block) rows) ≡ Some u → sends rows u ≡ false)
-          → sends (row ∷ rows) u ≡ false
-      by_head true is h later = let same : row.number ≡ u = (let e : Some row.number ≡ Some u = h in cc) in rw (eq-eqb row.number u same) (no-reply what t row.block is)
-      by_head false is h later = rw (ne_eqb row.number u (λ e. not-below u rows (rw (sym e) (first _ _ rising)) h)) (later h)
 
   waiting-none : (rows : List ThreadRow) → option_map (λ (row : ThreadRow). row.number) (find (λ row. waits_for what t row.block) rows) ≡ None → waiting what t rows ≡ []
   waiting-none [] h = refl
@@ -210,10 +192,10 @@ no-more what t u (row ∷ rows) = by_head (row.number == u) (waits_for what t ro
     by_head false c is rest = rw is (same c rest)
 
 -- nobody waits for two of these
-abbrev only_one : Bool → Bool → Bool → Type 0
-only_one a b c = one a + (one b + one c) ≤ 1
+abbrev only_one : Bool → Bool → Bool → Bool → Type 0
+only_one a b c d = one a + (one b + (one c + one d)) ≤ 1
 
-either : (t : ℕ) (b : Block) → only_one (is_sending b) (waits_for awaited.Letter t b) (waits_for awaited.Death t b)
+either : (t : ℕ) (b : Block) → only_one (is_to_enter b) (is_sending b) (waits_for awaited.Letter t b) (waits_for awaited.Death t b)
 either t block.Not = omega arith
 either t (block.Joining u) = omega (arith, one-le (u == t))
 either t block.Sending = omega arith
@@ -229,9 +211,18 @@ waiting-cons what t row rows = by_head (waits_for what t row.block)
     by_head true = omega arith
     by_head false = omega arith
 
-at-most-all : (t : ℕ) (rows : List ThreadRow) → count_by (λ (row : ThreadRow). is_sending row.block) rows + (length (waiting awaited.Letter t rows) + length (waiting awaited.Death t rows)) ≤ length rows
+at-most-all : (t : ℕ) (rows : List ThreadRow)
+    → count_by (λ (row : ThreadRow). is_to_enter row.block) rows + (count_by (λ (row : ThreadRow). is_sending row.block) rows + (length (waiting awaited.Letter t rows) + length (waiting awaited.Death t rows))) ≤ length rows
 at-most-all t [] = omega arith
-at-most-all t (row ∷ rows) = omega (arith, either t row.block, count-cons (λ (row : ThreadRow). is_sending row.block) row rows, waiting-cons awaited.Letter t row rows, waiting-cons awaited.Death t row rows, at-most-all t rows)
+at-most-all t (row ∷ rows) = omega (
+  arith,
+  either t row.block,
+  count-cons (λ (row : ThreadRow). is_to_enter row.block) row rows,
+  count-cons (λ (row : ThreadRow). is_sending row.block) row rows,
+  waiting-cons awaited.Letter t row rows,
+  waiting-cons awaited.Death t row rows,
+  at-most-all t rows,
+)
 
 -- ---- a dying thread, as the pod has it and as the machine has it
 
@@ -323,6 +314,27 @@ module _ (t : ℕ) where
   each-bared a [] s h = refl
   each-bared a (u ∷ us) s h = ap (λ x. and_then (record { after = x; effects = effect.Answered u a ∷ [] }) (for_each (unblock a) us)) (unblocked-bared u s h.0)
       ∙ ap (λ (o : Outcome). record { after = o.after; effects = effect.Answered u a ∷ o.effects }) (each-bared a us (unblocked s u) h.1)
+
+  -- a monitor goes to the same thread, which isn't this one
+  next-bared : (m : ℕ) (s : State) → next_owner (bared s) m ≡ next_owner s m
+  next-bared m s = chosen-same (λ (r : Request). priority_in (bared s) r.tid) (λ (r : Request). priority_in s r.tid)
+      (λ r. priority-changed (marks_set t []) (λ row. refl) (λ row. refl) r.tid (with_suspension t false s.threads) ∙ priority-changed (suspension_set t false) (λ row. refl) (λ row. refl) r.tid s.threads)
+      (requests_of s.requests m)
+
+  release-bared : (m : ℕ) (s : State) → Unasked t s → release m (bared s) ≡ record { after = bared (release m s).after; effects = (release m s).effects }
+  release-bared m s asks = ap (λ o. grant o (record (bared s) { locks = without_lock m s.locks })) (next-bared m s) ∙ by_next (next_owner s m) refl
+    where
+      by_next : (o : Option Request) → next_owner s m ≡ o
+          → grant o (record (bared s) { locks = without_lock m s.locks }) ≡ record { after = bared (grant o (record s { locks = without_lock m s.locks })).after; effects = (grant o (record s { locks = without_lock m s.locks })).effects }
+      by_next None next = refl
+      by_next (Some r) next = ap (λ x. record { after = x; effects = effect.Answered r.tid zero_answer ∷ [] })
+          (unblocked-bared r.tid (record s { locks = without_lock m s.locks ++ record { mon = r.mon; owner = r.tid; depth = r.depth } ∷ []; requests = without_request r.tid s.requests }) (next-other t m s asks r next))
+
+  releases-bared : (ms : List ℕ) (s : State) → Unasked t s → for_each release ms (bared s) ≡ record { after = bared (for_each release ms s).after; effects = (for_each release ms s).effects }
+  unfolding for_each and_then
+  releases-bared [] s asks = refl
+  releases-bared (m ∷ ms) s asks = ap (λ (o : Outcome). and_then o (for_each release ms)) (release-bared m s asks)
+      ∙ ap (λ (o : Outcome). record { after = o.after; effects = (release m s).effects ++ o.effects }) (releases-bared ms (release m s).after (release-unasked t m s asks))
 
   -- the senders to it, none of which it is, are told
   each-refused-bared : (us : List ℕ) (s : State) → Others us
@@ -426,33 +438,35 @@ module _ (t : ℕ) where
       by_head true rest = refl
       by_head false rest = rest
 
-  -- who waits for nothing waits for no reply
-  free-quiet : (rows : List ThreadRow) → list_all is_free rows ≡ true → sends rows t ≡ false
-  free-quiet [] h = refl
-  free-quiet (row ∷ rows) h = by_head (row.number == t) (first _ _ h) (free-quiet rows (second _ _ h))
+  -- who waits for nothing doesn't wait so
+  free-quiet : (test : Block → Bool) → ((b : Block) → is_not_blocked b ≡ true → test b ≡ false) → (rows : List ThreadRow) → list_all is_free rows ≡ true → waits_so test rows t ≡ false
+  free-quiet test never [] h = refl
+  free-quiet test never (row ∷ rows) h = by_head (row.number == t) (first _ _ h) (free-quiet test never rows (second _ _ h))
     where
-      quiet : (b : Block) → is_not_blocked b ≡ true → is_sending b ≡ false
-      quiet block.Not h = refl
-      quiet (block.Joining u) h = refl
-      quiet block.Sending h = absurd (let no : false ≡ true = h in cc)
-      quiet (block.Receiving from) h = refl
-      quiet (block.Entering m) h = refl
-      quiet (block.Waiting c) h = refl
+      by_head : (c : Bool) → (not c || is_not_blocked row.block) ≡ true → waits_so test rows t ≡ false
+          → passes (λ (row : ThreadRow). test row.block) (cond c (Some row) (find (is_number t) rows)) ≡ false
+      by_head true free rest = never row.block free
+      by_head false free rest = rest
 
-      by_head : (c : Bool) → (not c || is_not_blocked row.block) ≡ true → sends rows t ≡ false → passes (λ (row : ThreadRow). is_sending row.block) (cond c (Some row) (find (is_number t) rows)) ≡ false
-      by_head true is rest = quiet row.block is
-      by_head false is rest = rest
+  -- with no agents none ends
+  no-agents : (s : State) → s.agents ≡ [] → end_agents t s ≡ record { after = s; effects = [] }
+  unfolding for_each
+  no-agents s none = ap (λ agents. for_each end_agent (agents_of agents t) s) none
 
-  module _ (roll : State) (letters : List Letter) (status procs : ℕ) (ended : Bool) (frame : marks_in roll t ≡ mark.Frame ∷ []) where
+  module _ (roll : State) (mail : Mailbag) (mons : MonitorTable) (status procs : ℕ) (ended : Bool) (frame : marks_in roll t ≡ mark.Frame ∷ [])
+      (posted : IsPosted roll.threads mail) (held : IsHeld roll.threads roll.limit mons) where
     abbrev alive : State
-    alive = whole roll letters status procs ended
+    alive = whole roll mail.letters mons status procs ended
 
     abbrev aside : State
-    aside = whole (set_aside roll t) (without_letter t letters) status procs ended
+    aside = whole (set_aside roll t) (without_letter t mail.letters) (forgotten mons t) status procs ended
 
-    -- whoever sent to it, then who waits for a letter of it, and then who waits for its death
+    -- who enters its monitors, then whoever sent to it, then who waits for a letter of it, and then who waits for its death
+    abbrev pub freed : Outcome
+    freed = release_all t aside
+
     abbrev pub asked : Outcome
-    asked = refuse_senders t aside
+    asked = refuse_senders t freed.after
 
     abbrev pub told : Outcome
     told = dismissed awaited.Letter t asked.after
@@ -463,18 +477,48 @@ module _ (t : ℕ) where
     abbrev to_bury : State → Outcome
     to_bury s = and_then (bury t s) (λ s. record { after = s; effects = [] })
 
-    death-begun : death t alive ≡ and_then (refuse_senders t (bared aside)) (λ s. and_then (dismissed awaited.Letter t s) (λ s. and_then (dismissed awaited.Death t s) to_bury))
-    unfolding in_order and_then for_each
-    death-begun = rw (marks-withdrawn roll.threads, frame, suspension-twice (with_block t block.Not roll.threads)) refl
+    abbrev from_freed : (State → Outcome) → Outcome
+    from_freed more = and_then (record { after = bared freed.after; effects = freed.effects }) more
 
-    refused-bared : refuse_senders t (bared aside) ≡ record { after = bared asked.after; effects = asked.effects }
-    refused-bared = each-refused-bared (senders_to (without_letter t letters) t) aside (other-senders letters)
+    abbrev from_asked : (State → Outcome) → Outcome
+    from_asked more = from_freed (λ s. and_then (record { after = bared asked.after; effects = asked.effects }) more)
+
+    death-begun : death t alive ≡ and_then (release_all t (bared aside)) (λ s. and_then (end_agents t s) (λ s. and_then (refuse_senders t s) (λ s. and_then (dismissed awaited.Letter t s) (λ s. and_then (dismissed awaited.Death t s) to_bury))))
+    unfolding in_order and_then for_each
+    death-begun = rw (marks-withdrawn roll.threads, frame, suspension-twice (with_block t block.Not roll.threads), rows-without t mons.requests) refl
+
+    pub unasked-aside : Unasked t aside
+    unasked-aside = unasked mons.requests
+      where
+        unasked : (rs : List EntryRequest) → AllByRecursion (λ (r : Request). r.tid ≢ t) (map machine_row (table.without_request t rs))
+        unasked [] = tt
+        unasked (r ∷ rs) = elim (cases_eq r.tid t) [
+          | inl e ↦ rw (eq-eqb r.tid t e) (unasked rs)
+          | inr away ↦ rw (ne_eqb r.tid t away) (away, unasked rs)
+        ]
+
+    -- what stays while its monitors go to others
+    freed-keeps : (P : State → Type 0) → ((s : State) (locks : List Lock) (rs : List Request) → P s → P (record s { locks = locks; requests = rs })) → ((u : ℕ) (s : State) → u ≢ t → P s → P (unblocked s u)) → P aside → P freed.after
+    freed-keeps P stays keeps h = releases-keep t P stays keeps (map (λ (lock : Lock). lock.mon) (filter (is_owned_by t) (reverse mons.locks))) aside unasked-aside h
+
+    agents-freed : freed.after.agents ≡ []
+    agents-freed = freed-keeps (λ s. s.agents ≡ []) (λ s locks rs h. h) (λ u s away h. h) refl
+
+    letters-freed : freed.after.letters ≡ without_letter t mail.letters
+    letters-freed = freed-keeps (λ s. s.letters ≡ without_letter t mail.letters) (λ s locks rs h. h) (λ u s away h. h) refl
+
+    -- it isn't one of those who sent to it
+    others-asked : Others (senders_to freed.after.letters t)
+    others-asked = rw letters-freed (other-senders mail.letters)
 
     free-aside : Free aside
     free-aside = free-suspended true (with_block t block.Not roll.threads) ∙ free-set roll.threads
 
+    free-freed : Free freed.after
+    free-freed = freed-keeps Free (λ s locks rs h. h) (λ u s away h. free-unblocked u s.threads h) free-aside
+
     free-asked : Free asked.after
-    free-asked = refused-keeps Free (λ u s h. free-unblocked u s.threads h) (senders_to (without_letter t letters) t) aside free-aside
+    free-asked = refused-keeps Free (λ u s h. free-unblocked u s.threads h) (senders_to freed.after.letters t) freed.after free-freed
 
     free-told : Free told.after
     free-told = each-keeps (last_answer awaited.Letter) Free (λ u s h. free-unblocked u s.threads h) (waiting awaited.Letter t asked.after.threads) asked.after free-asked
@@ -482,30 +526,115 @@ module _ (t : ℕ) where
     free-gone : Free gone.after
     free-gone = each-keeps (last_answer awaited.Death) Free (λ u s h. free-unblocked u s.threads h) (waiting awaited.Death t told.after.threads) told.after free-told
 
-    pub quiet-gone : sends gone.after.threads t ≡ false
-    quiet-gone = free-quiet gone.after.threads free-gone
-
     out-gone : Out gone.after
     out-gone = each-out (last_answer awaited.Death) (waiting awaited.Death t told.after.threads) told.after (others-wait awaited.Death t told.after.threads free-told)
         (each-out (last_answer awaited.Letter) (waiting awaited.Letter t asked.after.threads) asked.after (others-wait awaited.Letter t asked.after.threads free-asked)
-        (refused-out (senders_to (without_letter t letters) t) aside (other-senders letters) (without-twice roll.order)))
+        (refused-out (senders_to freed.after.letters t) freed.after others-asked
+        (freed-keeps Out (λ s locks rs h. h) (λ u s away h. out-unblocked u s away h) (without-twice roll.order))))
 
-    pub death-is : death t alive ≡ record { after = left gone.after t; effects = asked.effects ++ (told.effects ++ (gone.effects ++ effect.Died t ∷ [])) }
+    freed-bared : release_all t (bared aside) ≡ record { after = bared freed.after; effects = freed.effects }
+    freed-bared = releases-bared (map (λ (lock : Lock). lock.mon) (filter (is_owned_by t) (reverse mons.locks))) aside unasked-aside
+
+    asked-bared : refuse_senders t (bared freed.after) ≡ record { after = bared asked.after; effects = asked.effects }
+    asked-bared = each-refused-bared (senders_to freed.after.letters t) freed.after others-asked
+
+    pub death-is : death t alive ≡ record { after = left gone.after t; effects = freed.effects ++ (asked.effects ++ (told.effects ++ (gone.effects ++ effect.Died t ∷ []))) }
     unfolding and_then
     death-is = death-begun
-        ∙ ap (λ (o : Outcome). and_then o (λ s. and_then (dismissed awaited.Letter t s) (λ s. and_then (dismissed awaited.Death t s) to_bury))) refused-bared
-        ∙ ap (λ (o : Outcome). and_then (record { after = bared asked.after; effects = asked.effects }) (λ s. and_then o (λ s. and_then (dismissed awaited.Death t s) to_bury))) (dismissed-bared awaited.Letter asked.after free-asked)
-        ∙ ap (λ (o : Outcome). and_then (record { after = bared asked.after; effects = asked.effects }) (λ s. and_then (record { after = bared told.after; effects = told.effects }) (λ s. and_then o to_bury))) (dismissed-bared awaited.Death told.after free-told)
-        ∙ ap (λ rows. record { after = record gone.after { threads = rows }; effects = asked.effects ++ (told.effects ++ (gone.effects ++ effect.Died t ∷ [])) }) (left-bared gone.after.threads)
-        ∙ ap (λ ts. record { after = record gone.after { threads = filter (λ (row : ThreadRow). not (row.number == t)) gone.after.threads; order = ts }; effects = asked.effects ++ (told.effects ++ (gone.effects ++ effect.Died t ∷ [])) }) (sym out-gone)
+        ∙ ap (λ (o : Outcome). and_then o (λ s. and_then (end_agents t s) (λ s. and_then (refuse_senders t s) (λ s. and_then (dismissed awaited.Letter t s) (λ s. and_then (dismissed awaited.Death t s) to_bury))))) freed-bared
+        ∙ ap (λ (o : Outcome). from_freed (λ s. and_then o (λ s. and_then (refuse_senders t s) (λ s. and_then (dismissed awaited.Letter t s) (λ s. and_then (dismissed awaited.Death t s) to_bury))))) (no-agents (bared freed.after) agents-freed)
+        ∙ ap (λ (o : Outcome). from_freed (λ s. and_then o (λ s. and_then (dismissed awaited.Letter t s) (λ s. and_then (dismissed awaited.Death t s) to_bury)))) asked-bared
+        ∙ ap (λ (o : Outcome). from_asked (λ s. and_then o (λ s. and_then (dismissed awaited.Death t s) to_bury))) (dismissed-bared awaited.Letter asked.after free-asked)
+        ∙ ap (λ (o : Outcome). from_asked (λ s. and_then (record { after = bared told.after; effects = told.effects }) (λ s. and_then o to_bury))) (dismissed-bared awaited.Death told.after free-told)
+        ∙ ap (λ rows. record { after = record gone.after { threads = rows }; effects = freed.effects ++ (asked.effects ++ (told.effects ++ (gone.effects ++ effect.Died t ∷ []))) }) (left-bared gone.after.threads)
+        ∙ ap (λ ts. record { after = record gone.after { threads = filter (λ (row : ThreadRow). not (row.number == t)) gone.after.threads; order = ts }; effects = freed.effects ++ (asked.effects ++ (told.effects ++ (gone.effects ++ effect.Died t ∷ []))) }) (sym out-gone)
+
+    -- ---- there is room for what is told
+
+    length-aside : length aside.threads ≡ length roll.threads
+    length-aside = length-map (with_block t block.Not roll.threads) (suspension_set t true) ∙ length-map roll.threads (block_set t block.Not)
+
+    pub held-aside : IsHeld aside.threads roll.limit (forgotten mons t)
+    held-aside = IsHeld-changed (IsHeld-forgotten held t block.Not refl) (suspension_set t true) (λ row. refl) (λ row. refl) (λ row. refl)
+
+    pub posted-aside : IsPosted aside.threads (mailbag.forgotten mail t)
+    posted-aside = IsPosted-aside posted t
+
+    waiting-freed : (what : Awaited) → length (waiting what t freed.after.threads) ≤ length (waiting what t aside.threads)
+    waiting-freed what = freed-keeps (λ s. length (waiting what t s.threads) ≤ length (waiting what t aside.threads)) (λ s locks rs h. h) (λ u s away h. let less = no-more what t u s.threads in omega (arith, h, less)) (omega arith)
+
+    waiting-asked : (what : Awaited) → length (waiting what t asked.after.threads) ≤ length (waiting what t freed.after.threads)
+    waiting-asked what = refused-keeps (λ s. length (waiting what t s.threads) ≤ length (waiting what t freed.after.threads))
+        (λ u s h. let less = no-more what t u s.threads in omega (arith, h, less)) (senders_to freed.after.letters t) freed.after (omega arith)
+
+    few-deaths : length (waiting awaited.Death t told.after.threads) ≤ length (waiting awaited.Death t asked.after.threads)
+    few-deaths = each-keeps (last_answer awaited.Letter) (λ s. length (waiting awaited.Death t s.threads) ≤ length (waiting awaited.Death t asked.after.threads))
+        (λ u s h. let less = no-more awaited.Death t u s.threads in omega (arith, h, less)) (waiting awaited.Letter t asked.after.threads) asked.after (omega arith)
+
+    few-requests : length aside.requests ≤ count_by (λ (row : ThreadRow). is_to_enter row.block) aside.threads
+    few-requests = omega (arith, requests-fit held-aside, length-map (table.without_request t mons.requests) machine_row)
+
+    few-senders : length (senders_to freed.after.letters t) ≤ count_by (λ (row : ThreadRow). is_sending row.block) aside.threads
+    few-senders = rw letters-freed (fewer (without_letter t mail.letters) (letters-fit posted-aside))
+      where
+        fewer : (letters : List Letter) → length letters ≤ count_by (λ (row : ThreadRow). is_sending row.block) aside.threads → length (senders_to letters t) ≤ count_by (λ (row : ThreadRow). is_sending row.block) aside.threads
+        fewer letters fit = omega (arith, fit, length-map (filter (is_to t) letters) (λ (letter : Letter). letter.from), length-filter (is_to t) letters, count_by-le-length (is_to t) letters)
+
+    all-few : length aside.requests + (length (senders_to freed.after.letters t) + (length (waiting awaited.Letter t asked.after.threads) + length (waiting awaited.Death t told.after.threads))) ≤ length roll.threads
+    all-few = omega (
+      arith,
+      few-requests,
+      few-senders,
+      at-most-all t aside.threads,
+      length-aside,
+      waiting-freed awaited.Letter,
+      waiting-freed awaited.Death,
+      waiting-asked awaited.Letter,
+      waiting-asked awaited.Death,
+      few-deaths,
+    )
+
+    count-freed : length freed.effects ≤ length aside.requests
+    count-freed = omega (arith, releases-fewer (map (λ (lock : Lock). lock.mon) (filter (is_owned_by t) (reverse mons.locks))) aside)
+
+    count-asked : length asked.effects ≡ length (senders_to freed.after.letters t)
+    count-asked = each-refused (senders_to freed.after.letters t) freed.after
+
+    count-told : length told.effects ≡ length (waiting awaited.Letter t asked.after.threads)
+    count-told = each-answered (last_answer awaited.Letter) (waiting awaited.Letter t asked.after.threads) asked.after
+
+    count-gone : length gone.effects ≡ length (waiting awaited.Death t told.after.threads)
+    count-gone = each-answered (last_answer awaited.Death) (waiting awaited.Death t told.after.threads) told.after
+
+    pub room-freed : (n : ℕ) → n + length roll.threads < 2048 → n + length aside.requests < 2048
+    room-freed n h = omega (arith, h, all-few)
+
+    pub room-asked : (n : ℕ) → n + length roll.threads < 2048 → (n + length freed.effects) + length (senders_to freed.after.letters t) < 2048
+    room-asked n h = omega (arith, h, all-few, count-freed)
+
+    pub room-told : (n : ℕ) → n + length roll.threads < 2048 → ((n + length freed.effects) + length asked.effects) + length (waiting awaited.Letter t asked.after.threads) < 2048
+    room-told n h = omega (arith, h, all-few, count-freed, count-asked)
+
+    pub room-gone : (n : ℕ) → n + length roll.threads < 2048 → (((n + length freed.effects) + length asked.effects) + length told.effects) + length (waiting awaited.Death t told.after.threads) < 2048
+    room-gone n h = omega (arith, h, all-few, count-freed, count-asked, count-told)
+
+    pub room-died : (n : ℕ) → n + length roll.threads < 2048 → (((n + length freed.effects) + length asked.effects) + length told.effects) + length gone.effects < 2048
+    room-died n h = omega (arith, h, all-few, count-freed, count-asked, count-told, count-gone)
+
+    pub most-told : ((length freed.effects + length asked.effects) + length told.effects) + length gone.effects ≤ length roll.threads
+    most-told = omega (arith, all-few, count-freed, count-asked, count-told, count-gone)
 
     -- it lives until the end
     pub lives-on : is_some (find (is_number t) roll.threads) ≡ true → is_some (find (is_number t) gone.after.threads) ≡ true
-    lives-on h = each-keeps (last_answer awaited.Death) (λ s. is_some (find (is_number t) s.threads) ≡ true) (λ u s h. same-thread t u block.Not s.threads ∙ h) (waiting awaited.Death t told.after.threads) told.after
-        (each-keeps (last_answer awaited.Letter) (λ s. is_some (find (is_number t) s.threads) ≡ true) (λ u s h. same-thread t u block.Not s.threads ∙ h) (waiting awaited.Letter t asked.after.threads) asked.after
-        (refused-keeps (λ s. is_some (find (is_number t) s.threads) ≡ true) (λ u s h. same-thread t u block.Not s.threads ∙ h) (senders_to (without_letter t letters) t) aside
-        (same-suspended (with_block t block.Not roll.threads) ∙ same-thread t t block.Not roll.threads ∙ h)))
+    lives-on h = each-keeps (last_answer awaited.Death) Lives (λ u s h. same-thread t u block.Not s.threads ∙ h) (waiting awaited.Death t told.after.threads) told.after
+        (each-keeps (last_answer awaited.Letter) Lives (λ u s h. same-thread t u block.Not s.threads ∙ h) (waiting awaited.Letter t asked.after.threads) asked.after
+        (refused-keeps Lives (λ u s h. same-thread t u block.Not s.threads ∙ h) (senders_to freed.after.letters t) freed.after
+        (freed-keeps Lives (λ s locks rs h. h) (λ u s away h. same-thread t u block.Not s.threads ∙ h)
+        (same-suspended (with_block t block.Not roll.threads) ∙ same-thread t t block.Not roll.threads ∙ h))))
       where
+        Lives : State → Type 0
+        Lives s = is_some (find (is_number t) s.threads) ≡ true
+
         same-suspended : (rows : List ThreadRow) → is_some (find (is_number t) (with_suspension t true rows)) ≡ is_some (find (is_number t) rows)
         same-suspended [] = refl
         same-suspended (row ∷ rows) = by_head (row.number == t) (same-suspended rows)
@@ -515,57 +644,17 @@ module _ (t : ℕ) where
             by_head true rest = refl
             by_head false rest = rest
 
-    -- ---- there is room for what is told
+    -- to the end it waits neither to enter nor for a reply
+    pub outside-gone : enters gone.after.threads t ≡ false
+    outside-gone = free-quiet is_to_enter to-enter-blocks gone.after.threads free-gone
 
-    length-aside : length aside.threads ≡ length roll.threads
-    length-aside = length-map (with_block t block.Not roll.threads) (suspension_set t true) ∙ length-map roll.threads (block_set t block.Not)
-
-    waiting-asked : (what : Awaited) → length (waiting what t asked.after.threads) ≤ length (waiting what t aside.threads)
-    waiting-asked what = refused-keeps (λ s. length (waiting what t s.threads) ≤ length (waiting what t aside.threads))
-        (λ u s h. let less = no-more what t u s.threads in omega (arith, h, less)) (senders_to (without_letter t letters) t) aside (omega arith)
-
-    few-deaths : length (waiting awaited.Death t told.after.threads) ≤ length (waiting awaited.Death t asked.after.threads)
-    few-deaths = each-keeps (last_answer awaited.Letter) (λ s. length (waiting awaited.Death t s.threads) ≤ length (waiting awaited.Death t asked.after.threads))
-        (λ u s h. let less = no-more awaited.Death t u s.threads in omega (arith, h, less)) (waiting awaited.Letter t asked.after.threads) asked.after (omega arith)
-
-    module _ (mail : Mailbag) (posted : IsPosted aside.threads mail) (same : mail.letters ≡ without_letter t letters) where
-      few-senders : length (senders_to (without_letter t letters) t) ≤ count_by (λ (row : ThreadRow). is_sending row.block) aside.threads
-      few-senders =
-          let fewer : length (senders_to mail.letters t) ≤ length mail.letters = omega (arith, length-map (filter (is_to t) mail.letters) (λ (letter : Letter). letter.from), length-filter (is_to t) mail.letters, count_by-le-length (is_to t) mail.letters) in
-          let as_many : length (senders_to mail.letters t) ≡ length (senders_to (without_letter t letters) t) = ap (λ ls. length (senders_to ls t)) same in
-          omega (arith, fewer, as_many, letters-fit posted)
-
-      all-few : length (senders_to (without_letter t letters) t) + (length (waiting awaited.Letter t asked.after.threads) + length (waiting awaited.Death t told.after.threads)) ≤ length roll.threads
-      all-few = omega (arith, few-senders, at-most-all t aside.threads, length-aside, waiting-asked awaited.Letter, waiting-asked awaited.Death, few-deaths)
-
-      count-asked : length asked.effects ≡ length (senders_to (without_letter t letters) t)
-      count-asked = each-refused (senders_to (without_letter t letters) t) aside
-
-      count-told : length told.effects ≡ length (waiting awaited.Letter t asked.after.threads)
-      count-told = each-answered (last_answer awaited.Letter) (waiting awaited.Letter t asked.after.threads) asked.after
-
-      count-gone : length gone.effects ≡ length (waiting awaited.Death t told.after.threads)
-      count-gone = each-answered (last_answer awaited.Death) (waiting awaited.Death t told.after.threads) told.after
-
-      pub room-asked : (n : ℕ) → n + length roll.threads < 2048 → n + length (senders_to (without_letter t letters) t) < 2048
-      room-asked n h = omega (arith, h, all-few)
-
-      pub room-told : (n : ℕ) → n + length roll.threads < 2048 → (n + length asked.effects) + length (waiting awaited.Letter t asked.after.threads) < 2048
-      room-told n h = omega (arith, h, all-few, count-asked)
-
-      pub room-gone : (n : ℕ) → n + length roll.threads < 2048 → ((n + length asked.effects) + length told.effects) + length (waiting awaited.Death t told.after.threads) < 2048
-      room-gone n h = omega (arith, h, all-few, count-asked, count-told)
-
-      pub room-died : (n : ℕ) → n + length roll.threads < 2048 → ((n + length asked.effects) + length told.effects) + length gone.effects < 2048
-      room-died n h = omega (arith, h, all-few, count-asked, count-told, count-gone)
-
-      pub most-told : (length asked.effects + length told.effects) + length gone.effects ≤ length roll.threads
-      most-told = omega (arith, all-few, count-asked, count-told, count-gone)
+    pub quiet-gone : sends gone.after.threads t ≡ false
+    quiet-gone = free-quiet is_sending sending-blocked gone.after.threads free-gone
 
     -- a return from the only frame is the death
     pub return-is : return_from alive t ≡ unanswered (death t alive)
     return-is = rw frame refl
 
 -- what was there before, and then all of it in order
-pub five : (a b c d e : List Effect) → (((a ++ b) ++ c) ++ d) ++ e ≡ a ++ (b ++ (c ++ (d ++ e)))
-five a b c d e = append_assoc ((a ++ b) ++ c) d e ∙ append_assoc (a ++ b) c (d ++ e) ∙ append_assoc a b (c ++ (d ++ e))
+pub six : (a b c d e f : List Effect) → ((((a ++ b) ++ c) ++ d) ++ e) ++ f ≡ a ++ (b ++ (c ++ (d ++ (e ++ f))))
+six a b c d e f = append_assoc (((a ++ b) ++ c) ++ d) e f ∙ append_assoc ((a ++ b) ++ c) d (e ++ f) ∙ append_assoc (a ++ b) c (d ++ (e ++ f)) ∙ append_assoc a b (c ++ (d ++ (e ++ f)))

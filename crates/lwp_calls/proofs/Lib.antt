@@ -10,3 +10,8 @@ pub mod Creates
 pub mod Posts
 pub mod Refusals
 pub mod Mails
+pub mod Blocked
+pub mod Best
+pub mod Holds
+pub mod Releases
+pub mod Waiters

@@ -102,7 +102,7 @@ sends-left t rows was x = elim (cases_eq x t) [
         by_head false rest = rest
 
 -- who waits for nothing waits for no reply, and who waits for a reply is blocked
-sending-blocked : (b : Block) → is_not_blocked b ≡ true → is_sending b ≡ false
+pub sending-blocked : (b : Block) → is_not_blocked b ≡ true → is_sending b ≡ false
 sending-blocked block.Not h = refl
 sending-blocked (block.Joining u) h = refl
 sending-blocked block.Sending h = absurd (cc)

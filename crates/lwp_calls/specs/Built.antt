@@ -25,9 +25,29 @@ is_built (call.Recv from mode) = true
 is_built (call.Reply to text) = true
 is_built call.Senders = true
 is_built call.Receivers = true
+is_built call.MonCreate = true
+is_built (call.MonDestroy m) = true
+is_built (call.Enter m) = true
+is_built (call.CondEnter m) = true
+is_built (call.MonExit m) = true
+is_built (call.MonBreak m) = true
+is_built call.Monitors = true
+is_built (call.MonWaiters m) = true
 is_built call.Return = true
 is_built (call.Say text) = true
 is_built _ = false
+
+-- the call is one on monitors
+abbrev pub is_for_monitors : Call → Bool
+is_for_monitors call.MonCreate = true
+is_for_monitors (call.MonDestroy m) = true
+is_for_monitors (call.Enter m) = true
+is_for_monitors (call.CondEnter m) = true
+is_for_monitors (call.MonExit m) = true
+is_for_monitors (call.MonBreak m) = true
+is_for_monitors call.Monitors = true
+is_for_monitors (call.MonWaiters m) = true
+is_for_monitors _ = false
 
 -- the call is one that may ask for memory
 abbrev pub asks_memory : Call → Bool
@@ -35,4 +55,7 @@ asks_memory (call.Create number prio flags) = true
 asks_memory call.Threads = true
 asks_memory call.Senders = true
 asks_memory call.Receivers = true
+asks_memory call.MonCreate = true
+asks_memory call.Monitors = true
+asks_memory (call.MonWaiters m) = true
 asks_memory _ = false

@@ -4,9 +4,10 @@ use Rattle.lwp_types.specs.Counts.{is_sending}
 use Rattle.lwp_types.specs.Letters.{letters_of}
 use Rattle.lwp_types.specs.State.{State, ThreadRow, is_number, passes}
 use Rattle.lwp_types.specs.declared.rows.Letter.{Letter}
+use Rattle.monitors.specs.MonitorTable.{MonitorTable, machine_row}
 use Rattle.rendezvous.specs.Mailbag.{Mailbag}
 use Rattle.std.specs.List.{find}
-use Rattle.std.specs.Prelude.{Bool, List, [], length, ℕ, ◌≡◌, ◌≤◌}
+use Rattle.std.specs.Prelude.{Bool, List, [], length, map, ℕ, ◌≡◌, ◌≤◌}
 
 -- thread x waits for a reply
 abbrev pub sends : List ThreadRow → ℕ → Bool
@@ -17,15 +18,15 @@ pub record IsPosted (rows : List ThreadRow) (mail : Mailbag) : Type 0 where
   pub sent : (x : ℕ) → letters_of mail.letters x ≡ one (sends rows x)
   pub places : length rows ≤ mail.places
 
--- the state of these threads, letters and numbers; what no call reaches yet is as it was at the start
-abbrev pub whole : State → List Letter → ℕ → ℕ → Bool → State
-whole roll letters status procs ended = record {
+-- the state of these threads, letters, monitors and numbers; what no call reaches yet is as it was at the start
+abbrev pub whole : State → List Letter → MonitorTable → ℕ → ℕ → Bool → State
+whole roll letters mons status procs ended = record {
   threads = roll.threads;
   order = roll.order;
   letters = letters;
-  monitors = [];
-  locks = [];
-  requests = [];
+  monitors = mons.monitors;
+  locks = mons.locks;
+  requests = map machine_row mons.requests;
   conditions = [];
   waits = [];
   agents = [];
@@ -33,7 +34,7 @@ whole roll letters status procs ended = record {
   status = status;
   ended = ended;
   births = roll.births;
-  monitor_births = 0;
+  monitor_births = mons.births;
   condition_births = 0;
   limit = roll.limit;
   procs = procs;

@@ -27,7 +27,9 @@ impl Parts {
         if !self.roll.has_room() {
             return Ok(Answer::Refused(LwpErr::NoRoom));
         }
-        self.mail.reserve(self.roll.len() + 1)?;
+        let count = self.roll.len() + 1;
+        self.mail.reserve(count)?;
+        self.mons.reserve(count)?;
         let tid = self.roll.create(prio, flags)?;
         Ok(Answer::Thread(tid))
     }

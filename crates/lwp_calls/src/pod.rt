@@ -3,13 +3,14 @@ ghost use Rattle.std.specs.Prelude.{◌≡◌, ◌≤◌, ◌<◌, ◌+◌, ◌^
 ghost use Rattle.lwp_types.specs.Choice.{is_eligible_in};
 ghost use Rattle.lwp_types.specs.State.{is_id, opening};
 ghost use Rattle.lwp_types.specs.Step.{case_of, step, end_effects, ends, own_effects};
-ghost use Rattle.lwp_calls.specs.Built.{is_built, asks_memory};
+ghost use Rattle.lwp_calls.specs.Built.{asks_memory, is_built, is_for_monitors};
 ghost use Rattle.lwp_calls.specs.Comes.{ComesTo};
 ghost use Rattle.lwp_calls.specs.Pod.{current_of, ending_of};
 
 use crate::parts::Parts;
 use crate::roll::Roll;
 use lwp_types::{Answer, Call, Effect, Effects, NoMemory, PodParams, Tid};
+use monitors::Monitors;
 use rendezvous::Mail;
 use std::alloc::Global;
 use std::marker::Model;
@@ -49,9 +50,12 @@ impl Pod {
         let roll = Roll::new(alloc, params.maxpri, params.births)?;
         let mut mail = Mail::new(alloc);
         mail.reserve(1)?;
+        let mut mons = Monitors::new(alloc, params.births);
+        mons.reserve(1)?;
         let parts = Parts {
             roll,
             mail,
+            mons,
             status: 0,
             procs: params.procs,
             ended: false,
@@ -153,6 +157,35 @@ impl Pod {
             Call::Receivers => Some(self.parts.receivers(self.alloc, tid)?),
             Call::Return => self.parts.retire(tid, effects),
             Call::Say { .. } => Some(Answer::Value(0)),
+            _ => self.on_monitors(tid, call, effects)?,
+        };
+        Ok(own)
+    }
+
+    // The same, of a call on monitors.
+    fn on_monitors(
+        &mut self,
+        tid: Tid,
+        call: &Call,
+        effects: &mut Effects,
+    ) -> Result<Option<Answer>, NoMemory>
+        requires may_run { IsTrue (is_eligible_in self.old tid) }
+        requires monitors { IsTrue (is_for_monitors call.now) }
+        requires room { length effects.old ≤ 1 }
+        ensures ok { IfOk result (λ own. ComesTo (case_of self.old tid call.now) self.new effects.old effects.new own) }
+        ensures most { length effects.new ≤ 1026 }
+        ensures err { OnErr result (self.new ≡ self.old) }
+        ensures memory { IsErr result → IsTrue (asks_memory call.now) }
+    {
+        let own = match *call {
+            Call::MonCreate => Some(self.parts.monitor_create()?),
+            Call::MonDestroy { mon } => Some(self.parts.monitor_destroy(mon)),
+            Call::Enter { mon } => self.parts.enter(tid, mon),
+            Call::CondEnter { mon } => Some(self.parts.cond_enter(tid, mon)),
+            Call::MonExit { mon } => Some(self.parts.monitor_exit(tid, mon, effects)),
+            Call::MonBreak { mon } => Some(self.parts.monitor_break(mon, effects)),
+            Call::Monitors => Some(self.parts.monitors()?),
+            Call::MonWaiters { mon } => Some(self.parts.monitor_waiters(mon)?),
             _ => unreachable!(),
         };
         Ok(own)

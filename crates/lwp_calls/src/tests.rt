@@ -2,17 +2,18 @@ ghost use Rattle.std.specs.Prelude.{IsTrue};
 ghost use Rattle.lwp_calls.specs.Built.{is_built};
 
 use crate::{Pod, PodEnd};
-use lwp_types::{Answer, Call, Effect, Effects, Flags, LwpErr, Mode, PodParams, Text, Tid};
+use lwp_types::{Answer, Call, Effect, Effects, Flags, LwpErr, Mid, Mode, PodParams, Text, Tid};
 use std::test::Fail;
 
 // An effect as its letter, whose it is, and a number: `c` a call, `=` a value, `t` a thread, `l` a list by its length, `m` a message
-// by its sender, `r` a reply by its length, a capital a refusal, `d` a death, `e` the end.
+// by its sender, `r` a reply by its length, `o` a monitor, a capital a refusal, `d` a death, `e` the end.
 fn deed_of(effect: &Effect) -> (u8, u64, u64) {
     match effect {
         Effect::Called { tid, .. } => (b'c', tid.number, 0),
         Effect::Answered { tid, answer } => match answer {
             Answer::Value(value) => (b'=', tid.number, u64::try_from(*value).unwrap_or(1_000)),
             Answer::Thread(born) => (b't', tid.number, born.number as u64),
+            Answer::Monitor(mon) => (b'o', tid.number, mon.number),
             Answer::Letter { from, .. } => (b'm', tid.number, from.number),
             Answer::Reply(text) => (b'r', tid.number, text.bytes().len() as u64),
             Answer::Ids { list, .. } => (b'l', tid.number, list.len() as u64),
@@ -33,6 +34,8 @@ fn letter_of(err: LwpErr) -> u8 {
         LwpErr::NoRoom => b'N',
         LwpErr::Timeout => b'T',
         LwpErr::NoWait => b'W',
+        LwpErr::InUse => b'U',
+        LwpErr::NotOwned => b'O',
         _ => b'?',
     }
 }
@@ -272,5 +275,112 @@ fn a_death_tells_the_senders_to_it(rt: HostRuntime) -> Result<(), Fail> {
     assert!(rt; does(p, e, Call::Destroy { tid: T2 }, &gone));
     assert!(rt; does(p, e, Call::Senders, &[(b'l', 0, 0)]));
     assert!(rt; does(p, e, poll(None), &[(b'T', 0, 0)]));
+    Ok(())
+}
+
+const M0: Mid = Mid { number: 0 };
+
+const M1: Mid = Mid { number: 1 };
+
+#[test]
+fn a_monitor_has_one_owner_at_a_time(rt: HostRuntime) -> Result<(), Fail> {
+    let mut pod = Pod::new(rt.alloc(), PARAMS).map_err(|_| "no memory")?;
+    let mut effects = Effects::new(rt.alloc()).map_err(|_| "no memory")?;
+    let (p, e) = (&mut pod, &mut effects);
+    assert!(rt; does(p, e, Call::MonCreate, &[(b'o', 0, 0)]));
+    assert!(rt; does(p, e, create(2, NO_FLAGS), &[(b't', 0, 1)]));
+    assert!(rt; does(p, e, Call::Enter { mon: M1 }, &[(b'X', 0, 0)]));
+    assert!(rt; does(p, e, Call::Enter { mon: M0 }, &[(b'=', 0, 0)]));
+    assert!(rt; does(p, e, Call::CondEnter { mon: M0 }, &[(b'=', 0, 1)]));
+    assert!(rt; does(p, e, Call::Yield { to: T0 }, &[(b'=', 0, 0)]));
+    assert!(rt; does(p, e, Call::CondEnter { mon: M0 }, &[(b'U', 1, 0)]));
+    assert!(rt; does(p, e, Call::MonExit { mon: M0 }, &[(b'I', 1, 0)]));
+    assert!(rt; does(p, e, Call::MonDestroy { mon: M0 }, &[(b'U', 1, 0)]));
+    assert!(rt; does(p, e, Call::Enter { mon: M0 }, &[]));
+    // It leaves twice, and then the other has it.
+    assert!(rt; does(p, e, Call::MonWaiters { mon: M0 }, &[(b'l', 0, 1)]));
+    assert!(rt; does(p, e, Call::MonExit { mon: M0 }, &[(b'=', 0, 0)]));
+    assert!(rt;
+        does(
+            p,
+            e,
+            Call::MonExit { mon: M0 },
+            &[(b'=', 1, 0), (b'=', 0, 0)]
+        )
+    );
+    assert!(rt; does(p, e, Call::MonDestroy { mon: M0 }, &[(b'U', 0, 0)]));
+    assert!(rt; does(p, e, Call::MonBreak { mon: M0 }, &[(b'=', 0, 0)]));
+    assert!(rt; does(p, e, Call::MonBreak { mon: M0 }, &[(b'O', 0, 0)]));
+    assert!(rt; does(p, e, Call::MonDestroy { mon: M0 }, &[(b'=', 0, 0)]));
+    assert!(rt; does(p, e, Call::MonWaiters { mon: M0 }, &[(b'X', 0, 0)]));
+    // The number isn't given again.
+    assert!(rt; does(p, e, Call::MonCreate, &[(b'o', 0, 1)]));
+    assert!(rt; does(p, e, Call::Monitors, &[(b'l', 0, 1)]));
+    Ok(())
+}
+
+#[test]
+fn a_death_releases_the_last_lock_first(rt: HostRuntime) -> Result<(), Fail> {
+    let params = PodParams {
+        maxpri: 2,
+        births: 4,
+        procs: 2,
+    };
+    let mut pod = Pod::new(rt.alloc(), params).map_err(|_| "no memory")?;
+    let mut effects = Effects::new(rt.alloc()).map_err(|_| "no memory")?;
+    let (p, e) = (&mut pod, &mut effects);
+    assert!(rt; does(p, e, Call::MonCreate, &[(b'o', 0, 0)]));
+    assert!(rt; does(p, e, Call::MonCreate, &[(b'o', 0, 1)]));
+    for number in [1, 2, 3] {
+        assert!(rt; does(p, e, create(2, NO_FLAGS), &[(b't', 0, number)]));
+    }
+    assert!(rt; does(p, e, Call::Yield { to: T0 }, &[(b'=', 0, 0)]));
+    assert!(rt; does(p, e, Call::Enter { mon: M0 }, &[(b'=', 1, 0)]));
+    assert!(rt; does(p, e, Call::Enter { mon: M1 }, &[(b'=', 1, 0)]));
+    assert!(rt; does(p, e, Call::Yield { to: T1 }, &[(b'=', 1, 0)]));
+    assert!(rt; does(p, e, Call::Enter { mon: M0 }, &[]));
+    assert!(rt; does(p, e, Call::Enter { mon: M1 }, &[]));
+    let told = [(b'=', 3, 0), (b'=', 2, 0), (b'd', 1, 0), (b'=', 0, 0)];
+    assert!(rt; does(p, e, Call::Destroy { tid: T1 }, &told));
+    // 3 has the second, and 2 has the first, for which 0 waits.
+    assert!(rt; does(p, e, Call::Enter { mon: M0 }, &[]));
+    assert!(rt; does(p, e, Call::MonExit { mon: M1 }, &[(b'=', 3, 0)]));
+    // The request of a thread that dies goes with it.
+    let gone = [(b'd', 0, 0), (b'=', 3, 0)];
+    assert!(rt; does(p, e, Call::Destroy { tid: T0 }, &gone));
+    assert!(rt; does(p, e, Call::MonBreak { mon: M0 }, &[(b'=', 3, 0)]));
+    Ok(())
+}
+
+#[test]
+fn the_greatest_priority_enters_next(rt: HostRuntime) -> Result<(), Fail> {
+    let mut pod = Pod::new(rt.alloc(), PARAMS).map_err(|_| "no memory")?;
+    let mut effects = Effects::new(rt.alloc()).map_err(|_| "no memory")?;
+    let (p, e) = (&mut pod, &mut effects);
+    assert!(rt; does(p, e, Call::MonCreate, &[(b'o', 0, 0)]));
+    assert!(rt; does(p, e, create(1, NO_FLAGS), &[(b't', 0, 1)]));
+    assert!(rt; does(p, e, create(1, NO_FLAGS), &[(b't', 0, 2)]));
+    assert!(rt; does(p, e, Call::Enter { mon: M0 }, &[(b'=', 0, 0)]));
+    assert!(rt; does(p, e, Call::SetPri { tid: T0, prio: 1 }, &[(b'=', 0, 2)]));
+    assert!(rt; does(p, e, Call::Enter { mon: M0 }, &[]));
+    assert!(rt; does(p, e, Call::Enter { mon: M0 }, &[]));
+    // 1 came first, but 2 has the greater priority by now.
+    assert!(rt; does(p, e, Call::SetPri { tid: T2, prio: 2 }, &[(b'=', 0, 1)]));
+    assert!(rt;
+        does(
+            p,
+            e,
+            Call::MonExit { mon: M0 },
+            &[(b'=', 2, 0), (b'=', 0, 0)]
+        )
+    );
+    assert!(rt;
+        does(
+            p,
+            e,
+            Call::MonBreak { mon: M0 },
+            &[(b'=', 1, 0), (b'=', 2, 0)]
+        )
+    );
     Ok(())
 }

@@ -48,7 +48,9 @@ impl Parts {
         if prio == 0 || prio > self.roll.maxpri() {
             return Answer::Refused(LwpErr::IllPrio);
         }
-        Answer::Value(i64::from(self.roll.set_prio(tid, prio)))
+        let before = self.roll.set_prio(tid, prio);
+        self.mons.requeue(tid, prio);
+        Answer::Value(i64::from(before))
     }
 
     pub fn suspend(&mut self, tid: Tid) -> Answer

@@ -1,8 +1,8 @@
 // The monitors.
-ghost use Rattle.std.specs.Prelude.{◌≡◌, ◌<◌, ◌≤◌, false, length, map, option_map, IsTrue, IsOk, IfOk, OnOk, OnErr};
+ghost use Rattle.std.specs.Prelude.{◌≡◌, ◌<◌, ◌≤◌, false, length, map, option_map, IsTrue, IsOk, IfOk, OnOk, OnErr, ℕ};
 ghost use Rattle.lwp_types.specs.First.{FindsBest};
 ghost use Rattle.lwp_types.specs.Locks.{depth_in, is_owned_by_other, is_owner};
-ghost use Rattle.lwp_types.specs.Release.{last_lock, lock_of};
+ghost use Rattle.lwp_types.specs.Release.{last_lock, lock_of, locks_on};
 ghost use Rattle.monitors.specs.MonitorTable.{created, destroyed, empty_table, entered, exited, forgotten, freed, granted, has_request, is_free, is_live, is_unwanted, last_release, last_released, may_enter, newborn, next_owner, next_request, owner_after, owner_of, released, requested, requests_of, requeued, reserved};
 
 use crate::EntryRequest;
@@ -216,7 +216,8 @@ impl Monitors {
 
     /// Of the monitors that the thread holds, the one that it acquired last.
     pub fn last_held(&self, tid: Tid) -> Option<Mid>
-        ensures { result ≡ option_map (λ lock. lock.mon) (last_lock self.now.locks tid) }
+        ensures value { result ≡ option_map (λ lock. lock.mon) (last_lock self.now.locks tid) }
+        ensures held_once { (m : ℕ) → locks_on self.now.locks m ≤ 1 }
     {
         last_lock(&self.locks, tid).map(|lock| lock.mon)
     }

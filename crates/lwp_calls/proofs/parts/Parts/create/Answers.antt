@@ -5,6 +5,7 @@ use Rattle.lwp_calls.proofs.parts.Parts.create.Goals.{then-prio-eq0-via-then-pri
 use Rattle.lwp_calls.proofs.Creates.{no-room, room-left}
 use Rattle.lwp_types.specs.Threads.{born}
 use Rattle.lwp_calls.proofs.Posts.{IsPosted-push}
+use Rattle.lwp_calls.proofs.Holds.{IsHeld-push, IsHeld-reserved}
 use Rattle.lwp_calls.proofs.parts.Parts.create.Goals as goal
 
 pub returns-then-number-self-clause-ok : goal.returns-then-number-self-clause-ok
@@ -28,7 +29,16 @@ pub returns-clause-ok : goal.returns-clause-ok
 unfolding unless
 returns-clause-ok c =
     let free = room-left (length c.self.inside.roll.threads) c.self.inside.roll.births c.self.inside.roll.limit (sym c.if-not-has_room.ensures) in
-    rw (← c.self.view_is, le-false c.self.inside.procs c.args.number (omega (arith, c.if-number-self.false)), a_priority c.args.prio c.self.inside.roll.maxpri (omega arith) (omega (arith, c.maxpri.ensures, c.if-prio-maxpri.false)), free.0, free.1, c.in_ok-tid.ensures.ok, c.in_ok-tid.ensures.number, c.in_ok-reserve.ensures.ok) refl
+    rw (← c.self.view_is, le-false c.self.inside.procs c.args.number (omega (arith, c.if-number-self.false)), a_priority c.args.prio c.self.inside.roll.maxpri (omega arith) (omega (arith, c.maxpri.ensures, c.if-prio-maxpri.false)), free.0, free.1, c.in_ok-tid.ensures.ok, c.in_ok-tid.ensures.number, c.in_ok-reserve-2.ensures.ok, c.in_ok-reserve.ensures.ok) refl
+
+pub invariant_of-self-in_err-tid : goal.invariant_of-self-in_err-tid
+invariant_of-self-in_err-tid c = rw (c.in_err-tid.ensures.err, c.in_ok-reserve-2.ensures.ok, c.in_ok-reserve.ensures.ok) (
+  record { sent = c.self.invariant.0.sent; places = omega (arith, c.self.invariant.0.places) },
+  IsHeld-reserved c.self.invariant.1 (c.len-count.result + 1),
+)
 
 pub invariant_of-self-2 : goal.invariant_of-self-2
-invariant_of-self-2 c = rw (c.in_ok-tid.ensures.ok, c.in_ok-reserve.ensures.ok) (IsPosted-push c.self.invariant (born c.self.inside.roll.births c.args.prio c.args.flags) refl (c.len.result + 1) (omega (arith, c.len.ensures.value)))
+invariant_of-self-2 c = rw (c.in_ok-tid.ensures.ok, c.in_ok-reserve-2.ensures.ok, c.in_ok-reserve.ensures.ok) (
+  IsPosted-push c.self.invariant.0 (born c.self.inside.roll.births c.args.prio c.args.flags) refl (c.len-count.result + 1) (omega (arith, c.len-count.ensures.value)),
+  IsHeld-push c.self.invariant.1 (born c.self.inside.roll.births c.args.prio c.args.flags) refl (c.len-count.result + 1) (omega (arith, c.len-count.ensures.value)),
+)

@@ -18,3 +18,6 @@ returns-then-prio-prio_of c = rw (← c.self.view_is, a_priority c.args.prio c.s
 pub returns : goal.returns
 unfolding unless
 returns c = rw (← c.self.view_is, a_priority c.args.prio c.self.inside.roll.maxpri (omega arith) (omega (arith, c.maxpri.ensures, c.if-prio-maxpri.false)), sym c.prio_of.ensures, lt-false c.prio_of.result c.args.prio c.if-prio-prio_of.false, c.resched.ensures) refl
+
+pub invariant_of-self : goal.invariant_of-self
+invariant_of-self c = rw c.resched.ensures c.self.invariant

@@ -14,3 +14,6 @@ returns-then-prio-maxpri c = elim c.then-prio-maxpri.branch [
 pub returns : goal.returns
 unfolding unless
 returns c = rw (← c.self.view_is, lt-false c.args.prio c.self.inside.roll.maxpri (omega (arith, c.if-prio-maxpri.false, c.maxpri.ensures)), lt-false 255 c.args.prio (omega (arith, c.if-prio-gt-MOST_PRIORITY.false)), c.set_maxpri.ensures) refl
+
+pub invariant_of-self : goal.invariant_of-self
+invariant_of-self c = rw c.set_maxpri.ensures c.self.invariant

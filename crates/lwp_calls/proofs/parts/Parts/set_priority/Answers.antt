@@ -6,6 +6,7 @@ use Rattle.std.proofs.Common.{rules, to_z, of_z, w64, pos}
 use Rattle.lwp_types.specs.State.{priority_in}
 use Rattle.lwp_calls.proofs.Posts.{IsPosted-changed}
 use Rattle.lwp_types.specs.State.{priority_set}
+use Rattle.lwp_calls.proofs.Holds.{IsHeld-prioritized, rows-requeued}
 use Rattle.lwp_calls.proofs.parts.Parts.set_priority.Goals as goal
 
 pub returns-then-not-is_thread : goal.returns-then-not-is_thread
@@ -22,7 +23,10 @@ returns-then-prio-eq0 c = elim c.then-prio-eq0.branch [
 pub returns : goal.returns
 unfolding unless
 returns c = let same : to_z w64 (of_z w64 c.from.result) ≡ pos (priority_in c.self.inside.roll c.args.tid) = search rules in
-    rw (← c.self.view_is, sym c.if-not-is_thread.ensures, a_priority c.args.prio c.self.inside.roll.maxpri (omega arith) (omega (arith, c.maxpri.ensures, c.if-prio-maxpri.false)), c.set_prio.ensures.after, same) refl
+    rw (← c.self.view_is, sym c.if-not-is_thread.ensures, a_priority c.args.prio c.self.inside.roll.maxpri (omega arith) (omega (arith, c.maxpri.ensures, c.if-prio-maxpri.false)), c.set_prio-before.ensures.after, c.requeue.ensures, rows-requeued, same) refl
 
 pub invariant_of-self : goal.invariant_of-self
-invariant_of-self c = rw c.set_prio.ensures.after (IsPosted-changed c.self.invariant (priority_set c.args.tid c.args.prio) (λ row. refl) (λ row. refl))
+invariant_of-self c = rw (c.set_prio-before.ensures.after, c.requeue.ensures) (
+  IsPosted-changed c.self.invariant.0 (priority_set c.args.tid c.args.prio) (λ row. refl) (λ row. refl),
+  IsHeld-prioritized c.self.invariant.1 c.args.tid c.args.prio (sym c.if-not-is_thread.ensures),
+)

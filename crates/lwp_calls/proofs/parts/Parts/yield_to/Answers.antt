@@ -19,3 +19,6 @@ returns-then-not-is_eligible c = rw (← c.self.view_is, sym c.if-not-is_thread.
 pub returns : goal.returns
 unfolding unless
 returns c = rw (← c.self.view_is, sym c.if-not-is_thread.ensures, sym c.prio_of.ensures, sym c.prio_of-2.ensures, eq-eqb c.prio_of.result c.prio_of-2.result c.if-prio_of.false, sym c.if-not-is_eligible.ensures, c.yield_to.ensures) refl
+
+pub invariant_of-self : goal.invariant_of-self
+invariant_of-self c = rw c.yield_to.ensures c.self.invariant
