@@ -1,5 +1,6 @@
 -- How threads wait, and their priorities, as the rows change.
-use Rattle.lwp_calls.specs.Held.{priority_of, waits_so}
+use Rattle.lwp_calls.specs.Held.{priority_of}
+use Rattle.lwp_calls.specs.Waits.{waits_so}
 use Rattle.lwp_types.specs.Choice.{is_eligible}
 use Rattle.lwp_types.specs.CountLaws.{count-cons, count-failed, count-filter-le, length-failed, one, one-le}
 use Rattle.lwp_types.specs.State.{ThreadRow, block_set, is_not_blocked, is_number, passes, priority_set, with_block, with_priority}

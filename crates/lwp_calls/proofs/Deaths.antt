@@ -12,7 +12,7 @@ use Rattle.lwp_calls.proofs.Blocked.{priority-changed}
 use Rattle.lwp_calls.proofs.Holds.{IsHeld-changed, IsHeld-forgotten, requests-fit, rows-without, to-enter-blocks}
 use Rattle.lwp_calls.proofs.Releases.{Unasked, next-other, release-unasked, releases-fewer, releases-keep}
 use Rattle.lwp_calls.proofs.Posts.{IsPosted-aside, letters-fit, sending-blocked}
-use Rattle.lwp_calls.specs.Held.{IsHeld, enters, is_to_enter, waits_so}
+use Rattle.lwp_calls.specs.Held.{IsHeld, enters, is_to_enter}
 use Rattle.lwp_types.specs.Counts.{is_sending}
 use Rattle.rendezvous.specs.Mailbag as mailbag
 use Rattle.rendezvous.specs.Mailbag.{Mailbag}
@@ -38,7 +38,7 @@ use Rattle.lwp_types.specs.declared.rows.Block.TheVariants as block
 use Rattle.lwp_types.specs.declared.rows.Mark.TheVariants as mark
 use Rattle.lwp_calls.specs.Parts.{IsPosted, sends, whole}
 use Rattle.lwp_calls.specs.Roll.{left, set_aside}
-use Rattle.lwp_calls.specs.Waits.{dismissed, last_answer, waiting, waiting_in, waits_for}
+use Rattle.lwp_calls.specs.Waits.{dismissed, last_answer, waiting, waiting_in, waits_for, waits_so}
 use Rattle.lwp_calls.specs.declared.rows.Awaited.{Awaited}
 use Rattle.lwp_calls.specs.declared.rows.Awaited.TheVariants as awaited
 

@@ -1,7 +1,8 @@
 -- Who waits for a reply, and the letters that there are.
+use Rattle.lwp_calls.proofs.Blocked
 use Rattle.lwp_calls.specs.Parts.{IsPosted, sends}
 use Rattle.lwp_types.specs.Choice.{is_eligible}
-use Rattle.lwp_types.specs.CountLaws.{count-cons, count-failed, count-filter, count-map, count-push, count_agree, count_any, count_found_by, length-failed, one, one-le}
+use Rattle.lwp_types.specs.CountLaws.{count-failed, count-filter, count-map, count-push, count_agree, count_any, count_found_by, one, one-le}
 use Rattle.lwp_types.specs.Counts.{is_sending}
 use Rattle.lwp_types.specs.Letters.{is_letter_of, is_to, letters_of, marked_received, reception_set, takes_from, without_letter}
 use Rattle.lwp_types.specs.State.{ThreadRow, block_set, is_not_blocked, is_number, passes, suspension_set, with_block, with_suspension}
@@ -9,7 +10,7 @@ use Rattle.lwp_types.specs.declared.rows.Block.{Block}
 use Rattle.lwp_types.specs.declared.rows.Block.TheVariants as block
 use Rattle.lwp_types.specs.declared.rows.Letter.{Letter}
 use Rattle.rendezvous.specs.Mailbag.{Mailbag, first_to, forgotten, has_letter_of, posted, reserved}
-use Rattle.std.proofs.Common.{Bool, List, None, Some, [], ap, arith, cond, count_by, false, inl, inr, length, map, not, refl, sym, true, ℕ, ◌+◌, ◌++◌, ◌<◌, ◌∙◌, ◌∷◌, ◌≡◌, ◌≢◌, ◌≤◌}
+use Rattle.std.proofs.Common.{Bool, List, None, Some, [], ap, arith, count_by, false, inl, inr, length, map, not, refl, sym, true, ℕ, ◌+◌, ◌++◌, ◌<◌, ◌∙◌, ◌∷◌, ◌≡◌, ◌≢◌, ◌≤◌}
 use Rattle.std.proofs.lemmas.Bool.{cases_eq, eq-eqb, ne_eqb}
 use Rattle.std.proofs.lemmas.Bool.Decides.{nat_tests}
 use Rattle.std.proofs.lemmas.List.{length-map, length_push}
@@ -18,88 +19,6 @@ use Rattle.std.specs.List.{filter, find, list_any}
 use Rattle.std.specs.Prelude.{Option, is_some, option_map, ◌&&◌, ◌==◌}
 
 -- ---- who waits for a reply
-
--- rows that change, but for their numbers and blocks
-module _ (f : ThreadRow → ThreadRow) (numbered : (row : ThreadRow) → (f row).number ≡ row.number) (waits : (row : ThreadRow) → (f row).block ≡ row.block) where
-  pub sends-changed : (x : ℕ) (rows : List ThreadRow) → sends (map f rows) x ≡ sends rows x
-  sends-changed x [] = refl
-  sends-changed x (row ∷ rows) = ap (λ n. passes (λ (row : ThreadRow). is_sending row.block) (cond (n == x) (Some (f row)) (find (is_number x) (map f rows)))) (numbered row) ∙ by_head (row.number == x) (sends-changed x rows)
-    where
-      by_head : (b : Bool) → sends (map f rows) x ≡ sends rows x
-          → passes (λ (row : ThreadRow). is_sending row.block) (cond b (Some (f row)) (find (is_number x) (map f rows))) ≡ passes (λ (row : ThreadRow). is_sending row.block) (cond b (Some row) (find (is_number x) rows))
-      by_head true rest = ap is_sending (waits row)
-      by_head false rest = rest
-
--- the block of one changes
-module _ (t : ℕ) (b : Block) where
-  pub sends-other : (x : ℕ) → x ≢ t → (rows : List ThreadRow) → sends (with_block t b rows) x ≡ sends rows x
-  sends-other x away [] = refl
-  sends-other x away (row ∷ rows) = elim (cases_eq row.number x) [
-    | inl e ↦ rw (eq-eqb row.number x e, ne_eqb row.number t (λ k. away (sym e ∙ k))) refl
-    | inr other ↦ rw (ne_eqb row.number x other) (sends-other x away rows)
-  ]
-
-  pub sends-here : (rows : List ThreadRow) → sends (with_block t b rows) t ≡ (is_some (find (is_number t) rows) && is_sending b)
-  sends-here [] = refl
-  sends-here (row ∷ rows) = by_head (row.number == t) refl (sends-here rows)
-    where
-      by_head : (c : Bool) → (row.number == t) ≡ c → sends (with_block t b rows) t ≡ (is_some (find (is_number t) rows) && is_sending b)
-          → passes (λ (row : ThreadRow). is_sending row.block) (cond c (Some (block_set t b row)) (find (is_number t) (with_block t b rows))) ≡ (is_some (cond c (Some row) (find (is_number t) rows)) && is_sending b)
-      by_head true is rest = rw is refl
-      by_head false is rest = rest
-
-  -- neither before nor after does it wait for a reply
-  pub sends-quiet : is_sending b ≡ false → (rows : List ThreadRow) → sends rows t ≡ false → (x : ℕ) → sends (with_block t b rows) x ≡ sends rows x
-  sends-quiet quiet rows was x = elim (cases_eq x t) [
-    | inl e ↦ ap (λ y. sends (with_block t b rows) y) e ∙ sends-here rows ∙ ap (λ c. is_some (find (is_number t) rows) && c) quiet ∙ and_false (is_some (find (is_number t) rows)) ∙ sym was ∙ sym (ap (sends rows) e)
-    | inr away ↦ sends-other x away rows
-  ]
-    where
-      and_false : (c : Bool) → (c && false) ≡ false
-      and_false true = refl
-      and_false false = refl
-
--- a thread more, which waits for nothing
-pub sends-push : (new : ThreadRow) → is_sending new.block ≡ false → (x : ℕ) (rows : List ThreadRow) → sends (rows ++ new ∷ []) x ≡ sends rows x
-sends-push new quiet x [] = by_head (new.number == x)
-  where
-    by_head : (b : Bool) → passes (λ (row : ThreadRow). is_sending row.block) (cond b (Some new) None) ≡ false
-    by_head true = quiet
-    by_head false = refl
-sends-push new quiet x (row ∷ rows) = by_head (row.number == x) (sends-push new quiet x rows)
-  where
-    by_head : (b : Bool) → sends (rows ++ new ∷ []) x ≡ sends rows x
-        → passes (λ (row : ThreadRow). is_sending row.block) (cond b (Some row) (find (is_number x) (rows ++ new ∷ []))) ≡ passes (λ (row : ThreadRow). is_sending row.block) (cond b (Some row) (find (is_number x) rows))
-    by_head true rest = refl
-    by_head false rest = rest
-
--- a thread fewer, which waited for none
-pub sends-left : (t : ℕ) (rows : List ThreadRow) → sends rows t ≡ false → (x : ℕ) → sends (filter (λ (row : ThreadRow). not (row.number == t)) rows) x ≡ sends rows x
-sends-left t rows was x = elim (cases_eq x t) [
-  | inl e ↦ ap (λ y. sends (filter (λ (row : ThreadRow). not (row.number == t)) rows) y) e ∙ gone rows ∙ sym was ∙ sym (ap (sends rows) e)
-  | inr away ↦ others away rows
-]
-  where
-    gone : (rows : List ThreadRow) → sends (filter (λ (row : ThreadRow). not (row.number == t)) rows) t ≡ false
-    gone [] = refl
-    gone (row ∷ rows) = by_head (row.number == t) refl (gone rows)
-      where
-        by_head : (b : Bool) → (row.number == t) ≡ b → sends (filter (λ (row : ThreadRow). not (row.number == t)) rows) t ≡ false
-            → sends (cond (not b) (row ∷ filter (λ (row : ThreadRow). not (row.number == t)) rows) (filter (λ (row : ThreadRow). not (row.number == t)) rows)) t ≡ false
-        by_head true is rest = rest
-        by_head false is rest = rw is rest
-
-    others : x ≢ t → (rows : List ThreadRow) → sends (filter (λ (row : ThreadRow). not (row.number == t)) rows) x ≡ sends rows x
-    others away [] = refl
-    others away (row ∷ rows) = elim (cases_eq row.number t) [
-      | inl e ↦ rw (eq-eqb row.number t e, ne_eqb row.number x (λ k. away (sym k ∙ e))) (others away rows)
-      | inr other ↦ rw (ne_eqb row.number t other) (by_head (row.number == x) (others away rows))
-    ]
-      where
-        by_head : (b : Bool) → sends (filter (λ (row : ThreadRow). not (row.number == t)) rows) x ≡ sends rows x
-            → passes (λ (row : ThreadRow). is_sending row.block) (cond b (Some row) (find (is_number x) (filter (λ (row : ThreadRow). not (row.number == t)) rows))) ≡ passes (λ (row : ThreadRow). is_sending row.block) (cond b (Some row) (find (is_number x) rows))
-        by_head true rest = refl
-        by_head false rest = rest
 
 -- who waits for nothing waits for no reply, and who waits for a reply is blocked
 pub sending-blocked : (b : Block) → is_not_blocked b ≡ true → is_sending b ≡ false
@@ -110,25 +29,11 @@ sending-blocked (block.Receiving from) h = refl
 sending-blocked (block.Entering m) h = refl
 sending-blocked (block.Waiting c) h = refl
 
-blocked-sending : (b : Block) → is_sending b ≡ true → not (is_not_blocked b) ≡ true
-blocked-sending block.Not h = absurd (let no : false ≡ true = h in cc)
-blocked-sending (block.Joining u) h = refl
-blocked-sending block.Sending h = refl
-blocked-sending (block.Receiving from) h = refl
-blocked-sending (block.Entering m) h = refl
-blocked-sending (block.Waiting c) h = refl
-
 pub runs-quiet : (o : Option ThreadRow) → passes is_eligible o ≡ true → passes (λ (row : ThreadRow). is_sending row.block) o ≡ false
-runs-quiet None h = refl
-runs-quiet (Some row) h = sending-blocked row.block (second (not row.suspended) (is_not_blocked row.block) h)
-  where
-    second : (a b : Bool) → (a && b) ≡ true → b ≡ true
-    second true b h = h
-    second false b h = absurd (cc)
+runs-quiet o runs = Blocked.runs-quiet is_sending sending-blocked o runs
 
 pub sends-blocked : (o : Option ThreadRow) → passes (λ (row : ThreadRow). is_sending row.block) o ≡ true → passes (λ (row : ThreadRow). not (is_not_blocked row.block)) o ≡ true
-sends-blocked None h = h
-sends-blocked (Some row) h = blocked-sending row.block h
+sends-blocked o sends = Blocked.waits-blocked is_sending sending-blocked o sends
 
 -- who would take a letter is blocked, and waits for no reply
 taking-blocked : (x : ℕ) (b : Block) → takes_from x b ≡ true → not (is_not_blocked b) ≡ true
@@ -167,23 +72,6 @@ one-true : (b : Bool) → 1 ≤ one b → b ≡ true
 one-true true h = refl
 one-true false h = absurd (omega arith)
 
--- no more letters than senders, where each letter has its own
-pub few-letters : (rows : List ThreadRow) (letters : List Letter) → ((x : ℕ) → letters_of letters x ≤ one (sends rows x)) → length letters ≤ count_by (λ (row : ThreadRow). is_sending row.block) rows
-few-letters [] [] h = omega arith
-few-letters [] (letter ∷ letters) h =
-    let none = h letter.from in
-    let here : one (is_letter_of letter.from letter) ≡ 1 = ap one (eq-eqb letter.from letter.from refl) in
-    absurd (omega (arith, count-cons (is_letter_of letter.from) letter letters, here, none))
-few-letters (row ∷ rows) letters h =
-    let own : letters_of letters row.number ≤ one (is_sending row.block) = (rw (eq-eqb row.number row.number refl) at (h row.number)) in
-    omega (arith, own, length-failed (is_letter_of row.number) letters, count-cons (λ (row : ThreadRow). is_sending row.block) row rows, few-letters rows (without_letter row.number letters) others)
-  where
-    others : (x : ℕ) → letters_of (without_letter row.number letters) x ≤ one (sends rows x)
-    others x = elim (cases_eq x row.number) [
-      | inl e ↦ let none : letters_of (without_letter row.number letters) x ≡ 0 = ap (letters_of (without_letter row.number letters)) e ∙ letters-without_same row.number letters in omega (arith, none)
-      | inr away ↦ let other : letters_of letters x ≤ one (sends rows x) = (rw (ne_eqb row.number x (λ e. away (sym e))) at (h x)) in omega (arith, other, letters-without_other row.number x away letters)
-    ]
-
 -- ---- what holds of both, call by call
 
 module _ {rows : List ThreadRow} {mail : Mailbag} (was : IsPosted rows mail) where
@@ -192,24 +80,24 @@ module _ {rows : List ThreadRow} {mail : Mailbag} (was : IsPosted rows mail) whe
   IsPosted-rows after same no_more = record { sent = λ x. was.sent x ∙ ap one (sym (same x)); places = omega (arith, no_more, was.places) }
 
   pub IsPosted-changed : (f : ThreadRow → ThreadRow) → ((row : ThreadRow) → (f row).number ≡ row.number) → ((row : ThreadRow) → (f row).block ≡ row.block) → IsPosted (map f rows) mail
-  IsPosted-changed f numbered waits = IsPosted-rows (map f rows) (λ x. sends-changed f numbered waits x rows) (omega (arith, length-map rows f))
+  IsPosted-changed f numbered waits = IsPosted-rows (map f rows) (λ x. Blocked.waits-changed is_sending f numbered waits x rows) (omega (arith, length-map rows f))
 
   pub IsPosted-quiet : (t : ℕ) (b : Block) → is_sending b ≡ false → sends rows t ≡ false → IsPosted (with_block t b rows) mail
-  IsPosted-quiet t b quiet before = IsPosted-rows (with_block t b rows) (sends-quiet t b quiet rows before) (omega (arith, length-map rows (block_set t b)))
+  IsPosted-quiet t b quiet before = IsPosted-rows (with_block t b rows) (Blocked.waits-quiet is_sending t b quiet rows before) (omega (arith, length-map rows (block_set t b)))
 
   pub IsPosted-push : (new : ThreadRow) → is_sending new.block ≡ false → (n : ℕ) → length rows + 1 ≤ n → IsPosted (rows ++ new ∷ []) (reserved mail n)
-  IsPosted-push new quiet n fits = record { sent = λ x. was.sent x ∙ ap one (sym (sends-push new quiet x rows)); places = omega (arith, length_push rows new, fits) }
+  IsPosted-push new quiet n fits = record { sent = λ x. was.sent x ∙ ap one (sym (Blocked.waits-push is_sending new quiet x rows)); places = omega (arith, length_push rows new, fits) }
 
   pub IsPosted-left : (t : ℕ) → sends rows t ≡ false → IsPosted (filter (λ (row : ThreadRow). not (row.number == t)) rows) mail
-  IsPosted-left t before = IsPosted-rows (filter (λ (row : ThreadRow). not (row.number == t)) rows) (sends-left t rows before)
+  IsPosted-left t before = IsPosted-rows (filter (λ (row : ThreadRow). not (row.number == t)) rows) (Blocked.waits-left is_sending t rows before)
       (omega (arith, length-filter (λ (row : ThreadRow). not (row.number == t)) rows, count_by-le-length (λ (row : ThreadRow). not (row.number == t)) rows))
 
   -- t waits for a reply no longer, and its letter is gone
   pub IsPosted-answered : (t : ℕ) (b : Block) → is_sending b ≡ false → IsPosted (with_block t b rows) (forgotten mail t)
   IsPosted-answered t b quiet = record {
     sent = λ x. elim (cases_eq x t) [
-      | inl e ↦ ap (letters_of (without_letter t mail.letters)) e ∙ letters-without_same t mail.letters ∙ sym (ap one (ap (sends (with_block t b rows)) e ∙ sends-here t b rows ∙ ap (λ c. is_some (find (is_number t) rows) && c) quiet ∙ and_false (is_some (find (is_number t) rows))))
-      | inr away ↦ letters-without_other t x away mail.letters ∙ was.sent x ∙ ap one (sym (sends-other t b x away rows))
+      | inl e ↦ ap (letters_of (without_letter t mail.letters)) e ∙ letters-without_same t mail.letters ∙ sym (ap one (ap (sends (with_block t b rows)) e ∙ Blocked.waits-here is_sending t b rows ∙ ap (λ c. is_some (find (is_number t) rows) && c) quiet ∙ and_false (is_some (find (is_number t) rows))))
+      | inr away ↦ letters-without_other t x away mail.letters ∙ was.sent x ∙ ap one (sym (Blocked.waits-other is_sending t b x away rows))
     ];
     places = omega (arith, length-map rows (block_set t b), was.places);
   }
@@ -223,7 +111,7 @@ module _ {rows : List ThreadRow} {mail : Mailbag} (was : IsPosted rows mail) whe
   IsPosted-aside t =
       let quiet : IsPosted (with_block t block.Not rows) (forgotten mail t) = IsPosted-answered t block.Not refl in
       record {
-        sent = λ x. quiet.sent x ∙ ap one (sym (sends-changed (suspension_set t true) (λ row. refl) (λ row. refl) x (with_block t block.Not rows)));
+        sent = λ x. quiet.sent x ∙ ap one (sym (Blocked.waits-changed is_sending (suspension_set t true) (λ row. refl) (λ row. refl) x (with_block t block.Not rows)));
         places = omega (arith, length-map (with_block t block.Not rows) (suspension_set t true), quiet.places);
       }
 
@@ -232,10 +120,10 @@ module _ {rows : List ThreadRow} {mail : Mailbag} (was : IsPosted rows mail) whe
   IsPosted-sent letter lives before = record {
     sent = λ x. elim (cases_eq letter.from x) [
       | inl e ↦
-          let now : one (sends (with_block letter.from block.Sending rows) x) ≡ 1 = ap one (ap (sends (with_block letter.from block.Sending rows)) (sym e) ∙ sends-here letter.from block.Sending rows ∙ ap (λ c. c && true) lives) in
+          let now : one (sends (with_block letter.from block.Sending rows) x) ≡ 1 = ap one (ap (sends (with_block letter.from block.Sending rows)) (sym e) ∙ Blocked.waits-here is_sending letter.from block.Sending rows ∙ ap (λ c. c && true) lives) in
           let none : letters_of mail.letters x ≡ 0 = was.sent x ∙ ap one (ap (sends rows) (sym e) ∙ before) in
           omega (arith, count-push (is_letter_of x) mail.letters letter, ap one (eq-eqb letter.from x e), none, now)
-      | inr away ↦ omega (arith, count-push (is_letter_of x) mail.letters letter, ap one (ne_eqb letter.from x away), was.sent x, ap one (sends-other letter.from block.Sending x (λ e. away (sym e)) rows))
+      | inr away ↦ omega (arith, count-push (is_letter_of x) mail.letters letter, ap one (ne_eqb letter.from x away), was.sent x, ap one (Blocked.waits-other is_sending letter.from block.Sending x (λ e. away (sym e)) rows))
     ];
     places = omega (arith, length-map rows (block_set letter.from block.Sending), was.places);
   }
@@ -270,16 +158,7 @@ module _ {rows : List ThreadRow} {mail : Mailbag} (was : IsPosted rows mail) whe
           by_test false some = refl
 
   pub letters-fit : length mail.letters ≤ count_by (λ (row : ThreadRow). is_sending row.block) rows
-  letters-fit = few-letters rows mail.letters (λ x. omega (arith, was.sent x))
+  letters-fit = Blocked.no-more-than-waiters is_sending (λ (letter : Letter). letter.from) rows mail.letters (λ x. omega (arith, was.sent x))
 
   pub a-place : (t : ℕ) → is_some (find (is_number t) rows) ≡ true → sends rows t ≡ false → length mail.letters < mail.places
-  a-place t lives before = omega (arith, letters-fit, was.places, fewer-sending rows lives before)
-    where
-      fewer-sending : (rows : List ThreadRow) → is_some (find (is_number t) rows) ≡ true → sends rows t ≡ false → count_by (λ (row : ThreadRow). is_sending row.block) rows < length rows
-      fewer-sending [] lives before = absurd (let no : false ≡ true = lives in cc)
-      fewer-sending (row ∷ rows) lives before = by_head (row.number == t) lives before (λ l b. fewer-sending rows l b)
-        where
-          by_head : (c : Bool) → is_some (cond c (Some row) (find (is_number t) rows)) ≡ true → passes (λ (row : ThreadRow). is_sending row.block) (cond c (Some row) (find (is_number t) rows)) ≡ false
-              → (is_some (find (is_number t) rows) ≡ true → sends rows t ≡ false → count_by (λ (row : ThreadRow). is_sending row.block) rows < length rows) → count_by (λ (row : ThreadRow). is_sending row.block) (row ∷ rows) < length (row ∷ rows)
-          by_head true lives before rest = omega (arith, count-cons (λ (row : ThreadRow). is_sending row.block) row rows, ap one before, count_by-le-length (λ (row : ThreadRow). is_sending row.block) rows)
-          by_head false lives before rest = omega (arith, count-cons (λ (row : ThreadRow). is_sending row.block) row rows, one-le (is_sending row.block), rest lives before)
+  a-place t lives before = omega (arith, letters-fit, was.places, Blocked.fewer-waiters is_sending t rows lives before)

@@ -1,6 +1,6 @@
 -- Who waits for something of a thread waits in no other way.
-use Rattle.lwp_calls.specs.Held.{is_to_enter, waits_so}
-use Rattle.lwp_calls.specs.Waits.{waits_for}
+use Rattle.lwp_calls.specs.Held.{is_to_enter}
+use Rattle.lwp_calls.specs.Waits.{waits_for, waits_so}
 use Rattle.lwp_calls.specs.declared.rows.Awaited.{Awaited}
 use Rattle.lwp_calls.specs.declared.rows.Awaited.TheVariants as awaited
 use Rattle.lwp_types.specs.Counts.{is_sending}

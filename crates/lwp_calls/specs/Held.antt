@@ -1,7 +1,8 @@
 -- Who waits to enter a monitor, as the threads have it and as the monitors have it.
+use Rattle.lwp_calls.specs.Waits.{waits_so}
 use Rattle.lwp_types.specs.CountLaws.{one}
 use Rattle.lwp_types.specs.Release.{locks_on}
-use Rattle.lwp_types.specs.State.{ThreadRow, is_number, passes}
+use Rattle.lwp_types.specs.State.{ThreadRow, is_number}
 use Rattle.lwp_types.specs.declared.rows.Block.{Block}
 use Rattle.lwp_types.specs.declared.rows.Block.TheVariants as block
 use Rattle.monitors.specs.MonitorTable.{MonitorTable, is_request_of}
@@ -13,10 +14,6 @@ use Rattle.std.specs.Prelude.{Bool, List, false, length, option_map, true, unwra
 abbrev pub is_to_enter : Block → Bool
 is_to_enter (block.Entering m) = true
 is_to_enter _ = false
-
--- thread t is there, and how it waits passes the test
-abbrev pub waits_so : (Block → Bool) → List ThreadRow → ℕ → Bool
-waits_so test rows t = passes (λ row. test row.block) (find (is_number t) rows)
 
 -- thread t waits to enter a monitor
 abbrev pub enters : List ThreadRow → ℕ → Bool

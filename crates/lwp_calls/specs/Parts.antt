@@ -1,17 +1,17 @@
 -- What a pod holds, as the machine's state.
+use Rattle.lwp_calls.specs.Waits.{waits_so}
 use Rattle.lwp_types.specs.CountLaws.{one}
 use Rattle.lwp_types.specs.Counts.{is_sending}
 use Rattle.lwp_types.specs.Letters.{letters_of}
-use Rattle.lwp_types.specs.State.{State, ThreadRow, is_number, passes}
+use Rattle.lwp_types.specs.State.{State, ThreadRow}
 use Rattle.lwp_types.specs.declared.rows.Letter.{Letter}
 use Rattle.monitors.specs.MonitorTable.{MonitorTable, machine_row}
 use Rattle.rendezvous.specs.Mailbag.{Mailbag}
-use Rattle.std.specs.List.{find}
 use Rattle.std.specs.Prelude.{Bool, List, [], length, map, ℕ, ◌≡◌, ◌≤◌}
 
 -- thread x waits for a reply
 abbrev pub sends : List ThreadRow → ℕ → Bool
-sends rows x = passes (λ row. is_sending row.block) (find (is_number x) rows)
+sends rows x = waits_so is_sending rows x
 
 -- who waits for a reply has one letter, and nobody else has any; there is a place for a letter of each thread
 pub record IsPosted (rows : List ThreadRow) (mail : Mailbag) : Type 0 where

@@ -15,6 +15,7 @@ use lwp_types::{Answer, Block, Effect, Effects, IdKind, LwpErr, Mid, NoMemory, T
 const MOST_DEPTH: u32 = 65_535;
 
 impl Parts {
+    /// A monitor that nobody holds.
     pub fn monitor_create(&mut self) -> Result<Answer, NoMemory>
         ensures ok { IfOk result (λ a. monitor_create self.old ≡ answered self.new a) }
         ensures err { OnErr result (self.new ≡ self.old) }
@@ -25,6 +26,7 @@ impl Parts {
         Ok(Answer::Monitor(mon))
     }
 
+    /// A monitor that nobody holds is gone.
     pub fn monitor_destroy(&mut self, mon: Mid) -> Answer
         ensures { monitor_destroy self.old mon ≡ answered self.new result }
     {
@@ -72,6 +74,7 @@ impl Parts {
         Answer::Value(i64::from(self.mons.enter(mon, tid)))
     }
 
+    /// The caller enters the monitor, or waits for it behind all others.
     pub fn enter(&mut self, caller: Tid, mon: Mid) -> Option<Answer>
         requires { IsTrue (is_eligible_in self.old caller) }
         ensures { enter self.old caller mon ≡ record { after = self.new; others = []; own = result } }
@@ -88,6 +91,7 @@ impl Parts {
         None
     }
 
+    /// The caller enters the monitor, and is refused where it would have to wait.
     pub fn cond_enter(&mut self, caller: Tid, mon: Mid) -> Answer
         ensures { cond_enter self.old caller mon ≡ answered self.new result }
     {
@@ -100,7 +104,7 @@ impl Parts {
         self.go_in(caller, mon)
     }
 
-    // The monitor loses its owner, and whoever enters next goes on.
+    /// The monitor loses its owner, and whoever enters next goes on.
     pub fn release(&mut self, mon: Mid, effects: &mut Effects)
         requires held { is_none (lock_of self.old.locks mon) ≡ false }
         requires room { length effects.old < 2048 }
@@ -116,6 +120,7 @@ impl Parts {
         }
     }
 
+    /// The caller leaves the monitor once, and the last time gives it up.
     pub fn monitor_exit(&mut self, caller: Tid, mon: Mid, effects: &mut Effects) -> Answer
         requires { length effects.old ≤ 1 }
         ensures comes { ComesTo (monitor_exit self.old caller mon) self.new effects.old effects.new (Some result) }
@@ -135,6 +140,7 @@ impl Parts {
         Answer::Value(0)
     }
 
+    /// The monitor loses its owner, whoever that is and however deep.
     pub fn monitor_break(&mut self, mon: Mid, effects: &mut Effects) -> Answer
         requires { length effects.old ≤ 1 }
         ensures comes { ComesTo (monitor_break self.old mon) self.new effects.old effects.new (Some result) }
@@ -150,6 +156,7 @@ impl Parts {
         Answer::Value(0)
     }
 
+    /// The live monitors, in the order of birth.
     pub fn monitors(&self) -> Result<Answer, NoMemory>
         ensures { IfOk result (λ a. listed self.now kind.Monitor self.now.monitors ≡ answered self.now a) }
     {
@@ -160,6 +167,7 @@ impl Parts {
         })
     }
 
+    /// Who waits to enter the monitor, in the order of arrival.
     pub fn monitor_waiters(&self, mon: Mid) -> Result<Answer, NoMemory>
         ensures { IfOk result (λ a. monitor_waiters self.now mon ≡ answered self.now a) }
     {
