@@ -1,4 +1,5 @@
 pub mod TextFields
+pub mod Families
 pub mod Names
 pub mod Poll
 pub mod Streams

@@ -9,6 +9,7 @@ mod body;
 mod call;
 mod effects;
 mod env;
+mod family;
 mod ids;
 mod memory;
 mod rows;
@@ -24,6 +25,9 @@ pub use call::{
 };
 pub use effects::{Effects, PLACES};
 pub use env::Env;
+pub use family::{
+    AgentCall, Family, LetterCall, LifeCall, LockCall, MarkCall, NumberCall, TurnCall, WaitCall,
+};
 pub use ids::{Cid, Mid, NULL_CID, NULL_MID, NULL_TID, NoMemory, Tid};
 pub use memory::{MemSink, MemSource};
 pub use rows::{AgentRow, Block, CondRow, ExitMark, Found, Letter, Lock, Mark, Request, WaitRow};

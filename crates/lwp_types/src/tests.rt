@@ -1,6 +1,6 @@
 use crate::{
-    Answer, Call, Cid, Effect, Effects, Env, Failed, IdList, MemSink, MemSource, Mid, NULL_CID,
-    NULL_MID, NULL_TID, PLACES, Sequence, Sink, Source, TEXT_MAX, Text, Tid,
+    Answer, Call, Cid, Effect, Effects, Env, Failed, Family, IdList, MemSink, MemSource, Mid,
+    NULL_CID, NULL_MID, NULL_TID, PLACES, Sequence, Sink, Source, TEXT_MAX, Text, Tid, WaitCall,
 };
 use std::test::Fail;
 
@@ -24,6 +24,15 @@ fn a_text_keeps_its_bytes_and_has_240_printable_ones_at_most(rt: HostRuntime) ->
     assert!(rt; Text::new(&[b'x'; 241]).is_none());
     assert_eq!(rt; TEXT_MAX, 240);
     Ok(())
+}
+
+#[test]
+fn a_call_belongs_to_what_it_concerns(rt: HostRuntime) {
+    let family = Call::CvWaiters {
+        cond: Cid { number: 3 },
+    }
+    .family();
+    assert!(rt; matches!(family, Family::Waits(WaitCall::Waiters(Cid { number: 3 }))));
 }
 
 #[test]

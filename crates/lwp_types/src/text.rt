@@ -39,9 +39,7 @@ fn cells_of(bytes: &[u8]) -> [u8; 240]
     ensures { result ≡ padded bytes.now }
 {
     let mut cells = [0u8; 240];
-    for (i, b) in bytes.iter().enumerate() {
-        cells[i] = *b;
-    }
+    cells[..bytes.len()].copy_from_slice(bytes);
     cells
 }
 
