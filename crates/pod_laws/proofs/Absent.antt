@@ -1,0 +1,144 @@
+-- A call that names who isn't there is refused; and a delivery runs no exit procedure, and tells of no death.
+use Rattle.lwp_types.specs.Agents.{deliver, deliver_to, event_agent}
+use Rattle.lwp_types.specs.Case.{Case, Check, refused, unless}
+use Rattle.lwp_types.specs.CountLaws.{count-cons}
+use Rattle.lwp_types.specs.Letters.{as_answer, as_received, post, takes_from, with_holding}
+use Rattle.lwp_types.specs.State.{State, ThreadRow, and_then, is_agent, is_id, is_thread, passes, still, thread_of}
+use Rattle.lwp_types.specs.Step.{case_of}
+use Rattle.lwp_types.specs.Unblock.{unblock}
+use Rattle.lwp_types.specs.declared.call.Call.{Call}
+use Rattle.lwp_types.specs.declared.call.LwpErr.{LwpErr}
+use Rattle.lwp_types.specs.declared.rows.AgentRow.{AgentRow}
+use Rattle.lwp_types.specs.declared.rows.Letter.{Letter}
+use Rattle.lwp_types.specs.declared.call.Call.TheVariants as call
+use Rattle.lwp_types.specs.declared.call.Effect.TheVariants as effect
+use Rattle.lwp_types.specs.declared.call.LwpErr.TheVariants as error
+use Rattle.pod_laws.proofs.Deathless.{deathless_post}
+use Rattle.pod_laws.proofs.Elements.{not_of}
+use Rattle.pod_laws.proofs.OnceMoves.{even_post}
+use Rattle.lwp_types.specs.Exits.{exit_case}
+use Rattle.lwp_types.specs.declared.call.ExitCall.{ExitCall}
+use Rattle.lwp_types.specs.declared.call.ExitCall.TheVariants as exit
+use Rattle.pod_laws.specs.Forgotten.{CondSendRefusesTheAbsent, DeliveriesAreQuiet, ExitsRefuseTheAbsent, IsQuiet, TheAbsentAreRefused, asks_for, exit_asks_for, is_died}
+use Rattle.pod_laws.specs.Once.{ExitTest, exited_passes, exits_passing}
+use Rattle.std.proofs.Common.{Bool, List, None, Option, Some, [], ap, arith, cond, eqb, false, not, refl, true, ℕ, ◌++◌, ◌∙◌, ◌∷◌, ◌≡◌}
+use Rattle.std.proofs.lemmas.Bool.{eqb-true, or_parts}
+
+-- the first check strikes
+first_strikes : (s : State) (b : Bool) (e : LwpErr) (checks : List Check) (otherwise : Case) → b ≡ true → unless s ((b, e) ∷ checks) otherwise ≡ refused s e
+unfolding unless
+first_strikes s true e checks otherwise strikes = refl
+first_strikes s false e checks otherwise strikes = absurd (cc)
+
+module _ (s : State) (t n : ℕ) (absent : is_id s n ≡ false) where
+  no_thread : (u : ℕ) → eqb u n ≡ true → not (is_thread s u) ≡ true
+  no_thread u same = not_of _ (ap (is_thread s) (eqb-true u n same) ∙ (or_parts (is_thread s n) (is_agent s n) absent).0)
+
+  no_id : (u : ℕ) → eqb u n ≡ true → not (is_id s u) ≡ true
+  no_id u same = not_of _ (ap (is_id s) (eqb-true u n same) ∙ absent)
+
+  -- of every call that asks for it
+  absent_refused : (c : Call) → asks_for n c ≡ true → case_of s t c ≡ refused s error.NonExist
+  absent_refused (call.Create number prio flags) asks = absurd (cc)
+  absent_refused (call.Destroy u) asks = first_strikes s _ _ _ _ (no_id u asks)
+  absent_refused (call.Ping u) asks = first_strikes s _ _ _ _ (no_id u asks)
+  absent_refused (call.Yield u) asks = first_strikes s _ _ _ _ (no_thread u asks)
+  absent_refused (call.Resched q) asks = absurd (cc)
+  absent_refused (call.SetPri u q) asks = first_strikes s _ _ _ _ (no_thread u asks)
+  absent_refused (call.Suspend u) asks = first_strikes s _ _ _ _ (no_thread u asks)
+  absent_refused (call.Resume u) asks = first_strikes s _ _ _ _ (no_thread u asks)
+  absent_refused (call.Join u) asks = first_strikes s _ _ _ _ (no_thread u asks)
+  absent_refused call.Me asks = absurd (cc)
+  absent_refused (call.SetMaxPri q) asks = absurd (cc)
+  absent_refused (call.SetExit code) asks = absurd (cc)
+  absent_refused call.GetExit asks = absurd (cc)
+  absent_refused (call.PodExit code) asks = absurd (cc)
+  absent_refused call.Threads asks = absurd (cc)
+  absent_refused (call.Send u room text) asks = first_strikes s _ _ _ _ (no_thread u asks)
+  absent_refused (call.Recv None how) asks = absurd (cc)
+  absent_refused (call.Recv (Some u) how) asks = first_strikes s _ _ _ _ (no_id u asks)
+  absent_refused (call.Reply u text) asks = first_strikes s _ _ _ _ (no_id u asks)
+  absent_refused call.Senders asks = absurd (cc)
+  absent_refused call.Receivers asks = absurd (cc)
+  absent_refused call.MonCreate asks = absurd (cc)
+  absent_refused (call.MonDestroy m) asks = absurd (cc)
+  absent_refused (call.Enter m) asks = absurd (cc)
+  absent_refused (call.CondEnter m) asks = absurd (cc)
+  absent_refused (call.MonExit m) asks = absurd (cc)
+  absent_refused (call.MonBreak m) asks = absurd (cc)
+  absent_refused call.Monitors asks = absurd (cc)
+  absent_refused (call.MonWaiters m) asks = absurd (cc)
+  absent_refused (call.CvCreate m) asks = absurd (cc)
+  absent_refused (call.CvDestroy c) asks = absurd (cc)
+  absent_refused (call.Wait c) asks = absurd (cc)
+  absent_refused (call.Notify c) asks = absurd (cc)
+  absent_refused (call.Broadcast c) asks = absurd (cc)
+  absent_refused (call.CvSend c u) asks = absurd (cc)
+  absent_refused call.Conds asks = absurd (cc)
+  absent_refused (call.CvWaiters c) asks = absurd (cc)
+  absent_refused (call.CallProc number) asks = absurd (cc)
+  absent_refused call.Return asks = absurd (cc)
+  absent_refused (call.Handle pat func arg) asks = absurd (cc)
+  absent_refused call.Unhandle asks = absurd (cc)
+  absent_refused (call.OnExit e) asks = absurd (cc)
+  absent_refused (call.Raise q) asks = absurd (cc)
+  absent_refused (call.ExcNotify q) asks = absurd (cc)
+  absent_refused (call.Bound q) asks = absurd (cc)
+  absent_refused call.UniqPatt asks = absurd (cc)
+  absent_refused (call.Agent e) asks = absurd (cc)
+  absent_refused call.Agents asks = absurd (cc)
+  absent_refused (call.Say text) asks = absurd (cc)
+
+  -- of every exit procedure that asks for it
+  exit_absent_refused : (x : ExitCall) → exit_asks_for n x ≡ true → exit_case s t x ≡ refused s error.NonExist
+  exit_absent_refused (exit.MonExit m) asks = absurd (cc)
+  exit_absent_refused (exit.MonBreak m) asks = absurd (cc)
+  exit_absent_refused (exit.Notify c) asks = absurd (cc)
+  exit_absent_refused (exit.Broadcast c) asks = absurd (cc)
+  exit_absent_refused (exit.Reply u text) asks = first_strikes s _ _ _ _ (no_id u asks)
+  exit_absent_refused (exit.Resume u) asks = first_strikes s _ _ _ _ (no_thread u asks)
+  exit_absent_refused (exit.SetExit code) asks = absurd (cc)
+  exit_absent_refused (exit.Note text) asks = absurd (cc)
+
+-- the third check strikes, where the first two don't
+third_strikes : (s : State) (a b c : Bool) (e f g : LwpErr) (checks : List Check) (otherwise : Case) → a ≡ false → b ≡ false → c ≡ true → unless s ((a, e) ∷ (b, f) ∷ (c, g) ∷ checks) otherwise ≡ refused s g
+unfolding unless
+third_strikes s false false true e f g checks otherwise first second third = refl
+third_strikes s false false false e f g checks otherwise first second third = absurd (cc)
+third_strikes s false true c e f g checks otherwise first second third = absurd (cc)
+third_strikes s true b c e f g checks otherwise first second third = absurd (cc)
+
+pub exits_refuse_the_absent : ExitsRefuseTheAbsent
+exits_refuse_the_absent s t n absent x asks = exit_absent_refused s t n absent x asks
+
+pub cond_send_refuses_the_absent : CondSendRefusesTheAbsent
+cond_send_refuses_the_absent s t n c absent live last =
+    third_strikes s _ _ _ _ _ _ _ _ live last (not_of _ (or_parts (is_thread s n) (is_agent s n) absent).0)
+
+pub the_absent_are_refused : TheAbsentAreRefused
+the_absent_are_refused s t n absent c asks = absent_refused s t n absent c asks
+
+-- a letter that is posted runs no exit procedure
+post_no_exit : (p : ExitTest) (l : Letter) (s : State) → exits_passing p (post l s).effects ≡ 0
+post_no_exit p l s = by_test (passes (λ (row : ThreadRow). takes_from l.from row.block) (thread_of s l.to))
+  where
+    by_test : (b : Bool) → exits_passing p (cond b (unblock (as_answer l) l.to (record s { letters = s.letters ++ as_received l ∷ [] })) (still (record s { letters = s.letters ++ l ∷ [] }))).effects ≡ 0
+    by_test true = refl
+    by_test false = refl
+
+-- nor does one that an agent sends
+delivered_quiet : (s : State) (row : AgentRow) (l : Letter) → IsQuiet s (and_then (record { after = record s { agents = with_holding row.number true s.agents }; effects = effect.Delivered row.number row.event ∷ [] }) (post l))
+unfolding and_then
+delivered_quiet s row l = record {
+  marks = λ p. omega (arith, (even_post p l (record s { agents = with_holding row.number true s.agents })).even, post_no_exit p l (record s { agents = with_holding row.number true s.agents }));
+  exits = λ p. omega (arith, count-cons (exited_passes p) (effect.Delivered row.number row.event) (post l (record s { agents = with_holding row.number true s.agents })).effects, post_no_exit p l (record s { agents = with_holding row.number true s.agents }));
+  deaths = λ n. omega (arith, count-cons (is_died n) (effect.Delivered row.number row.event) (post l (record s { agents = with_holding row.number true s.agents })).effects, (deathless_post n l (record s { agents = with_holding row.number true s.agents })).none);
+}
+
+pub deliveries_are_quiet : DeliveriesAreQuiet
+unfolding deliver
+deliveries_are_quiet s e text = by_agent (event_agent s.agents e)
+  where
+    by_agent : (o : Option AgentRow) → IsQuiet s (deliver_to s text o)
+    by_agent None = record { marks = λ p. refl; exits = λ p. refl; deaths = λ n. refl }
+    by_agent (Some row) = delivered_quiet s row (record { from = row.number; to = row.owner; text = text; room = 240; received = false })
