@@ -90,17 +90,25 @@ fn compared<'t>(row: &Row<'_>, text: &'t [u8], count: usize) -> &'t [u8] {
     }
 }
 
+// A line without the newline that ends it.
+fn without_end(line: &[u8]) -> &[u8] {
+    match line {
+        [text @ .., b'\n'] => text,
+        _ => line,
+    }
+}
+
 fn print_verdict(rt: &HostRuntime, name: &str, said: &Verdict<'_>) -> io::Result<()> {
     match said {
         Verdict::Same => println!(rt; "{name}: same"),
         Verdict::Status(status) => println!(rt; "{name}: status {status}"),
         Verdict::Line(difference) => {
-            println!(rt; "{name}: line {}", difference.number)?;
+            print!(rt; "{name}: line {}: ", difference.number)?;
             let mut out = rt.stdout();
-            out.write_all(b"found: ")?;
-            out.write_all(difference.found)?;
-            out.write_all(b"wanted: ")?;
-            out.write_all(difference.wanted)
+            out.write_all(without_end(difference.found))?;
+            out.write_all(b", and not: ")?;
+            out.write_all(without_end(difference.wanted))?;
+            out.write_all(b"\n")
         }
     }
 }
