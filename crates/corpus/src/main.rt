@@ -2,8 +2,8 @@
 //!
 //! `data/rows` is a table, a row a line: a name, the file with the script, the file with the text that is wanted, the status that
 //! is wanted, and the program's words. Each row is run through `lwp_serve::top` over streams in memory, and one line is printed
-//! for it: `same`, or else the first line that differs, or the status where all lines are the same. `first_difference` and
-//! `compare` are proved to say so; that the files hold what a row needs is nobody's promise but theirs who wrote them.
+//! for it: `same`, or else the first line that differs, or the status where all lines are the same. `compare` is proved to say
+//! so, over `first_difference`. What the files hold no contract can say.
 //!
 //! How the text is compared is said by the last part of its file's name:
 //!
@@ -13,7 +13,13 @@
 //!   damage and the status, and then the whole text; the status of the row is the greatest of theirs.
 //!
 //! A row is added by its files, its line in `data/rows`, and its line in `stdout`: `sed 's/ .*/: same/' data/rows > stdout`. Its
-//! text is worked out by hand, or comes from the manual; never from the program.
+//! text is worked out by hand, and never taken from the program.
+//!
+//! Three more tables of the same form aren't read yet. Their rows are put behind those of `data/rows` once the program can run
+//! them: `rows.later`, when the reader tells which line is bad and why; `rows.pod`, when the pod has conditions, marks, exit
+//! procedures and agents; `rows.line_server`, when there are bodies other than procedures.
+//!
+//! The crate stands on `lwp_serve`, and on the streams of `lwp_types`.
 #![tactic(auto)]
 
 mod damage;
