@@ -1,6 +1,6 @@
 -- What a client may ask a store for.
-use Rattle.std.specs.List.{take_while}
-use Rattle.std.specs.Prelude.{Bool, List, None, Option, Some, [], codes, drop, if◌then◌else◌, length, nat_le, take, ℕ, ◌&&◌, ◌==◌, ◌||◌, ◌∷◌}
+use Rattle.std.specs.List.{prefix_len}
+use Rattle.std.specs.Prelude.{Bool, List, None, Option, Some, [], codes, drop, if◌then◌else◌, nat_le, take, ℕ, ◌&&◌, ◌==◌, ◌||◌, ◌∷◌}
 use Rattle.std.specs.Str.{bytes_eq}
 
 -- what a text may ask for
@@ -17,9 +17,9 @@ is_key_byte b = (nat_le 97 b && nat_le b 122) || ((nat_le 48 b && nat_le b 57) |
 abbrev pub is_key_length : ℕ → Bool
 is_key_length n = nat_le 1 n && nat_le n 16
 
--- the key that a text begins with: all bytes up to the first that may not stand in one
-abbrev pub key_of : List ℕ → List ℕ
-key_of text = take_while is_key_byte text
+-- the length of the key that a text begins with: that of all bytes up to the first that may not stand in one
+abbrev pub key_len : List ℕ → ℕ
+key_len text = prefix_len is_key_byte text
 
 -- behind the key of a put: nothing, or a space and a value that isn't empty
 abbrev pub put_of : List ℕ → List ℕ → Option Command
@@ -41,7 +41,7 @@ asked_by word key behind = if bytes_eq word (codes "put ") then put_of key behin
 
 -- the same, where the key isn't cut off yet; it has to have the length of one
 abbrev pub asked_of : List ℕ → List ℕ → Option Command
-asked_of word text = if is_key_length (length (key_of text)) then asked_by word (key_of text) (drop (length (key_of text)) text) else None
+asked_of word text = if is_key_length (key_len text) then asked_by word (take (key_len text) text) (drop (key_len text) text) else None
 
 -- what a text asks for, if it is a command: its first four bytes are the word
 abbrev pub command_of : List ℕ → Option Command

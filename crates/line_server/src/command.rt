@@ -1,5 +1,5 @@
 // What a client's text asks for.
-ghost use Rattle.line_server.specs.Commands.{Command, Put, Get, Del, is_key_byte, key_of, put_of, alone, asked_by, asked_of, command_of};
+ghost use Rattle.line_server.specs.Commands.{Command, Put, Get, Del, is_key_byte, key_len, put_of, alone, asked_by, asked_of, command_of};
 ghost use Rattle.line_server.specs.Read.{read};
 ghost use Rattle.std.specs.Option.{option_map};
 ghost use Rattle.std.specs.Prelude.{◌≡◌, ◌≤◌, length};
@@ -20,7 +20,7 @@ fn is_key_byte(byte: u8) -> bool
 
 // The length of the key that a text begins with.
 fn key_len(text: &[u8]) -> usize
-    ensures len { result ≡ length (key_of text.now) }
+    ensures len { result ≡ key_len text.now }
     ensures within { result ≤ length text.now }
 {
     let mut len = 0;
