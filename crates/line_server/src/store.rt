@@ -40,18 +40,18 @@ impl Model for StoreBody {
 fn tell(
     alloc: Global,
     tables: &mut IndexMap<u64, Table>,
-    from: Tid,
+    from: u64,
     text: &Text,
 ) -> Result<Text, NoMemory>
     ensures reply { IfOk result (λ reply. reply ≡ (told_sender from text.now tables.old.entries).reply) }
     ensures after { OnOk result (tables.new.entries ≡ tables_after from text.now tables.old.entries) }
 {
-    if let Some(table) = tables.get_mut(&from.number) {
+    if let Some(table) = tables.get_mut(&from) {
         return table.tell(text);
     }
     let mut table = Table::new(alloc);
     let reply = table.tell(text)?;
-    tables.insert(from.number, table)?;
+    tables.insert(from, table)?;
     Ok(reply)
 }
 
@@ -81,7 +81,7 @@ impl StoreBody {
     fn tell(&mut self, from: Tid, text: &Text) -> Result<Call, NoMemory>
         ensures { IfOk result (λ call. (call, self.new) ≡ store_tells self.old from text.now) }
     {
-        let reply = tell(self.alloc, &mut self.tables, from, text)?;
+        let reply = tell(self.alloc, &mut self.tables, from.number, text)?;
         self.client = from;
         self.place = StorePlace::Reply;
         Ok(Call::Reply {
