@@ -104,7 +104,7 @@ pub told-after : (es written : Tables) (x : ℕ) (text : List ℕ) (old new : Ta
     → new ≡ (told text old).table → written ≡ tables_after x text es
 told-after es written x text old new there w n =
     w ∙ ap (set_value (nat_eq x) es) n ∙ set-is-insert es x (told text old).table (ap is_some there)
-      ∙ ap (λ o. insert_entry nat_eq es x (told text (unwrap_or o [])).table) (sym there)
+    ∙ ap (λ o. insert_entry nat_eq es x (told text (unwrap_or o [])).table) (sym there)
 
 pub if-done : {A E : Type 0} (r : Result A E) (P Q : Type 0) → (P → Q) → OnOk r P → OnOk r Q
 if-done (Ok x) P Q f h = f h

@@ -1,5 +1,6 @@
 -- A session carries its client's commands to a store, and the store's replies back.
 use Rattle.line_server.specs.Commands.{Command, command_of}
+use Rattle.line_server.specs.Tables.{is_quit}
 use Rattle.line_server.specs.Turns.{Turn, after_reply, kept-lengths, stops, with_names}
 use Rattle.line_server.specs.declared.session.SessionPlace.{SessionPlace}
 use Rattle.line_server.specs.declared.session.SessionPlace.TheVariants as at
@@ -10,7 +11,6 @@ use Rattle.lwp_types.specs.declared.call.Answer.TheVariants as answer
 use Rattle.lwp_types.specs.declared.call.Call.TheVariants as call
 use Rattle.lwp_types.specs.declared.call.Mode.TheVariants as mode
 use Rattle.std.specs.Prelude.{List, None, Option, Some, codes, if◌then◌else◌, ℕ}
-use Rattle.std.specs.Str.{bytes_eq}
 
 -- a session: its event, and what it knows of the store and of its own agent
 pub record SessionBody : Type 0 where
@@ -48,7 +48,7 @@ session_sends body names text (Some c) = (call.Send (id_at names.threads body.st
 
 -- a line was received
 abbrev pub session_reads : SessionBody → Names → List ℕ → Turn SessionBody
-session_reads body names text = if bytes_eq text (codes "quit")
+session_reads body names text = if is_quit text
     then (call.Reply body.agent (codes "bye"), session_at body at.Bye)
     else session_sends body names text (command_of text)
 

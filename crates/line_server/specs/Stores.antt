@@ -1,6 +1,6 @@
 -- A store keeps a table for each thread that sends to it.
 use Rattle.indexmap.specs.IndexMap.{insert_entry}
-use Rattle.line_server.specs.Tables.{Table, Told, told}
+use Rattle.line_server.specs.Tables.{Table, Told, replies, told}
 use Rattle.line_server.specs.Turns.{Turn, after_reply, kept-lengths, stops, with_names}
 use Rattle.line_server.specs.declared.store.StorePlace.{StorePlace}
 use Rattle.line_server.specs.declared.store.StorePlace.TheVariants as at
@@ -13,7 +13,7 @@ use Rattle.lwp_types.specs.declared.call.LwpErr.TheVariants as error
 use Rattle.lwp_types.specs.declared.call.Mode.TheVariants as mode
 use Rattle.std.specs.Map.{lookup}
 use Rattle.std.specs.Option.{unwrap_or}
-use Rattle.std.specs.Prelude.{Bool, List, None, [], false, if◌then◌else◌, nat_eq, true, ℕ}
+use Rattle.std.specs.Prelude.{Bool, List, None, [], false, filter, if◌then◌else◌, map, nat_eq, true, ℕ, ◌≡◌, ◌∷◌}
 
 -- the tables by their senders, in the order in which these came
 abbrev pub Tables : Type 0
@@ -84,3 +84,24 @@ store_next body names a = with_names (store_by body a body.place) names
 pub store_next-keeps_lengths : (body : StoreBody) (names : Names) (a : Answer) → KeepsLengths names (store_next body names a).2
 unfolding store_next
 store_next-keeps_lengths body names a = kept-lengths names
+
+-- ---- what one sender is told
+
+-- a letter: its sender and its text
+abbrev pub Letters : Type 0
+Letters = List (ℕ × List ℕ)
+
+-- the texts of this sender
+abbrev pub texts_of : ℕ → Letters → List (List ℕ)
+texts_of x letters = map (λ l. l.1) (filter (λ l. nat_eq x l.0) letters)
+
+-- what this sender is told, where a store takes all these letters in turn
+abbrev pub told_among : ℕ → Tables → Letters → List (List ℕ)
+told_among x tables [] = []
+told_among x tables (l ∷ ls) =
+    let later = told_among x (tables_after l.0 l.1 tables) ls in
+    if nat_eq x l.0 then (told_sender x l.1 tables).reply ∷ later else later
+
+-- a sender is told what its own texts are told on its own table, whatever others send
+abbrev pub SendersAreApart : Type 0
+SendersAreApart = (x : ℕ) (tables : Tables) (letters : Letters) → told_among x tables letters ≡ replies (table_of x tables) (texts_of x letters)

@@ -2,8 +2,9 @@
 use Rattle.indexmap.specs.IndexMap.{insert_entry, swap_remove_entry}
 use Rattle.line_server.specs.Commands.{Command, Del, Get, Put, command_of}
 use Rattle.lwp_types.specs.State.{is_empty}
+use Rattle.std.specs.List.{before_first, list_any}
 use Rattle.std.specs.Map.{lookup}
-use Rattle.std.specs.Prelude.{List, None, Option, Some, [], codes, if◌then◌else◌, is_none, is_some, length, nat_le, ℕ, ◌&&◌, ◌++◌, ◌∷◌}
+use Rattle.std.specs.Prelude.{Bool, List, None, Option, Some, [], codes, if◌then◌else◌, is_none, is_some, length, nat_le, ℕ, ◌&&◌, ◌++◌, ◌∷◌}
 use Rattle.std.specs.Str.{bytes_eq}
 
 -- a table: each key, and what a get of it is told
@@ -54,12 +55,15 @@ told text table = told_command (command_of text) table
 
 -- ---- a client's lines in turn
 
--- what they are answered, with this table at first, up to and with the first `quit`
-abbrev pub answers_from : Table → List (List ℕ) → List (List ℕ)
-answers_from table [] = []
-answers_from table (text ∷ texts) = if bytes_eq text (codes "quit") then codes "bye" ∷ []
-    else (told text table).reply ∷ answers_from (told text table).table texts
+-- what texts are told in turn, with this table at first
+abbrev pub replies : Table → List (List ℕ) → List (List ℕ)
+replies table [] = []
+replies table (text ∷ texts) = (told text table).reply ∷ replies (told text table).table texts
 
--- what a client's lines are answered
+-- the line by which a client ends
+abbrev pub is_quit : List ℕ → Bool
+is_quit text = bytes_eq text (codes "quit")
+
+-- what a client's lines are answered, up to and with the first `quit`
 abbrev pub line_answers : List (List ℕ) → List (List ℕ)
-line_answers texts = answers_from [] texts
+line_answers texts = replies [] (before_first is_quit texts) ++ (if list_any is_quit texts then codes "bye" ∷ [] else [])

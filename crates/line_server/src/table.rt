@@ -15,9 +15,6 @@ use std::marker::Model;
 /// How many keys a table may have.
 pub const KEYS_MAX: usize = 100;
 
-// The longest value: with `is ` before it, it is a text.
-const VALUE_MAX: usize = 237;
-
 /// The keys of one client, and what a get of each is told, so that a get makes no text.
 #[derive(Drop)]
 pub struct Table {
@@ -77,10 +74,10 @@ impl Table {
         requires { length key.now ≤ 16 }
         ensures { result ≡ told_value (at_key key.now self.now) }
     {
-        match self.entries.get(&Key::new(key)) {
-            Some(text) => *text,
-            None => text_of(b"none"),
-        }
+        let Some(text) = self.entries.get(&Key::new(key)) else {
+            return text_of(b"none");
+        };
+        *text
     }
 
     fn del(&mut self, key: &[u8]) -> Text
