@@ -12,12 +12,20 @@ fn the_first_of_the_greatest_priority(rt: HostRuntime) -> Result<(), Fail> {
     assert_eq!(rt; order.best(), Some(202));
     order.take(202);
     assert_eq!(rt; order.best(), Some(200));
-    order.put_before(201, 200);
+    order.put_last(200, 3);
     assert_eq!(rt; order.best(), Some(201));
-    order.put_last(201, 3);
-    assert_eq!(rt; order.best(), Some(200));
-    assert_eq!(rt; order.first_of(3), Some(201));
-    assert_eq!(rt; order.first_of(7), Some(200));
+    assert_eq!(rt; order.first_of(3), Some(200));
+    Ok(())
+}
+
+#[test]
+fn a_key_goes_right_before_another(rt: HostRuntime) -> Result<(), Fail> {
+    let mut order = Buckets::new(rt.alloc(), 8).map_err(|_| "no memory")?;
+    order.reserve(2).map_err(|_| "no memory")?;
+    order.put_last(8, 7);
+    order.put_last(9, 7);
+    order.put_before(9, 8);
+    assert_eq!(rt; order.best(), Some(9));
     Ok(())
 }
 
