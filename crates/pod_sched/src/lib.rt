@@ -9,6 +9,7 @@
 
 mod bucket;
 mod index;
+pub mod laws;
 mod rows;
 mod sched;
 #[cfg(test)]
