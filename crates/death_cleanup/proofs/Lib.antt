@@ -4,5 +4,6 @@ pub mod Draining
 pub mod Fronts
 pub mod Keeping
 pub mod Waits
+pub mod Refusals
 pub mod Burials
 pub mod Withdrawals
