@@ -5,5 +5,7 @@ pub mod Fronts
 pub mod Keeping
 pub mod Waits
 pub mod Refusals
+pub mod Releases
+pub mod AgentEnds
 pub mod Burials
 pub mod Withdrawals
