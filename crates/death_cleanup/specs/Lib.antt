@@ -1,0 +1,5 @@
+pub mod View
+pub mod Ties
+pub mod Comes
+pub mod Moves
+pub mod Waits

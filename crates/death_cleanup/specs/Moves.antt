@@ -1,0 +1,51 @@
+-- What single changes make of the parts.
+use Rattle.conditions.specs.ConditionTable as cond
+use Rattle.death_cleanup.specs.declared.parts.Parts.{Parts}
+use Rattle.death_cleanup.specs.declared.rows.Kind.{Kind}
+use Rattle.death_cleanup.specs.declared.rows.Kind.TheVariants as kind
+use Rattle.lwp_types.specs.Letters.{receivers_of, without_letter}
+use Rattle.lwp_types.specs.State.{Outcome, State, and_then, for_each, still}
+use Rattle.lwp_types.specs.Unblock.{nonexist, unblock}
+use Rattle.lwp_types.specs.declared.rows.Block.{Block}
+use Rattle.lwp_types.specs.declared.rows.Block.TheVariants as block
+use Rattle.monitors.specs.MonitorTable as mon
+use Rattle.pod_sched.specs.Schedule as sched
+use Rattle.rendezvous.specs.Mailbag as mail
+use Rattle.stale_ids.specs.Register.{removed}
+use Rattle.std.specs.Prelude.{None, Some, if◌then◌else◌, map, ℕ, ◌==◌}
+
+-- the record of a thread with another block
+abbrev pub kind_set : Block → Kind → Kind
+kind_set b (kind.Thread rec) = kind.Thread (record rec { block = b })
+kind_set b kind.Agent = kind.Agent
+
+-- a pair of the registry, with another block where it is that of t
+abbrev pub block_set : ℕ → Block → ℕ × Kind → ℕ × Kind
+block_set t b live = (live.0, if live.0 == t then kind_set b live.1 else live.1)
+
+-- the parts once thread t goes on
+abbrev pub waked : Parts → ℕ → Parts
+waked parts t = record parts {
+  ids = record parts.ids { live = map (block_set t block.Not) parts.ids.live };
+  sched = sched.unblocked parts.sched t;
+}
+
+-- the parts once thread t begins to die
+abbrev pub withdrawn : Parts → ℕ → Parts
+withdrawn parts t = record parts {
+  ids = record parts.ids { live = map (block_set t block.Not) parts.ids.live };
+  sched = sched.left parts.sched t;
+  conds = cond.forgotten parts.conds t;
+  mons = mon.forgotten parts.mons t;
+  mail = mail.forgotten parts.mail t;
+  dying = Some t;
+  last_prio = sched.priority_in parts.sched t;
+}
+
+-- the parts once the dying thread t is gone
+abbrev pub buried : Parts → ℕ → Parts
+buried parts t = record parts { ids = removed parts.ids t; dying = None }
+
+-- an agent that is listed no more ends: whoever waits for it by name goes on, and its letter goes
+abbrev pub agent_over : ℕ → State → Outcome
+agent_over a s = and_then (for_each (unblock nonexist) (receivers_of s a) s) (λ now. still (record now { letters = without_letter a now.letters }))

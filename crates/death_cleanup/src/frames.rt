@@ -1,0 +1,56 @@
+// Frames go, and the exit procedures that they have set are run.
+ghost use Rattle.std.specs.Prelude.{◌≡◌, ◌≤◌, [], Some};
+ghost use Rattle.lwp_types.specs.Death.{run_all_exits};
+ghost use Rattle.lwp_types.specs.Exits.{unwind};
+ghost use Rattle.lwp_types.specs.Marks.{first_frames, frames, later_frames};
+ghost use Rattle.lwp_types.specs.State.{marks_in};
+ghost use Rattle.death_cleanup.specs.Comes.{CameTo, HasRoom};
+ghost use Rattle.death_cleanup.specs.Ties.{LawfulParts};
+ghost use Rattle.death_cleanup.specs.View.{state_of};
+
+use crate::exits::exit_call;
+use crate::parts::Parts;
+use crate::rows::Kind;
+use lwp_types::{Effects, ExitMark, Tid};
+use stale_ids::Registry;
+
+// The next exit procedure that a dying thread has to run, the last set first.
+fn next_exit(ids: &mut Registry<Kind>, tid: Tid) -> Option<ExitMark> {
+    match ids.get_mut(tid.number) {
+        Some(Kind::Thread(rec)) => rec.stack.unwind_all(),
+        _ => None,
+    }
+}
+
+// The same of a thread that keeps so many frames.
+fn next_exit_above(ids: &mut Registry<Kind>, tid: Tid, depth: u32) -> Option<ExitMark> {
+    match ids.get_mut(tid.number) {
+        Some(Kind::Thread(rec)) => rec.stack.unwind_to(depth),
+        _ => None,
+    }
+}
+
+/// All marks of the dying thread go, and its exit procedures run, the last set first.
+pub fn run_all_exits(parts: &mut Parts, tid: Tid, effects: &mut Effects)
+    requires lawful { LawfulParts parts.old }
+    requires dying { parts.old.dying ≡ Some tid }
+    requires room { HasRoom effects.old (run_all_exits tid (state_of parts.old)) 2 }
+    ensures came { CameTo parts.old parts.new effects.old effects.new (run_all_exits tid (state_of parts.old)) }
+{
+    while let Some(mark) = next_exit(&mut parts.ids, tid) {
+        exit_call(parts, tid, mark, effects);
+    }
+}
+
+/// Of the thread's frames only the first `depth` stay. The exit procedures of the others run, the last set first.
+pub fn leave_frames(parts: &mut Parts, tid: Tid, depth: u32, effects: &mut Effects)
+    requires lawful { LawfulParts parts.old }
+    requires least { 1 ≤ depth }
+    requires most { depth ≤ frames (marks_in (state_of parts.old) tid) }
+    requires room { HasRoom effects.old (unwind tid (first_frames depth (marks_in (state_of parts.old) tid)) (later_frames depth (marks_in (state_of parts.old) tid)) (state_of parts.old)) 2 }
+    ensures came { CameTo parts.old parts.new effects.old effects.new (unwind tid (first_frames depth (marks_in (state_of parts.old) tid)) (later_frames depth (marks_in (state_of parts.old) tid)) (state_of parts.old)) }
+{
+    while let Some(mark) = next_exit_above(&mut parts.ids, tid, depth) {
+        exit_call(parts, tid, mark, effects);
+    }
+}

@@ -1,0 +1,20 @@
+//! The pod's parts, exit procedures and deaths.
+#![tactic(auto)]
+
+mod death;
+mod exits;
+mod frames;
+mod locks;
+mod parts;
+mod rows;
+mod signals;
+mod waiters;
+
+pub use death::die;
+pub use exits::{exit_call, reply, resume, set_exit};
+pub use frames::leave_frames;
+pub use locks::{monitor_break, monitor_exit, release};
+pub use parts::{Parts, is_thread, set_block, wake};
+pub use rows::{Kind, ThreadRec};
+pub use signals::{broadcast, notify};
+pub use waiters::end_agent;

@@ -1,0 +1,50 @@
+// How those that wait on a condition are woken: they wait to enter its monitor again.
+ghost use Rattle.std.specs.Prelude.{[]};
+ghost use Rattle.lwp_types.specs.Waits.{broadcast, notify};
+ghost use Rattle.death_cleanup.specs.Comes.{Answers};
+ghost use Rattle.death_cleanup.specs.Ties.{LawfulParts};
+ghost use Rattle.death_cleanup.specs.View.{state_of};
+
+use crate::parts::{Parts, set_block};
+use conditions::WaitRec;
+use lwp_types::{Answer, Block, Cid, LwpErr, Mid, Tid};
+
+// Whoever waited on a condition of the monitor waits to enter it again.
+fn ask_again(parts: &mut Parts, mon: Mid, wait: WaitRec) {
+    parts.mons.request(mon, wait.tid, wait.prio, wait.depth);
+    set_block(&mut parts.ids, wait.tid, Block::Entering(mon));
+}
+
+/// Of those that wait on the condition the first of the greatest priority is woken, if anybody waits.
+pub fn notify(parts: &mut Parts, tid: Tid, cond: Cid) -> Answer
+    requires lawful { LawfulParts parts.old }
+    ensures answers { Answers parts.old parts.new [] [] (notify (state_of parts.old) tid cond) result }
+{
+    let Some(mon) = parts.conds.monitor_of(cond) else {
+        return Answer::Refused(LwpErr::NonExist);
+    };
+    if parts.mons.last_held(tid) != Some(mon) {
+        return Answer::Refused(LwpErr::NotOwned);
+    }
+    if let Some(wait) = parts.conds.notify(cond) {
+        ask_again(parts, mon, wait);
+    }
+    Answer::Value(0)
+}
+
+/// All that wait on the condition are woken, in the order of their arrival.
+pub fn broadcast(parts: &mut Parts, tid: Tid, cond: Cid) -> Answer
+    requires lawful { LawfulParts parts.old }
+    ensures answers { Answers parts.old parts.new [] [] (broadcast (state_of parts.old) tid cond) result }
+{
+    let Some(mon) = parts.conds.monitor_of(cond) else {
+        return Answer::Refused(LwpErr::NonExist);
+    };
+    if parts.mons.last_held(tid) != Some(mon) {
+        return Answer::Refused(LwpErr::NotOwned);
+    }
+    while let Some(wait) = parts.conds.broadcast(cond) {
+        ask_again(parts, mon, wait);
+    }
+    Answer::Value(0)
+}
