@@ -1,5 +1,7 @@
 pub mod Living
-pub mod Frames
+pub mod Looks
 pub mod Draining
 pub mod Burials
 pub mod Withdrawals
+pub mod Outcomes
+pub mod Locking
