@@ -44,7 +44,13 @@ pub struct Parts {
 pub fn is_thread(parts: &Parts, tid: Tid) -> bool
     ensures { result ≡ is_thread (state_of parts.now) tid }
 {
-    matches!(parts.ids.get(tid.number), Some(Kind::Thread(_)))
+    // The check learns here that the living stand in birth order, so that a number finds one of them.
+    let _living = parts.ids.len();
+    match parts.ids.get(tid.number) {
+        Some(Kind::Thread(_)) => true,
+        Some(Kind::Agent) => false,
+        None => false,
+    }
 }
 
 /// Says of a live thread what it waits for.
