@@ -8,3 +8,5 @@ pub mod Burials
 pub mod Withdrawals
 pub mod Outcomes
 pub mod Locking
+pub mod Resuming
+pub mod Replying

@@ -6,6 +6,7 @@ use Rattle.lwp_types.specs.Case.{refused, unless, with_zero}
 use Rattle.lwp_types.specs.Locks.{depth_in, exited, is_owner, monitor_break, monitor_exit, with_depth}
 use Rattle.lwp_types.specs.Release.{lock_of, next_owner, release}
 use Rattle.lwp_types.specs.State.{State, is_blocked_in, is_not_blocked, member, passes, priority_in}
+use Rattle.lwp_types.specs.declared.rows.Lock.{Lock}
 use Rattle.lwp_types.specs.declared.call.LwpErr.TheVariants as error
 use Rattle.monitors.proofs.Machine.{leaves_agree, next_agrees, ranked_exited, ranked_released, releases_agree}
 use Rattle.monitors.specs.Machine.{AreRanked, with_owner}
@@ -13,8 +14,8 @@ use Rattle.monitors.specs.MonitorTable as mon
 use Rattle.monitors.specs.MonitorTable.{MonitorTable}
 use Rattle.monitors.specs.declared.requests.EntryRequest.{EntryRequest}
 use Rattle.pod_laws.proofs.LockMoves.{next, requester}
-use Rattle.std.proofs.Common.{Bool, None, Option, Some, ap, cond, false, not, refl, sym, true, ℕ, ◌-◌, ◌∙◌, ◌≡◌}
-use Rattle.std.specs.Prelude.{IfSome, IsTrue, is_none, option_map}
+use Rattle.std.proofs.Common.{Bool, List, None, Option, Some, ap, cond, false, not, refl, sym, true, ℕ, ◌-◌, ◌∙◌, ◌≡◌}
+use Rattle.std.specs.Prelude.{IfSome, IsTrue, is_none, is_some, option_map}
 
 module _ (parts : Parts) (step : InStep parts) where
   -- other monitors, whose requests are ranked, and with as many places
@@ -73,6 +74,14 @@ module _ (parts : Parts) (lawful : LawfulParts parts) where
       by_test true = owner-waits m (mon.next_owner parts.mons m) refl
       by_test false = tt
 
+-- who has no owner is free
+pub free-is : (locks : List Lock) (m : ℕ) (o : Option ℕ) (b : Bool) → o ≡ option_map (λ (lock : Lock). lock.owner) (lock_of locks m) → is_some o ≡ b → is_none (lock_of locks m) ≡ not b
+free-is locks m o b owner is = by_lock (lock_of locks m) (ap is_some (sym owner) ∙ is)
+  where
+    by_lock : (l : Option Lock) → is_some (option_map (λ (lock : Lock). lock.owner) l) ≡ b → is_none l ≡ not b
+    by_lock None e = ap not e
+    by_lock (Some lock) e = ap not e
+
 -- the calls, by what they ask first
 
 module _ (s : State) (t m : ℕ) where
@@ -88,6 +97,7 @@ module _ (s : State) (t m : ℕ) where
   unfolding unless
   exit-own live own = rw (live, own) refl
 
+module _ (s : State) (m : ℕ) where
   pub break-absent : member m s.monitors ≡ false → monitor_break s m ≡ refused s error.NonExist
   unfolding unless
   break-absent none = rw none refl
