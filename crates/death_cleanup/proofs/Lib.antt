@@ -4,6 +4,9 @@ pub mod Draining
 pub mod Fronts
 pub mod Keeping
 pub mod Waits
+pub mod Refusals
+pub mod Releases
+pub mod AgentEnds
 pub mod Burials
 pub mod Withdrawals
 pub mod Outcomes

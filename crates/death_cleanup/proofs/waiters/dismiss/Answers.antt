@@ -14,10 +14,10 @@ pub wake-requires-clause-room : goal.wake-requires-clause-room
 wake-requires-clause-room c = turn_room c.args.what c.args.tid c.args.parts.now c.args.effects.now c.loop-other.parts c.loop-other.effects c.loop-other.invariant c.in-Some.other (sym c.first_waiting.ensures ∙ c.in-Some.is)
 
 pub loop-other-smaller : goal.loop-other-smaller
-loop-other-smaller c = turn_fewer c.args.what c.args.tid c.args.parts.now c.args.effects.now c.loop-other.parts c.loop-other.effects c.loop-other.invariant c.in-Some.other (sym c.first_waiting.ensures ∙ c.in-Some.is) c.wake.new.parts c.wake.new.effects c.wake.ensures.came
+loop-other-smaller c = turn_fewer c.args.what c.args.tid c.args.parts.now c.args.effects.now c.loop-other.parts c.loop-other.effects c.loop-other.invariant c.in-Some.other (sym c.first_waiting.ensures ∙ c.in-Some.is) c.wake.new.parts c.wake.new.effects (rw c.answer.ensures at c.wake.ensures.came)
 
 pub loop-other-preserved : goal.loop-other-preserved
-loop-other-preserved c = turn_on c.args.what c.args.tid c.args.parts.now c.args.effects.now c.loop-other.parts c.loop-other.effects c.loop-other.invariant c.in-Some.other (sym c.first_waiting.ensures ∙ c.in-Some.is) c.wake.new.parts c.wake.new.effects c.wake.ensures.came
+loop-other-preserved c = turn_on c.args.what c.args.tid c.args.parts.now c.args.effects.now c.loop-other.parts c.loop-other.effects c.loop-other.invariant c.in-Some.other (sym c.first_waiting.ensures ∙ c.in-Some.is) c.wake.new.parts c.wake.new.effects (rw c.answer.ensures at c.wake.ensures.came)
 
 pub returns : goal.returns
 returns c = record { came = over c.args.what c.args.tid c.args.parts.now c.args.effects.now c.loop-other.parts c.loop-other.effects c.loop-other.invariant (sym c.first_waiting.ensures ∙ c.in_default.is) }
