@@ -88,7 +88,7 @@ wait_of_agrees t s c u once =
 
 -- changes
 
-without-row : (u : ℕ) (ws : List WaitRec) → map machine_row (table.without_wait u ws) ≡ machine.without_wait u (map machine_row ws)
+pub without-row : (u : ℕ) (ws : List WaitRec) → map machine_row (table.without_wait u ws) ≡ machine.without_wait u (map machine_row ws)
 without-row u ws = sym (map-filter machine_row _ ws)
 
 pub forgetting_agrees : ForgettingAgrees

@@ -13,3 +13,6 @@ pub mod Outcomes
 pub mod Locking
 pub mod Resuming
 pub mod Replying
+pub mod Crowds
+pub mod Asking
+pub mod Notices
