@@ -11,3 +11,10 @@ pub mod Unmarking
 pub mod Unwinding
 pub mod Burials
 pub mod Withdrawals
+pub mod Outcomes
+pub mod Locking
+pub mod Resuming
+pub mod Replying
+pub mod Crowds
+pub mod Asking
+pub mod Notices
