@@ -16,3 +16,4 @@ pub mod Replying
 pub mod Crowds
 pub mod Asking
 pub mod Notices
+pub mod Exiting
