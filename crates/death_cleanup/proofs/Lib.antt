@@ -7,6 +7,8 @@ pub mod Waits
 pub mod Refusals
 pub mod Releases
 pub mod AgentEnds
+pub mod Unmarking
+pub mod Unwinding
 pub mod Burials
 pub mod Withdrawals
 pub mod Outcomes

@@ -9,13 +9,15 @@ use Rattle.lwp_types.specs.Locks.{is_owned_by_other}
 use Rattle.lwp_types.specs.State.{Outcome, State, and_then, for_each, still}
 use Rattle.lwp_types.specs.Unblock.{nonexist, unblock}
 use Rattle.lwp_types.specs.declared.rows.Block.{Block}
+use Rattle.lwp_types.specs.declared.rows.Mark.{Mark}
 use Rattle.lwp_types.specs.declared.rows.Block.TheVariants as block
 use Rattle.monitors.specs.MonitorTable as mon
 use Rattle.monitors.specs.MonitorTable.{MonitorTable}
 use Rattle.pod_sched.specs.Schedule as sched
 use Rattle.rendezvous.specs.Mailbag as mail
 use Rattle.stale_ids.specs.Register.{removed}
-use Rattle.std.specs.Prelude.{IsTrue, None, Some, false, if◌then◌else◌, length, map, ℕ, ◌<◌, ◌==◌, ◌≡◌, ◌≤◌}
+use Rattle.stale_ids.specs.Register.{value_of}
+use Rattle.std.specs.Prelude.{IsTrue, List, None, Option, Some, [], false, if◌then◌else◌, length, map, ℕ, ◌<◌, ◌==◌, ◌≡◌, ◌≤◌}
 
 -- the record of a thread with another block
 abbrev pub kind_set : Block → Kind → Kind
@@ -52,6 +54,28 @@ buried parts t = record parts { ids = removed parts.ids t; dying = None }
 -- an agent that is listed no more ends: whoever waits for it by name goes on, and its letter goes
 abbrev pub agent_over : ℕ → State → Outcome
 agent_over a s = and_then (for_each (unblock nonexist) (receivers_of s a) s) (λ now. still (record now { letters = without_letter a now.letters }))
+
+-- the marks of who lives there; an agent has none
+abbrev pub kind_marks : Option Kind → List Mark
+kind_marks (Some (kind.Thread rec)) = rec.stack
+kind_marks _ = []
+
+-- the marks of thread t in the registry
+abbrev pub stack_of : ℕ → List (ℕ × Kind) → List Mark
+stack_of t living = kind_marks (value_of t living)
+
+-- the record of a thread with other marks
+abbrev pub kind_marked : List Mark → Kind → Kind
+kind_marked ms (kind.Thread rec) = kind.Thread (record rec { stack = ms })
+kind_marked ms kind.Agent = kind.Agent
+
+-- a pair of the registry, with other marks where it is that of t
+abbrev pub stack_set : ℕ → List Mark → ℕ × Kind → ℕ × Kind
+stack_set t ms live = (live.0, if live.0 == t then kind_marked ms live.1 else live.1)
+
+-- the parts in which t has other marks
+abbrev pub stacked : Parts → ℕ → List Mark → Parts
+stacked parts t ms = record parts { ids = record parts.ids { live = map (stack_set t ms) parts.ids.live } }
 
 -- the parts once this thread, which waited on a condition of monitor m, waits to enter m
 abbrev pub asked : Parts → ℕ → WaitRec → Parts
