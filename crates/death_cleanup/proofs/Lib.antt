@@ -20,3 +20,4 @@ pub mod Replying
 pub mod Crowds
 pub mod Asking
 pub mod Notices
+pub mod Exiting
