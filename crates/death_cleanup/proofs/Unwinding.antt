@@ -170,7 +170,7 @@ module _ (t : ℕ) (todo : List Mark → List ExitMark) (kept : List Mark) where
         }
 
 -- what lies below the last exit is fewer marks
-below_fewer : (ms : List Mark) → Fewer (below_last_exit ms) ms
+pub below_fewer : (ms : List Mark) → Fewer (below_last_exit ms) ms
 below_fewer [] p = omega arith
 below_fewer (m ∷ ms) p = by_test (list_any is_exit ms) (below_fewer ms p)
   where
