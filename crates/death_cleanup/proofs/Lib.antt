@@ -21,3 +21,4 @@ pub mod Crowds
 pub mod Asking
 pub mod Notices
 pub mod Exiting
+pub mod Leaving

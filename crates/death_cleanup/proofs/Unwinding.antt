@@ -176,7 +176,7 @@ told : (t : ℕ) (x : ExitMark) (s : State) → 1 ≤ length (run_exit t x s).ef
 told t x s = omega (arith, length-append (exit_case s t x.call).others (effect.Exited t x.reg x.call (unwrap_or (exit_case s t x.call).own zero_answer) ∷ []))
 
 -- what lies below the last exit is fewer marks
-below_fewer : (ms : List Mark) → Fewer (below_last_exit ms) ms
+pub below_fewer : (ms : List Mark) → Fewer (below_last_exit ms) ms
 below_fewer [] p = omega arith
 below_fewer (m ∷ ms) p = by_test (list_any is_exit ms) (below_fewer ms p)
   where
