@@ -9,6 +9,8 @@ pub mod Releases
 pub mod AgentEnds
 pub mod Unmarking
 pub mod Unwinding
+pub mod Costs
+pub mod Dying
 pub mod Burials
 pub mod Withdrawals
 pub mod Outcomes

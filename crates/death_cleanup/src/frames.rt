@@ -46,7 +46,7 @@ fn next_exit_above(parts: &mut Parts, tid: Tid, depth: u32) -> Option<ExitMark>
 pub fn run_all_exits(parts: &mut Parts, tid: Tid, effects: &mut Effects)
     requires lawful { LawfulParts parts.old }
     requires dying { parts.old.dying ≡ Some tid }
-    requires room { HasRoom effects.old (run_all_exits tid (state_of parts.old)) 2 }
+    requires room { HasRoom effects.old (run_all_exits tid (state_of parts.old)) 1 }
     ensures came { CameTo parts.old parts.new effects.old effects.new (run_all_exits tid (state_of parts.old)) }
 {
     while let Some(mark) = next_exit(&mut parts.ids, tid) {
@@ -59,7 +59,7 @@ pub fn leave_frames(parts: &mut Parts, tid: Tid, depth: u32, effects: &mut Effec
     requires lawful { LawfulParts parts.old }
     requires least { 1 ≤ depth }
     requires most { depth ≤ frames (marks_in (state_of parts.old) tid) }
-    requires room { HasRoom effects.old (unwind tid (first_frames depth (marks_in (state_of parts.old) tid)) (later_frames depth (marks_in (state_of parts.old) tid)) (state_of parts.old)) 2 }
+    requires room { HasRoom effects.old (unwind tid (first_frames depth (marks_in (state_of parts.old) tid)) (later_frames depth (marks_in (state_of parts.old) tid)) (state_of parts.old)) 1 }
     ensures came { CameTo parts.old parts.new effects.old effects.new (unwind tid (first_frames depth (marks_in (state_of parts.old) tid)) (later_frames depth (marks_in (state_of parts.old) tid)) (state_of parts.old)) }
 {
     while let Some(mark) = next_exit_above(parts, tid, depth) {
