@@ -28,7 +28,7 @@ pub ask_again-requires : goal.ask_again-requires
 ask_again-requires c =
     let first : first_wait c.loop-wait.parts.conds c.args.cond ≡ Some c.in-Some-broadcast.wait = sym c.broadcast.ensures.value ∙ c.in-Some-broadcast.is in
     may-ask c.loop-wait.parts c.loop-wait.invariant.caller c.args.cond c.in-Some.mon c.in-Some-broadcast.wait (waits_on (woken c.loop-wait.parts.conds (Some c.in-Some-broadcast.wait)) c.args.cond)
-        (now c.args.cond c.in-Some.mon c.args.parts.now c.loop-wait.parts c.loop-wait.invariant c.in-Some-broadcast.wait first)
+    (now c.args.cond c.in-Some.mon c.args.parts.now c.loop-wait.parts c.loop-wait.invariant c.in-Some-broadcast.wait first)
 
 pub loop-wait-smaller : goal.loop-wait-smaller
 loop-wait-smaller c =

@@ -35,7 +35,7 @@ pub ask_again-requires : goal.ask_again-requires
 ask_again-requires c =
     let found : condition_of c.args.parts.now.conds.conditions c.args.cond ≡ Some (record { number = c.args.cond; mon = c.in-Some.mon }) = row-is c.args.parts.now.conds.conditions c.args.cond c.in-Some.mon (sym c.monitor_of.ensures ∙ c.in-Some.is) in
     may-ask c.args.parts.now c.args.tid c.args.cond c.in-Some.mon c.in-Some-send_to.wait []
-        (begins-one c.args.parts.now c.requires.lawful c.args.tid c.args.cond c.in-Some.mon found (sym c.if-not-is_last.ensures) c.args.to c.in-Some-send_to.wait (sym c.in-Some-send_to.is ∙ c.send_to.ensures.value))
+    (begins-one c.args.parts.now c.requires.lawful c.args.tid c.args.cond c.in-Some.mon found (sym c.if-not-is_last.ensures) c.args.to c.in-Some-send_to.wait (sym c.in-Some-send_to.is ∙ c.send_to.ensures.value))
 
 pub returns : goal.returns
 returns c =

@@ -30,7 +30,7 @@ pub ask_again-requires : goal.ask_again-requires
 ask_again-requires c =
     let found : condition_of c.args.parts.now.conds.conditions c.args.cond ≡ Some (record { number = c.args.cond; mon = c.in-Some.mon }) = row-is c.args.parts.now.conds.conditions c.args.cond c.in-Some.mon (sym c.monitor_of.ensures ∙ c.in-Some.is) in
     may-ask c.args.parts.now c.args.tid c.args.cond c.in-Some.mon c.in-Some-notify.wait []
-        (begins-best c.args.parts.now c.requires.lawful c.args.tid c.args.cond c.in-Some.mon found (sym c.if-not-is_last.ensures) (Some c.in-Some-notify.wait) (sym c.in-Some-notify.is ∙ c.notify.ensures.value))
+    (begins-best c.args.parts.now c.requires.lawful c.args.tid c.args.cond c.in-Some.mon found (sym c.if-not-is_last.ensures) (Some c.in-Some-notify.wait) (sym c.in-Some-notify.is ∙ c.notify.ensures.value))
 
 pub returns : goal.returns
 returns c =
