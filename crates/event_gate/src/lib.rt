@@ -1,0 +1,30 @@
+//! Where lines of the outside wait until a pod takes them: lists that are filled beforehand, and ports, to which outside
+//! threads post while the pod runs.
+//!
+//! A port is one queue and the two kinds of ends that it has. Each client has a `Poster`, and the runner has the one `Taker`.
+//! What holds at each step of any of them is the rule of the port (`specs/Port.antt`): what was pushed is what was popped and
+//! then what the queue holds, and each client's part of it is what its poster knows that it has posted. So for every schedule,
+//! once a poster's pass is taken in, its lines taken and then its lines queued are what it posted, in order (`TakesIn`), and a
+//! take answers `None` only where nothing was queued (`FindsNothing`). The crate stands on the words of `lwp_types`, on the
+//! kit's `crossbeam_queue` for the queue and on its `atomic_table` for a gauge beside it.
+#![tactic(auto)]
+
+mod bell;
+mod gauge;
+mod gauge_rule;
+mod inlet;
+mod open;
+mod port;
+mod poster;
+mod posts;
+mod rule;
+mod taker;
+mod view;
+
+pub use bell::Bell;
+pub use inlet::Inlet;
+pub use open::open_port;
+pub use poster::{PostPass, PostRefused, Poster};
+pub use posts::{NoGate, PostEnd, PostGate, post_all};
+pub use taker::Taker;
+pub use view::{Told, View};
