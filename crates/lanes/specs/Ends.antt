@@ -3,7 +3,7 @@ use Rattle.std.specs.Prelude.{◌≡◌, ℕ, ◌+◌, ◌-◌, ◌≤◌, Bool,
 use Rattle.atomic_table.specs.Seated.{TableId}
 use Rattle.lwp_types.specs.declared.call.Line.{Line}
 use Rattle.event_gate.specs.declared.view.Told.{Told}
-use Rattle.event_gate.specs.Inlet.{Intake}
+use Rattle.event_gate.specs.Inlet.{Intake, IsInletTold, IsInletTaken, inlet_left}
 use Rattle.event_gate.specs.Port.{of, is_told, told_of, Accounts}
 use Rattle.lanes.specs.Lane.{after_hit, after_miss, after_take_in, told_list, Sees}
 use Rattle.lanes.specs.declared.view.LaneView.{LaneView}
@@ -44,21 +44,21 @@ pub record IsLanePoster (v : LaneView) (client count : ℕ) : Type 0 where
   pub free : v.holds ≡ false
   pub count_is : length v.posted ≡ count
 
--- the runner's end: its lane and event, the lines taken, the number of empty finds, the client, and what that has posted in all once its pass came back
+-- the runner's end: its lane, event and client, the lines taken, the number of empty finds, and what the client has posted in all once its pass came back
 pub record LaneTaking : Type 0 where
   pub lane : TableId
   pub event : ℕ
+  pub client : ℕ
   pub taken : List Line
   pub finds : ℕ
-  pub noted : List ℕ
   pub known : List Told
 
 abbrev pub lane_taking : TableId → ℕ → LaneView → LaneTaking
-lane_taking lane event v = record { lane = lane; event = event; taken = v.known; finds = v.loads - length v.known; noted = v.client ∷ []; known = told_list v }
+lane_taking lane event v = record { lane = lane; event = event; client = v.client; taken = v.known; finds = v.loads - length v.known; known = told_list v }
 
 -- the runner's end of a new lane
 abbrev pub lane_opened : TableId → ℕ → ℕ → LaneTaking
-lane_opened lane event client = record { lane = lane; event = event; taken = []; finds = 0; noted = client ∷ []; known = [] }
+lane_opened lane event client = record { lane = lane; event = event; client = client; taken = []; finds = 0; known = [] }
 
 pub record IsLaneTaker (v : LaneView) (client count : ℕ) (told : Bool) (posted : ℕ) : Type 0 where
   pub takes : v.takes ≡ true
@@ -71,7 +71,7 @@ pub record IsLaneTaker (v : LaneView) (client count : ℕ) (told : Bool) (posted
 
 -- these lines of the lane were not taken at a step, in this order
 abbrev pub LaneQueued : LaneTaking → List Line → Type 0
-LaneQueued t lines = Accounts t.noted t.known t.taken lines
+LaneQueued t lines = Accounts (t.client ∷ []) t.known t.taken lines
 
 -- x was the next line of the lane, and was taken
 pub record LaneTakes (t u : LaneTaking) (x : Line) : Type 0 where
@@ -90,17 +90,6 @@ pub record LaneTakesIn (t : LaneTaking) (p : LanePosting) (u : LaneTaking) : Typ
   pub lines : List Line
   pub queued : LaneQueued u lines
 
--- the pass came back
-abbrev pub IsLaneTold : LaneTaking → Type 0
-IsLaneTold t = All (λ c. is_told c t.known ≡ true) t.noted
-
--- each line that the told client has posted was taken
-abbrev pub IsLaneTaken : LaneTaking → Type 0
-IsLaneTaken t = All (λ c. told_of c t.known ≡ of c t.taken) t.noted
-
-abbrev pub lane_left : LaneTaking → ℕ → ℕ
-lane_left t c = length (told_of c t.known) - length (of c t.taken)
-
 -- the taker's view took in the poster's
 pub record TakesInSeat (v u w : LaneView) : Type 0 where
   pub after : w ≡ after_take_in v u
@@ -113,4 +102,16 @@ abbrev pub lane_place : TableId → List ℕ
 lane_place l = l.words ∷ l.slots ∷ l.views_name ∷ l.atom ∷ l.block ∷ l.offset ∷ l.slot_names
 
 abbrev pub lane_intake : LaneTaking → Intake
-lane_intake t = record { place = lane_place t.lane; event = t.event; taken = t.taken; finds = t.finds; noted = t.noted; known = t.known }
+lane_intake t = record { place = lane_place t.lane; event = t.event; taken = t.taken; finds = t.finds; noted = t.client ∷ []; known = t.known }
+
+-- the pass came back
+abbrev pub IsLaneTold : LaneTaking → Type 0
+IsLaneTold t = IsInletTold (lane_intake t)
+
+-- each line that the client has posted was taken, where its pass came back
+abbrev pub IsLaneTaken : LaneTaking → Type 0
+IsLaneTaken t = IsInletTaken (lane_intake t)
+
+-- how many lines of a client are left
+abbrev pub lane_left : LaneTaking → ℕ → ℕ
+lane_left t c = inlet_left c (lane_intake t)

@@ -1,6 +1,7 @@
 // A lane as an inlet.
 use crate::lane::LaneTaker;
-use event_gate::{Inlet, Line};
+use event_gate::Inlet;
+use lwp_types::Line;
 use std::sync::Wait;
 
 impl Inlet for LaneTaker {
@@ -22,6 +23,6 @@ impl Inlet for LaneTaker {
     }
 
     fn left(&self, client: u8) -> u32 {
-        self.left(client)
+        self.left_of(client)
     }
 }

@@ -6,7 +6,7 @@ ghost use Rattle.lanes.specs.Ends.{line_more, lane_posting, lane_opened, lane_le
 use crate::rule::{InLane, Learn, Look, Open, Publish, Reserve, TakeIn};
 use crate::view::LaneView;
 use atomic_table::{Seat, Table};
-use event_gate::{Line, NoMemory};
+use lwp_types::{Line, NoMemory};
 use std::alloc::Global;
 use std::marker::Model;
 use std::sync::Arc;
@@ -180,8 +180,15 @@ impl LaneTaker {
         self.told
     }
 
-    /// How many lines of the client are left, where its pass came back.
-    pub fn left(&self, client: u8) -> u32
+    /// How many lines are left, where the pass came back.
+    pub fn left(&self) -> u32
+        ensures { result ≡ lane_left self.now self.now.client }
+    {
+        self.left_of(self.client)
+    }
+
+    /// How many lines of the client are left: none where it is another's lane, or the pass is still out.
+    pub(crate) fn left_of(&self, client: u8) -> u32
         ensures { result ≡ lane_left self.now client }
     {
         if self.told && client == self.client {

@@ -3,7 +3,8 @@ ghost use Rattle.std.specs.Prelude.{◌≡◌, ◌+◌, ◌≤◌, length};
 ghost use Rattle.lanes.specs.Texts.{lane_posted};
 
 use crate::lane::{LanePass, LanePoster};
-use event_gate::{Bell, Line, PostGate};
+use event_gate::{Bell, PostGate};
+use lwp_types::{Line, Text};
 use std::sync::Wait;
 
 /// Posts the texts in order, with a ring of the bell after each. Then the poster leaves.

@@ -1,7 +1,7 @@
 // The rule of a lane, and the kinds of step that it allows.
 use crate::view::LaneView;
 use atomic_table::{Join, Play, Split, TableRule};
-use event_gate::Line;
+use lwp_types::Line;
 
 /// The rule of a lane.
 pub struct InLane;

@@ -1,5 +1,5 @@
 // What a seat of a lane knows. No value of this type is made.
-use event_gate::Line;
+use lwp_types::Line;
 use std::collections::LinkedList;
 
 /// What a seat may do and what it knows.
