@@ -10,19 +10,24 @@
 #![tactic(auto)]
 
 mod bell;
+mod gate;
 mod gauge;
 mod gauge_rule;
 mod inlet;
+mod list_gate;
 mod open;
 mod port;
 mod poster;
 mod posts;
 mod rule;
+mod shelf;
 mod taker;
 mod view;
 
 pub use bell::Bell;
+pub use gate::Gate;
 pub use inlet::Inlet;
+pub use list_gate::ListGate;
 pub use open::open_port;
 pub use poster::{PostPass, PostRefused, Poster};
 pub use posts::{NoGate, PostEnd, PostGate, post_all};
