@@ -1,6 +1,6 @@
 -- What a take and a line more make of the lines left and of their counts.
-use Rattle.std.proofs.Common.{◌≡◌, ◌≢◌, ℕ, zero, suc, ◌+◌, ◌-◌, ◌<◌, ◌≤◌, Bool, true, false, eqb, List, [], ◌∷◌, ◌++◌, length, map, set, replicate, drop, slice_get, slice_index, slice_index_or, get_or, Option, Some, sym, refl, ap, ◌∙◌, ⊎_elim, get_or-set_same, get_or-set_other, length-append, take, subst, eq-eqb, ne_eqb, arith}
-use Rattle.std.specs.List.{count_by, filter, range_with_len, sum_by}
+use Rattle.std.proofs.Common.{◌≡◌, ◌≢◌, ℕ, zero, suc, ◌+◌, ◌-◌, ◌<◌, ◌≤◌, Bool, eqb, List, [], ◌∷◌, ◌++◌, length, map, set, replicate, drop, slice_get, slice_index, get_or, Some, sym, refl, ap, ◌∙◌, ⊎_elim, get_or-set_same, get_or-set_other, length-append, take, subst, eq-eqb, ne_eqb, arith}
+use Rattle.std.specs.List.{count_by, range_with_len}
 use Rattle.std.proofs.lemmas.List.{append-nil, get_or_default, take_more}
 use Rattle.std.proofs.lemmas.List.FromFn.{length-map-range_with_len}
 use Rattle.std.proofs.lemmas.List.Elements.{filter-append}
@@ -118,6 +118,7 @@ no_counts c = all_zero 256 c ∙ sym (none_left 256 c)
     all_zero zero i = refl
     all_zero (suc n) zero = refl
     all_zero (suc n) (suc i) = all_zero n i
+
     none_left : (n c : ℕ) → left_of_client c (replicate n bare) ≡ 0
     none_left zero c = refl
     none_left (suc n) c = none_left n c
@@ -133,27 +134,30 @@ pub take_at : (left : List ℕ) (shelves : List Shelf) (e i n : ℕ) (s w : Shel
 take_at left shelves e i n s w x h there known s_is w_is first i_is n_is =
     let same : s ≡ shelf_of shelves e = found_shelf shelves e s there s_is in
     let count : n ≡ slice_index left x.client = n_is ∙ get_or_default left i n 0 known ∙ ap (λ k. get_or left k 0) i_is in
-    let next : slice_get (shelf_of shelves e).left 0 ≡ Some x = ap (λ (t : Shelf). slice_get t.left 0) (sym same) ∙ first in
-    (let a = one_left shelves e x there next in let b = h x.client in omega (arith, a, b, count),
-    subst (λ (y : Shelf × ℕ × ℕ). Counts (set left y.1 (y.2 - 1)) (set shelves e y.0)) (λ k. (sym (w_is ∙ ap moved same) k, sym i_is k, sym count k))
-        (counts_taken left shelves e x h there (let b = i_is in omega (arith, b)) next))
+    let next : slice_get (shelf_of shelves e).left 0 ≡ Some x = ap (λ (t : Shelf). slice_get t.left 0) (sym same) ∙ first in (
+      let a = one_left shelves e x there next in let b = h x.client in omega (arith, a, b, count),
+      subst (λ (y : Shelf × ℕ × ℕ). Counts (set left y.1 (y.2 - 1)) (set shelves e y.0)) (λ k. (sym (w_is ∙ ap moved same) k, sym i_is k, sym count k))
+          (counts_taken left shelves e x h there (let b = i_is in omega (arith, b)) next),
+    )
 
 pub add_at : (left : List ℕ) (shelves : List Shelf) (e i n : ℕ) (s w : Shelf) (x : Line) → Counts left shelves → e < length shelves → i < length left → s ≡ get_or shelves e s → w ≡ with_line s x → i ≡ x.client → n ≡ get_or left i n
     → (n ≤ left_in_all shelves) × Counts (set left i (n + 1)) (set shelves e w)
 add_at left shelves e i n s w x h there known s_is w_is i_is n_is =
     let same : s ≡ shelf_of shelves e = found_shelf shelves e s there s_is in
-    let count : n ≡ slice_index left x.client = n_is ∙ get_or_default left i n 0 known ∙ ap (λ k. get_or left k 0) i_is in
-    (let a = within_all x.client shelves in let b = h x.client in omega (arith, a, b, count),
-    subst (λ (y : Shelf × ℕ × ℕ). Counts (set left y.1 (y.2 + 1)) (set shelves e y.0)) (λ k. (sym (w_is ∙ ap (λ (t : Shelf). with_line t x) same) k, sym i_is k, sym count k))
-        (counts_added left shelves e x h there (let b = i_is in omega (arith, b))))
+    let count : n ≡ slice_index left x.client = n_is ∙ get_or_default left i n 0 known ∙ ap (λ k. get_or left k 0) i_is in (
+      let a = within_all x.client shelves in let b = h x.client in omega (arith, a, b, count),
+      subst (λ (y : Shelf × ℕ × ℕ). Counts (set left y.1 (y.2 + 1)) (set shelves e y.0)) (λ k. (sym (w_is ∙ ap (λ (t : Shelf). with_line t x) same) k, sym i_is k, sym count k))
+          (counts_added left shelves e x h there (let b = i_is in omega (arith, b))),
+    )
 
 pub add_next : (events : List ℕ) (posts : List Line) (i e : ℕ) (x : Line) (gate w : List Shelf) → i < length posts → x ≡ get_or posts i x → gate ≡ stocked events (take i posts) → left_in_all gate ≡ i → e ≡ slice_index events x.client → e < 256 → w ≡ added_to gate e x
     → (w ≡ stocked events (take (i + 1) posts)) × (left_in_all w ≡ i + 1)
 add_next events posts i e x gate w lt x_is gate_is all e_is low w_is =
     let long : length gate ≡ 256 = ap length gate_is ∙ length-map-range_with_len (full events (take i posts)) 0 256 in
-    let next : take i posts ++ x ∷ [] ≡ take (i + 1) posts = ap (λ y. take i posts ++ y ∷ []) x_is ∙ sym (take_more posts i x lt) in
-    (w_is ∙ (λ k. added_to (gate_is k) (e_is k) x) ∙ stocked_more events (take i posts) x (omega (arith, low, e_is)) ∙ ap (stocked events) next,
-    ap left_in_all w_is ∙ all_more gate e x (omega (arith, low, long)) ∙ ap (λ k. k + 1) all)
+    let next : take i posts ++ x ∷ [] ≡ take (i + 1) posts = ap (λ y. take i posts ++ y ∷ []) x_is ∙ sym (take_more posts i x lt) in (
+      w_is ∙ (λ k. added_to (gate_is k) (e_is k) x) ∙ stocked_more events (take i posts) x (omega (arith, low, e_is)) ∙ ap (stocked events) next,
+      ap left_in_all w_is ∙ all_more gate e x (omega (arith, low, long)) ∙ ap (λ k. k + 1) all,
+    )
 
 pub begins : (events : List ℕ) (gate : List Shelf) → gate ≡ replicate 256 bare → (gate ≡ stocked events []) × (left_in_all gate ≡ 0)
 begins events gate is = (is ∙ sym (stocked_none events), ap left_in_all is ∙ none_in 256)

@@ -2,8 +2,8 @@
 ghost use Rattle.std.specs.Prelude.{◌≡◌, ◌↔◌, IfSome, IfNone, IsNone, IsTrue};
 ghost use Rattle.event_gate.specs.Inlet.{Intake, InletTakes, InletFindsNothing, IsInletTold, IsInletTaken, inlet_left, port_intake};
 
-use lwp_types::Line;
 use crate::taker::Taker;
+use lwp_types::Line;
 use std::sync::Wait;
 
 /// The runner's end of a port or of a lane.

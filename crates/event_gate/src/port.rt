@@ -1,9 +1,9 @@
 // The queue of a port.
-use lwp_types::Line;
+use crate::gauge::Gauge;
 use crate::rule::InPort;
 use crate::view::View;
 use crossbeam_queue::{RuledSegQueue, SegPass};
-use crate::gauge::Gauge;
+use lwp_types::Line;
 
 /// What a thread may do with a port's queue. It has no bytes.
 pub(crate) type Pass = SegPass<Line, View>;

@@ -6,10 +6,10 @@ ghost use Rattle.event_gate.specs.Port.{poster, after_post};
 ghost use Rattle.event_gate.specs.Gauge.{IsAtGauge, opening};
 ghost use Rattle.event_gate.specs.Ends.{posting, posted_more};
 
-use lwp_types::Line;
+use crate::gauge::{GaugeSeat, announce, withdraw};
 use crate::port::{Pass, Port};
 use crate::rule::Post;
-use crate::gauge::{GaugeSeat, announce, withdraw};
+use lwp_types::Line;
 use std::alloc::Global;
 use std::marker::Model;
 use std::sync::{Arc, Wait};
@@ -62,6 +62,7 @@ impl Poster {
         }
     }
 
+    /// Whose end it is.
     pub fn client(&self) -> u8
         ensures { result ≡ self.now.client }
     {

@@ -9,6 +9,7 @@ use std::sync::Wait;
 
 /// What is done before each post.
 pub trait PostGate: Send + Drop {
+    /// Called before the client's line of that number is posted.
     fn before(&mut self, client: u8, seq: u32);
 }
 

@@ -1,7 +1,7 @@
 // The rule of a port, and the kinds of step that it allows.
-use lwp_types::Line;
 use crate::view::View;
 use crossbeam_queue::protocol::{Join, Lesson, Outcome, Protocol, Split};
+use lwp_types::Line;
 
 /// The rule of a port.
 pub struct InPort;

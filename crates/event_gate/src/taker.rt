@@ -6,11 +6,11 @@ ghost use Rattle.crossbeam_queue.specs.SegTies.{IsSegPassOf};
 ghost use Rattle.event_gate.specs.Gauge.{IsAtGauge, after_find, opening};
 ghost use Rattle.event_gate.specs.Port.{Sees, Takes};
 
-use lwp_types::Line;
+use crate::gauge::{GaugeSeat, glance};
 use crate::port::{Pass, Port};
 use crate::poster::PostPass;
 use crate::rule::{Keep, Take, TakeIn};
-use crate::gauge::{GaugeSeat, glance};
+use lwp_types::Line;
 use std::alloc::{AllocError, Global};
 use std::marker::Model;
 use std::sync::{Arc, Wait};
@@ -48,6 +48,7 @@ impl Model for Taker {
 }
 
 impl Taker {
+    /// The event that the port is for.
     pub fn event(&self) -> u8
         ensures { result ≡ self.now.event }
     {

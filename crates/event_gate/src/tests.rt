@@ -1,9 +1,7 @@
 ghost use Rattle.std.specs.Prelude.{◌≡◌, ◌+◌, ◌≤◌, [], All, IfOk, length};
 ghost use denote.Param.Send.{IsSync};
 
-use crate::{
-    Bell, Gate, ListGate, NoGate, PostEnd, PostGate, Poster, Taker, open_port, post_all,
-};
+use crate::{Bell, Gate, ListGate, NoGate, PostEnd, PostGate, Poster, Taker, open_port, post_all};
 use crossbeam_utils::atomic::AtomicCell;
 use lwp_types::{Line, NoMemory, Text};
 use std::alloc::Global;
@@ -303,8 +301,7 @@ fn both_end_early<R: Wait>(
 fn a_pass_comes_in_before_its_lines(rt: HostRuntime) -> Result<(), Fail> {
     let texts = [text(b"a"); 2];
     let bell = Bell::new();
-    let (mut taker, out) =
-        both_end_early(&rt, rt.alloc(), &texts, &bell).map_err(|_| "no memory")?;
+    let (mut taker, out) = both_end_early(&rt, rt.alloc(), &texts, &bell).map_err(|_| "no memory")?;
     bell.park(&rt);
     assert_eq!(rt; (out, bell.gone(&rt), taker.event()), (1, 2, 7));
     let mut left = [(9u32, 9u32); 5];

@@ -32,12 +32,15 @@ pub record LanePosting : Type 0 where
   pub posted : List Line
   pub lines : ℕ
 
+-- the end of a client that has posted nothing
 abbrev pub lane_posting : TableId → ℕ → ℕ → LanePosting
 lane_posting lane client lines = record { lane = lane; client = client; posted = []; lines = lines }
 
+-- the client has posted one line more
 abbrev pub line_more : LanePosting → Line → LanePosting
 line_more p x = record p { posted = p.posted ++ x ∷ [] }
 
+-- the view of this client's poster, which has posted so many lines and holds no slot
 pub record IsLanePoster (v : LaneView) (client count : ℕ) : Type 0 where
   pub posts : v.posts ≡ true
   pub client_is : v.client ≡ client
@@ -53,6 +56,7 @@ pub record LaneTaking : Type 0 where
   pub finds : ℕ
   pub known : List Told
 
+-- what the taker's view says
 abbrev pub lane_taking : TableId → ℕ → LaneView → LaneTaking
 lane_taking lane event v = record { lane = lane; event = event; client = v.client; taken = v.known; finds = v.loads - length v.known; known = told_list v }
 
@@ -60,6 +64,7 @@ lane_taking lane event v = record { lane = lane; event = event; client = v.clien
 abbrev pub lane_opened : TableId → ℕ → ℕ → LaneTaking
 lane_opened lane event client = record { lane = lane; event = event; client = client; taken = []; finds = 0; known = [] }
 
+-- the taker's view of this client's lane, with its counts of the lines known and, once told, of those posted
 pub record IsLaneTaker (v : LaneView) (client count : ℕ) (told : Bool) (posted : ℕ) : Type 0 where
   pub takes : v.takes ≡ true
   pub client_is : v.client ≡ client
@@ -101,6 +106,7 @@ pub record TakesInSeat (v u w : LaneView) : Type 0 where
 abbrev pub lane_place : TableId → List ℕ
 lane_place l = l.words ∷ l.slots ∷ l.views_name ∷ l.atom ∷ l.block ∷ l.offset ∷ l.slot_names
 
+-- a lane's end as any runner's end
 abbrev pub lane_intake : LaneTaking → Intake
 lane_intake t = record { place = lane_place t.lane; event = t.event; taken = t.taken; finds = t.finds; noted = t.client ∷ []; known = t.known }
 

@@ -39,6 +39,7 @@ impl Model for LanePoster {
 }
 
 impl LanePoster {
+    /// Whose end it is.
     pub fn client(&self) -> u8
         ensures { result ≡ self.now.client }
     {
@@ -141,6 +142,7 @@ impl Model for LaneTaker {
 }
 
 impl LaneTaker {
+    /// The event that the lane is for.
     pub fn event(&self) -> u8
         ensures { result ≡ self.now.event }
     {

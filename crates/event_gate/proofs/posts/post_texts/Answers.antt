@@ -1,4 +1,4 @@
-use Rattle.std.proofs.Common.{ sym, ◌∙◌, ap}
+use Rattle.std.proofs.Common.{sym, ◌∙◌, ap}
 use Rattle.lwp_types.specs.declared.call.Line.{Line}
 use Rattle.event_gate.specs.Ends.{Posting}
 use Rattle.event_gate.proofs.Texts.{room_left, posts_more}

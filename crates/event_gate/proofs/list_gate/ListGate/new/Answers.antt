@@ -1,4 +1,4 @@
-use Rattle.std.proofs.Common.{ap, sym, ◌∙◌, get_or, arith}
+use Rattle.std.proofs.Common.{ap, ◌∙◌, get_or, arith}
 use Rattle.std.proofs.lemmas.List.{take_all}
 use Rattle.event_gate.specs.Shelves.{stocked}
 use Rattle.event_gate.proofs.ShelfLaws.{add_next}

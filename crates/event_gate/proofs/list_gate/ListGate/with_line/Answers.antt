@@ -1,4 +1,4 @@
-use Rattle.std.proofs.Common.{◌∙◌, ap, length-set, sym, arith}
+use Rattle.std.proofs.Common.{◌∙◌, ap, length-set, arith}
 use Rattle.event_gate.specs.Shelves.{left_in_all}
 use Rattle.event_gate.proofs.ShelfLaws.{add_at}
 use Rattle.event_gate.proofs.list_gate.ListGate.with_line.Goals as goal
