@@ -1,6 +1,9 @@
 //! Where lines of the outside wait until a pod takes them: lists that are filled beforehand, and ports, to which outside
 //! threads post while the pod runs.
 //!
+//! A gate is two lists of each event, the lines taken and the lines left (`specs/Shelves.antt`). A take gives the first line
+//! left of its event, so of each client the lines taken and then those left are what it posts (`specs/History.antt`).
+//!
 //! A port is one queue and the two kinds of ends that it has. Each client has a `Poster`, and the runner has the one `Taker`.
 //! What holds at each step of any of them is the rule of the port (`specs/Port.antt`): what was pushed is what was popped and
 //! then what the queue holds, and each client's part of it is what its poster knows that it has posted. So for every schedule,
