@@ -52,6 +52,7 @@ apart x tables (l ∷ ls) = by (nat_eq x l.0) refl (apart x (tables_after l.0 l.
 
     mapped : Letters → List (List ℕ)
     mapped ms = map (λ m. m.1) ms
+
     by : (b : Bool) → nat_eq x l.0 ≡ b → told_among x (tables_after l.0 l.1 tables) ls ≡ replies (table_of x (tables_after l.0 l.1 tables)) (texts_of x ls)
         → told_among x tables (l ∷ ls) ≡ replies (table_of x tables) (texts_of x (l ∷ ls))
     by true h e =
