@@ -2,7 +2,7 @@
 use Rattle.indexmap.specs.IndexMap.{insert_entry}
 use Rattle.line_server.specs.Stores.{Letters, Tables, table_of, tables_after, texts_of, told_among, told_sender}
 use Rattle.line_server.specs.Tables.{Table, replies, told}
-use Rattle.std.proofs.Common.{Bool, List, None, Option, Some, [], ap, cond, false, refl, subst, sym, true, true≢false, ℕ, ◌≡◌, ◌∙◌, ◌∷◌}
+use Rattle.std.proofs.Common.{Bool, List, None, Some, [], ap, cond, false, refl, subst, sym, true, ℕ, ◌≡◌, ◌∙◌, ◌∷◌}
 use Rattle.std.proofs.lemmas.Bool.{eq-eqb, eqb-true}
 use Rattle.std.specs.Map.{lookup}
 use Rattle.std.specs.Option.{unwrap_or}
