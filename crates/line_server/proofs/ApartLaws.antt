@@ -2,7 +2,7 @@
 use Rattle.indexmap.specs.IndexMap.{insert_entry}
 use Rattle.line_server.specs.Stores.{Letters, Tables, table_of, tables_after, texts_of, told_among, told_sender}
 use Rattle.line_server.specs.Tables.{Table, replies, told}
-use Rattle.std.proofs.Common.{Bool, List, None, Option, Some, [], ap, cond, false, refl, subst, sym, true, true≢false, ℕ, ◌≡◌, ◌∙◌, ◌∷◌}
+use Rattle.std.proofs.Common.{Bool, List, None, Some, [], ap, cond, false, refl, subst, sym, true, ℕ, ◌≡◌, ◌∙◌, ◌∷◌}
 use Rattle.std.proofs.lemmas.Bool.{eq-eqb, eqb-true}
 use Rattle.std.specs.Map.{lookup}
 use Rattle.std.specs.Option.{unwrap_or}
@@ -52,6 +52,7 @@ apart x tables (l ∷ ls) = by (nat_eq x l.0) refl (apart x (tables_after l.0 l.
 
     mapped : Letters → List (List ℕ)
     mapped ms = map (λ m. m.1) ms
+
     by : (b : Bool) → nat_eq x l.0 ≡ b → told_among x (tables_after l.0 l.1 tables) ls ≡ replies (table_of x (tables_after l.0 l.1 tables)) (texts_of x ls)
         → told_among x tables (l ∷ ls) ≡ replies (table_of x tables) (texts_of x (l ∷ ls))
     by true h e =

@@ -7,7 +7,7 @@ use Rattle.line_server.specs.Tables.{Table, told}
 use Rattle.line_server.specs.declared.command.Asked.{Asked}
 use Rattle.line_server.specs.declared.command.Asked.TheVariants as asked
 use Rattle.lwp_types.specs.TextFields.{is_printable, is_text}
-use Rattle.std.proofs.Common.{Bool, IsTrue, List, None, Option, Some, [], ap, arith, cond, drop, false, is_some, length, refl, subst, sym, take, true, true≢false, ℕ, zero, suc, ◌-◌, ◌≡◌, ◌≤◌, ◌∙◌, ◌∷◌}
+use Rattle.std.proofs.Common.{Bool, IsTrue, List, None, Option, Some, [], ap, arith, cond, drop, false, is_some, length, refl, subst, sym, take, true, true≢false, ℕ, zero, suc, ◌≡◌, ◌≤◌, ◌∙◌, ◌∷◌}
 use Rattle.std.proofs.lemmas.Bool.{leb-true}
 use Rattle.std.proofs.lemmas.List.{length-drop}
 use Rattle.std.specs.Borrow.{Bor}

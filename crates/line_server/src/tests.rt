@@ -1,5 +1,5 @@
 use crate::{SessionBody, StoreBody};
-use lwp_types::{Answer, Body, Call, Env, ExitCall, LwpErr, NULL_TID, NoMemory, Text, Tid};
+use lwp_types::{Answer, Body, Call, Env, LwpErr, NULL_TID, NoMemory, Text, Tid};
 use std::test::Fail;
 
 // An answer and the call that it leads to: kind, number and text of each.
@@ -45,6 +45,11 @@ fn heard(call: &Call) -> (u8, u64, Text) {
     }
 }
 
+fn said<B: Body>(body: &mut B, env: &mut Env, got: Answer) -> Result<(u8, u64, Text), NoMemory> {
+    let call = body.poll(env, got)?;
+    Ok(heard(&call))
+}
+
 // The first row that the body doesn't keep to, if there is one.
 fn first_wrong<B: Body>(
     body: &mut B,
@@ -53,9 +58,8 @@ fn first_wrong<B: Body>(
 ) -> Result<Option<usize>, NoMemory> {
     for i in 0..rows.len() {
         let (kind, number, text, wanted, at, told) = rows[i];
-        let call = body.poll(env, answer_of(kind, number, text.as_bytes()))?;
-        let (is, to, said) = heard(&call);
-        if is != wanted || to != at || said.bytes() != told.as_bytes() {
+        let (is, to, words) = said(body, env, answer_of(kind, number, text.as_bytes()))?;
+        if is != wanted || to != at || words.bytes() != told.as_bytes() {
             return Ok(Some(i));
         }
     }
@@ -111,8 +115,8 @@ fn first_untold(
 ) -> Result<Option<usize>, NoMemory> {
     for i in 0..rows.len() {
         let (from, text, told) = rows[i];
-        let (is, to, said) = told_of(body, env, from, text.as_bytes())?;
-        if is != b'r' || to != from || said.bytes() != told.as_bytes() {
+        let (is, to, words) = told_of(body, env, from, text.as_bytes())?;
+        if is != b'r' || to != from || words.bytes() != told.as_bytes() {
             return Ok(Some(i));
         }
     }
@@ -125,9 +129,9 @@ fn told_of(
     from: u64,
     text: &[u8],
 ) -> Result<(u8, u64, Text), NoMemory> {
-    let call = body.poll(env, answer_of(b'l', from, text))?;
-    body.poll(env, Answer::Value(0))?;
-    Ok(heard(&call))
+    let told = said(body, env, answer_of(b'l', from, text))?;
+    said(body, env, answer_of(b'v', 0, b""))?;
+    Ok(told)
 }
 
 #[test]
@@ -135,7 +139,7 @@ fn a_store_has_a_table_for_each_sender(rt: HostRuntime) -> Result<(), Fail> {
     let alloc = rt.alloc();
     let mut env = Env::new(alloc, 0, 0, 0)?;
     let mut body = StoreBody::new(alloc);
-    body.poll(&mut env, Answer::Value(0))?;
+    said(&mut body, &mut env, answer_of(b'v', 0, b""))?;
     let rows = [
         (1, "put k v", "ok"),
         (1, "get k", "is v"),
@@ -169,11 +173,11 @@ fn a_table_has_a_hundred_keys(rt: HostRuntime) -> Result<(), Fail> {
     let alloc = rt.alloc();
     let mut env = Env::new(alloc, 0, 0, 0)?;
     let mut body = StoreBody::new(alloc);
-    body.poll(&mut env, Answer::Value(0))?;
+    said(&mut body, &mut env, answer_of(b'v', 0, b""))?;
     for i in 0..100u8 {
         let text = [b'p', b'u', b't', b' ', b'0' + i / 10, b'0' + i % 10];
-        let (_, _, said) = told_of(&mut body, &mut env, 5, &text)?;
-        assert_eq!(rt; said.bytes(), b"ok".as_slice());
+        let (_, _, words) = told_of(&mut body, &mut env, 5, &text)?;
+        assert_eq!(rt; words.bytes(), b"ok".as_slice());
     }
     let rows = [
         (5, "put k v", "full"),
