@@ -3,7 +3,7 @@ use Rattle.lwp_types.specs.State.{passes}
 use Rattle.pod_sched.specs.Index.{IsAbsent, IsAt, IsGapAt, IsHint, IsIndexed, IsRising, cell_in, is_entry_of, no_place, slot_in, without_entry}
 use Rattle.pod_sched.specs.Slots.{Puts}
 use Rattle.pod_sched.specs.declared.index.Place.{Place}
-use Rattle.std.proofs.Common.{Bool, Err, IfNone, IfSome, IsSome, Ok, Result, get_or, inl, inr, suc, zero, ◌%◌, ◌<◌, List, None, Option, Some, [], ap, arith, cond, eqb, false, length, not, option_map, refl, sym, true, ℕ, ◌++◌, ◌+◌, ◌∙◌, ◌∷◌, ◌≡◌, ◌≢◌, ◌≤◌}
+use Rattle.std.proofs.Common.{Bool, Err, IfNone, IfSome, IsSome, Ok, Result, get_or, inl, inr, suc, zero, ◌%◌, ◌<◌, List, None, Option, Some, [], ap, arith, cond, eqb, false, length, not, option_map, refl, sym, true, ℕ, ◌+◌, ◌∙◌, ◌∷◌, ◌≡◌, ◌≢◌, ◌≤◌}
 use Rattle.std.proofs.lemmas.Bool.{cases_lt, eq-eqb, eqb-false, eqb-true, ne_eqb}
 use Rattle.std.proofs.lemmas.Bool.Decides.{nat_tests}
 use Rattle.std.proofs.lemmas.Cmp.{ranked}

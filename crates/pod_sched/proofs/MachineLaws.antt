@@ -12,7 +12,7 @@ use Rattle.lwp_types.specs.declared.call.Flags.{Flags}
 use Rattle.lwp_types.specs.declared.rows.Block.{Block}
 use Rattle.lwp_types.specs.declared.rows.Block.TheVariants as block
 use Rattle.lwp_types.specs.declared.rows.Mark.{Mark}
-use Rattle.pod_sched.specs.Machine.{AnswersAlike, BirthsAreShown, DeathsAreShown, FlagsAreShown, IsNotDying, MarksAreHidden, Shows, TurnsAreShown, WaitsAreShown, known_of, seen}
+use Rattle.pod_sched.specs.Machine.{AnswersAlike, BirthsAreShown, DeathsAreShown, FlagsAreShown, IsNotDying, MarksAreHidden, Shows, TurnsAreShown, WaitsAreShown, known_of}
 use Rattle.pod_sched.specs.Schedule as sched
 use Rattle.pod_sched.specs.Schedule.{Schedule, newcomer}
 use Rattle.pod_sched.specs.declared.rows.Known.{Known}

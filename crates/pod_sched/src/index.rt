@@ -81,7 +81,7 @@ fn halving(places: &Vec<Place>, number: u64) -> Option<usize>
     }
 }
 
-// All entries but that of a number.
+// All entries but that of a number. Those behind it move up in one piece.
 fn take_out(places: &mut Vec<Place>, number: u64)
     requires { IsRising places.old.items }
     ensures items { places.new.items ≡ without_entry number places.old.items }

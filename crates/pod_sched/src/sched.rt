@@ -253,7 +253,7 @@ impl Sched {
         bucket::peek(&self.best())
     }
 
-    /// What `current` answers, with its looks at buckets counted: one, where priorities go up to `maxpri`.
+    /// What `current` answers, with its looks at buckets counted: one, however many priorities there are.
     pub fn current_counted<L: Ledger>(&self, steps: &mut Steps<L>) -> Option<Tid>
         ensures value { result ≡ choice self.now }
         ensures cost { steps.new ≤ steps.old + self.now.maxpri }
