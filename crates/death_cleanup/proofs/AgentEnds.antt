@@ -3,7 +3,7 @@ use Rattle.agents.specs.Roster.{destroyed, first_of, without_first, without_foun
 use Rattle.death_cleanup.proofs.Burials.{rows-removed}
 use Rattle.death_cleanup.proofs.Draining.{Draining, came_then, done, fewer, first_room, goes_on}
 use Rattle.death_cleanup.proofs.Fronts.{Front, found_first, found_none}
-use Rattle.death_cleanup.proofs.Keeping.{InStep-agents, InStep-mail}
+use Rattle.death_cleanup.proofs.Keeping.{InStep-agents}
 use Rattle.death_cleanup.proofs.Looks.{find-row, same-some}
 use Rattle.death_cleanup.specs.Comes.{CameTo, HasRoom}
 use Rattle.death_cleanup.specs.Moves.{agent_over}
@@ -12,10 +12,10 @@ use Rattle.death_cleanup.specs.View.{rows_of, state_of}
 use Rattle.death_cleanup.specs.Waits.{dismissed}
 use Rattle.death_cleanup.specs.declared.parts.Parts.{Parts}
 use Rattle.death_cleanup.specs.declared.rows.Awaited.TheVariants as awaited
-use Rattle.lwp_types.specs.Agents.{agent_gone, agents_of, belongs_to, end_agent, without_agent}
+use Rattle.lwp_types.specs.Agents.{agents_of, belongs_to, end_agent, without_agent}
 use Rattle.lwp_types.specs.CountLaws.{count-cons, count_not_found, one}
 use Rattle.lwp_types.specs.Death.{end_agents}
-use Rattle.lwp_types.specs.Lawful.{NineParts, is_same_option}
+use Rattle.lwp_types.specs.Lawful.{is_same_option}
 use Rattle.lwp_types.specs.Letters.{receivers_of, without_letter}
 use Rattle.lwp_types.specs.State as machine
 use Rattle.lwp_types.specs.State.{Outcome, State, ThreadRow, agent_of, and_then, for_each, is_agent, is_agent_row, is_not_blocked, is_number, is_thread, passes, still, times_in, with_block}
@@ -28,11 +28,11 @@ use Rattle.pod_laws.proofs.DeathLoops.{Unowning, end_first}
 use Rattle.pod_laws.proofs.Drains.{keys_times}
 use Rattle.rendezvous.specs.Mailbag.{forgotten}
 use Rattle.stale_ids.specs.Register.{removed, without}
-use Rattle.std.proofs.Common.{Bool, List, None, Option, Some, [], ap, arith, cond, eqb, false, length, length-append, not, refl, sym, true, ℕ, ◌&&◌, ◌++◌, ◌+◌, ◌<◌, ◌∙◌, ◌∷◌, ◌≡◌, ◌≤◌}
+use Rattle.std.proofs.Common.{Bool, List, None, Option, Some, [], ap, arith, cond, eqb, false, length, length-append, not, refl, sym, true, ℕ, ◌&&◌, ◌++◌, ◌<◌, ◌∙◌, ◌∷◌, ◌≡◌, ◌≤◌}
 use Rattle.std.proofs.lemmas.Bool.{eq-eqb}
 use Rattle.std.proofs.lemmas.List.{append-nil}
 use Rattle.std.specs.List.{count_by, filter, find}
-use Rattle.std.specs.Prelude.{is_some, option_map, unwrap_or}
+use Rattle.std.specs.Prelude.{is_some, option_map}
 
 -- while threads go on, agents don't matter
 

@@ -7,12 +7,11 @@ use Rattle.conditions.specs.declared.waits.WaitRec.{WaitRec}
 use Rattle.death_cleanup.proofs.Crowds.{Stand, a_place, none_there, nowhere}
 use Rattle.death_cleanup.proofs.Looks.{find-row, same-some, waits}
 use Rattle.death_cleanup.specs.Moves.{MayAsk, block_set, kind_set, signalled}
-use Rattle.death_cleanup.specs.Ties.{InStep, LawfulParts}
+use Rattle.death_cleanup.specs.Ties.{InStep}
 use Rattle.death_cleanup.specs.View.{known_of, row_of, row_onto, rows_of, state_of}
 use Rattle.death_cleanup.specs.declared.parts.Parts.{Parts}
 use Rattle.death_cleanup.specs.declared.rows.Kind.{Kind}
 use Rattle.death_cleanup.specs.declared.rows.Kind.TheVariants as kind
-use Rattle.death_cleanup.specs.declared.rows.ThreadRec.{ThreadRec}
 use Rattle.lwp_types.specs.CountLaws.{count-cons, count_and-le, count_not_found, one, one-le}
 use Rattle.lwp_types.specs.Counts.{is_depth, is_entering, is_waiting, waits_by}
 use Rattle.lwp_types.specs.Lawful.{NineParts, is_same_option}
@@ -32,10 +31,10 @@ use Rattle.pod_laws.proofs.Elements.{all_at}
 use Rattle.pod_laws.proofs.LockMoves.{requester_enters, waiter_waits}
 use Rattle.pod_laws.proofs.Waking.{Waiter, Waking, first_waits, waiter, waking_next}
 use Rattle.pod_sched.specs.declared.rows.Known.{Known}
-use Rattle.std.proofs.Common.{Bool, List, None, Option, Some, [], ap, arith, count_by, eqb, false, inl, inr, leb, length, map, not, refl, sym, true, ℕ, ◌&&◌, ◌++◌, ◌∙◌, ◌∷◌, ◌≡◌, ◌≤◌, ◌<◌, ◌||◌}
+use Rattle.std.proofs.Common.{Bool, List, None, Option, Some, [], ap, arith, count_by, eqb, false, inl, inr, leb, length, map, not, refl, sym, true, ℕ, ◌&&◌, ◌∙◌, ◌∷◌, ◌≡◌, ◌≤◌, ◌||◌}
 use Rattle.std.proofs.lemmas.Bool.{and_parts, cases_eq, eq-eqb, leb-true, ne_eqb}
 use Rattle.std.proofs.lemmas.List.{length-map, map-append}
-use Rattle.std.specs.List.{find, list_all}
+use Rattle.std.specs.List.{find}
 use Rattle.std.specs.Prelude as prelude
 use Rattle.std.specs.Prelude.{is_some, option_map, unwrap_or}
 

@@ -20,7 +20,6 @@ use Rattle.monitors.specs.declared.requests.EntryRequest.{EntryRequest}
 use Rattle.lwp_types.specs.CountLaws.{count-cons, one}
 use Rattle.lwp_types.specs.Lawful.{NineParts}
 use Rattle.lwp_types.specs.State as machine
-use Rattle.pod_laws.proofs.Chosen.{Living}
 use Rattle.pod_laws.proofs.DeathEnds.{Forgotten, NineParts-bury}
 use Rattle.pod_laws.proofs.Deaths.{dying_living}
 use Rattle.pod_laws.proofs.Elements.{false_of, find_filter_none}

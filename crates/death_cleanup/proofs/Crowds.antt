@@ -2,11 +2,10 @@
 use Rattle.lwp_types.specs.CountLaws.{count-cons, count-failed, count-filter-le, count_any, length-failed, one, one-le}
 use Rattle.lwp_types.specs.State.{ThreadRow, is_number, passes}
 use Rattle.lwp_types.specs.declared.rows.Block.{Block}
-use Rattle.std.proofs.Common.{Bool, List, None, Option, Some, [], ap, arith, cond, count_by, eqb, false, inl, inr, length, not, refl, sym, true, ℕ, ◌&&◌, ◌+◌, ◌<◌, ◌∙◌, ◌∷◌, ◌≡◌, ◌≢◌, ◌≤◌, ◌||◌}
-use Rattle.std.proofs.lemmas.Bool.{and_from, cases_eq, eq-eqb, eqb-true, ne_eqb}
+use Rattle.std.proofs.Common.{Bool, List, None, Option, Some, [], ap, arith, cond, count_by, eqb, false, inl, inr, length, not, refl, sym, true, ℕ, ◌&&◌, ◌<◌, ◌∙◌, ◌∷◌, ◌≡◌, ◌≢◌, ◌≤◌}
+use Rattle.std.proofs.lemmas.Bool.{and_from, cases_eq, eq-eqb, ne_eqb}
 use Rattle.std.proofs.lemmas.List.Sums.{count_by-le-length}
 use Rattle.std.specs.List.{filter, find, list_any}
-use Rattle.std.specs.Prelude.{is_some}
 
 module _ {X : Type 0} (key place : X → ℕ) where
   -- whoever stands at no other place than m stands there or nowhere

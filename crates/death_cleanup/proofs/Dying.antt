@@ -18,7 +18,7 @@ use Rattle.pod_laws.proofs.Deaths.{NineParts-death, forgotten, lonely, nine_unwo
 use Rattle.pod_laws.proofs.Drains.{wake_all}
 use Rattle.lwp_types.specs.Letters.{awaits}
 use Rattle.lwp_types.specs.Unblock.{nonexist}
-use Rattle.std.proofs.Common.{List, None, Some, [], ap, arith, length, length-append, refl, sym, true, ℕ, ◌++◌, ◌+◌, ◌<◌, ◌∙◌, ◌∷◌, ◌≡◌, ◌≤◌}
+use Rattle.std.proofs.Common.{List, None, Some, [], ap, arith, length, length-append, sym, true, ℕ, ◌++◌, ◌+◌, ◌<◌, ◌∙◌, ◌∷◌, ◌≡◌, ◌≤◌}
 use Rattle.std.proofs.lemmas.List.{append-nil, append_assoc}
 
 -- the state and the effects of one outcome and then another

@@ -1,11 +1,11 @@
 -- The pod of the test is lawful, since calls and a delivery lead to it.
 use Rattle.death_cleanup.specs.Example as example
 use Rattle.death_cleanup.specs.Example.{called, waiting}
-use Rattle.death_cleanup.specs.Ties.{IsTied, LawfulParts}
+use Rattle.death_cleanup.specs.Ties.{LawfulParts}
 use Rattle.death_cleanup.specs.View.{state_of}
 use Rattle.lwp_types.specs.Agents.{deliver}
 use Rattle.lwp_types.specs.Case.{unless}
-use Rattle.lwp_types.specs.Lawful.{Lawful, NineParts}
+use Rattle.lwp_types.specs.Lawful.{Lawful}
 use Rattle.lwp_types.specs.State.{State, ThreadRow, and_then, is_not_blocked, is_number, passes, for_each, in_order, opening}
 use Rattle.lwp_types.specs.Step.{step, step_by}
 use Rattle.lwp_types.specs.declared.call.Call.{Call}

@@ -1,15 +1,14 @@
 -- An exit procedure is carried out.
-use Rattle.death_cleanup.proofs.Outcomes.{came_as}
 use Rattle.death_cleanup.specs.Comes.{Answers, CameTo}
 use Rattle.death_cleanup.specs.Ties.{LawfulParts}
 use Rattle.death_cleanup.specs.View.{state_of}
 use Rattle.death_cleanup.specs.declared.parts.Parts.{Parts}
 use Rattle.lwp_types.specs.Case.{Case, Check, unless}
-use Rattle.lwp_types.specs.Exits.{exit_case, exit_outcome, run_exit}
+use Rattle.lwp_types.specs.Exits.{exit_case, run_exit}
 use Rattle.lwp_types.specs.Letters.{replied, with_holding, without_letter}
 use Rattle.lwp_types.specs.Locks.{depth_in, exited, with_depth}
 use Rattle.lwp_types.specs.Release.{grant, next_owner, release, without_lock}
-use Rattle.lwp_types.specs.State.{Outcome, State, is_agent, still}
+use Rattle.lwp_types.specs.State.{State, is_agent, still}
 use Rattle.lwp_types.specs.Unblock.{unblock, zero_answer}
 use Rattle.lwp_types.specs.declared.call.Answer.{Answer}
 use Rattle.lwp_types.specs.declared.call.Effect.{Effect}
@@ -20,7 +19,7 @@ use Rattle.lwp_types.specs.declared.call.Answer.TheVariants as answer
 use Rattle.lwp_types.specs.declared.call.Effect.TheVariants as effect
 use Rattle.lwp_types.specs.declared.call.ExitCall.TheVariants as exit
 use Rattle.pod_laws.proofs.ExitCalls.{run_exit_keeps}
-use Rattle.std.proofs.Common.{Bool, List, None, Option, Some, [], ap, append_assoc, arith, cond, false, length, length-append, refl, sym, true, ℕ, ◌++◌, ◌+◌, ◌-◌, ◌∙◌, ◌∷◌, ◌≡◌, ◌≤◌}
+use Rattle.std.proofs.Common.{Bool, List, None, Option, Some, [], ap, append_assoc, arith, cond, false, length, length-append, sym, true, ℕ, ◌++◌, ◌+◌, ◌-◌, ◌∙◌, ◌∷◌, ◌≤◌}
 use Rattle.std.proofs.lemmas.List.{append-nil}
 use Rattle.std.specs.Prelude.{nat_le, unwrap_or}
 

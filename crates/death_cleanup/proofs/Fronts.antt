@@ -6,7 +6,7 @@ use Rattle.death_cleanup.specs.declared.rows.Kind.{Kind}
 use Rattle.death_cleanup.specs.declared.rows.Kind.TheVariants as kind
 use Rattle.lwp_types.specs.State.{ThreadRow}
 use Rattle.pod_sched.specs.declared.rows.Known.{Known}
-use Rattle.std.proofs.Common.{Bool, List, None, Option, Some, [], ap, cond, false, map, refl, true, ℕ, ◌∷◌, ◌≡◌}
+use Rattle.std.proofs.Common.{Bool, List, None, Some, [], ap, cond, false, map, refl, true, ℕ, ◌∷◌, ◌≡◌}
 use Rattle.std.specs.List.{filter, find}
 use Rattle.std.specs.Prelude.{option_map}
 

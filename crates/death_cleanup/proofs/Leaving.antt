@@ -2,17 +2,17 @@
 use Rattle.death_cleanup.proofs.Living.{written-marks}
 use Rattle.death_cleanup.proofs.Unwinding.{Unwinding, below_fewer, exit_room, marks-are, marks_left, popped, popped_lawful, unwinds_on, unwinds_over, told}
 use Rattle.death_cleanup.specs.Comes.{CameTo, HasRoom}
-use Rattle.death_cleanup.specs.Moves.{kind_marked, kind_marks, stack_of, stacked}
+use Rattle.death_cleanup.specs.Moves.{kind_marked, kind_marks, stacked}
 use Rattle.death_cleanup.specs.Ties.{LawfulParts}
 use Rattle.death_cleanup.specs.View.{state_of}
 use Rattle.death_cleanup.specs.declared.parts.Parts.{Parts}
 use Rattle.death_cleanup.specs.declared.rows.Kind.{Kind}
 use Rattle.exc_stack.specs.Stack.{UnwindsTo, below_last_exit, unwound_to}
-use Rattle.lwp_types.specs.CountLaws.{count-append, count-cons}
+use Rattle.lwp_types.specs.CountLaws.{count-append}
 use Rattle.lwp_types.specs.Counts.{has_its_marks}
 use Rattle.lwp_types.specs.Exits.{run_exit, unwind}
 use Rattle.lwp_types.specs.Lawful.{is_same_option}
-use Rattle.lwp_types.specs.Marks.{exits_of, first_frames, frames, is_exit, later_frames}
+use Rattle.lwp_types.specs.Marks.{exits_of, first_frames, frames, later_frames}
 use Rattle.lwp_types.specs.State.{State, ThreadRow, is_number, is_thread, marks_in, thread_of}
 use Rattle.lwp_types.specs.declared.call.Effect.{Effect}
 use Rattle.lwp_types.specs.declared.rows.ExitMark.{ExitMark}
@@ -21,9 +21,8 @@ use Rattle.pod_laws.proofs.Chosen.{Living, living}
 use Rattle.pod_laws.proofs.Elements.{all_found, find_passes}
 use Rattle.pod_laws.proofs.MarkLists.{Fewer, first_based, frames_split, is_based, stack_fewer, stack_from}
 use Rattle.stale_ids.specs.Register.{AreRising, value_of, with_value}
-use Rattle.std.proofs.Common.{Bool, List, None, Option, Some, [], ap, arith, cond, count_by, eqb, false, length, refl, sym, true, ℕ, ◌++◌, ◌+◌, ◌<◌, ◌∙◌, ◌∷◌, ◌≡◌, ◌≤◌, ◌||◌}
+use Rattle.std.proofs.Common.{Bool, List, None, Option, Some, [], ap, arith, count_by, false, length, refl, sym, true, ℕ, ◌++◌, ◌+◌, ◌<◌, ◌∙◌, ◌∷◌, ◌≡◌, ◌≤◌, ◌||◌}
 use Rattle.std.proofs.lemmas.Bool.{eqb-true}
-use Rattle.std.specs.List.{list_any}
 use Rattle.std.specs.Prelude.{is_some, option_map, option_to_list, unwrap_or}
 
 -- what the thread's record in the registry has

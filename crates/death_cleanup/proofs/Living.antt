@@ -1,8 +1,6 @@
 -- The living in their registry, one by one.
 use Rattle.death_cleanup.specs.Moves.{block_set, kind_marked, kind_marks, kind_set, stack_of, stack_set}
 use Rattle.death_cleanup.specs.declared.rows.Kind.{Kind}
-use Rattle.death_cleanup.specs.declared.rows.Kind.TheVariants as kind
-use Rattle.death_cleanup.specs.declared.rows.ThreadRec.{ThreadRec}
 use Rattle.lwp_types.specs.declared.rows.Block.{Block}
 use Rattle.lwp_types.specs.declared.rows.Mark.{Mark}
 use Rattle.stale_ids.specs.Register.{AreRising, numbers, value_of, with_value}

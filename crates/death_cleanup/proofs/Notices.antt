@@ -4,7 +4,7 @@ use Rattle.conditions.proofs.Ranks.{All-filter}
 use Rattle.conditions.specs.ConditionTable as cond
 use Rattle.conditions.specs.ConditionTable.{is_on, is_wait_of}
 use Rattle.conditions.specs.declared.waits.WaitRec.{WaitRec}
-use Rattle.death_cleanup.proofs.Asking.{InStep-signalled, IsWaitedOnce-lawful, Signalling, Signalling-next, signalled-is}
+use Rattle.death_cleanup.proofs.Asking.{IsWaitedOnce-lawful, Signalling, Signalling-next, signalled-is}
 use Rattle.death_cleanup.specs.Moves.{signalled}
 use Rattle.death_cleanup.specs.Ties.{InStep, LawfulParts}
 use Rattle.death_cleanup.specs.View.{state_of}
@@ -23,9 +23,9 @@ use Rattle.lwp_types.specs.declared.rows.CondRow.{CondRow}
 use Rattle.lwp_types.specs.declared.rows.WaitRow.{WaitRow}
 use Rattle.pod_laws.proofs.Elements.{all_filter, find_passes}
 use Rattle.pod_laws.proofs.WaitCalls.{Among, all_among, best_among, waking_begins}
-use Rattle.std.proofs.Common.{Bool, List, MatchOption, None, Option, Some, [], ap, arith, eqb, false, length, map, refl, sym, true, ℕ, ◌&&◌, ◌++◌, ◌<◌, ◌∙◌, ◌∷◌, ◌≡◌}
+use Rattle.std.proofs.Common.{Bool, List, None, Option, Some, [], ap, arith, eqb, false, length, map, refl, sym, true, ℕ, ◌&&◌, ◌++◌, ◌<◌, ◌∙◌, ◌∷◌, ◌≡◌}
 use Rattle.std.proofs.lemmas.Bool.{eqb-true}
-use Rattle.std.specs.List.{AllByRecursion, filter, find, fold}
+use Rattle.std.specs.List.{AllByRecursion, find, fold}
 use Rattle.std.specs.Prelude as prelude
 use Rattle.std.specs.Prelude.{option_map, option_to_list}
 

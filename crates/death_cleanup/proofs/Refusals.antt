@@ -14,7 +14,7 @@ use Rattle.lwp_types.specs.declared.call.Effect.{Effect}
 use Rattle.lwp_types.specs.declared.rows.Letter.{Letter}
 use Rattle.pod_laws.proofs.DeathLoops.{Lonely, first_sender, refuse_first}
 use Rattle.rendezvous.specs.Mailbag.{first_to, popped, without_found}
-use Rattle.std.proofs.Common.{List, None, Option, Some, ap, arith, length, not, refl, sym, true, ℕ, ◌<◌, ◌∙◌, ◌≡◌}
+use Rattle.std.proofs.Common.{List, None, Option, Some, ap, arith, length, not, refl, true, ℕ, ◌<◌, ◌∙◌, ◌≡◌}
 use Rattle.std.specs.Prelude.{option_map}
 
 module _ (t : ℕ) where

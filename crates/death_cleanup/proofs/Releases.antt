@@ -14,7 +14,7 @@ use Rattle.lwp_types.specs.declared.call.Effect.{Effect}
 use Rattle.lwp_types.specs.declared.rows.Lock.{Lock}
 use Rattle.pod_laws.proofs.DeathLoops.{owned, release_first}
 use Rattle.pod_laws.proofs.Drains.{keys_times}
-use Rattle.std.proofs.Common.{List, None, Option, Some, ap, arith, eqb, false, length, refl, reverse, sym, ℕ, ◌+◌, ◌<◌, ◌∙◌, ◌≡◌, ◌≤◌}
+use Rattle.std.proofs.Common.{List, None, Option, Some, ap, arith, eqb, false, length, refl, reverse, ℕ, ◌<◌, ◌∙◌, ◌≡◌, ◌≤◌}
 use Rattle.std.proofs.lemmas.Bool.{eq-eqb}
 use Rattle.std.specs.List.{count_by}
 use Rattle.std.specs.Prelude.{is_none, option_map}

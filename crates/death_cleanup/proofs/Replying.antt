@@ -5,7 +5,7 @@ use Rattle.death_cleanup.specs.Ties.{InStep, LawfulParts}
 use Rattle.death_cleanup.specs.View.{state_of}
 use Rattle.death_cleanup.specs.declared.parts.Parts.{Parts}
 use Rattle.lwp_types.specs.Case.{refused, unless, with_zero}
-use Rattle.lwp_types.specs.Letters.{received_from, replied, reply, with_holding, without_letter}
+use Rattle.lwp_types.specs.Letters.{received_from, replied, reply, with_holding}
 use Rattle.lwp_types.specs.State.{State, agent_of, is_agent, is_blocked_in, is_id, is_not_blocked, is_thread, passes, still, thread_of}
 use Rattle.lwp_types.specs.Unblock.{unblock}
 use Rattle.lwp_types.specs.declared.call.LwpErr.{LwpErr}
@@ -16,7 +16,7 @@ use Rattle.lwp_types.specs.declared.rows.Letter.{Letter}
 use Rattle.pod_laws.proofs.LetterCalls.{reply_sends, sender_row}
 use Rattle.rendezvous.specs.Mailbag as mail
 use Rattle.rendezvous.specs.Mailbag.{refusal}
-use Rattle.std.proofs.Common.{Bool, List, None, Option, Some, [], ap, arith, cond, false, length, map, not, refl, sym, true, ℕ, ◌∙◌, ◌∷◌, ◌≡◌, ◌||◌}
+use Rattle.std.proofs.Common.{Bool, List, None, Option, Some, [], ap, arith, cond, false, length, not, refl, sym, true, ℕ, ◌∙◌, ◌∷◌, ◌≡◌, ◌||◌}
 use Rattle.std.specs.Prelude.{is_none, is_some, nat_lt, option_map}
 
 -- an agent has an owner

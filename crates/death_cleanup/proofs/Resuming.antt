@@ -6,7 +6,7 @@ use Rattle.death_cleanup.specs.declared.parts.Parts.{Parts}
 use Rattle.death_cleanup.specs.declared.rows.Kind.{Kind}
 use Rattle.death_cleanup.specs.declared.rows.Kind.TheVariants as kind
 use Rattle.death_cleanup.specs.declared.rows.ThreadRec.{ThreadRec}
-use Rattle.lwp_types.specs.Case.{answered, refused, unless, valued}
+use Rattle.lwp_types.specs.Case.{refused, unless, valued}
 use Rattle.lwp_types.specs.Lawful.{is_same_option}
 use Rattle.lwp_types.specs.State as machine
 use Rattle.lwp_types.specs.State.{State, ThreadRow, is_not_blocked, is_number, is_thread, passes}
@@ -17,10 +17,10 @@ use Rattle.conditions.proofs.Machine as conds
 use Rattle.pod_sched.specs.Schedule as sched
 use Rattle.pod_sched.specs.Schedule.{newcomer}
 use Rattle.pod_sched.specs.declared.rows.Known.{Known}
-use Rattle.std.proofs.Common.{Bool, List, None, Option, Some, [], ap, arith, cond, eqb, false, inl, inr, length, map, not, refl, sym, true, ℕ, ◌&&◌, ◌++◌, ◌∙◌, ◌∷◌, ◌≡◌, ◌<◌, ◌≤◌}
+use Rattle.std.proofs.Common.{Bool, List, None, Option, Some, [], ap, arith, cond, eqb, false, inl, inr, length, not, refl, sym, true, ℕ, ◌&&◌, ◌∙◌, ◌∷◌, ◌≡◌, ◌<◌, ◌≤◌}
 use Rattle.std.proofs.lemmas.Bool.{cases_eq, eq-eqb, le-ltb, lt-ltb, ne_eqb}
 use Rattle.std.specs.List.{find}
-use Rattle.std.specs.Prelude.{is_some, nat_lt, option_map, unwrap_or}
+use Rattle.std.specs.Prelude.{is_some, option_map, unwrap_or}
 
 find-suspended : (t u : ℕ) (b : Bool) (known : List Known) → find (sched.is_of u) (sched.with_suspension t b known) ≡ option_map (sched.suspension_set t b) (find (sched.is_of u) known)
 find-suspended t u b [] = refl

@@ -5,7 +5,7 @@ use Rattle.lwp_types.specs.Exits.{exit_case, exit_outcome, run_exit}
 use Rattle.lwp_types.specs.Letters.{received_from, replied, with_holding, without_letter}
 use Rattle.lwp_types.specs.Locks.{depth_in, exited, is_owner, with_depth}
 use Rattle.lwp_types.specs.Release.{grant, lock_of, next_owner, release, requests_of, without_lock, without_request}
-use Rattle.lwp_types.specs.State.{Outcome, State, ThreadRow, and_then, for_each, is_agent, is_blocked_in, is_id, is_not_blocked, is_number, is_suspended_in, is_thread, marked, marks_in, marks_set, member, passes, priority_in, still, with_block, with_marks, with_suspension}
+use Rattle.lwp_types.specs.State.{Outcome, State, ThreadRow, is_agent, is_blocked_in, is_id, is_not_blocked, is_number, is_suspended_in, is_thread, marked, marks_in, marks_set, member, passes, priority_in, still, with_block, with_marks, with_suspension}
 use Rattle.lwp_types.specs.Threads.{resumed}
 use Rattle.lwp_types.specs.Unblock.{unblock, unblocked, zero_answer}
 use Rattle.lwp_types.specs.Waits.{condition_of, is_no_condition, is_not_last, waits_on, woken, woken_all}
@@ -24,7 +24,7 @@ use Rattle.lwp_types.specs.declared.rows.Letter.{Letter}
 use Rattle.lwp_types.specs.declared.rows.Mark.{Mark}
 use Rattle.lwp_types.specs.declared.rows.Request.{Request}
 use Rattle.lwp_types.specs.declared.rows.WaitRow.{WaitRow}
-use Rattle.std.proofs.Common.{Bool, List, None, Option, Some, [], ap, cond, eqb, false, not, refl, sym, true, ℕ, ◌&&◌, ◌++◌, ◌-◌, ◌||◌, ◌∙◌, ◌∷◌, ◌≡◌}
+use Rattle.std.proofs.Common.{Bool, List, None, Option, Some, [], ap, cond, false, not, refl, true, ℕ, ◌++◌, ◌-◌, ◌||◌, ◌∙◌, ◌∷◌, ◌≡◌}
 use Rattle.std.specs.List.{find, fold}
 use Rattle.std.specs.Prelude.{is_none, is_some, length, nat_le, nat_lt, option_map, option_to_list, unwrap_or}
 

@@ -1,7 +1,6 @@
 -- The exit procedures of frames that go, one after another.
-use Rattle.death_cleanup.proofs.Draining.{came_still}
 use Rattle.death_cleanup.proofs.Looks.{row_under, rows-under}
-use Rattle.death_cleanup.proofs.Unmarking.{blocked, found, lives, marked_again, marks_now, priority, remarked, run_exit_so, same_case}
+use Rattle.death_cleanup.proofs.Unmarking.{blocked, lives, marked_again, marks_now, priority, run_exit_so, same_case}
 use Rattle.death_cleanup.specs.Comes.{CameTo, HasRoom}
 use Rattle.death_cleanup.specs.Moves.{kind_marked, kind_marks, stack_of, stack_set, stacked}
 use Rattle.death_cleanup.specs.Ties.{InStep, LawfulParts}
@@ -15,7 +14,7 @@ use Rattle.exc_stack.specs.Stack.{UnwindsAll, below_last_exit, unwound_all}
 use Rattle.lwp_types.specs.Death.{run_all_exits}
 use Rattle.lwp_types.specs.Exits.{exit_case, run_exit}
 use Rattle.lwp_types.specs.Marks.{exits_of, is_exit}
-use Rattle.lwp_types.specs.Lawful.{NineParts, is_same_option}
+use Rattle.lwp_types.specs.Lawful.{is_same_option}
 use Rattle.lwp_types.specs.ListLaws.{All-weaker}
 use Rattle.lwp_types.specs.State as machine
 use Rattle.lwp_types.specs.State.{Outcome, State, ThreadRow, and_then, for_each, is_number, is_thread, marked, marks_in, marks_set, thread_of, with_marks}
@@ -27,16 +26,15 @@ use Rattle.lwp_types.specs.declared.rows.Mark.{Mark}
 use Rattle.lwp_types.specs.CountLaws.{count-cons}
 use Rattle.lwp_types.specs.Counts.{has_its_marks}
 use Rattle.pod_laws.proofs.MarkLists.{Fewer}
-use Rattle.pod_laws.proofs.Chosen.{Living, living}
-use Rattle.pod_laws.proofs.ExitCalls.{run_exit_keeps}
+use Rattle.pod_laws.proofs.Chosen.{living}
 use Rattle.pod_laws.proofs.MarkMoves.{NineParts-fewer}
 use Rattle.pod_sched.specs.declared.rows.Known.{Known}
 use Rattle.stale_ids.specs.Register.{AreRising, value_of}
 use Rattle.std.proofs.Common.{Bool, List, None, Option, Some, [], ap, arith, cond, count_by, eqb, false, length, length-append, map, not, refl, sym, true, ℕ, ◌&&◌, ◌++◌, ◌+◌, ◌<◌, ◌||◌, ◌∙◌, ◌∷◌, ◌≡◌, ◌≤◌}
 use Rattle.std.proofs.lemmas.List.{append-nil, append_assoc, length-map}
 use Rattle.std.proofs.lemmas.Bool.{eq-eqb, or_left}
-use Rattle.std.specs.List.{find, list_any}
-use Rattle.std.specs.Prelude.{is_some, option_map, option_to_list, unwrap_or}
+use Rattle.std.specs.List.{list_any}
+use Rattle.std.specs.Prelude.{option_map, option_to_list, unwrap_or}
 
 -- other marks in the registry are other marks in the state
 rows-stacked : (p t : ℕ) (ms : List Mark) (known : List Known) (living : List (ℕ × Kind)) → rows_of p known (map (stack_set t ms) living) ≡ with_marks t ms (rows_of p known living)

@@ -2,7 +2,7 @@
 use Rattle.conditions.specs.ConditionTable as cond_table
 use Rattle.death_cleanup.proofs.Looks.{find-row, row-unblocked, same-some, waits}
 use Rattle.death_cleanup.specs.Moves.{block_set, kind_set, withdrawn}
-use Rattle.death_cleanup.specs.Ties.{InStep, IsRanked, IsRoomy, IsTied}
+use Rattle.death_cleanup.specs.Ties.{InStep, IsTied}
 use Rattle.death_cleanup.specs.View.{known_of, row_of, row_onto, rows_of, state_of}
 use Rattle.death_cleanup.specs.declared.rows.Kind.{Kind}
 use Rattle.death_cleanup.specs.declared.rows.Kind.TheVariants as kind

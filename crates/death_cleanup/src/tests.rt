@@ -1,6 +1,7 @@
 ghost use Rattle.std.specs.Prelude.{◌≡◌, ◌<◌, [], IfOk, length};
 ghost use Rattle.death_cleanup.specs.Example as example;
 ghost use Rattle.death_cleanup.specs.Example.{thread};
+ghost use Rattle.death_cleanup.specs.Ties.{LawfulParts};
 ghost use Rattle.stale_ids.specs.Register.{inserted};
 
 use crate::{Kind, Parts, ThreadRec, die};
@@ -45,7 +46,12 @@ fn five_exits(alloc: Global) -> Result<ExcStack, NoMemory>
     ensures { IfOk result (λ s. s ≡ example.stack) }
 {
     let mut stack = ExcStack::new(alloc)?;
-    stack.on_exit(0, ExitCall::Note { text: Text::empty() })?;
+    stack.on_exit(
+        0,
+        ExitCall::Note {
+            text: Text::empty(),
+        },
+    )?;
     let to = Tid { number: 2 };
     let text = Text::empty();
     stack.on_exit(1, ExitCall::Reply { to, text })?;
@@ -61,14 +67,30 @@ fn living(alloc: Global) -> Result<Registry<Kind>, NoMemory>
 {
     let mut ids = Registry::new(alloc, 100);
     ids.reserve(9)?;
-    bear(&mut ids, Block::Waiting(Cid { number: 0 }), five_exits(alloc)?);
+    bear(
+        &mut ids,
+        Block::Waiting(Cid { number: 0 }),
+        five_exits(alloc)?,
+    );
     bear(&mut ids, Block::Sending, ExcStack::new(alloc)?);
     bear(&mut ids, Block::Sending, ExcStack::new(alloc)?);
-    bear(&mut ids, Block::Receiving(Some(DYING)), ExcStack::new(alloc)?);
+    bear(
+        &mut ids,
+        Block::Receiving(Some(DYING)),
+        ExcStack::new(alloc)?,
+    );
     bear(&mut ids, Block::Joining(DYING), ExcStack::new(alloc)?);
     bear(&mut ids, Block::Joining(DYING), ExcStack::new(alloc)?);
-    bear(&mut ids, Block::Entering(Mid { number: 0 }), ExcStack::new(alloc)?);
-    bear(&mut ids, Block::Entering(Mid { number: 1 }), ExcStack::new(alloc)?);
+    bear(
+        &mut ids,
+        Block::Entering(Mid { number: 0 }),
+        ExcStack::new(alloc)?,
+    );
+    bear(
+        &mut ids,
+        Block::Entering(Mid { number: 1 }),
+        ExcStack::new(alloc)?,
+    );
     let _ = ids.insert(Kind::Agent);
     Ok(ids)
 }
@@ -164,7 +186,8 @@ fn armed(alloc: Global) -> Result<Agents, NoMemory>
 }
 
 fn parts(alloc: Global) -> Result<Parts, NoMemory>
-    ensures { IfOk result (λ p. p ≡ example.parts) }
+    ensures same { IfOk result (λ p. p ≡ example.parts) }
+    ensures lawful { IfOk result (λ p. LawfulParts p) }
 {
     Ok(Parts {
         ids: living(alloc)?,
@@ -181,6 +204,15 @@ fn parts(alloc: Global) -> Result<Parts, NoMemory>
         dying: None,
         last_prio: 0,
     })
+}
+
+// The parts once the first thread has died, and what is told of it.
+fn after_the_death(alloc: Global, effects: &mut Effects) -> Result<Parts, NoMemory>
+    requires { effects.old ≡ [] }
+{
+    let mut parts = parts(alloc)?;
+    die(&mut parts, DYING, effects);
+    Ok(parts)
 }
 
 // An effect as its letter, whose it is or its number, and the answer: `x` an exit procedure, `=` an answer, `d` a death.
@@ -224,18 +256,14 @@ const TOLD: [(u8, u64, u8); 13] = [
 
 #[test]
 fn a_death_in_full(rt: HostRuntime) -> Result<(), Fail> {
-    let mut parts = parts(rt.alloc()).map_err(|_| "no memory")?;
     let mut effects = Effects::new(rt.alloc()).map_err(|_| "no memory")?;
-    die(&mut parts, DYING, &mut effects);
-    let mut told = 0;
-    while let Some(effect) = effects.pop_front() {
-        assert!(rt; told < TOLD.len());
-        if told < TOLD.len() {
-            assert_eq!(rt; deed_of(&effect), TOLD[told]);
-            told += 1;
+    let mut parts = after_the_death(rt.alloc(), &mut effects).map_err(|_| "no memory")?;
+    assert_eq!(rt; effects.len(), TOLD.len());
+    for place in 0..TOLD.len() {
+        if place < effects.len() {
+            assert_eq!(rt; deed_of(effects.get(place)), TOLD[place]);
         }
     }
-    assert_eq!(rt; told, TOLD.len());
     assert_eq!(rt; parts.sched.current(), Some(Tid { number: 7 }));
     assert_eq!(rt; parts.exit, 7);
     assert!(rt; !parts.ids.is_live(0) && !parts.ids.is_live(8));

@@ -1,5 +1,5 @@
 use Rattle.death_cleanup.proofs.Outcomes.{answers_refused, answers_zero, came_as, came_quietly}
-use Rattle.death_cleanup.proofs.Replying.{InStep-lighter, InStep-rearmed, lighter, rearmed, replied-agent, replied-thread, reply-absent, reply-made, reply-refused, reply-some, sender-waits, thread-is}
+use Rattle.death_cleanup.proofs.Replying.{InStep-lighter, InStep-rearmed, rearmed, replied-agent, replied-thread, reply-absent, reply-made, reply-refused, reply-some, sender-waits, thread-is}
 use Rattle.death_cleanup.proofs.exits.reply.Goals as goal
 use Rattle.death_cleanup.specs.View.{state_of}
 use Rattle.lwp_types.specs.Letters.{received_from, replied}

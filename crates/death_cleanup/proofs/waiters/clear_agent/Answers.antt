@@ -1,6 +1,5 @@
 use Rattle.death_cleanup.proofs.AgentEnds.{came_over, over_room}
 use Rattle.death_cleanup.proofs.waiters.clear_agent.Goals as goal
-use Rattle.lwp_types.specs.State.{State}
 use Rattle.death_cleanup.specs.View.{state_of}
 
 pub dismiss-requires-clause-room : goal.dismiss-requires-clause-room
