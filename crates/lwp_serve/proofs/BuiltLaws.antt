@@ -2,7 +2,6 @@
 use Rattle.std.proofs.Common.{◌≡◌, ℕ, zero, suc, ◌+◌, ◌-◌, Bool, true, false, List, [], ◌∷◌, ◌++◌, drop, take, length, map, Some, None, refl, ◌∙◌, append-nil}
 use Rattle.std.specs.Prelude.{Option, ◌==◌, ◌&&◌, ◌||◌, IsTrue, if◌then◌else◌, nat_lt, option_map, reverse, slice_get}
 use Rattle.std.specs.List.{list_all}
-use Rattle.std.proofs.lemmas.Bool.{eq-eqb}
 use Rattle.lwp_calls.specs.Built.{is_built}
 use Rattle.lwp_types.specs.Choice.{choice}
 use Rattle.lwp_types.specs.Names.{Names, polled_as}
@@ -23,7 +22,7 @@ use Rattle.pod_runner.specs.Session.{Live, Session, answered, called, call_step,
 use Rattle.pod_runner.specs.declared.session.Row.{Row}
 use Rattle.pod_runner.specs.declared.session.Took.{Took}
 use Rattle.script_body.specs.Calls.{call_of}
-use Rattle.script_body.specs.Naming.{condition_named_by, monitor_named_by, named, named_by, thread_named_by}
+use Rattle.script_body.specs.Naming.{named}
 use Rattle.script_body.specs.Frame.{without_handler}
 use Rattle.script_body.specs.ScriptBody.{ScriptBody, frame_above, is_return, polled_by, returned, script_next, stmt_after, taken, taken_by, taken_caught, taken_plain, taken_refused, unhandled, caught_at, with_sender_by, with_top}
 use Rattle.script_body.specs.Walk.{first_stmt, meets, next_stmt}
@@ -34,7 +33,6 @@ use Rattle.script_text.specs.declared.script.Proc.{Proc}
 use Rattle.script_text.specs.declared.script.Script.{Script}
 use Rattle.script_text.specs.declared.script.Stmt.{Stmt}
 use Rattle.script_text.specs.declared.script.Stmt.TheVariants as stmt
-use Rattle.script_text.specs.declared.script.Who.TheVariants as who
 
 first : (a b : Bool) → IsTrue (a && b) → IsTrue a
 first true b h = refl

@@ -3,11 +3,9 @@ use Rattle.lwp_serve.specs.Bodies.{Body, Scripted, Serving, Storing, bodies_of, 
 use Rattle.line_server.specs.Sessions.{session_next-keeps_lengths}
 use Rattle.line_server.specs.Stores.{store_next-keeps_lengths}
 use Rattle.lwp_types.specs.Names.{KeepsLengths, Names}
-use Rattle.lwp_types.specs.Poll.{Polled}
 use Rattle.lwp_types.specs.declared.call.Answer.{Answer}
-use Rattle.lwp_types.specs.declared.call.Answer.TheVariants as answer
 use Rattle.script_body.specs.NameLaws.{script_next-keeps_lengths}
-use Rattle.std.specs.Prelude.{Bool, List, None, Option, Some, [], codes, cond, false, length, map, refl, slice_index_or, suc, true, ℕ, ◌+◌, ◌∷◌, ◌≡◌}
+use Rattle.std.specs.Prelude.{List, [], length, map, refl, slice_index_or, suc, ℕ, ◌+◌, ◌∷◌, ◌≡◌}
 use Rattle.std.proofs.Common.{ap, arith, length-append}
 use Rattle.std.proofs.lemmas.List.{length-map}
 use Rattle.script_text.specs.Script.{proc_names, proc_places}
