@@ -1,0 +1,20 @@
+-- A line that says something is judged by where it stands.
+use Rattle.std.proofs.Common.{◌≡◌, ℕ, true, false, List, Option, Some, None, refl}
+use Rattle.std.specs.Prelude.{is_some}
+use Rattle.script_text.specs.Phrase.{Phrase}
+use Rattle.script_text.specs.Grammar.{may_stand_at}
+use Rattle.script_text.specs.Reading.{phrase_at}
+use Rattle.script_text.specs.Spelling.{reason_of}
+use Rattle.script_text.specs.Track.{judged, taken}
+use Rattle.script_text.specs.declared.reader.Reader.{Reader}
+use Rattle.script_text.proofs.SaidLaws.{said_is_printable}
+
+none_there : {A : Type 0} (o : Option A) → is_some o ≡ false → o ≡ None
+none_there None e = refl
+none_there (Some x) e = absurd cc
+
+pub judged_good : (r : Reader) (line : List ℕ) (p : Phrase) → is_some r.bad ≡ false → phrase_at line ≡ Some p → may_stand_at r.stage r.declared r.draft.posted p ≡ true → judged r.bad r line ≡ taken r p
+judged_good r line p b e s = rw (none_there r.bad b, said_is_printable line p e, e, s) refl
+
+pub judged_bad : (r : Reader) (line : List ℕ) (p : Phrase) → is_some r.bad ≡ false → phrase_at line ≡ Some p → may_stand_at r.stage r.declared r.draft.posted p ≡ false → judged r.bad r line ≡ record r { bad = Some (reason_of r.stage line) }
+judged_bad r line p b e s = rw (none_there r.bad b, said_is_printable line p e, e, s) refl
