@@ -21,7 +21,7 @@ use Rattle.script_text.specs.Phrase.{Phrase}
 use Rattle.script_text.specs.Table.{role_of, slots_of}
 use Rattle.script_text.specs.Grammar.{phrase_text, SlotFits, IsPhrase, IsLine, declared_of, posted_of, opened, stage_after, stage_of, follows, keeps_rule, may_stand, AllStand, spelling, SpelledBy, Spells}
 use Rattle.script_text.specs.Limits.{IsWithinLimits}
-use Rattle.script_text.specs.Meaning.{contains_name, is_some_text, enter, statement_of, grown, pushed, empty_draft, closed, named, places_of, entered, added_at, added, draft_of, script_of}
+use Rattle.script_text.specs.Meaning.{contains_name, is_some_text, enter, statement_of, grown, pushed, native_kind, empty_draft, closed, named, places_of, entered, added_at, added, draft_of, script_of}
 use Rattle.script_text.proofs.WordLemmas.{both}
 use Rattle.script_text.proofs.TrackLaws.{fold_push, stage_push}
 
@@ -77,7 +77,7 @@ few_more role.Header n at d p h procs natives = h
 few_more role.Pod n at d p h procs natives = record { procs = h.procs; natives = h.natives; threads = h.threads; mons = h.mons; conds = h.conds }
 few_more role.Limit n at d p h procs natives = record { procs = h.procs; natives = h.natives; threads = h.threads; mons = h.mons; conds = h.conds }
 few_more role.Client n at d p h procs natives = record { procs = h.procs; natives = h.natives; threads = h.threads; mons = h.mons; conds = h.conds }
-few_more role.Native n at d p h procs natives = record { procs = h.procs; natives = omega (arith, natives, length-append d.script.natives (_ ∷ [])); threads = h.threads; mons = h.mons; conds = h.conds }
+few_more role.Native n at d p h procs natives = record { procs = h.procs; natives = omega (arith, natives, length-append d.script.natives (record { name = at.procedure; kind = native_kind p.event at.thread } ∷ [])); threads = h.threads; mons = h.mons; conds = h.conds }
 few_more role.Proc n at d p h procs natives = record { procs = omega (arith, procs, length-append d.script.procs (option_to_list d.current)); natives = h.natives; threads = h.threads; mons = h.mons; conds = h.conds }
 few_more role.Post n at d p h procs natives = record { procs = h.procs; natives = h.natives; threads = h.threads; mons = h.mons; conds = h.conds }
 few_more role.Statement n at d p h procs natives = few_pushed (suc n) at d p h

@@ -555,8 +555,8 @@ pattern_found w x e = elim (bytes_eq w (codes "all")) as (λ v. bytes_eq w (code
 
 -- the first byte of a number is a digit
 number_is_no_word : (n : ℕ) (w : List ℕ) → n < 2 ^ 32 → number_at w ≡ None → bytes_eq (decimal n) w ≡ false
-number_is_no_word n w h no = elim (bytes_eq (decimal n) w) as (λ v. bytes_eq (decimal n) w ≡ v → v ≡ false) [
-  | true ↦ λ e. let same : decimal n ≡ w = (bytes_eq-Decides (decimal n) w).0 e in let again = number_again n h in absurd (let f : number_at w ≡ Some n = subst (λ x. number_at x ≡ Some n) same again in cc)
+number_is_no_word n w h other = elim (bytes_eq (decimal n) w) as (λ v. bytes_eq (decimal n) w ≡ v → v ≡ false) [
+  | true ↦ λ e. let same : decimal n ≡ w = (bytes_eq-Decides (decimal n) w).0 e in let again = number_again n h in absurd (let f : None ≡ Some n = sym other ∙ subst (λ (x : List ℕ). number_at x ≡ Some n) same again in cc)
   | false ↦ λ e. refl
 ] refl
 

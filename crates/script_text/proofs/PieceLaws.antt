@@ -25,7 +25,7 @@ pub tail_is : (r : ScriptReader) (text : List ℕ) → HasRead r text → r.is_l
 tail_is r text k e = subst IsTail (sym (k.tail (is_short r text k e))) (tail_of_cut text)
 
 -- one more piece, all of which was read
-pub feeds : (old new : ScriptReader) (piece : List ℕ) → old.is_large ≡ false → length piece + old.total ≤ 16777216
+pub feeds : (old new : ScriptReader) (piece : List ℕ) → old.is_large ≡ false → length piece ≤ 16777216 - old.total
     → (IsTail old.tail.items → new.reader ≡ fold step old.reader (cut (old.tail.items ++ piece)).0)
     → (IsTail old.tail.items → new.tail.items ≡ (cut (old.tail.items ++ piece)).1)
     → new.total ≡ old.total + length piece → new.failed ≡ false → new.is_large ≡ false
@@ -37,7 +37,7 @@ feeds old new piece small within reader tail total sound large text k =
     let was = k.total short in
     record {
       sound = sound;
-      large = large ∙ sym (le-ltb 16777216 (length (text ++ piece)) (omega (arith, count, was, within)));
+      large = large ∙ sym (le-ltb 16777216 (length (text ++ piece)) (omega (arith, count, was, within, short)));
       total = λ s. omega (arith, total, was, count);
       lines = λ s. reader t ∙ piece_lines old.reader text old.tail.items piece (k.lines short) (k.tail short);
       tail = λ s. tail t ∙ piece_tail text old.tail.items piece (k.tail short);

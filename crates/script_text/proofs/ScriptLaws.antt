@@ -54,7 +54,7 @@ cut_again (p ∷ ps) h =
 -- what the lines of a text declare is what its phrases declare
 declared_on : (d : Declared) (ps : List Phrase) → AllByRecursion IsLine ps → fold noted d (map phrase_text ps) ≡ fold (λ (x : Declared) (p : Phrase). declares (role_of p.op) x p) d ps
 declared_on d [] h = refl
-declared_on d (p ∷ ps) h = rw (said_declares d (phrase_text p) p (line_again p h.0)) (declared_on (declares (role_of p.op) d p) ps h.1)
+declared_on d (p ∷ ps) h = ap (λ (x : Declared). fold noted x (map phrase_text ps)) (said_declares d (phrase_text p) p (line_again p h.0)) ∙ declared_on (declares (role_of p.op) d p) ps h.1
 
 nothing_more : (d : Declared) → noted d [] ≡ d
 nothing_more d = refl
@@ -180,7 +180,7 @@ found_spells text ls tail s ps more text-is short none some script-is r =
       short = short;
       are_lines = lines;
       stand = subst (AllStand []) (sym same) r.stand;
-      declared = subst (λ (x : List (List ℕ)). AllDeclared x ps) d-is declared;
+      declared = subst (λ (x : Declared). AllDeclared x ps) d-is declared;
       some = some;
       script_is = script-is;
     }

@@ -30,11 +30,11 @@ map_push bytes [] s = refl
 map_push bytes (x ∷ spans) s = ap (λ l. text_in bytes x ∷ l) (map_push bytes spans s)
 
 -- one text more
-pub texts_push : (spans : List Span) (bytes text : List ℕ) → AreWithin (length bytes) spans → texts_in (bytes ++ text) (spans ++ record { start = length bytes; len = length text } ∷ []) ≡ texts_in bytes spans ++ text ∷ []
-texts_push spans bytes text h =
-    map_push (bytes ++ text) spans (record { start = length bytes; len = length text })
-    ∙ ap (λ l. l ++ text_in (bytes ++ text) (record { start = length bytes; len = length text }) ∷ []) (texts_same spans bytes text h)
-    ∙ ap (λ l. texts_in bytes spans ++ l ∷ []) (part_last bytes text)
+pub texts_push : (spans : List Span) (bytes text : List ℕ) (start : ℕ) → start ≡ length bytes → AreWithin (length bytes) spans → texts_in (bytes ++ text) (spans ++ record { start = start; len = length text } ∷ []) ≡ texts_in bytes spans ++ text ∷ []
+texts_push spans bytes text start e h =
+    map_push (bytes ++ text) spans (record { start = start; len = length text })
+    ∙ ap (λ l. l ++ text_in (bytes ++ text) (record { start = start; len = length text }) ∷ []) (texts_same spans bytes text h)
+    ∙ ap (λ l. texts_in bytes spans ++ l ∷ []) (ap (λ n. take (length text) (drop n (bytes ++ text))) e ∙ part_last bytes text)
 
 within_more : (spans : List Span) (n m : ℕ) → n ≤ m → AreWithin n spans → AreWithin m spans
 within_more [] n m le h = tt
@@ -45,13 +45,13 @@ all_push P [] x h k = (k, tt)
 all_push P (y ∷ ys) x h k = (h.0, all_push P ys x h.1 k)
 
 
-pub within_push : (spans : List Span) (bytes text : List ℕ) → AreWithin (length bytes) spans → AreWithin (length (bytes ++ text)) (spans ++ record { start = length bytes; len = length text } ∷ [])
-within_push spans bytes text h =
+pub within_push : (spans : List Span) (bytes text : List ℕ) (start : ℕ) → start ≡ length bytes → AreWithin (length bytes) spans → AreWithin (length (bytes ++ text)) (spans ++ record { start = start; len = length text } ∷ [])
+within_push spans bytes text start e h =
     let n = length-append bytes text in
-    all_push _ spans (record { start = length bytes; len = length text }) (within_more spans (length bytes) (length (bytes ++ text)) (omega (arith, n)) h) (omega (arith, n))
+    all_push _ spans (record { start = start; len = length text }) (within_more spans (length bytes) (length (bytes ++ text)) (omega (arith, n)) h) (omega (arith, n, e))
 
-pub are_push : (spans : List Span) (bytes text : List ℕ) → AreWithin (length bytes) spans → AllByRecursion (λ x. IsTrue (is_text x)) (texts_in bytes spans) → IsTrue (is_text text) → AllByRecursion (λ x. IsTrue (is_text x)) (texts_in (bytes ++ text) (spans ++ record { start = length bytes; len = length text } ∷ []))
-are_push spans bytes text h k t = rw (texts_push spans bytes text h) (all_push (λ (x : List ℕ). IsTrue (is_text x)) (texts_in bytes spans) text k t)
+pub are_push : (spans : List Span) (bytes text : List ℕ) (start : ℕ) → start ≡ length bytes → AreWithin (length bytes) spans → AllByRecursion (λ x. IsTrue (is_text x)) (texts_in bytes spans) → IsTrue (is_text text) → AllByRecursion (λ x. IsTrue (is_text x)) (texts_in (bytes ++ text) (spans ++ record { start = start; len = length text } ∷ []))
+are_push spans bytes text start e h k t = rw (texts_push spans bytes text start e h) (all_push (λ (x : List ℕ). IsTrue (is_text x)) (texts_in bytes spans) text k t)
 
 -- the bytes alone are more
 pub within_bytes : (spans : List Span) (bytes text : List ℕ) → AreWithin (length bytes) spans → AreWithin (length (bytes ++ text)) spans

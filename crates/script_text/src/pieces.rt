@@ -64,6 +64,7 @@ impl ScriptReader {
         ensures reader { OnOk result (self.new.reader ≡ step self.old.reader (self.old.tail.items ++ line.now)) }
         ensures rest { OnOk result (self.new ≡ record self.old { reader = self.new.reader; tail = self.new.tail }) }
         ensures tail { OnOk result (self.new.tail.items ≡ []) }
+        ensures failed { self.new.failed ≡ self.old.failed }
     {
         if self.tail.is_empty() {
             return self.reader.line(self.alloc, line);
@@ -79,6 +80,7 @@ impl ScriptReader {
         ensures reader { OnOk result (IsTail self.old.tail.items → self.new.reader ≡ fold step self.old.reader (cut (self.old.tail.items ++ piece.now)).0) }
         ensures tail { OnOk result (IsTail self.old.tail.items → self.new.tail.items ≡ (cut (self.old.tail.items ++ piece.now)).1) }
         ensures rest { OnOk result (self.new ≡ record self.old { reader = self.new.reader; tail = self.new.tail }) }
+        ensures failed { self.new.failed ≡ self.old.failed }
     {
         let mut rest = piece;
         while let Some((line, after)) = first_line(rest) {
@@ -98,7 +100,7 @@ impl ScriptReader {
         if self.failed {
             return Err(NoMemory);
         }
-        if self.is_large || piece.len() > MOST - self.total {
+        if self.is_large || piece.len() > MOST.saturating_sub(self.total) {
             self.is_large = true;
             return Ok(());
         }
