@@ -1,5 +1,6 @@
 pub mod LineServer
 pub mod Bodies
+pub mod SoFar
 pub mod Planned
 pub mod Outcome
 pub mod Reading

@@ -12,6 +12,7 @@ mod command;
 mod plan;
 mod program;
 mod session;
+mod so_far;
 mod source;
 mod texts;
 
@@ -23,11 +24,3 @@ pub use session::{Session, SessionEnd, Taken};
 pub use source::SCRIPT_MAX;
 pub use texts::fault_text;
 
-#[cfg(test)]
-mod letter_tests;
-#[cfg(test)]
-mod lock_tests;
-#[cfg(test)]
-mod tests;
-#[cfg(test)]
-mod thread_tests;

@@ -35,3 +35,6 @@ pub use script::{
 };
 pub use texts::Texts;
 pub use words::number_at;
+
+#[cfg(test)]
+mod tests;
