@@ -24,3 +24,12 @@ pub use session::{Session, SessionEnd, Taken};
 pub use source::SCRIPT_MAX;
 pub use texts::fault_text;
 
+
+#[cfg(test)]
+mod letter_tests;
+#[cfg(test)]
+mod lock_tests;
+#[cfg(test)]
+mod tests;
+#[cfg(test)]
+mod thread_tests;

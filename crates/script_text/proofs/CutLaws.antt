@@ -58,10 +58,8 @@ line_some text after k h p e =
 
 -- ---- Pieces.
 
-
 abbrev Cut : Type 0
 Cut = List (List ℕ) × List ℕ
-
 
 pair_is : (c : Cut) (ls : List (List ℕ)) (t : List ℕ) → c.0 ≡ ls → c.1 ≡ t → c ≡ (ls, t)
 pair_is c ls t e f = ap (λ (x : List (List ℕ)). (x, c.1)) e ∙ ap (λ (y : List ℕ). (ls, y)) f

@@ -57,13 +57,17 @@ record Few (n : ℕ) (d : Draft) : Type 0 where
   conds : length d.script.names.conds ≤ n
 
 few_entered : (n : ℕ) (d : Draft) (p : Phrase) → Few n d → Few (suc n) (entered d p) × (procs_in (entered d p) ≤ n) × (length (entered d p).script.natives ≤ n)
-few_entered n d p h = (record {
-  procs = omega (arith, h.procs);
-  natives = omega (arith, h.natives);
-  threads = omega (arith, h.threads, enter_short d.script.names.threads p.thread);
-  mons = omega (arith, h.mons, enter_short d.script.names.mons p.monitor);
-  conds = omega (arith, h.conds, enter_short d.script.names.conds p.condition);
-}, h.procs, h.natives)
+few_entered n d p h = (
+  record {
+    procs = omega (arith, h.procs);
+    natives = omega (arith, h.natives);
+    threads = omega (arith, h.threads, enter_short d.script.names.threads p.thread);
+    mons = omega (arith, h.mons, enter_short d.script.names.mons p.monitor);
+    conds = omega (arith, h.conds, enter_short d.script.names.conds p.condition);
+  },
+  h.procs,
+  h.natives,
+)
 
 few_pushed : (n : ℕ) (at : Places) (d : Draft) (p : Phrase) → Few n d → Few n (pushed at d p)
 few_pushed n at d p h = record { procs = omega (arith, h.procs, grown_alike (statement_of p.op at p) d.current); natives = h.natives; threads = h.threads; mons = h.mons; conds = h.conds }

@@ -44,7 +44,6 @@ all_push : {A : Type 0} (P : A → Type 0) (xs : List A) (x : A) → AllByRecurs
 all_push P [] x h k = (k, tt)
 all_push P (y ∷ ys) x h k = (h.0, all_push P ys x h.1 k)
 
-
 pub within_push : (spans : List Span) (bytes text : List ℕ) (start : ℕ) → start ≡ length bytes → AreWithin (length bytes) spans → AreWithin (length (bytes ++ text)) (spans ++ record { start = start; len = length text } ∷ [])
 within_push spans bytes text start e h =
     let n = length-append bytes text in

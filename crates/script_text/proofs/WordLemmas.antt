@@ -117,4 +117,3 @@ name_is_text (b ∷ bs) h =
     let t = both (is_lowercase b) (list_all is_name_byte bs) v.0 in
     let short : leb (length (b ∷ bs)) 240 ≡ true = le-leb _ _ (omega (arith, ltb-true (length bs) 16 v.1)) in
     rw (short, lowercase_is_printable b t.0, name_bytes_are_printable bs t.1) refl
-

@@ -10,11 +10,11 @@
 
 mod counts;
 mod draft;
+mod laws;
 mod lines;
 mod names;
 mod phrase;
 mod pieces;
-mod laws;
 mod reader;
 mod reading;
 mod reason;
@@ -30,9 +30,7 @@ pub use names::NameList;
 pub use pieces::ScriptReader;
 pub use reading::read_script;
 pub use reason::{ReadErr, Reason};
-pub use script::{
-    ExitStmt, Halt, Names, Native, NativeKind, Post, Proc, Script, Stmt, Test, Who,
-};
+pub use script::{ExitStmt, Halt, Names, Native, NativeKind, Post, Proc, Script, Stmt, Test, Who};
 pub use texts::Texts;
 pub use words::number_at;
 

@@ -65,10 +65,7 @@ impl Stage {
         match self {
             Stage::Start => role == Role::Header,
             Stage::Header => role == Role::Pod,
-            Stage::Pod => matches!(
-                role,
-                Role::Limit | Role::Client | Role::Native | Role::Proc
-            ),
+            Stage::Pod => matches!(role, Role::Limit | Role::Client | Role::Native | Role::Proc),
             Stage::Clients => matches!(role, Role::Client | Role::Native | Role::Proc),
             Stage::Natives => matches!(role, Role::Native | Role::Proc),
             Stage::Proc | Stage::Skipping => matches!(

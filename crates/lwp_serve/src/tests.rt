@@ -1,0 +1,228 @@
+ghost use Rattle.std.specs.Prelude.{◌≤◌};
+
+use crate::{SessionEnd, fault_text, plan_main, top};
+use lwp_types::{MemSink, MemSource, NoMemory};
+use script_text::Reason;
+use std::alloc::Global;
+use std::test::Fail;
+
+const SCRIPT: &[u8] = b"lwp 1\npod 1\nproc main\ncreate a worker 1 -\nyield self\nproc worker\n";
+
+const TRACE: &[u8] =
+    b"t0: create worker 1 -\nt0 = t1\nt0: yield self\nt0 = 0\nt1: return\nt1 dies\nt0: return\nt0 dies\npod ends 0\n";
+
+// A session's status, how many calls it made, and what it wrote.
+#[derive(Drop)]
+pub struct Outcome {
+    status: u8,
+    turns: u64,
+    written: Vec<u8>,
+}
+
+// A plan of so many calls at most, with reads and writes that fail.
+fn plan(
+    alloc: Global,
+    script: &[u8],
+    turns: u64,
+    reads: Vec<u32>,
+    writes: Vec<u32>,
+) -> Result<Outcome, NoMemory>
+    requires least { 1 ≤ turns }
+    requires most { turns ≤ 1000000 }
+{
+    let mut source = MemSource::new(script.to_vec(alloc)?, reads);
+    let mut sink = MemSink::new(alloc, 4096, 4, writes)?;
+    let session = plan_main(alloc, turns, &mut source, &mut sink);
+    Ok(Outcome {
+        status: session.status,
+        turns: session.turns,
+        written: sink.bytes().to_vec(alloc)?,
+    })
+}
+
+// The same, where nothing fails.
+pub fn plain(alloc: Global, script: &[u8], turns: u64) -> Result<Outcome, NoMemory>
+    requires least { 1 ≤ turns }
+    requires most { turns ≤ 1000000 }
+{
+    plan(alloc, script, turns, Vec::new(alloc), Vec::new(alloc))
+}
+
+pub fn is(outcome: &Outcome, status: u8, turns: u64, written: &[u8]) -> bool {
+    outcome.status == status && outcome.turns == turns && outcome.written.as_slice() == written
+}
+
+#[test]
+fn a_script_is_run_to_its_end(rt: HostRuntime) -> Result<(), Fail> {
+    let outcome = plain(rt.alloc(), SCRIPT, 100_000)?;
+    assert!(rt; is(&outcome, 0, 4, TRACE));
+    Ok(())
+}
+
+#[test]
+fn a_said_text_stands_in_the_trace(rt: HostRuntime) -> Result<(), Fail> {
+    let script = b"lwp 1\npod 1\nproc main\ncreate a worker 1 -\nyield self\nproc worker\nsay hi\n";
+    let trace =
+        b"t0: create worker 1 -\nt0 = t1\nt0: yield self\nt0 = 0\nt1: say hi\nt1 = 0\nt1: return\nt1 dies\nt0: return\nt0 dies\npod ends 0\n";
+    let outcome = plain(rt.alloc(), script, 100_000)?;
+    assert!(rt; is(&outcome, 0, 5, trace));
+    Ok(())
+}
+
+#[test]
+fn an_empty_procedure_returns_at_once(rt: HostRuntime) -> Result<(), Fail> {
+    let outcome = plain(rt.alloc(), b"lwp 1\npod 3\nproc main\n", 100_000)?;
+    assert!(rt; is(&outcome, 0, 1, b"t0: return\nt0 dies\npod ends 0\n"));
+    Ok(())
+}
+
+#[test]
+fn priorities_are_refused_at_both_ends(rt: HostRuntime) -> Result<(), Fail> {
+    let script =
+        b"lwp 1\npod 2\nproc main\ncreate a w 0 -\ncreate b w 2 -\ncreate c w 3 -\nproc w\n";
+    let trace =
+        b"t0: create w 0 -\nt0 ! LE_ILLPRIO\nt0: create w 2 -\nt0 = t1\nt0: create w 3 -\nt0 ! LE_ILLPRIO\nt0: return\nt0 dies\nt1: return\nt1 dies\npod ends 0\n";
+    let outcome = plain(rt.alloc(), script, 100_000)?;
+    assert!(rt; is(&outcome, 0, 5, trace));
+    Ok(())
+}
+
+#[test]
+fn a_plan_stops_where_its_calls_are_spent(rt: HostRuntime) -> Result<(), Fail> {
+    let trace = b"t0: create worker 1 -\nt0 = t1\nt0: yield self\nt0 = 0\nspent 2\n";
+    let outcome = plain(rt.alloc(), SCRIPT, 2)?;
+    assert!(rt; is(&outcome, 105, 2, trace));
+    Ok(())
+}
+
+#[test]
+fn a_read_that_fails_leaves_all_unwritten(rt: HostRuntime) -> Result<(), Fail> {
+    let alloc = rt.alloc();
+    // The first read gives all, and the second the end; there is no third.
+    for (fails, status, turns, written) in [
+        (0, 101, 0, b"".as_slice()),
+        (1, 101, 0, b""),
+        (2, 0, 4, TRACE),
+    ] {
+        let outcome = plan(
+            alloc,
+            SCRIPT,
+            100_000,
+            vec![in alloc; fails]?,
+            Vec::new(alloc),
+        )?;
+        assert!(rt; is(&outcome, status, turns, written));
+    }
+    Ok(())
+}
+
+// How many calls were made, where so many bytes of the trace were written and no more: the calls end at bytes 30, 52, 71 and 101.
+fn calls_by(written: usize) -> u64 {
+    1 + u64::from(written >= 30) + u64::from(written >= 52) + u64::from(written >= 71)
+}
+
+#[test]
+fn a_write_that_fails_leaves_a_first_part(rt: HostRuntime) -> Result<(), Fail> {
+    let alloc = rt.alloc();
+    let third = plan(alloc, SCRIPT, 100_000, Vec::new(alloc), vec![in alloc; 2]?)?;
+    assert!(rt; is(&third, 102, 1, b"t0: crea"));
+    for fails in 0..100 {
+        let outcome = plan(
+            alloc,
+            SCRIPT,
+            100_000,
+            Vec::new(alloc),
+            vec![in alloc; fails]?,
+        )?;
+        if outcome.status == 0 {
+            assert!(rt; is(&outcome, 0, 4, TRACE));
+            return Ok(());
+        }
+        assert_eq!(rt; outcome.status, 102);
+        assert_eq!(rt; outcome.turns, calls_by(outcome.written.len()));
+        assert!(rt; TRACE.starts_with(outcome.written.as_slice()));
+        assert!(rt; outcome.written.len() < TRACE.len());
+    }
+    Err("each of a hundred writes fails".into())
+}
+
+// Scripts that aren't run, and how their sessions end.
+const NOT_RUN: [(&[u8], u32, Reason); 5] = [
+    (b"", 1, Reason::Missing),
+    (b"lwp 1\npod 1\nproc main\nnonsense\n", 4, Reason::Statement),
+    (b"lwp 1\npod 1\nproc main\nproc main\n", 4, Reason::Proc),
+    (b"lwp 1\npod 1\nproc main\nsay h", 4, Reason::Unended),
+    (b"lwp 1\npod 1\nproc main\nagents\n", 0, Reason::Unbuilt),
+];
+
+#[test]
+fn names_the_first_bad_line(rt: HostRuntime) -> Result<(), Fail> {
+    let alloc = rt.alloc();
+    for (script, line, reason) in NOT_RUN {
+        let mut source = MemSource::new(script.to_vec(alloc)?, Vec::new(alloc));
+        let mut sink = MemSink::new(alloc, 4096, 4, Vec::new(alloc))?;
+        let session = plan_main(alloc, 100, &mut source, &mut sink);
+        assert!(rt; session.end == SessionEnd::Script { line, reason }, "line {line}");
+        assert!(rt; sink.bytes().is_empty());
+    }
+    Ok(())
+}
+
+// The status of a session of these words.
+fn status_of_words(alloc: Global, words: &[&str]) -> Result<u8, NoMemory> {
+    let mut strings = Vec::new(alloc);
+    for word in words {
+        strings.push(word.to_string(alloc)?)?;
+    }
+    let mut source = MemSource::new(SCRIPT.to_vec(alloc)?, Vec::new(alloc));
+    let mut sink = MemSink::new(alloc, 4096, 4096, Vec::new(alloc))?;
+    Ok(top(alloc, &strings, &mut source, &mut sink).status)
+}
+
+#[test]
+fn the_words_are_plan_and_how_many_calls(rt: HostRuntime) -> Result<(), Fail> {
+    let alloc = rt.alloc();
+    // The script makes 4 calls.
+    for (words, status) in [
+        (["plan"].as_slice(), 0),
+        (&["plan", "1"], 105),
+        (&["plan", "3"], 105),
+        (&["plan", "4"], 0),
+        (&["plan", "1000000"], 0),
+        (&["plan", "1000001"], 100),
+        (&["plan", "4294967300"], 100),
+        (&["plan", "0"], 100),
+        (&["plan", "04"], 100),
+        (&["plan", "+4"], 100),
+        (&["plan", ""], 100),
+        (&["plan", "4", "4"], 100),
+        (&["run"], 100),
+        (&[], 100),
+    ] {
+        assert_eq!(rt; status_of_words(alloc, words)?, status);
+    }
+    Ok(())
+}
+
+#[test]
+fn a_fault_is_told_on_a_line(rt: HostRuntime) -> Result<(), Fail> {
+    let alloc = rt.alloc();
+    let bad = SessionEnd::Script {
+        line: 0,
+        reason: Reason::Unbuilt,
+    };
+    let usage = b"lwpserve: usage: run [TURNS] | plan [TURNS] | make SEED THREADS LINES\n";
+    for (end, text) in [
+        (SessionEnd::Ended(7), b"".as_slice()),
+        (SessionEnd::Stuck, b""),
+        (SessionEnd::Spent, b""),
+        (SessionEnd::Usage, usage),
+        (SessionEnd::ReadFault, b"lwpserve: read fault\n"),
+        (SessionEnd::WriteFault, b"lwpserve: write fault\n"),
+        (SessionEnd::NoMemory, b"lwpserve: no memory\n"),
+        (bad, b"lwpserve: script line 0: Unbuilt\n"),
+    ] {
+        assert!(rt; fault_text(alloc, &end)?.as_slice() == text);
+    }
+    Ok(())
+}
