@@ -1,4 +1,3 @@
 pub mod SourceLemmas
-pub mod BuiltLaws
 pub mod ProgramLaws
 pub mod PlanLaws

@@ -1,5 +1,4 @@
 -- From the clauses of a run to those of a session of `plan`.
-use Rattle.lwp_serve.proofs.BuiltLaws.{all-built}
 use Rattle.lwp_serve.specs.Bodies.{Body, bodies_of, body_next}
 use Rattle.lwp_serve.specs.Outcome.{HasRead}
 use Rattle.lwp_serve.specs.Plan.{AreDue, EndSays, IsBroken, IsFaultless, IsPart, IsStopped, IsUnbuilt, IsWhole, Refuses, RunSays, Says, SourceSays, Stream, ReadSays, lines_after, opening_names, opening_run, session_at, tail_after}
@@ -11,7 +10,6 @@ use Rattle.lwp_serve.specs.declared.session.SessionEnd.TheVariants as end
 use Rattle.lwp_types.specs.Names.{Names}
 use Rattle.lwp_types.specs.Streams.{AppendsPrefix, appended}
 use Rattle.lwp_types.specs.declared.call.PodParams.{PodParams}
-use Rattle.pod_runner.specs.Built.{AllBuilt}
 use Rattle.pod_runner.specs.Due.{IsDefined}
 use Rattle.pod_runner.specs.Eager.{ComesTo, Plan, Planned, plan_over, plan_whole}
 use Rattle.pod_runner.specs.Play.{calls_made, play}
@@ -20,7 +18,7 @@ use Rattle.pod_runner.specs.Run.{AppendsCut, GoesOn, IsBegun, IsPlanned, Played,
 use Rattle.pod_runner.specs.Session.{Made, Setting}
 use Rattle.pod_runner.specs.Trace.{left_from, lines, made_lines, tail, tail_by, trace}
 use Rattle.script_text.specs.Grammar.{Spells}
-use Rattle.lwp_serve.specs.SoFar.{IsSoFar, are_so_far, is_carried_out}
+use Rattle.lwp_serve.specs.Closed.{IsClosed, is_closed}
 use Rattle.script_text.specs.Lines.{end_text}
 use Rattle.script_text.specs.Spelling.{Gives, verdict}
 use Rattle.script_text.specs.declared.reason.ReadErr.{ReadErr}
@@ -119,9 +117,6 @@ planned-is script turns r h =
     the_planned : Setting Body → ℕ → Planned Body
     the_planned s t = record { setting = s; clients = script.clients; turns = t }
 
-pub built-of : (script : Script) (turns : ℕ) (r : Played Script) → Plays script turns r → IsSoFar script → AllBuilt (run.setting_of body_next bodies_of r)
-built-of script turns r h so_far = rw (setting-is script turns r h) (all-built script so_far.stmts so_far.no_natives)
-
 defined-none : (s : Setting Body) → IsDefined s [] 0
 unfolding IsDefined
 defined-none s = tt
@@ -196,26 +191,26 @@ unfolding calls_of
 calls-is script turns none = ap (λ (plan : Plan Body). plan.calls) (plan-is script turns none)
 
 -- the run's trace is the first part of the script's
-pub rest-of : (script : Script) (turns : ℕ) (r : Played Script) → Plays script turns r → IsSoFar script → IsBegun body_next bodies_of proc_names r
+pub rest-of : (script : Script) (turns : ℕ) (r : Played Script) → Plays script turns r → IsClosed script → IsBegun body_next bodies_of proc_names r
     → (rest : List ℕ) × (trace_of script turns ≡ run.trace_of body_next bodies_of proc_names r ++ rest) × (r.calls ≤ calls_of script turns)
-rest-of script turns r h so_far begun = let b = begun script.clients in (
+rest-of script turns r h closed begun = let b = begun script.clients in (
   b.rest,
-  trace-is script turns so_far.no_posts
+  trace-is script turns closed.no_posts
       ∙ ap (λ procs. trace procs (planned_of script turns) (plan_whole (planned_of script turns) [])) (ap proc_names (sym h.program))
       ∙ ap (λ (p : Planned Body). trace (proc_names r.program) p (plan_whole p [])) (sym (planned-is script turns r h))
       ∙ b.writes,
-  rw (calls-is script turns so_far.no_posts, sym (planned-is script turns r h)) b.calls_up,
+  rw (calls-is script turns closed.no_posts, sym (planned-is script turns r h)) b.calls_up,
 )
 
-pub part-of : (script : Script) (turns : ℕ) (r : Played Script) (old new : Option (List ℕ)) → Plays script turns r → IsSoFar script → IsBegun body_next bodies_of proc_names r
+pub part-of : (script : Script) (turns : ℕ) (r : Played Script) (old new : Option (List ℕ)) → Plays script turns r → IsClosed script → IsBegun body_next bodies_of proc_names r
     → IsDefined (run.setting_of body_next bodies_of r) r.takes r.calls → AppendsPrefix old new (run.trace_of body_next bodies_of proc_names r) → IsPart turns script old new r.calls
-part-of script turns r old new h so_far begun due p = let found = rest-of script turns r h so_far begun in
+part-of script turns r old new h closed begun due p = let found = rest-of script turns r h closed begun in
     record { trace = prefix-more old new (run.trace_of body_next bodies_of proc_names r) found.0 (trace_of script turns) found.1 p; made = found.2; due = due-of script turns r h due }
 
-pub part-all : (script : Script) (turns : ℕ) (r : Played Script) (old new : Option (List ℕ)) → Plays script turns r → IsSoFar script → IsBegun body_next bodies_of proc_names r
+pub part-all : (script : Script) (turns : ℕ) (r : Played Script) (old new : Option (List ℕ)) → Plays script turns r → IsClosed script → IsBegun body_next bodies_of proc_names r
     → IsDefined (run.setting_of body_next bodies_of r) r.takes r.calls → new ≡ appended old (run.trace_of body_next bodies_of proc_names r) → IsPart turns script old new r.calls
-part-all script turns r old new h so_far begun due p =
-    part-of script turns r old new h so_far begun due (prefix-all old new (run.trace_of body_next bodies_of proc_names r) p)
+part-all script turns r old new h closed begun due p =
+    part-of script turns r old new h closed begun due (prefix-all old new (run.trace_of body_next bodies_of proc_names r) p)
 
 -- ---- the session to its end
 
@@ -231,22 +226,22 @@ comes-of : (script : Script) (turns : ℕ) (r : Played Script) (halt : Halt) →
     → ComesTo (planned_of script turns) [] (run.plan_now body_next bodies_of r) halt
 comes-of script turns r halt h planned = rw (sym (planned-is script turns r h)) (planned script.clients)
 
-pub end-trace : (script : Script) (turns : ℕ) (r : Played Script) (halt : Halt) → Plays script turns r → IsSoFar script → IsPlanned body_next bodies_of r halt
+pub end-trace : (script : Script) (turns : ℕ) (r : Played Script) (halt : Halt) → Plays script turns r → IsClosed script → IsPlanned body_next bodies_of r halt
     → trace_of script turns ≡ run.trace_of body_next bodies_of proc_names r ++ end_text turns [] halt
-end-trace script turns r halt h so_far planned =
-    trace-is script turns so_far.no_posts
-    ∙ whole-trace (proc_names script) (planned_of script turns) (run.plan_now body_next bodies_of r) halt so_far.no_clients (comes-of script turns r halt h planned)
+end-trace script turns r halt h closed planned =
+    trace-is script turns closed.no_posts
+    ∙ whole-trace (proc_names script) (planned_of script turns) (run.plan_now body_next bodies_of r) halt closed.no_clients (comes-of script turns r halt h planned)
     ∙ ap (λ p. lines (proc_names p) (run.session_of body_next bodies_of r).steps ++ end_text turns [] halt) (sym h.program)
 
-pub whole-of : (script : Script) (turns : ℕ) (r : Played Script) (halt : Halt) (old mid new : Option (List ℕ)) (last : List ℕ) → Plays script turns r → IsSoFar script → IsPlanned body_next bodies_of r halt
+pub whole-of : (script : Script) (turns : ℕ) (r : Played Script) (halt : Halt) (old mid new : Option (List ℕ)) (last : List ℕ) → Plays script turns r → IsClosed script → IsPlanned body_next bodies_of r halt
     → IsDefined (run.setting_of body_next bodies_of r) r.takes r.calls → mid ≡ appended old (run.trace_of body_next bodies_of proc_names r) → last ≡ end_text turns [] halt → new ≡ appended mid last → IsWhole turns script old new r.calls halt
 unfolding halt_of calls_of takes_of
-whole-of script turns r halt old mid new last h so_far planned due g e n =
+whole-of script turns r halt old mid new last h closed planned due g e n =
     let comes = comes-of script turns r halt h planned in
-    let plan : plan_of script turns ≡ run.plan_now body_next bodies_of r = plan-is script turns so_far.no_posts ∙ comes.whole in
+    let plan : plan_of script turns ≡ run.plan_now body_next bodies_of r = plan-is script turns closed.no_posts ∙ comes.whole in
     record {
       trace = n ∙ ap (λ w. appended w last) g ∙ appended-append old (run.trace_of body_next bodies_of proc_names r) last
-          ∙ ap (appended old) (ap (λ xs. run.trace_of body_next bodies_of proc_names r ++ xs) e ∙ sym (end-trace script turns r halt h so_far planned));
+          ∙ ap (appended old) (ap (λ xs. run.trace_of body_next bodies_of proc_names r ++ xs) e ∙ sym (end-trace script turns r halt h closed planned));
       halted = ap (plan_over (planned_of script turns)) plan ∙ comes.halted;
       made = sym (ap (λ (p : Plan Body). p.calls) plan);
       due = due-of script turns r h due;
@@ -254,21 +249,21 @@ whole-of script turns r halt old mid new last h so_far planned due g e n =
     }
 
 -- the last write failed
-pub part-last : (script : Script) (turns : ℕ) (r : Played Script) (halt : Halt) (old mid new : Option (List ℕ)) (last : List ℕ) → Plays script turns r → IsSoFar script
+pub part-last : (script : Script) (turns : ℕ) (r : Played Script) (halt : Halt) (old mid new : Option (List ℕ)) (last : List ℕ) → Plays script turns r → IsClosed script
     → IsBegun body_next bodies_of proc_names r → IsPlanned body_next bodies_of r halt → IsDefined (run.setting_of body_next bodies_of r) r.takes r.calls
     → mid ≡ appended old (run.trace_of body_next bodies_of proc_names r) → last ≡ end_text turns [] halt → AppendsCut mid new [] last → IsPart turns script old new r.calls
-part-last script turns r halt old mid new last h so_far begun planned due g e p = record {
+part-last script turns r halt old mid new last h closed begun planned due g e p = record {
   trace = prefix-then old mid new (run.trace_of body_next bodies_of proc_names r) last (trace_of script turns)
-      (end-trace script turns r halt h so_far planned ∙ ap (λ xs. run.trace_of body_next bodies_of proc_names r ++ xs) (sym e)) g (p.kept, p.told);
-  made = (rest-of script turns r h so_far begun).2;
+      (end-trace script turns r halt h closed planned ∙ ap (λ xs. run.trace_of body_next bodies_of proc_names r ++ xs) (sym e)) g (p.kept, p.told);
+  made = (rest-of script turns r h closed begun).2;
   due = due-of script turns r h due;
 }
 
 -- where the run is, the session of the script is after as many calls
-now-is : (script : Script) (turns : ℕ) (r : Played Script) → Plays script turns r → IsSoFar script
+now-is : (script : Script) (turns : ℕ) (r : Played Script) → Plays script turns r → IsClosed script
     → run.plan_now body_next bodies_of r ≡ record { session = session_at script r.calls; calls = r.calls; left = lines_posted script; takes = [] }
-now-is script turns r h so_far =
-    ap (λ session. the_plan session []) (play-is script turns r h r.calls) ∙ ap (λ posts. the_plan (session_at script r.calls) posts) (sym so_far.no_posts)
+now-is script turns r h closed =
+    ap (λ session. the_plan session []) (play-is script turns r h r.calls) ∙ ap (λ posts. the_plan (session_at script r.calls) posts) (sym closed.no_posts)
   where
     the_plan : Sessions.Session Body → List Line → Plan Body
     the_plan session posts = record { session = session; calls = r.calls; left = posts; takes = [] }
@@ -282,15 +277,15 @@ cut-then old mid new least bytes rest h g p = record {
   not_all = omega (arith, p.not_all, length-append bytes rest);
 }
 
-pub broken-last : (script : Script) (turns : ℕ) (r : Played Script) (halt : Halt) (old mid new : Option (List ℕ)) (last : List ℕ) → Plays script turns r → IsSoFar script
+pub broken-last : (script : Script) (turns : ℕ) (r : Played Script) (halt : Halt) (old mid new : Option (List ℕ)) (last : List ℕ) → Plays script turns r → IsClosed script
     → IsPlanned body_next bodies_of r halt
     → mid ≡ appended old (run.trace_of body_next bodies_of proc_names r) → last ≡ end_text turns [] halt → AppendsCut mid new [] last → IsBroken turns script old new r.calls
 unfolding tail_after
-broken-last script turns r halt old mid new last h so_far planned g e p =
+broken-last script turns r halt old mid new last h closed planned g e p =
     let tailed : tail_after script turns r.calls ≡ last =
-    ap (tail (planned_of script turns)) (sym (now-is script turns r h so_far))
+    ap (tail (planned_of script turns)) (sym (now-is script turns r h closed))
     ∙ ap (tail_by turns script.clients []) (comes-of script turns r halt h planned).halted
-    ∙ ap (λ clients. end_text turns (left_from 0 clients []) halt) so_far.no_clients
+    ∙ ap (λ clients. end_text turns (left_from 0 clients []) halt) closed.no_clients
     ∙ sym e in
     rw tailed (cut-then old mid new (lines_after script (r.calls - 1)) (lines_after script r.calls) last (lines-grow script r.calls) (rw (← lines-is script turns r h r.calls) g) p)
 
@@ -328,22 +323,20 @@ refuses-of (Some told) bytes line why read v = inl (sym (same-verdict told) ∙ 
 pub gives-bad : (bytes : List ℕ) (r : Result Script ReadErr) (line : ℕ) (why : Reason) → r ≡ Err (err.Bad line why) → Gives (verdict bytes) r → verdict bytes ≡ Err (line, why)
 gives-bad bytes r line why is g = subst (λ (x : Result Script ReadErr). Gives (verdict bytes) x) is g
 
-pub unbuilt-of : (left : Option (List ℕ)) (script : Script) → Holds left script → is_carried_out script ≡ false → Refuses left 0 reasons.Unbuilt
+pub unbuilt-of : (left : Option (List ℕ)) (script : Script) → Holds left script → is_closed script ≡ false → Refuses left 0 reasons.Unbuilt
 unbuilt-of None script h other = tt
-unbuilt-of (Some told) script h other = inr (refl, refl, (script, h), λ s spells. subst (λ (x : Script). is_carried_out x ≡ false) (one_script told script s h spells) other)
+unbuilt-of (Some told) script h other = inr (refl, refl, (script, h), λ s spells. subst (λ (x : Script). is_closed x ≡ false) (one_script told script s h spells) other)
 
--- a script that is carried out has only what is
-pub so-far-of : (script : Script) → is_carried_out script ≡ true → IsSoFar script
-unfolding is_carried_out
-so-far-of script h =
-    let a = both (eqb (length script.clients) 0 && eqb (length script.natives) 0 && eqb (length script.posts) 0) (list_all are_so_far script.procs) h in
-    let b = both (eqb (length script.clients) 0 && eqb (length script.natives) 0) (eqb (length script.posts) 0) a.0 in
+-- a closed script has nothing of the outside
+pub closed-of : (script : Script) → is_closed script ≡ true → IsClosed script
+unfolding is_closed
+closed-of script h =
+    let b = both (eqb (length script.clients) 0 && eqb (length script.natives) 0) (eqb (length script.posts) 0) h in
     let d = both (eqb (length script.clients) 0) (eqb (length script.natives) 0) b.0 in
     record {
       no_clients = none-of script.clients d.0;
       no_natives = none-of script.natives d.1;
       no_posts = ap (map (line_of script.texts)) (none-of script.posts b.1);
-      stmts = a.1;
     }
   where
     both : (a b : Bool) → (a && b) ≡ true → (a ≡ true) × (b ≡ true)
@@ -378,13 +371,13 @@ read-of turns source sink session script (end.Script line reason) h up s = absur
 
 -- ---- what the end says
 
-pub says-of : (turns : ℕ) (source sink : Stream) (session : Session) (script : Script) (e : SessionEnd) → Holds source.old script → is_carried_out script ≡ true → IsFaultless source
+pub says-of : (turns : ℕ) (source sink : Stream) (session : Session) (script : Script) (e : SessionEnd) → Holds source.old script → is_closed script ≡ true → IsFaultless source
     → RunSays turns script sink session e → EndSays turns source sink session e
-says-of turns source sink session script (end.Ended status) h o f s = (f, says-all source.old script (λ (x : Script). (is_carried_out x ≡ true) × RunSays turns x sink session (end.Ended status)) h (o, s))
-says-of turns source sink session script end.Stuck h o f s = (f, says-all source.old script (λ (x : Script). (is_carried_out x ≡ true) × RunSays turns x sink session end.Stuck) h (o, s))
-says-of turns source sink session script end.Spent h o f s = (f, says-all source.old script (λ (x : Script). (is_carried_out x ≡ true) × RunSays turns x sink session end.Spent) h (o, s))
-says-of turns source sink session script end.WriteFault h o f s = (f, says-all source.old script (λ (x : Script). (is_carried_out x ≡ true) × RunSays turns x sink session end.WriteFault) h (o, s))
-says-of turns source sink session script end.NoMemory h o f s = inr (f, says-all source.old script (λ (x : Script). (is_carried_out x ≡ true) × RunSays turns x sink session end.NoMemory) h (o, s))
+says-of turns source sink session script (end.Ended status) h o f s = (f, says-all source.old script (λ (x : Script). (is_closed x ≡ true) × RunSays turns x sink session (end.Ended status)) h (o, s))
+says-of turns source sink session script end.Stuck h o f s = (f, says-all source.old script (λ (x : Script). (is_closed x ≡ true) × RunSays turns x sink session end.Stuck) h (o, s))
+says-of turns source sink session script end.Spent h o f s = (f, says-all source.old script (λ (x : Script). (is_closed x ≡ true) × RunSays turns x sink session end.Spent) h (o, s))
+says-of turns source sink session script end.WriteFault h o f s = (f, says-all source.old script (λ (x : Script). (is_closed x ≡ true) × RunSays turns x sink session end.WriteFault) h (o, s))
+says-of turns source sink session script end.NoMemory h o f s = inr (f, says-all source.old script (λ (x : Script). (is_closed x ≡ true) × RunSays turns x sink session end.NoMemory) h (o, s))
 says-of turns source sink session script end.Usage h o f s = s
 says-of turns source sink session script end.ReadFault h o f s = absurd s
 says-of turns source sink session script (end.Script line reason) h o f s = absurd s

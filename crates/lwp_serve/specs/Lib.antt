@@ -1,5 +1,5 @@
 pub mod Bodies
-pub mod SoFar
+pub mod Closed
 pub mod Planned
 pub mod Outcome
 pub mod Reading

@@ -6,7 +6,7 @@ use Rattle.lwp_serve.specs.declared.session.Session.{Session}
 use Rattle.lwp_serve.specs.declared.session.SessionEnd.{SessionEnd}
 use Rattle.lwp_serve.specs.declared.session.SessionEnd.TheVariants as end
 use Rattle.lwp_types.specs.Streams.{AppendsPrefix, Rose, appended}
-use Rattle.lwp_serve.specs.SoFar.{is_carried_out}
+use Rattle.lwp_serve.specs.Closed.{is_closed}
 use Rattle.script_text.specs.Grammar.{Spells}
 use Rattle.script_text.specs.Spelling.{verdict}
 use Rattle.script_text.specs.declared.reason.Reason.{Reason}
@@ -49,7 +49,7 @@ Says (Some told) says = ((script : Script) × Spells told script) × ((script : 
 
 -- it spells a script of which not all is carried out yet: that is told as line 0
 abbrev pub IsUnbuilt : List ℕ → ℕ → Reason → Type 0
-IsUnbuilt told line why = (line ≡ 0) × (why ≡ reasons.Unbuilt) × ((script : Script) × Spells told script) × ((script : Script) → Spells told script → is_carried_out script ≡ false)
+IsUnbuilt told line why = (line ≡ 0) × (why ≡ reasons.Unbuilt) × ((script : Script) × Spells told script) × ((script : Script) → Spells told script → is_closed script ≡ false)
 
 -- it spells no script, and these are its first bad line and the first reason that fits; or it spells one that is told so
 abbrev pub Refuses : Option (List ℕ) → ℕ → Reason → Type 0
@@ -126,7 +126,7 @@ RunSays turns script sink session _ = ⊥
 
 -- the same of the script that the source held, all of which is carried out
 abbrev pub SourceSays : Stream → (Script → Type 0) → Type 0
-SourceSays source says = IsFaultless source × Says source.old (λ script. (is_carried_out script ≡ true) × says script)
+SourceSays source says = IsFaultless source × Says source.old (λ script. (is_closed script ≡ true) × says script)
 
 -- what each end says: a script was read, and run as far as this; or else nothing was written, and there is a cause
 abbrev pub EndSays : ℕ → Stream → Stream → Session → SessionEnd → Type 0

@@ -12,7 +12,7 @@ mod command;
 mod plan;
 mod program;
 mod session;
-mod so_far;
+mod closed;
 mod source;
 mod texts;
 

@@ -1,14 +1,14 @@
 // A script is read, and run with all lines in place.
 ghost use Rattle.std.specs.Prelude.{◌≡◌, ◌≤◌, IfOk, OnOk, OnErr, IsErrOf};
 ghost use Rattle.lwp_types.specs.Streams.{Rose};
-ghost use Rattle.lwp_serve.specs.SoFar.{IsSoFar};
+ghost use Rattle.lwp_serve.specs.Closed.{IsClosed};
 ghost use Rattle.script_text.specs.Limits.{IsWithinLimits};
 ghost use Rattle.lwp_serve.specs.Plan.{IsBroken, IsPart, IsPlan, IsPlayed, IsStopped, IsWhole, opening_run};
 
 use crate::body::ThreadBody;
 use crate::program::ScriptProgram;
 use crate::session::{Session, SessionEnd, end_of};
-use crate::so_far::is_carried_out;
+use crate::closed::is_closed;
 use crate::source::{ReadFailure, read_all};
 use lwp_types::{Env, NoMemory, PodParams, Sink, Source};
 use pod_runner::{Run, RunErr, run, write_all};
@@ -22,7 +22,7 @@ fn start<'s>(
     turns: u64,
 ) -> Result<Run<ThreadBody<'s>, ScriptProgram<'s>>, NoMemory>
     requires within { IsWithinLimits script.now }
-    requires so_far { IsSoFar script.now }
+    requires closed { IsClosed script.now }
     ensures { IfOk result (λ run. run ≡ opening_run script.now turns) }
 {
     let procs = script.procs.len() as u32;
@@ -46,7 +46,7 @@ fn run_out<'s, K: Sink>(
     sink: &mut K,
 ) -> Result<Halt, RunErr>
     requires opening { played.old ≡ opening_run played.old.program turns }
-    requires so_far { IsSoFar played.old.program }
+    requires closed { IsClosed played.old.program }
     ensures whole { IfOk result (λ halt. IsWhole turns played.old.program (K.written sink.old) (K.written sink.new) played.new.calls halt) }
     ensures part { OnErr result (IsPart turns played.old.program (K.written sink.old) (K.written sink.new) played.new.calls) }
     ensures stopped { IsErrOf result RunErr.NoMemory → IsStopped played.old.program (K.written sink.old) (K.written sink.new) played.new.calls }
@@ -66,7 +66,7 @@ fn run_out<'s, K: Sink>(
 // The session of a script.
 fn play_script<K: Sink>(alloc: Global, turns: u64, script: &Script, sink: &mut K) -> Session
     requires within { IsWithinLimits script.now }
-    requires so_far { IsSoFar script.now }
+    requires closed { IsClosed script.now }
     ensures { IsPlayed turns script.now (record { old = K.written sink.old; new = K.written sink.new; faults_old = K.faults sink.old; faults_new = K.faults sink.new }) result }
 {
     let mut played = match start(alloc, script, turns) {
@@ -106,7 +106,7 @@ pub fn plan_main<S: Source, K: Sink>(
             return Session::new(alloc, SessionEnd::Script { line, reason }, 0);
         }
     };
-    if is_carried_out(&script) {
+    if is_closed(&script) {
         return play_script(alloc, turns, &script, sink);
     }
     let end = SessionEnd::Script {

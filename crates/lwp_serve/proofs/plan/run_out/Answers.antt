@@ -1,12 +1,8 @@
 use Rattle.std.proofs.Common.{ap, ◌∙◌, rules}
 use Rattle.pod_runner.specs.Run.{Played}
 use Rattle.script_text.specs.declared.script.Script.{Script}
-use Rattle.lwp_serve.proofs.PlanLaws.{broken-last, broken-of, built-of, defined-of, on_err, part-all, part-last, part-of, plays-on, plays-opening, stopped-of, told-before, whole-of}
+use Rattle.lwp_serve.proofs.PlanLaws.{broken-last, broken-of, defined-of, on_err, part-all, part-last, part-of, plays-on, plays-opening, stopped-of, told-before, whole-of}
 use Rattle.lwp_serve.proofs.plan.run_out.Goals as goal
-
--- src/plan.rt:54:16
-pub run-requires-clause-built : goal.run-requires-clause-built
-run-requires-clause-built g c = built-of c.args.played.now.program c.args.turns c.args.played.now (plays-opening c.args.played.now c.args.turns c.requires.opening) c.requires.so_far
 
 -- src/plan.rt:54:16
 pub run-requires-clause-defined : goal.run-requires-clause-defined
@@ -18,7 +14,7 @@ returns-in_err-halt-clause-part g c =
     let opening = plays-opening c.args.played.now c.args.turns c.requires.opening in
     let calls = ap (λ (x : Played Script). x.calls) c.requires.opening in
     on_err c.from_residual.result _ (part-of c.args.played.now.program c.args.turns c.run.new.run (g.K.Sink.written c.args.sink.now) (g.K.Sink.written c.run.new.sink)
-    (plays-on c.args.played.now.program c.args.turns c.args.played.now c.run.new.run opening c.run.ensures.same c.run.ensures.takes) c.requires.so_far (c.run.ensures.begun opening.takes) c.run.ensures.made
+    (plays-on c.args.played.now.program c.args.turns c.args.played.now c.run.new.run opening c.run.ensures.same c.run.ensures.takes) c.requires.closed (c.run.ensures.begun opening.takes) c.run.ensures.made
     (c.in_err-halt.ensures.part (g.K.Sink.written c.args.sink.now) (told-before c.args.played.now (g.K.Sink.written c.args.sink.now) opening.takes calls)))
 
 -- src/plan.rt:55:16
@@ -27,7 +23,7 @@ returns-in_err-tail-clause-part g c =
     let opening = plays-opening c.args.played.now c.args.turns c.requires.opening in
     let calls = ap (λ (x : Played Script). x.calls) c.requires.opening in
     on_err c.from_residual-in_err-tail.result _ (part-all c.args.played.now.program c.args.turns c.run.new.run (g.K.Sink.written c.args.sink.now) (g.K.Sink.written c.run.new.sink)
-    (plays-on c.args.played.now.program c.args.turns c.args.played.now c.run.new.run opening c.run.ensures.same c.run.ensures.takes) c.requires.so_far (c.run.ensures.begun opening.takes) c.run.ensures.made
+    (plays-on c.args.played.now.program c.args.turns c.args.played.now c.run.new.run opening c.run.ensures.same c.run.ensures.takes) c.requires.closed (c.run.ensures.begun opening.takes) c.run.ensures.made
     (c.in_ok-halt.ensures.whole (g.K.Sink.written c.args.sink.now) (told-before c.args.played.now (g.K.Sink.written c.args.sink.now) opening.takes calls)))
 
 -- src/plan.rt:53:1
@@ -36,7 +32,7 @@ returns-in-Ok-clause-whole g c =
     let opening = plays-opening c.args.played.now c.args.turns c.requires.opening in
     let calls = ap (λ (x : Played Script). x.calls) c.requires.opening in
     whole-of c.args.played.now.program c.args.turns c.run.new.run c.in_ok-halt.halt (g.K.Sink.written c.args.sink.now) (g.K.Sink.written c.run.new.sink) (g.K.Sink.written c.write_all.new.sink) c.deref.result.now
-    (plays-on c.args.played.now.program c.args.turns c.args.played.now c.run.new.run opening c.run.ensures.same c.run.ensures.takes) c.requires.so_far
+    (plays-on c.args.played.now.program c.args.turns c.args.played.now c.run.new.run opening c.run.ensures.same c.run.ensures.takes) c.requires.closed
     (c.in_ok-halt.ensures.planned opening.takes) c.run.ensures.made
     (c.in_ok-halt.ensures.whole (g.K.Sink.written c.args.sink.now) (told-before c.args.played.now (g.K.Sink.written c.args.sink.now) opening.takes calls))
     (c.deref.ensures.value ∙ c.in_ok-tail.ensures) c.in-Ok.ensures.ok
@@ -47,7 +43,7 @@ returns-clause-part g c =
     let opening = plays-opening c.args.played.now c.args.turns c.requires.opening in
     let calls = ap (λ (x : Played Script). x.calls) c.requires.opening in
     part-last c.args.played.now.program c.args.turns c.run.new.run c.in_ok-halt.halt (g.K.Sink.written c.args.sink.now) (g.K.Sink.written c.run.new.sink) (g.K.Sink.written c.write_all.new.sink) c.deref.result.now
-    (plays-on c.args.played.now.program c.args.turns c.args.played.now c.run.new.run opening c.run.ensures.same c.run.ensures.takes) c.requires.so_far
+    (plays-on c.args.played.now.program c.args.turns c.args.played.now c.run.new.run opening c.run.ensures.same c.run.ensures.takes) c.requires.closed
     (c.in_ok-halt.ensures.begun opening.takes) (c.in_ok-halt.ensures.planned opening.takes) c.run.ensures.made
     (c.in_ok-halt.ensures.whole (g.K.Sink.written c.args.sink.now) (told-before c.args.played.now (g.K.Sink.written c.args.sink.now) opening.takes calls))
     (c.deref.ensures.value ∙ c.in_ok-tail.ensures) c.in-Err.ensures.err
@@ -81,7 +77,7 @@ returns-clause-broken g c =
     let opening = plays-opening c.args.played.now c.args.turns c.requires.opening in
     let calls = ap (λ (x : Played Script). x.calls) c.requires.opening in
     λ is. broken-last c.args.played.now.program c.args.turns c.run.new.run c.in_ok-halt.halt (g.K.Sink.written c.args.sink.now) (g.K.Sink.written c.run.new.sink) (g.K.Sink.written c.write_all.new.sink) c.deref.result.now
-    (plays-on c.args.played.now.program c.args.turns c.args.played.now c.run.new.run opening c.run.ensures.same c.run.ensures.takes) c.requires.so_far
+    (plays-on c.args.played.now.program c.args.turns c.args.played.now c.run.new.run opening c.run.ensures.same c.run.ensures.takes) c.requires.closed
     (c.in_ok-halt.ensures.planned opening.takes)
     (c.in_ok-halt.ensures.whole (g.K.Sink.written c.args.sink.now) (told-before c.args.played.now (g.K.Sink.written c.args.sink.now) opening.takes calls))
     (c.deref.ensures.value ∙ c.in_ok-tail.ensures) c.in-Err.ensures.err
