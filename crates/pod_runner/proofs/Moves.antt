@@ -10,7 +10,6 @@ use Rattle.lwp_types.specs.State.{State}
 use Rattle.lwp_types.specs.Step.{step}
 use Rattle.lwp_types.specs.declared.call.Call.{Call}
 use Rattle.lwp_types.specs.declared.call.Effect.{Effect}
-use Rattle.pod_runner.specs.Built.{is_next_built}
 use Rattle.pod_runner.specs.Parts.{Moves}
 use Rattle.script_text.specs.Lines.{step_lines}
 use Rattle.pod_runner.specs.Polls.{Polls, place_of}
