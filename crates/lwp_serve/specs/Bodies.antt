@@ -1,5 +1,6 @@
 -- The threads of a script: each runs a procedure of statements, or one of the two that are built in.
-use Rattle.lwp_serve.specs.LineServer.{SessionBody, StoreBody, session_next, session_opening, store_next, store_opening}
+use Rattle.line_server.specs.Sessions.{SessionBody, session_next, session_opening}
+use Rattle.line_server.specs.Stores.{StoreBody, store_next, store_opening}
 use Rattle.lwp_types.specs.Poll.{Next, Polled}
 use Rattle.script_body.specs.ScriptBody.{ScriptBody, script_next, script_opening}
 use Rattle.script_text.specs.declared.script.NativeKind.{NativeKind}

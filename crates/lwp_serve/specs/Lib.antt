@@ -1,4 +1,3 @@
-pub mod LineServer
 pub mod Bodies
 pub mod Planned
 pub mod Outcome

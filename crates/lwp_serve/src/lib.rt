@@ -24,10 +24,4 @@ pub use source::SCRIPT_MAX;
 pub use texts::fault_text;
 
 #[cfg(test)]
-mod letter_tests;
-#[cfg(test)]
-mod lock_tests;
-#[cfg(test)]
 mod tests;
-#[cfg(test)]
-mod thread_tests;

@@ -1,38 +1,53 @@
 // The scheduler.
-ghost use Rattle.std.specs.Prelude.{◌≡◌, ◌<◌, ◌≤◌, false, length, IsTrue, IsOk, IfOk, OnOk, OnErr};
+ghost use Rattle.std.specs.Prelude.{◌≡◌, ◌+◌, ◌<◌, ◌≤◌, ◌==◌, Some, false, length, true, IsTrue, IsOk, IfOk, OnOk, OnErr};
 ghost use Rattle.lwp_types.specs.First.{FindsBest};
-ghost use Rattle.pod_sched.specs.Schedule.{IsOrdered, admitted, blocked, choice, empty_schedule, is_blocked_in, is_eligible_in, is_suspended_in, knows, left, prio_in, prioritized, priority_in, rescheduled, reserved, resumed, suspended, unblocked, with_maxpri, yielded};
+ghost use Rattle.std.specs.List.{find};
+ghost use Rattle.pod_sched.specs.Schedule.{IsOrdered, admitted, blocked, choice, empty_schedule, is_blocked_in, is_eligible, is_eligible_in, knows, left, prio_in, prioritized, priority_in, rescheduled, reserved, resumed, suspended, thread_of, unblocked, with_maxpri, yielded};
 
 use crate::Known;
-use crate::order::{first_best, first_of, move_before, move_to_end, take_out};
-use crate::rows::{forget, prio_in, row_of, set_blocked, set_prio, set_suspended};
+use crate::bucket::{self, Bucket, Steps};
+use crate::index::{self, Index};
+use crate::rows::{LEVELS, extend_rows, free_slots, may_run, put_row, row_at};
+use buckets::Buckets;
+use chains::Chains;
 use lwp_types::{NoMemory, Tid};
 use std::alloc::Global;
 use std::marker::Model;
+use std::sync::ledger::Ledger;
 
 /// Who is known, and who may run after whom.
 #[derive(Drop)]
 pub struct Sched {
+    // Each known thread has a slot. The list 0 is of their slots, the thread that was admitted first at its head, and the
+    // list 1 of those that are free.
+    slots: Chains,
+    // The slots of those that may run.
+    order: Buckets,
+    // The row of each slot.
     rows: Vec<Known>,
-    order: Vec<Tid>,
+    // The slot of each known thread.
+    index: Index,
     maxpri: u32,
-    // Both lists have room for so many.
+    // There is memory for so many.
     places: usize,
 }
 
 impl Model for Sched {
-    ghost use Rattle.std.specs.Prelude.{vec_capacity};
+    ghost use Rattle.std.specs.Prelude.{length};
+    ghost use Rattle.pod_sched.specs.Index.{slot_in};
+    ghost use Rattle.pod_sched.specs.Held.{IsHeld, schedule_of};
     ghost use Rattle.pod_sched.specs.Schedule.{Schedule};
-    ghost use Rattle.pod_sched.specs.Kept.{IsKept};
 
     ghost Value = { Schedule };
 
-    ghost view = { λ s. record { threads = s.rows.items; order = s.order.items; maxpri = s.maxpri; places = s.places } };
+    ghost view = { λ s. schedule_of s.slots s.order s.rows.items s.maxpri s.places };
 
-    ghost invariant = { λ s. IsKept (record { threads = s.rows.items; order = s.order.items; maxpri = s.maxpri; places = s.places }) (vec_capacity s.rows) (vec_capacity s.order) };
+    ghost invariant = { λ s. IsHeld s.slots s.order s.rows.items (slot_in s.index.entries) (length s.index.entries) s.index.room s.maxpri s.places };
 }
 
 impl Sched {
+    ghost use Rattle.pod_sched.specs.Held.{back_with, out_with};
+
     /// A scheduler that knows nobody yet, with priorities from 1 to `maxpri`.
     pub fn new(alloc: Global, maxpri: u32) -> Result<Sched, NoMemory>
         requires least { 1 ≤ maxpri }
@@ -40,8 +55,10 @@ impl Sched {
         ensures { IfOk result (λ s. s ≡ empty_schedule maxpri) }
     {
         Ok(Sched {
+            slots: Chains::new(alloc, LEVELS)?,
+            order: Buckets::new(alloc, LEVELS)?,
             rows: Vec::new(alloc),
-            order: Vec::new(alloc),
+            index: index::empty(alloc)?,
             maxpri,
             places: 0,
         })
@@ -56,8 +73,14 @@ impl Sched {
         if n <= self.places {
             return Ok(());
         }
-        self.rows.reserve(n - self.rows.len())?;
-        self.order.reserve(n - self.order.len())?;
+        if n > usize::MAX - LEVELS {
+            return Err(NoMemory);
+        }
+        self.slots.reserve(LEVELS + n)?;
+        self.order.reserve(n)?;
+        extend_rows(&mut self.rows, n)?;
+        index::reserve(&mut self.index, n)?;
+        free_slots(&mut self.slots, LEVELS + self.places, LEVELS + n);
         self.places = n;
         Ok(())
     }
@@ -70,14 +93,24 @@ impl Sched {
         requires most { prio ≤ self.old.maxpri }
         ensures { self.new ≡ admitted self.old tid prio suspended }
     {
-        self.rows.push_reserved(Known {
-            tid,
-            prio,
-            suspended,
-            blocked: false,
-        });
+        // As many slots are free as threads can still be known.
+        let Some(slot) = self.slots.first(1) else {
+            unreachable!()
+        };
+        self.slots.move_to_back(0, slot);
+        put_row(
+            &mut self.rows,
+            slot,
+            Known {
+                tid,
+                prio,
+                suspended,
+                blocked: false,
+            },
+        );
+        index::put(&mut self.index, tid.number, slot);
         if !suspended {
-            self.order.push_reserved(tid);
+            self.order.put_last(slot, prio);
         }
     }
 
@@ -86,8 +119,10 @@ impl Sched {
         requires { IsTrue (knows self.old tid) }
         ensures { self.new ≡ left self.old tid }
     {
-        forget(&mut self.rows, tid);
-        take_out(&mut self.order, tid);
+        let slot = index::known_slot(&self.index, tid.number);
+        index::take(&mut self.index, tid.number);
+        self.slots.move_to_back(1, slot);
+        self.order.take(slot);
     }
 
     /// The thread begins to wait for something.
@@ -95,8 +130,14 @@ impl Sched {
         requires { IsTrue (knows self.old tid) }
         ensures { self.new ≡ blocked self.old tid }
     {
-        set_blocked(&mut self.rows, tid, true);
-        take_out(&mut self.order, tid);
+        let row = self.row(tid);
+        self.put_out(
+            tid,
+            Known {
+                blocked: true,
+                ..row
+            },
+        );
     }
 
     /// The thread has what it waited for. It goes last, unless it is suspended.
@@ -104,10 +145,15 @@ impl Sched {
         requires { IsTrue (is_blocked_in self.old tid) }
         ensures { self.new ≡ unblocked self.old tid }
     {
-        let stays_out = self.suspended(tid);
-        set_blocked(&mut self.rows, tid, false);
-        if !stays_out {
-            self.order.push_reserved(tid);
+        let row = self.row(tid);
+        let now = Known {
+            blocked: false,
+            ..row
+        };
+        if row.suspended {
+            self.put_out(tid, now);
+        } else {
+            self.put_back(tid, now);
         }
     }
 
@@ -116,8 +162,14 @@ impl Sched {
         requires { IsTrue (knows self.old tid) }
         ensures { self.new ≡ suspended self.old tid }
     {
-        set_suspended(&mut self.rows, tid, true);
-        take_out(&mut self.order, tid);
+        let row = self.row(tid);
+        self.put_out(
+            tid,
+            Known {
+                suspended: true,
+                ..row
+            },
+        );
     }
 
     /// Ends a suspension. The thread goes last, unless it is blocked; one that isn't suspended keeps its place.
@@ -125,11 +177,15 @@ impl Sched {
         requires { IsTrue (knows self.old tid) }
         ensures { self.new ≡ resumed self.old tid }
     {
-        let was_suspended = self.suspended(tid);
-        let stays_out = self.blocked(tid);
-        set_suspended(&mut self.rows, tid, false);
-        if was_suspended && !stays_out {
-            self.order.push_reserved(tid);
+        let row = self.row(tid);
+        let now = Known {
+            suspended: false,
+            ..row
+        };
+        if row.blocked {
+            self.put_out(tid, now);
+        } else if row.suspended {
+            self.put_back(tid, now);
         }
     }
 
@@ -141,13 +197,15 @@ impl Sched {
         ensures before { result ≡ priority_in self.old tid }
         ensures after { self.new ≡ prioritized self.old tid prio }
     {
-        let before = self.prio_of(tid);
-        let may_run = self.eligible(tid);
-        set_prio(&mut self.rows, tid, prio);
-        if may_run && before != prio {
-            move_to_end(&mut self.order, tid);
+        let row = self.row(tid);
+        let now = Known { prio, ..row };
+        let runs = may_run(&row);
+        if !runs {
+            self.put_out(tid, now);
+        } else if row.prio != prio {
+            self.put_back(tid, now);
         }
-        before
+        row.prio
     }
 
     /// `from` lets `to` run right before it, or goes last where the two are one.
@@ -158,9 +216,12 @@ impl Sched {
         ensures { self.new ≡ yielded self.old from to }
     {
         if from == to {
-            move_to_end(&mut self.order, from);
+            let row = self.row(from);
+            self.put_back(from, row);
         } else {
-            move_before(&mut self.order, to, from);
+            let slot = index::known_slot(&self.index, from.number);
+            let other = index::known_slot(&self.index, to.number);
+            self.order.put_before(other, slot);
         }
     }
 
@@ -168,8 +229,9 @@ impl Sched {
     pub fn resched(&mut self, prio: u32)
         ensures { self.new ≡ rescheduled self.old prio }
     {
-        if let Some(tid) = first_of(&self.rows, &self.order, prio) {
-            move_to_end(&mut self.order, tid);
+        if let Some(tid) = self.first_of(prio) {
+            let row = self.row(tid);
+            self.put_back(tid, row);
         }
     }
 
@@ -188,14 +250,23 @@ impl Sched {
         ensures first_best { FindsBest (prio_in self.now.threads) self.now.order result }
         ensures ordered { IsOrdered self.now.threads self.now.order }
     {
-        first_best(&self.rows, &self.order)
+        bucket::peek(&self.best())
+    }
+
+    /// What `current` answers, with its looks at buckets counted: one, however many priorities there are.
+    pub fn current_counted<L: Ledger>(&self, steps: &mut Steps<L>) -> Option<Tid>
+        ensures value { result ≡ choice self.now }
+        ensures cost { steps.new ≤ steps.old + self.now.maxpri }
+        ensures one_look { steps.new ≤ steps.old + 1 }
+    {
+        self.best().first(steps)
     }
 
     /// Whether the thread was admitted and hasn't left.
     pub fn knows(&self, tid: Tid) -> bool
         ensures { result ≡ knows self.now tid }
     {
-        row_of(&self.rows, tid).is_some()
+        self.row_of(tid).is_some()
     }
 
     /// The greatest priority that a thread may be given.
@@ -210,27 +281,99 @@ impl Sched {
         requires { IsTrue (knows self.now tid) }
         ensures { result ≡ priority_in self.now tid }
     {
-        prio_in(&self.rows, tid)
+        self.row(tid).prio
     }
 
     /// Whether the thread may run; an unknown one may not.
     pub fn eligible(&self, tid: Tid) -> bool
         ensures { result ≡ is_eligible_in self.now tid }
     {
-        row_of(&self.rows, tid).is_some_and(|row| !row.suspended && !row.blocked)
+        self.row_of(tid)
+            .is_some_and(|row| !row.suspended && !row.blocked)
     }
 
     /// Whether the thread waits for something; an unknown one doesn't.
     pub fn blocked(&self, tid: Tid) -> bool
         ensures { result ≡ is_blocked_in self.now tid }
     {
-        row_of(&self.rows, tid).is_some_and(|row| row.blocked)
+        self.row_of(tid).is_some_and(|row| row.blocked)
     }
 
-    // Whether the thread is suspended.
-    fn suspended(&self, tid: Tid) -> bool
-        ensures { result ≡ is_suspended_in self.now tid }
+    // The bucket of the greatest priority that has somebody.
+    fn best(&self) -> Bucket
+        ensures value { result ≡ choice self.now }
+        ensures first_best { FindsBest (prio_in self.now.threads) self.now.order result }
+        ensures ordered { IsOrdered self.now.threads self.now.order }
+        ensures least { 1 ≤ self.now.maxpri }
     {
-        row_of(&self.rows, tid).is_some_and(|row| row.suspended)
+        bucket::led_by(self.first_best())
+    }
+
+    // The first of that bucket.
+    fn first_best(&self) -> Option<Tid>
+        ensures value { result ≡ choice self.now }
+        ensures first_best { FindsBest (prio_in self.now.threads) self.now.order result }
+        ensures ordered { IsOrdered self.now.threads self.now.order }
+        ensures least { 1 ≤ self.now.maxpri }
+    {
+        let slot = self.order.best()?;
+        Some(row_at(&self.rows, slot).tid)
+    }
+
+    // The thread's row, if it is known.
+    fn row_of(&self, tid: Tid) -> Option<Known>
+        ensures { result ≡ thread_of self.now tid }
+    {
+        let slot = index::slot_of(&self.index, tid.number)?;
+        Some(row_at(&self.rows, slot))
+    }
+
+    // A known thread's row.
+    fn row(&self, tid: Tid) -> Known
+        requires { IsTrue (knows self.now tid) }
+        ensures value { thread_of self.now tid ≡ Some result }
+        ensures same { result.tid ≡ tid }
+        ensures low { result.prio < 256 }
+        ensures most { self.now.maxpri ≤ 255 }
+        ensures ordered { IsOrdered self.now.threads self.now.order }
+    {
+        let slot = index::known_slot(&self.index, tid.number);
+        row_at(&self.rows, slot)
+    }
+
+    // The first of this priority.
+    fn first_of(&self, prio: u32) -> Option<Tid>
+        ensures value { result ≡ find (λ t. priority_in self.now t == prio) self.now.order }
+        ensures ordered { IsOrdered self.now.threads self.now.order }
+    {
+        let slot = self.order.first_of(prio)?;
+        Some(row_at(&self.rows, slot).tid)
+    }
+
+    // A thread that may not run has this row from now on.
+    fn put_out(&mut self, tid: Tid, row: Known)
+        requires known { IsTrue (knows self.old tid) }
+        requires same { row.tid ≡ tid }
+        requires low { row.prio < 256 }
+        requires out { is_eligible row ≡ false }
+        ensures { self.new ≡ out_with self.old tid row }
+    {
+        let slot = index::known_slot(&self.index, tid.number);
+        put_row(&mut self.rows, slot, row);
+        self.order.take(slot);
+    }
+
+    // A thread that may run has this row from now on, and goes last.
+    fn put_back(&mut self, tid: Tid, row: Known)
+        requires known { IsTrue (knows self.old tid) }
+        requires same { row.tid ≡ tid }
+        requires low { row.prio < 256 }
+        requires in_order { is_eligible row ≡ true }
+        ensures { self.new ≡ back_with self.old tid row }
+    {
+        let slot = index::known_slot(&self.index, tid.number);
+        let prio = row.prio;
+        put_row(&mut self.rows, slot, row);
+        self.order.put_last(slot, prio);
     }
 }

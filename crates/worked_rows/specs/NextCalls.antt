@@ -1,6 +1,10 @@
 -- What bodies do with answers that no session gives: they return, and nothing else changes. And what the built-in ones do where
 -- no script can bring them.
-use Rattle.lwp_serve.specs.LineServer.{Entry, SessionBody, SessionPlace, StoreBody, StorePlace}
+use Rattle.line_server.specs.Sessions.{SessionBody}
+use Rattle.line_server.specs.Stores.{StoreBody}
+use Rattle.line_server.specs.Tables.{Table, shown}
+use Rattle.line_server.specs.declared.session.SessionPlace.{SessionPlace}
+use Rattle.line_server.specs.declared.store.StorePlace.{StorePlace}
 use Rattle.lwp_types.specs.Names.{Names, null_names}
 use Rattle.lwp_types.specs.Poll.{Next}
 use Rattle.lwp_types.specs.declared.call.Answer.{Answer}
@@ -56,5 +60,5 @@ abbrev pub store : StorePlace → StoreBody
 store place = record { tables = []; client = 1; place = place }
 
 -- a table with the keys `k0` to `k99`, each of the value `v`
-abbrev pub hundred : List Entry
-hundred = map (λ n. record { key = codes "k" ++ decimal n; value = codes "v" }) (counted_to 100)
+abbrev pub hundred : Table
+hundred = map (λ n. (codes "k" ++ decimal n, shown (codes "v"))) (counted_to 100)

@@ -1,4 +1,5 @@
-use Rattle.lwp_serve.specs.LineServer.{session_next, store_next}
+use Rattle.line_server.specs.Sessions.{session_next}
+use Rattle.line_server.specs.Stores.{store_next}
 use Rattle.lwp_serve.specs.Planned.{calls_of, halt_of, takes_of, trace_of}
 use Rattle.lwp_types.specs.Agents.{deliver}
 use Rattle.lwp_types.specs.Case.{unless}

@@ -1,4 +1,5 @@
-use Rattle.lwp_serve.specs.LineServer.{session_next, store_next}
+use Rattle.line_server.specs.Sessions.{session_next}
+use Rattle.line_server.specs.Stores.{store_next}
 use Rattle.script_body.specs.ScriptBody.{script_next}
 use Rattle.std.proofs.Common.{refl}
 use Rattle.std.specs.Fmt.{digits}

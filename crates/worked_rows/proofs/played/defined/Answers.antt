@@ -1,6 +1,7 @@
 use Rattle.pod_runner.specs.Due.{IsDefined}
 use Rattle.std.proofs.Common.{rules}
-use Rattle.lwp_serve.specs.LineServer.{session_next, store_next}
+use Rattle.line_server.specs.Sessions.{session_next}
+use Rattle.line_server.specs.Stores.{store_next}
 use Rattle.lwp_types.specs.Agents.{deliver}
 use Rattle.lwp_types.specs.Case.{unless}
 use Rattle.lwp_types.specs.State.{and_then, for_each, in_order}

@@ -1,0 +1,120 @@
+//! The corpus: scripts as a person writes them, with what the program must write of each.
+//!
+//! `data/rows` is a table, a row a line: a name, the file with the script, the file with the text that is wanted, the status that
+//! is wanted, and the program's words. Each row is run through `lwp_serve::top` over streams in memory, and one line is printed
+//! for it: `same`, or else the first line that differs, or the status where all lines are the same. `compare` is proved to say
+//! so, over `first_difference`. What the files hold no contract can say.
+//!
+//! How the text is compared is said by the last part of its file's name:
+//!
+//! - `.trace`, `.fault`: it is the whole trace, and behind it what is said on standard error;
+//! - `.tail`: it is the last lines of that;
+//! - `.damages`: the script is run cut at each length and then with each byte zeroed; the text has, for each, a line with the
+//!   damage and the status, and then the whole text; the status of the row is the greatest of theirs.
+//!
+//! A row is added by its files, its line in `data/rows`, and its line in `stdout`: `sed 's/ .*/: same/' data/rows > stdout`. Its
+//! text is worked out by hand, and never taken from the program.
+//!
+//! Three more tables of the same form aren't read yet. Their rows are put behind those of `data/rows` once the program can run
+//! them: `rows.later`, when the reader tells which line is bad and why; `rows.pod`, when the pod has conditions, marks, exit
+//! procedures and agents; `rows.line_server`, when there are bodies other than procedures.
+//!
+//! The crate stands on `lwp_serve`, and on the streams of `lwp_types`.
+#![tactic(auto)]
+
+mod damage;
+mod difference;
+mod outcome;
+mod row;
+mod verdict;
+
+use lwp_types::NoMemory;
+use outcome::{Outcome, damaged_sessions, session};
+use row::{Row, row_of};
+use std::alloc::Global;
+use std::io::{ErrorKind, Write};
+use std::process::ExitCode;
+use std::{fs, io};
+use verdict::{Verdict, compare, ending};
+
+fn main(rt: HostRuntime) -> ExitCode {
+    match print_rows(&rt) {
+        Ok(true) => ExitCode::SUCCESS,
+        Ok(false) | Err(_) => ExitCode::FAILURE,
+    }
+}
+
+fn io_error(_: NoMemory) -> io::Error {
+    ErrorKind::OutOfMemory.into()
+}
+
+// Prints a line for each row, and answers whether all are the same.
+fn print_rows(rt: &HostRuntime) -> io::Result<bool> {
+    let table = fs::read_to_string(rt, "rows")?;
+    let mut all_same = true;
+    for line in table.lines() {
+        let same = match row_of(rt.alloc(), line).map_err(io_error)? {
+            Some(row) => print_row(rt, &row)?,
+            None => {
+                println!(rt; "{line}: no row")?;
+                false
+            }
+        };
+        all_same = all_same && same;
+    }
+    Ok(all_same)
+}
+
+// Runs a row, prints its line, and answers whether it is the same.
+fn print_row(rt: &HostRuntime, row: &Row<'_>) -> io::Result<bool> {
+    let (Ok(script), Ok(wanted)) = (fs::read(rt, row.script), fs::read(rt, row.text)) else {
+        println!(rt; "{}: a file is missing", row.name)?;
+        return Ok(false);
+    };
+    let outcome = outcome_of(rt.alloc(), row, script.as_slice()).map_err(io_error)?;
+    let text = compared(row, outcome.text.as_slice(), wanted.len());
+    let said = compare(outcome.status, text, row.status, wanted.as_slice());
+    print_verdict(rt, row.name, &said)?;
+    Ok(matches!(said, Verdict::Same))
+}
+
+// What comes of a row.
+fn outcome_of(alloc: Global, row: &Row<'_>, script: &[u8]) -> Result<Outcome, NoMemory> {
+    if row.text.ends_with(".damages") {
+        damaged_sessions(alloc, &row.words, script)
+    } else {
+        session(alloc, &row.words, script)
+    }
+}
+
+// As much of the text as is compared.
+fn compared<'t>(row: &Row<'_>, text: &'t [u8], count: usize) -> &'t [u8] {
+    if row.text.ends_with(".tail") {
+        ending(text, count)
+    } else {
+        text
+    }
+}
+
+// A line without the newline that ends it.
+fn without_end(line: &[u8]) -> &[u8] {
+    match line {
+        [text @ .., b'\n'] => text,
+        _ => line,
+    }
+}
+
+fn print_verdict(rt: &HostRuntime, name: &str, said: &Verdict<'_>) -> io::Result<()> {
+    match said {
+        Verdict::Same => println!(rt; "{name}: same"),
+        Verdict::Status(status) => println!(rt; "{name}: status {status}"),
+        Verdict::Line(difference) => {
+            print!(rt; "{name}: line {}: ", difference.number)?;
+            let mut out = rt.stdout();
+            out.write_all(without_end(difference.found))?;
+            out.write_all(b", and not: ")?;
+            out.write_all(without_end(difference.wanted))?;
+            out.write_all(b"\n")
+        }
+    }
+}

@@ -1,0 +1,67 @@
+// What the program makes of its words and a script.
+use crate::damage::{Damage, damaged};
+use lwp_serve::{fault_text, top};
+use lwp_types::{MemSink, MemSource, NoMemory};
+use std::alloc::Global;
+
+// A trace has room for so many bytes, of which the sink takes at most so many at once.
+const ROOM: usize = 4_194_304;
+
+const PER_CALL: usize = 1000;
+
+/// The status that a session ends with, and its text: the trace, and behind it what is said on standard error.
+#[derive(Drop)]
+pub struct Outcome {
+    pub status: u8,
+    pub text: Vec<u8>,
+}
+
+/// The session of these words, over streams in memory of which none fails.
+pub fn session(alloc: Global, words: &Vec<String>, script: &[u8]) -> Result<Outcome, NoMemory> {
+    let mut source = MemSource::new(script.to_vec(alloc)?, Vec::new(alloc));
+    let mut sink = MemSink::new(alloc, ROOM, PER_CALL, Vec::new(alloc))?;
+    let session = top(alloc, words, &mut source, &mut sink);
+    let mut text = sink.bytes().to_vec(alloc)?;
+    text.extend_from_slice(fault_text(alloc, &session.end)?.as_slice())?;
+    Ok(Outcome {
+        status: session.status,
+        text,
+    })
+}
+
+// Runs the script so damaged, and adds what came of it.
+fn add_damaged(
+    alloc: Global,
+    words: &Vec<String>,
+    script: &[u8],
+    damage: Damage,
+    all: &mut Outcome,
+) -> Result<(), NoMemory> {
+    let one = session(alloc, words, damaged(alloc, script, damage)?.as_slice())?;
+    let status = one.status;
+    let head = format!(in alloc; "{damage}: {status}\n")?;
+    all.status = all.status.max(status);
+    all.text.extend_from_slice(head.as_bytes())?;
+    all.text.extend_from_slice(one.text.as_slice())?;
+    Ok(())
+}
+
+/// The sessions of a script cut at each length and with each byte zeroed, one behind the other, each headed by its damage and
+/// its status; the status is the greatest of theirs.
+pub fn damaged_sessions(
+    alloc: Global,
+    words: &Vec<String>,
+    script: &[u8],
+) -> Result<Outcome, NoMemory> {
+    let mut all = Outcome {
+        status: 0,
+        text: Vec::new(alloc),
+    };
+    for count in 0..=script.len() {
+        add_damaged(alloc, words, script, Damage::Cut(count), &mut all)?;
+    }
+    for count in 0..script.len() {
+        add_damaged(alloc, words, script, Damage::Zero(count), &mut all)?;
+    }
+    Ok(all)
+}

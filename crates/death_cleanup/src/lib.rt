@@ -1,0 +1,38 @@
+//! What a pod holds, in parts; what exit procedures do to it; and the death of a thread, after which nothing waits for it.
+//!
+//! `Parts` are seen as the machine's state by `state_of` (`specs/View.antt`). A function here says one thing of them:
+//! `CameTo` (`specs/Comes.antt`), that the parts are in the state, and have told the effects, of the machine's definition
+//! of that name in `lwp_types`. `InStep` (`specs/Ties.antt`) ties the parts to one another and holds after every change;
+//! `LawfulParts` are a lawful state besides. What is lawful after a call isn't said again: that the state is follows from
+//! the definition alone, by the laws of `pod_laws`.
+//!
+//! | function | definition |
+//! |---|---|
+//! | `die` | `death` |
+//! | `exit_call` | `run_exit`, by the calls `monitor_exit`, `monitor_break`, `notify`, `broadcast`, `reply`, `resume`, `set_exit` |
+//! | `leave_frames` | `unwind` down to the first frames |
+//! | `end_agent`, `release`, `wake` | `end_agent`, `release`, `unblock` |
+//!
+//! Nothing here takes memory or is refused by want of it. A dying thread has left the scheduler: `Parts` keep who that is,
+//! and the priority that it had. It stands on the crates of the single parts, and on `pod_laws`.
+#![tactic(auto)]
+
+mod death;
+mod exits;
+mod frames;
+mod locks;
+mod parts;
+mod rows;
+mod signals;
+#[cfg(test)]
+mod tests;
+mod waiters;
+
+pub use death::die;
+pub use exits::{exit_call, reply, resume, set_exit};
+pub use frames::leave_frames;
+pub use locks::{monitor_break, monitor_exit, release};
+pub use parts::{Parts, is_agent, is_id, is_thread, set_block, wake};
+pub use rows::{Awaited, Kind, ThreadRec};
+pub use signals::{ask_again, broadcast, cond_send, is_last, notify};
+pub use waiters::end_agent;

@@ -1,0 +1,93 @@
+// The parts, and the changes of one thread in them.
+ghost use Rattle.std.specs.Prelude.{◌≡◌, ◌<◌, length, map, IsTrue};
+ghost use Rattle.agents.specs.Roster.{is_listed};
+ghost use Rattle.lwp_types.specs.State.{is_blocked_in, is_id, is_thread};
+ghost use Rattle.lwp_types.specs.Unblock.{unblock};
+ghost use Rattle.death_cleanup.specs.Comes.{CameTo};
+ghost use Rattle.death_cleanup.specs.Moves.{block_set};
+ghost use Rattle.death_cleanup.specs.Ties.{InStep};
+ghost use Rattle.death_cleanup.specs.View.{rows_of, state_of};
+
+use crate::rows::Kind;
+use agents::Agents;
+use conditions::Conds;
+use lwp_types::{Answer, Block, Effect, Effects, Tid};
+use monitors::Monitors;
+use pod_sched::Sched;
+use rendezvous::Mail;
+use stale_ids::Registry;
+
+/// All that a pod holds.
+#[derive(Drop)]
+pub struct Parts {
+    pub ids: Registry<Kind>,
+    pub sched: Sched,
+    pub mail: Mail,
+    pub mons: Monitors,
+    pub conds: Conds,
+    pub agents: Agents,
+    /// The exit status.
+    pub exit: u32,
+    pub ended: bool,
+    /// How many procedures there are.
+    pub procs: u32,
+    /// The number of the next exit procedure that is set.
+    pub registration: u64,
+    /// The next pattern that is given.
+    pub pattern: u32,
+    /// The thread that is dying, which has left the scheduler.
+    pub dying: Option<Tid>,
+    /// The priority that the dying thread had.
+    pub last_prio: u32,
+}
+
+/// Whether it is a live thread.
+pub fn is_thread(parts: &Parts, tid: Tid) -> bool
+    ensures { result ≡ is_thread (state_of parts.now) tid }
+{
+    // The check learns here that the living stand in birth order, so that a number finds one of them.
+    let _living = parts.ids.len();
+    match parts.ids.get(tid.number) {
+        Some(Kind::Thread(_)) => true,
+        Some(Kind::Agent) => false,
+        None => false,
+    }
+}
+
+/// Whether it is a live agent.
+pub fn is_agent(agents: &Agents, tid: Tid) -> bool
+    ensures { result ≡ is_listed agents.now.agents tid }
+{
+    agents.owner_of(tid).is_some()
+}
+
+/// Whether it is a live thread or agent.
+pub fn is_id(parts: &Parts, tid: Tid) -> bool
+    ensures { result ≡ is_id (state_of parts.now) tid }
+{
+    is_thread(parts, tid) || is_agent(&parts.agents, tid)
+}
+
+/// Says of a live thread what it waits for.
+pub fn set_block(ids: &mut Registry<Kind>, tid: Tid, block: Block)
+    ensures { ids.new ≡ record ids.old { live = map (block_set tid block) ids.old.live } }
+{
+    if let Some(kind) = ids.get_mut(tid.number) {
+        match kind {
+            Kind::Thread(rec) => rec.block = block,
+            Kind::Agent => {}
+        }
+    }
+}
+
+/// A thread that waits goes on, with this answer.
+pub fn wake(parts: &mut Parts, tid: Tid, answer: Answer, effects: &mut Effects)
+    requires step { InStep parts.old }
+    requires waits { IsTrue (is_blocked_in (state_of parts.old) tid) }
+    requires room { length effects.old < 2048 }
+    ensures came { CameTo parts.old parts.new effects.old effects.new (unblock answer tid (state_of parts.old)) }
+{
+    parts.sched.unblock(tid);
+    set_block(&mut parts.ids, tid, Block::Not);
+    effects.push(Effect::Answered { tid, answer });
+}

@@ -1,0 +1,113 @@
+// Whoever waits for a thread or an agent that ends goes on.
+ghost use Rattle.std.specs.Prelude.{◌≡◌, ◌<◌, Some, IsTrue, false, length};
+ghost use Rattle.std.specs.List.{slice_get};
+ghost use Rattle.lwp_types.specs.Agents.{end_agent};
+ghost use Rattle.lwp_types.specs.Death.{end_agents, refuse_senders, release_all};
+ghost use Rattle.lwp_types.specs.State.{is_agent, is_thread};
+ghost use Rattle.death_cleanup.specs.Comes.{CameTo, HasRoom};
+ghost use Rattle.death_cleanup.specs.Moves.{agent_over};
+ghost use Rattle.death_cleanup.specs.Ties.{HasLawfulThreads, InStep, LawfulParts};
+ghost use Rattle.death_cleanup.specs.View.{state_of};
+ghost use Rattle.death_cleanup.specs.Waits.{dismissed, first_waiting};
+ghost use Rattle.pod_laws.proofs.DeathLoops.{Lonely, Unowning};
+
+use crate::locks::release;
+use crate::parts::{Parts, wake};
+use crate::rows::{Awaited, Kind};
+use lwp_types::{Answer, Effects, LwpErr, Tid};
+use stale_ids::Registry;
+
+// The `i`-th of the living, counted from the oldest.
+fn nth_of(ids: &Registry<Kind>, i: usize) -> (Tid, &Kind)
+    requires { i < length ids.now.live }
+    ensures { slice_get ids.now.live i ≡ Some (result.0, result.1.now) }
+{
+    let number = ids.nth(i);
+    let kind = ids.get(number).unwrap();
+    (Tid { number }, kind)
+}
+
+// The oldest of the living that waits for this of the thread or agent.
+fn first_waiting(ids: &Registry<Kind>, what: Awaited, tid: Tid) -> Option<Tid>
+    ensures { result ≡ first_waiting what tid ids.now.live }
+{
+    for i in 0..ids.len() {
+        let (other, kind) = nth_of(ids, i);
+        if kind.waits_for(what, tid) {
+            return Some(other);
+        }
+    }
+    None
+}
+
+/// Whoever waits for this of the thread or agent goes on, in the order of birth.
+pub fn dismiss(parts: &mut Parts, what: Awaited, tid: Tid, effects: &mut Effects)
+    requires threads { HasLawfulThreads (state_of parts.old) }
+    requires step { InStep parts.old }
+    requires room { HasRoom effects.old (dismissed what tid (state_of parts.old)) 0 }
+    ensures came { CameTo parts.old parts.new effects.old effects.new (dismissed what tid (state_of parts.old)) }
+{
+    while let Some(other) = first_waiting(&parts.ids, what, tid) {
+        wake(parts, other, what.answer(), effects);
+    }
+}
+
+/// The thread leaves all its monitors, the last acquired first, and whoever enters one of them next goes on.
+pub fn release_all(parts: &mut Parts, tid: Tid, effects: &mut Effects)
+    requires lawful { LawfulParts parts.old }
+    requires dying { parts.old.dying ≡ Some tid }
+    requires room { HasRoom effects.old (release_all tid (state_of parts.old)) 1 }
+    ensures came { CameTo parts.old parts.new effects.old effects.new (release_all tid (state_of parts.old)) }
+{
+    while let Some(mon) = parts.mons.last_held(tid) {
+        release(parts, mon, effects);
+    }
+}
+
+/// Whoever sent a letter to the thread has it back and goes on, in the order of sending.
+pub fn refuse_senders(parts: &mut Parts, tid: Tid, effects: &mut Effects)
+    requires lonely { Lonely tid (state_of parts.old) }
+    requires step { InStep parts.old }
+    requires room { HasRoom effects.old (refuse_senders tid (state_of parts.old)) 0 }
+    ensures came { CameTo parts.old parts.new effects.old effects.new (refuse_senders tid (state_of parts.old)) }
+{
+    while let Some(sender) = parts.mail.pop_to(tid) {
+        wake(parts, sender, Answer::Refused(LwpErr::NonExist), effects);
+    }
+}
+
+// An agent that is listed no more: whoever waits for it by name goes on, and its letter and its number go.
+fn clear_agent(parts: &mut Parts, agent: Tid, effects: &mut Effects)
+    requires threads { HasLawfulThreads (state_of parts.old) }
+    requires step { InStep parts.old }
+    requires no_thread { is_thread (state_of parts.old) agent ≡ false }
+    requires room { HasRoom effects.old (agent_over agent (state_of parts.old)) 0 }
+    ensures came { CameTo parts.old parts.new effects.old effects.new (agent_over agent (state_of parts.old)) }
+{
+    dismiss(parts, Awaited::Letter, agent, effects);
+    parts.mail.forget(agent);
+    parts.ids.remove(agent.number);
+}
+
+/// An agent ends: whoever waits for it by name goes on, and its letter goes, received or not.
+pub fn end_agent(parts: &mut Parts, agent: Tid, effects: &mut Effects)
+    requires lawful { LawfulParts parts.old }
+    requires lives { IsTrue (is_agent (state_of parts.old) agent) }
+    requires room { HasRoom effects.old (end_agent agent (state_of parts.old)) 0 }
+    ensures came { CameTo parts.old parts.new effects.old effects.new (end_agent agent (state_of parts.old)) }
+{
+    parts.agents.destroy(agent);
+    clear_agent(parts, agent, effects);
+}
+
+/// The agents of the thread end, in the order of birth.
+pub fn end_agents(parts: &mut Parts, tid: Tid, effects: &mut Effects)
+    requires unowning { Unowning tid (state_of parts.old) }
+    requires step { InStep parts.old }
+    requires room { HasRoom effects.old (end_agents tid (state_of parts.old)) 0 }
+    ensures came { CameTo parts.old parts.new effects.old effects.new (end_agents tid (state_of parts.old)) }
+{
+    while let Some(agent) = parts.agents.forget_owner(tid) {
+        clear_agent(parts, agent, effects);
+    }
+}

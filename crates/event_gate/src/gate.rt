@@ -1,0 +1,19 @@
+// The outside of a pod, as whoever runs the pod sees it.
+ghost use Rattle.std.specs.Prelude.{◌≡◌, List};
+ghost use Rattle.event_gate.specs.Shelves.{Shelf, first_left, left_of_client, taken_from};
+
+use lwp_types::Line;
+
+/// Lines by event, seen as those taken and those left of each, in order.
+pub trait Gate {
+    ghost stock: { Self → List Shelf };
+
+    /// The first line left of the event, which is then taken.
+    fn take(&mut self, event: u8) -> Option<Line>
+        ensures line { result ≡ first_left (stock self.old) event }
+        ensures after { stock self.new ≡ taken_from (stock self.old) event };
+
+    /// How many lines of the client are left.
+    fn left(&self, client: u8) -> u32
+        ensures { result ≡ left_of_client client (stock self.now) };
+}

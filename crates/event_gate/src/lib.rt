@@ -1,0 +1,43 @@
+//! Where lines of the outside wait until a pod takes them: lists that are filled beforehand, and ports, to which outside
+//! threads post while the pod runs.
+//!
+//! A gate is two lists of each event, the lines taken and the lines left (`specs/Shelves.antt`). A take gives the first line
+//! left of its event, so of each client the lines taken and then those left are what it posts (`specs/History.antt`).
+//!
+//! A port is one queue and the two kinds of ends that it has. Each client has a `Poster`, and the runner has the one `Taker`.
+//! What holds at each step of any of them is the rule of the port (`specs/Port.antt`): what was pushed is what was popped and
+//! then what the queue holds, and each client's part of it is what its poster knows that it has posted. So for every schedule,
+//! once a poster's pass is taken in, its lines taken and then its lines queued are what it posted, in order (`TakesIn`), and a
+//! take answers `None` only where nothing was queued (`FindsNothing`). The crate stands on the words of `lwp_types`, on the
+//! kit's `crossbeam_queue` for the queue and on its `atomic_table` for a gauge beside it.
+#![tactic(auto)]
+
+mod bell;
+mod gate;
+mod gauge;
+mod gauge_rule;
+mod inlet;
+mod laws;
+mod list_gate;
+mod open;
+mod port;
+mod poster;
+mod posts;
+mod rule;
+mod shelf;
+mod taker;
+mod view;
+
+pub use bell::Bell;
+pub use gate::Gate;
+pub use inlet::Inlet;
+pub use laws::{every_client_history, every_gate_history};
+pub use list_gate::ListGate;
+pub use open::open_port;
+pub use poster::{PostPass, PostRefused, Poster};
+pub use posts::{NoGate, PostEnd, PostGate, post_all};
+pub use taker::Taker;
+pub use view::{Told, View};
+
+#[cfg(test)]
+mod tests;

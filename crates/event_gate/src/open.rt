@@ -1,0 +1,97 @@
+// How a port is made.
+ghost use Rattle.std.specs.Prelude.{◌≡◌, ◌≢◌, false, [], ◌∷◌, ◌++◌, map, AllPairs, IfOk};
+ghost use Rattle.std.specs.Arc.{arc_value};
+ghost use Rattle.crossbeam_queue.specs.SegTies.{IsSegPassOf};
+ghost use Rattle.event_gate.specs.Port.{is_noted, with_next};
+ghost use Rattle.event_gate.specs.Gauge.{IsAtGauge};
+ghost use Rattle.event_gate.specs.Ends.{IsOpen, opened, posting};
+
+use crate::gauge::{GaugeSeat, another_seat, open_gauge};
+use crate::port::{Pass, Port};
+use crate::poster::Poster;
+use crate::rule::{Next, Open, Zero};
+use crate::taker::Taker;
+use crossbeam_queue::RuledSegQueue;
+use lwp_types::NoMemory;
+use std::alloc::{AllocError, Global};
+use std::sync::{Arc, Wait};
+
+// A view is made of views alone, so the number of the next client is counted up in the taker's.
+fn aim(port: &Port, pass: &mut Pass, client: u8)
+    requires { IsSegPassOf port.now.queue pass.old }
+    ensures queue { IsSegPassOf port.now.queue pass.new × (pass.new.web ≡ pass.old.web) }
+    ensures view { pass.new.me.view.client ≡ with_next pass.old.me.view.client client }
+{
+    let _ = port.queue.another::<Zero>(pass);
+    for _ in 0..client {
+        let _ = port.queue.another::<Next>(pass);
+    }
+}
+
+// A poster of one more client.
+fn open_poster(
+    port: &Arc<Port, Global>,
+    pass: &mut Pass,
+    seat: &mut GaugeSeat,
+    client: u8,
+) -> Result<Poster, AllocError>
+    requires gauge { IsAtGauge (arc_value port.now).gauge.shared.table_id seat.old.table_id }
+    requires queue { IsSegPassOf (arc_value port.now).queue pass.old }
+    requires view { IsOpen pass.old.me.view.client.noted pass.old.me.view.client }
+    requires new { is_noted client pass.old.me.view.client.noted ≡ false }
+    ensures gauge { (seat.new.table_id ≡ seat.old.table_id) × (seat.new.me.0 ≡ seat.old.me.0) }
+    ensures queue { IsSegPassOf (arc_value port.now).queue pass.new × (pass.new.web ≡ pass.old.web) }
+    ensures view { IfOk result (λ p. IsOpen (pass.old.me.view.client.noted ++ client ∷ []) pass.new.me.view.client) }
+    ensures poster { IfOk result (λ p. p ≡ posting pass.old.web client) }
+{
+    let port = Arc::try_clone(port)?;
+    aim(&port, pass, client);
+    let theirs = port.queue.another::<Open>(pass);
+    let announces = another_seat(&port.gauge, seat);
+    Ok(Poster::new(client, port, theirs, announces))
+}
+
+// A poster of each client, in order.
+fn open_posters(
+    alloc: Global,
+    port: &Arc<Port, Global>,
+    pass: &mut Pass,
+    seat: &mut GaugeSeat,
+    clients: &[u8],
+) -> Result<Vec<Poster>, AllocError>
+    requires gauge { IsAtGauge (arc_value port.now).gauge.shared.table_id seat.old.table_id }
+    requires queue { IsSegPassOf (arc_value port.now).queue pass.old }
+    requires view { IsOpen [] pass.old.me.view.client }
+    requires distinct { AllPairs (λ a b. a ≢ b) clients.now }
+    ensures gauge { (seat.new.table_id ≡ seat.old.table_id) × (seat.new.me.0 ≡ seat.old.me.0) }
+    ensures queue { IsSegPassOf (arc_value port.now).queue pass.new × (pass.new.web ≡ pass.old.web) }
+    ensures view { IfOk result (λ v. IsOpen clients.now pass.new.me.view.client) }
+    ensures posters { IfOk result (λ v. v.items ≡ map (posting pass.old.web) clients.now) }
+{
+    let mut posters = Vec::new(alloc);
+    for client in clients {
+        posters.reserve(1)?;
+        let poster = open_poster(port, pass, seat, *client)?;
+        posters.push_reserved(poster);
+    }
+    Ok(posters)
+}
+
+/// A port for this event, and a poster for each client, in order. All memory that the taker ever needs is taken here.
+pub fn open_port<R: Wait>(
+    _rt: &R,
+    alloc: Global,
+    event: u8,
+    clients: &[u8],
+) -> Result<(Taker, Vec<Poster>), NoMemory>
+    requires { AllPairs (λ a b. a ≢ b) clients.now }
+    ensures taker { IfOk result (λ r. r.0 ≡ opened r.0.port event clients.now) }
+    ensures posters { IfOk result (λ r. r.1.items ≡ map (posting r.0.port) clients.now) }
+{
+    let (gauge, mut seat) = open_gauge(alloc)?;
+    let (queue, mut pass) = RuledSegQueue::with_rule(alloc)?;
+    let port = Arc::new(alloc, Port { queue, gauge })?;
+    let posters = open_posters(alloc, &port, &mut pass, &mut seat, clients)?;
+    let taker = Taker::new(alloc, event, port, pass, seat, clients)?;
+    Ok((taker, posters))
+}

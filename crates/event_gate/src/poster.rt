@@ -1,0 +1,163 @@
+// The end of a port that one client posts to.
+ghost use Rattle.std.specs.Prelude.{◌≡◌, ◌+◌, ◌<◌, true, length, [], OnOk, IfErr};
+ghost use Rattle.std.specs.Arc.{arc_value};
+ghost use Rattle.crossbeam_queue.specs.SegTies.{IsSegPassOf};
+ghost use Rattle.event_gate.specs.Port.{poster, after_post};
+ghost use Rattle.event_gate.specs.Gauge.{IsAtGauge, opening};
+ghost use Rattle.event_gate.specs.Ends.{posting, posted_more};
+
+use crate::gauge::{GaugeSeat, announce, withdraw};
+use crate::port::{Pass, Port};
+use crate::rule::Post;
+use lwp_types::Line;
+use std::alloc::Global;
+use std::marker::Model;
+use std::sync::{Arc, Wait};
+
+/// A line that was not posted, for want of memory.
+#[derive(Drop)]
+pub struct PostRefused {
+    pub line: Line,
+}
+
+/// The end of a port that one client posts to. Contracts see the client and the lines that it has posted.
+#[derive(Drop)]
+pub struct Poster {
+    client: u8,
+    count: u32,
+    port: Arc<Port, Global>,
+    pass: Pass,
+    seat: GaugeSeat,
+}
+
+impl Model for Poster {
+    ghost use Rattle.event_gate.specs.Ends.{Posting};
+    ghost use Rattle.std.specs.Prelude.{◌≡◌, true, length};
+    ghost use Rattle.std.specs.Arc.{arc_value};
+    ghost use Rattle.crossbeam_queue.specs.SegTies.{IsSegPassOf};
+    ghost use Rattle.event_gate.specs.Ends.{IsPostersView};
+    ghost use Rattle.event_gate.specs.Gauge.{IsAtGauge};
+
+    ghost Value = { Posting };
+
+    ghost view = { λ s. record { port = s.pass.web; client = s.client; posted = s.pass.me.view.client.posted } };
+
+    ghost invariant = { λ s. IsSegPassOf (arc_value s.port).queue s.pass × IsPostersView s.pass.me.view.client s.client s.count × IsAtGauge (arc_value s.port).gauge.shared.table_id s.seat.table_id × (s.seat.me.0.announced ≡ s.count) };
+}
+
+impl Poster {
+    /// The end of a client that has posted nothing.
+    pub(crate) fn new(client: u8, port: Arc<Port, Global>, pass: Pass, seat: GaugeSeat) -> Poster
+        requires queue { IsSegPassOf (arc_value port).queue pass }
+        requires view { pass.me.view.client ≡ poster client [] }
+        requires gauge { IsAtGauge (arc_value port).gauge.shared.table_id seat.table_id × (seat.me.0 ≡ opening) }
+        ensures { result ≡ posting pass.web client }
+    {
+        Poster {
+            client,
+            count: 0,
+            port,
+            pass,
+            seat,
+        }
+    }
+
+    /// Whose end it is.
+    pub fn client(&self) -> u8
+        ensures { result ≡ self.now.client }
+    {
+        self.client
+    }
+
+    /// How many lines the client has posted.
+    pub fn count(&self) -> u32
+        ensures { result ≡ length self.now.posted }
+    {
+        self.count
+    }
+
+    /// Posts the client's next line. A line that was refused is not posted.
+    pub fn post<R: Wait>(&mut self, rt: &R, line: Line) -> Result<(), PostRefused>
+        requires client { line.client ≡ self.old.client }
+        requires next { line.seq ≡ length self.old.posted }
+        requires room { length self.old.posted < 4294967295 }
+        ensures posted { OnOk result (self.new ≡ posted_more self.old line) }
+        ensures refused { IfErr result (λ e. (e.line ≡ line) × (self.new ≡ self.old)) }
+    {
+        let Poster {
+            port,
+            pass,
+            seat,
+            count,
+            ..
+        } = self;
+        announce(&port.gauge, seat);
+        match push_announced(rt, port, pass, seat, line) {
+            Ok(()) => {
+                *count += 1;
+                Ok(())
+            }
+            Err(line) => {
+                withdraw(&port.gauge, seat);
+                Err(PostRefused { line })
+            }
+        }
+    }
+
+    /// What the client has posted, for good.
+    pub fn finish(self) -> PostPass
+        ensures { result ≡ self }
+    {
+        let Poster {
+            client,
+            count,
+            port: _,
+            pass,
+            seat: _,
+        } = self;
+        PostPass {
+            client,
+            count,
+            pass,
+        }
+    }
+}
+
+// The one push of a line. Its post was announced before, and so the gauge is never below what was pushed.
+fn push_announced<R: Wait>(
+    rt: &R,
+    port: &Port,
+    pass: &mut Pass,
+    _seat: &GaugeSeat,
+    line: Line,
+) -> Result<(), Line>
+    requires queue { IsSegPassOf port.now.queue pass.old }
+    requires announced { _seat.now.me.0.announced ≡ length pass.old.me.view.client.posted + 1 }
+    requires view { pass.old.me.view.client.posts ≡ true }
+    requires line { (line.client ≡ pass.old.me.view.client.client) × (line.seq ≡ length pass.old.me.view.client.posted) × (line.seq < 4294967295) }
+    ensures queue { IsSegPassOf port.now.queue pass.new × (pass.new.web ≡ pass.old.web) }
+    ensures posted { OnOk result (pass.new.me.view.client ≡ after_post pass.old.me.view.client line) }
+    ensures refused { IfErr result (λ x. (x ≡ line) × (pass.new.me.view.client ≡ pass.old.me.view.client)) }
+{
+    port.queue.push_as::<Post, R>(rt, pass, line)
+}
+
+/// What a client has posted, for good. Contracts see it as its poster.
+#[derive(Drop)]
+pub struct PostPass {
+    pub(crate) client: u8,
+    pub(crate) count: u32,
+    pub(crate) pass: Pass,
+}
+
+impl Model for PostPass {
+    ghost use Rattle.event_gate.specs.Ends.{Posting};
+    ghost use Rattle.std.specs.Prelude.{◌≡◌, None};
+    ghost use Rattle.event_gate.specs.Ends.{IsPostersView};
+
+    ghost Value = { Posting };
+
+    ghost view = { λ s. record { port = s.pass.web; client = s.client; posted = s.pass.me.view.client.posted } };
+
+    ghost invariant = { λ s. (s.pass.me.hand ≡ None) × (s.pass.me.spare ≡ None) × IsPostersView s.pass.me.view.client s.client s.count };
+}

@@ -1,0 +1,76 @@
+// What one outside thread does.
+ghost use Rattle.std.specs.Prelude.{◌≡◌, ◌+◌, ◌≤◌, length};
+ghost use Rattle.event_gate.specs.Texts.{PostsSome};
+
+use crate::bell::Bell;
+use crate::poster::{PostPass, Poster};
+use lwp_types::{Line, Text};
+use std::sync::Wait;
+
+/// What is done before each post.
+pub trait PostGate: Send + Drop {
+    /// Called before the client's line of that number is posted.
+    fn before(&mut self, client: u8, seq: u32);
+}
+
+/// Does nothing.
+#[derive(Drop)]
+pub struct NoGate;
+
+impl PostGate for NoGate {
+    fn before(&mut self, _client: u8, _seq: u32) {}
+}
+
+/// What a client has posted, and whether that is all of its lines.
+#[derive(Drop)]
+pub struct PostEnd {
+    pub pass: PostPass,
+    pub all: bool,
+}
+
+// Posts the texts in order, and says whether it posted all.
+fn post_texts<G: PostGate, R: Wait>(
+    rt: &R,
+    poster: &mut Poster,
+    gate: &mut G,
+    texts: &[Text],
+    bell: &Bell,
+) -> bool
+    requires { length poster.old.posted + length texts.now ≤ 4294967295 }
+    ensures { PostsSome poster.old texts.now result poster.new }
+{
+    let client = poster.client();
+    for text in texts {
+        let seq = poster.count();
+        let line = Line {
+            client,
+            seq,
+            text: *text,
+        };
+        gate.before(client, seq);
+        let Ok(()) = poster.post(rt, line) else {
+            return false;
+        };
+        bell.ring(rt);
+    }
+    true
+}
+
+/// Posts the texts in order, with a ring of the bell after each, until a post is refused. Then the poster leaves.
+pub fn post_all<G: PostGate, R: Wait>(
+    rt: &R,
+    mut poster: Poster,
+    mut gate: G,
+    texts: &[Text],
+    bell: &Bell,
+) -> PostEnd
+    requires { length poster.posted + length texts.now ≤ 4294967295 }
+    ensures { PostsSome poster texts.now result.all result.pass }
+{
+    let all = post_texts(rt, &mut poster, &mut gate, texts, bell);
+    bell.leave(rt);
+    PostEnd {
+        pass: poster.finish(),
+        all,
+    }
+}

@@ -1,0 +1,181 @@
+// The end of a port that the runner takes from.
+ghost use Rattle.std.specs.Prelude.{true, ◌≡◌, ◌↔◌, ◌∷◌, [], List, IfOk, IfSome, IfNone, IsTrue, IsNone};
+ghost use Rattle.event_gate.specs.Ends.{TakesLine, FindsNothing, TakesIn, IsTold, IsAllTaken, IsOpen, opened, left_of};
+ghost use Rattle.std.specs.Arc.{arc_value};
+ghost use Rattle.crossbeam_queue.specs.SegTies.{IsSegPassOf};
+ghost use Rattle.event_gate.specs.Gauge.{IsAtGauge, after_find, opening};
+ghost use Rattle.event_gate.specs.Port.{Sees, Takes};
+
+use crate::gauge::{GaugeSeat, glance};
+use crate::port::{Pass, Port};
+use crate::poster::PostPass;
+use crate::rule::{Keep, Take, TakeIn};
+use lwp_types::Line;
+use std::alloc::{AllocError, Global};
+use std::marker::Model;
+use std::sync::{Arc, Wait};
+use std::thread;
+
+/// The end of a port that the runner takes from.
+#[derive(Drop)]
+pub struct Taker {
+    event: u8,
+    port: Arc<Port, Global>,
+    pass: Pass,
+    seat: GaugeSeat,
+    // How many lines were taken, modulo 2^64.
+    count: u64,
+    clients: Vec<u8>,
+    // Of each client number, how many of its lines were taken, whether its pass came back, and then how many it posted.
+    taken: Vec<u32>,
+    told: Vec<bool>,
+    posted: Vec<u32>,
+}
+
+impl Model for Taker {
+    ghost use Rattle.event_gate.specs.Ends.{Taking};
+    ghost use Rattle.std.specs.Prelude.{true, ◌≡◌, true, length};
+    ghost use Rattle.std.specs.Arc.{arc_value};
+    ghost use Rattle.crossbeam_queue.specs.SegTies.{IsSegPassOf};
+    ghost use Rattle.event_gate.specs.Ends.{IsTakersView, taking};
+    ghost use Rattle.event_gate.specs.Gauge.{IsAtGauge};
+
+    ghost Value = { Taking };
+
+    ghost view = { λ s. taking s.pass.web s.event s.pass.me.view.client s.seat.me.0 };
+
+    ghost invariant = { λ s. IsSegPassOf (arc_value s.port).queue s.pass × IsTakersView s.pass.me.view.client s.clients.items s.taken.items s.told.items s.posted.items s.count × IsAtGauge (arc_value s.port).gauge.shared.table_id s.seat.table_id };
+}
+
+impl Taker {
+    /// The event that the port is for.
+    pub fn event(&self) -> u8
+        ensures { result ≡ self.now.event }
+    {
+        self.event
+    }
+
+    /// The end of a port that has posters of these clients, and no lines yet.
+    pub(crate) fn new(
+        alloc: Global,
+        event: u8,
+        port: Arc<Port, Global>,
+        pass: Pass,
+        seat: GaugeSeat,
+        clients: &[u8],
+    ) -> Result<Taker, AllocError>
+        requires queue { IsSegPassOf (arc_value port).queue pass }
+        requires view { IsOpen clients.now pass.me.view.client }
+        requires gauge { IsAtGauge (arc_value port).gauge.shared.table_id seat.table_id × (seat.me.0 ≡ opening) }
+        ensures { IfOk result (λ t. t ≡ opened pass.web event clients.now) }
+    {
+        let clients = Vec::from_slice(alloc, clients)?;
+        let taken = Vec::from_elem(alloc, 0, 256)?;
+        let told = Vec::from_elem(alloc, false, 256)?;
+        let posted = Vec::from_elem(alloc, 0, 256)?;
+        Ok(Taker {
+            event,
+            port,
+            pass,
+            seat,
+            count: 0,
+            clients,
+            taken,
+            told,
+            posted,
+        })
+    }
+
+    /// Whether all passes came back.
+    pub fn told(&self) -> bool
+        ensures { IsTrue result ↔ IsTold self.now }
+    {
+        for client in &self.clients {
+            if !self.told[usize::from(*client)] {
+                return false;
+            }
+        }
+        true
+    }
+
+    /// Takes the next line. `None` exactly where a step of this call found that as many lines were taken as posts were
+    /// begun and not refused. A post begins before its push, so the queue was empty at that step.
+    pub fn take<R: Wait>(&mut self, rt: &R) -> Option<Line>
+        ensures line { IfSome result (TakesLine self.old self.new) }
+        ensures nothing { IfNone result (FindsNothing self.old self.new) }
+        ensures told { IsTold self.old → IsNone result ↔ IsAllTaken self.old }
+    {
+        let Taker {
+            port,
+            pass,
+            seat,
+            count,
+            taken,
+            ..
+        } = self;
+        let line = next_line(rt, port, pass, seat, *count)?;
+        *count = count.wrapping_add(1);
+        taken[usize::from(line.client)] = line.seq + 1;
+        Some(line)
+    }
+
+    /// Takes in what a client has posted in all.
+    pub fn take_in<R: Wait>(&mut self, rt: &R, pass: PostPass)
+        requires port { pass.port ≡ self.old.port }
+        ensures { TakesIn self.old pass self.new }
+    {
+        let PostPass {
+            client,
+            count,
+            pass: other,
+        } = pass;
+        let Taker {
+            port,
+            pass,
+            told,
+            posted,
+            ..
+        } = self;
+        port.queue.absorb::<TakeIn>(pass, other);
+        let _ = port.queue.len_as::<Keep, R>(rt, pass);
+        told[usize::from(client)] = true;
+        posted[usize::from(client)] = count;
+    }
+
+    /// How many lines of the client are left, where its pass came back.
+    pub fn left(&self, client: u8) -> u32
+        ensures { result ≡ left_of client self.now }
+    {
+        let client = usize::from(client);
+        self.posted[client].saturating_sub(self.taken[client])
+    }
+}
+
+// The next line, or the empty find. Where the queue is empty and more posts were begun than lines taken, a post is under
+// way or has just ended, so it looks again.
+fn next_line<R: Wait>(
+    rt: &R,
+    port: &Port,
+    pass: &mut Pass,
+    seat: &mut GaugeSeat,
+    count: u64,
+) -> Option<Line>
+    requires queue { IsSegPassOf port.now.queue pass.old }
+    requires gauge { IsAtGauge port.now.gauge.shared.table_id seat.old.table_id }
+    requires view { pass.old.me.view.client.takes ≡ true }
+    ensures queue { IsSegPassOf port.now.queue pass.new × (pass.new.web ≡ pass.old.web) }
+    ensures gauge { seat.new.table_id ≡ seat.old.table_id }
+    ensures line { IfSome result (λ x. Takes pass.old.me.view.client x pass.new.me.view.client × (seat.new.me.0 ≡ seat.old.me.0)) }
+    ensures nothing { IfNone result ((pass.new.me.view.client ≡ pass.old.me.view.client) × Sees pass.old.me.view.client [] × (seat.new.me.0 ≡ after_find seat.old.me.0 count)) }
+{
+    for _ in rt.forever() {
+        if let Some(line) = port.queue.pop_as::<Take, R>(rt, pass) {
+            return Some(line);
+        }
+        if glance(&port.gauge, seat, count) {
+            return None;
+        }
+        thread::yield_now();
+    }
+    unreachable!()
+}

@@ -1,0 +1,26 @@
+// What a pass of a port's queue knows. No value of these types is made.
+use lwp_types::Line;
+use std::collections::LinkedList;
+
+/// What a client has posted in all.
+pub struct Told {
+    pub client: u8,
+    pub posted: LinkedList<Line>,
+}
+
+/// What a pass may do and what it knows.
+pub struct View {
+    /// It is a client's poster.
+    pub posts: bool,
+    pub client: u8,
+    pub posted: LinkedList<Line>,
+    /// It is the taker.
+    pub takes: bool,
+    pub taken: LinkedList<Line>,
+    /// The clients of which a poster was made.
+    pub noted: LinkedList<u8>,
+    /// What the clients whose passes came back have posted in all.
+    pub known: LinkedList<Told>,
+    /// The client of the next poster.
+    pub next: u8,
+}

@@ -1,0 +1,35 @@
+// What one outside thread does on a lane.
+ghost use Rattle.std.specs.Prelude.{◌≡◌, ◌+◌, ◌≤◌, length};
+ghost use Rattle.lanes.specs.Texts.{lane_posted};
+
+use crate::lane::{LanePass, LanePoster};
+use event_gate::{Bell, PostGate};
+use lwp_types::{Line, Text};
+use std::sync::Wait;
+
+/// Posts the texts in order, with a ring of the bell after each. Then the poster leaves.
+pub fn lane_post_all<G: PostGate, R: Wait>(
+    rt: &R,
+    mut poster: LanePoster,
+    mut gate: G,
+    texts: &[Text],
+    bell: &Bell,
+) -> LanePass
+    requires { length poster.posted + length texts.now ≤ poster.lines }
+    ensures { result ≡ lane_posted poster texts.now }
+{
+    let client = poster.client();
+    for text in texts {
+        let seq = poster.count();
+        let line = Line {
+            client,
+            seq,
+            text: *text,
+        };
+        gate.before(client, seq);
+        poster.post(line);
+        bell.ring(rt);
+    }
+    bell.leave(rt);
+    poster.finish()
+}

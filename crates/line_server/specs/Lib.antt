@@ -1,0 +1,7 @@
+pub mod Commands
+pub mod Read
+pub mod Tables
+pub mod Turns
+pub mod Sessions
+pub mod Stores
+pub mod Keys

@@ -1,0 +1,69 @@
+-- What one client has put into a store, and what it is told.
+use Rattle.indexmap.specs.IndexMap.{insert_entry, swap_remove_entry}
+use Rattle.line_server.specs.Commands.{Command, Del, Get, Put, command_of}
+use Rattle.lwp_types.specs.State.{is_empty}
+use Rattle.std.specs.List.{before_first, list_any}
+use Rattle.std.specs.Map.{lookup}
+use Rattle.std.specs.Prelude.{Bool, List, None, Option, Some, [], codes, if◌then◌else◌, is_none, is_some, length, nat_le, ℕ, ◌&&◌, ◌++◌, ◌∷◌}
+use Rattle.std.specs.Str.{bytes_eq}
+
+-- a table: each key, and what a get of it is told
+abbrev pub Table : Type 0
+Table = List (List ℕ × List ℕ)
+
+-- what is kept for a key, if it is there
+abbrev pub at_key : List ℕ → Table → Option (List ℕ)
+at_key key table = lookup (bytes_eq key) table
+
+-- what a get is told of a value
+abbrev pub shown : List ℕ → List ℕ
+shown value = codes "is" ++ (if is_empty value then [] else 32 ∷ value)
+
+-- what a command is replied to, and the table then
+pub record Told : Type 0 where
+  pub reply : List ℕ
+  pub table : Table
+
+-- a get is told the value, or that there is none
+abbrev pub told_value : Option (List ℕ) → List ℕ
+told_value None = codes "none"
+told_value (Some text) = text
+
+-- a put of a new key into a table of 100 keys is refused; any other is done, and a new key stands last
+abbrev pub told_put : List ℕ → List ℕ → Table → Told
+told_put key value table = if nat_le 100 (length table) && is_none (at_key key table)
+    then record { reply = codes "full"; table = table }
+    else record { reply = codes "ok"; table = insert_entry bytes_eq table key (shown value) }
+
+-- a del takes the key out, so that the last one stands in its place, and tells whether it was there
+abbrev pub told_del : List ℕ → Table → Told
+told_del key table = record {
+  reply = if is_some (at_key key table) then codes "ok" else codes "none";
+  table = swap_remove_entry (bytes_eq key) table;
+}
+
+-- a command, done on a table
+abbrev pub told_command : Option Command → Table → Told
+told_command None table = record { reply = codes "bad"; table = table }
+told_command (Some (Put key value)) table = told_put key value table
+told_command (Some (Get key)) table = record { reply = told_value (at_key key table); table = table }
+told_command (Some (Del key)) table = told_del key table
+
+-- a text, read and done on a table
+abbrev pub told : List ℕ → Table → Told
+told text table = told_command (command_of text) table
+
+-- ---- a client's lines in turn
+
+-- what texts are told in turn, with this table at first
+abbrev pub replies : Table → List (List ℕ) → List (List ℕ)
+replies table [] = []
+replies table (text ∷ texts) = (told text table).reply ∷ replies (told text table).table texts
+
+-- the line by which a client ends
+abbrev pub is_quit : List ℕ → Bool
+is_quit text = bytes_eq text (codes "quit")
+
+-- what a client's lines are answered, up to and with the first `quit`
+abbrev pub line_answers : List (List ℕ) → List (List ℕ)
+line_answers texts = replies [] (before_first is_quit texts) ++ (if list_any is_quit texts then codes "bye" ∷ [] else [])

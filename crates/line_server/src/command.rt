@@ -1,0 +1,76 @@
+// What a client's text asks for.
+ghost use Rattle.line_server.specs.Commands.{Command, Put, Get, Del, is_key_byte, key_len, put_of, alone, asked_by, asked_of, command_of};
+ghost use Rattle.line_server.specs.Read.{read};
+ghost use Rattle.std.specs.Option.{option_map};
+ghost use Rattle.std.specs.Prelude.{◌≡◌, ◌≤◌, length};
+
+/// A command; its key and its value lie in the text.
+#[derive(Clone, Copy)]
+pub enum Asked<'t> {
+    Put { key: &'t [u8], value: &'t [u8] },
+    Get { key: &'t [u8] },
+    Del { key: &'t [u8] },
+}
+
+fn is_key_byte(byte: u8) -> bool
+    ensures { result ≡ is_key_byte byte }
+{
+    byte.is_ascii_lowercase() || byte.is_ascii_digit() || byte == b'_'
+}
+
+// The length of the key that a text begins with.
+fn key_len(text: &[u8]) -> usize
+    ensures len { result ≡ key_len text.now }
+    ensures within { result ≤ length text.now }
+{
+    let mut len = 0;
+    while len < text.len() && is_key_byte(text[len]) {
+        len += 1;
+    }
+    len
+}
+
+fn put_of<'t>(key: &'t [u8], behind: &'t [u8]) -> Option<Asked<'t>>
+    ensures { option_map read result ≡ put_of key.now behind.now }
+{
+    match behind {
+        [] => Some(Asked::Put { key, value: behind }),
+        [b' ', value @ ..] if !value.is_empty() => Some(Asked::Put { key, value }),
+        _ => None,
+    }
+}
+
+// What a word asks for, by its key and what stands behind that.
+fn asked_by<'t>(word: &[u8], key: &'t [u8], behind: &'t [u8]) -> Option<Asked<'t>>
+    ensures { option_map read result ≡ asked_by word.now key.now behind.now }
+{
+    if word == b"put ".as_slice() {
+        return put_of(key, behind);
+    }
+    if !behind.is_empty() {
+        return None;
+    }
+    if word == b"get ".as_slice() {
+        return Some(Asked::Get { key });
+    }
+    if word == b"del ".as_slice() {
+        return Some(Asked::Del { key });
+    }
+    None
+}
+
+/// What a text asks for, if it is a command.
+pub fn command_of(text: &[u8]) -> Option<Asked<'_>>
+    ensures { option_map read result ≡ command_of text.now }
+{
+    if text.len() < 4 {
+        return None;
+    }
+    let (word, rest) = text.split_at(4);
+    let len = key_len(rest);
+    if len < 1 || 16 < len {
+        return None;
+    }
+    let (key, behind) = rest.split_at(len);
+    asked_by(word, key, behind)
+}

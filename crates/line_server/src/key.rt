@@ -1,0 +1,77 @@
+// A key of a table.
+ghost use Rattle.std.specs.Prelude.{◌≡◌, ◌≤◌, length};
+
+use std::hash::{Hash, Hasher};
+use std::marker::Model;
+
+/// The greatest length of a key, in bytes.
+pub const KEY_MAX: usize = 16;
+
+/// At most 16 bytes, which lie in the value itself, seen as the list of them.
+#[derive(Drop)]
+pub struct Key {
+    bytes: [u8; 16],
+    len: usize,
+}
+
+impl Model for Key {
+    ghost use Rattle.std.specs.Prelude.{◌≡◌, ◌≤◌, ℕ, List, length, take};
+
+    ghost Value = { List ℕ };
+
+    ghost view = { λ k. take k.len k.bytes };
+
+    ghost invariant = { λ k. (k.len ≤ 16) × (length k.bytes ≡ 16) };
+}
+
+impl Key {
+    /// A key of these bytes.
+    pub fn new(bytes: &[u8]) -> Key
+        requires { length bytes.now ≤ 16 }
+        ensures { result ≡ bytes.now }
+    {
+        let len = bytes.len();
+        let mut cells = [0u8; 16];
+        cells[..len].copy_from_slice(bytes);
+        Key { bytes: cells, len }
+    }
+
+    fn bytes(&self) -> &[u8]
+        ensures { result.now ≡ self.now }
+    {
+        &self.bytes[..self.len]
+    }
+}
+
+impl PartialEq for Key {
+    ghost use Rattle.std.specs.Str.{bytes_eq};
+    ghost use Rattle.std.specs.Cmp.{partial_equiv_from_equiv};
+    ghost use Rattle.std.specs.Cmp.Lexicographic.{nat_list_eq_equiv};
+
+    ghost eq = { bytes_eq };
+
+    ghost laws = { partial_equiv_from_equiv nat_list_eq_equiv };
+
+    fn eq(&self, other: &Key) -> bool {
+        self.bytes() == other.bytes()
+    }
+}
+
+impl Eq for Key {
+    ghost use Rattle.std.specs.Cmp.Lexicographic.{nat_list_eq_equiv};
+
+    ghost laws = { nat_list_eq_equiv };
+}
+
+impl Hash for Key {
+    ghost use Rattle.std.specs.Prelude.{[], ◌∷◌};
+    ghost use Rattle.line_server.specs.Keys.{same_writes};
+
+    ghost hash_input = { λ bytes. bytes ∷ [] };
+
+    ghost respects_eq = { same_writes };
+
+    fn hash<H: Hasher>(&self, state: &mut H) {
+        state.write(self.bytes());
+    }
+}

@@ -1,0 +1,24 @@
+//! The two procedures that are built in: a session, which serves the client of one event, and a store, which sessions ask.
+//!
+//! A session carries its client's commands to the store and the replies back. The store keeps one table for each thread that
+//! sends to it. What either calls next is exactly what `specs/Sessions.antt` and `specs/Stores.antt` compute, for every state
+//! and every answer. A store tells a sender what its own texts are told on its own table, whatever others send
+//! (`senders_are_apart`), so what a client is answered is a function of its lines alone (`line_answers` in `specs/Tables.antt`).
+//!
+//! The crate stands on `lwp_types` and, so that a table and a key in it are found at once, on the kit's `indexmap`.
+#![tactic(auto)]
+
+mod command;
+mod key;
+mod laws;
+mod session;
+mod store;
+mod table;
+mod words;
+
+pub use laws::senders_are_apart;
+pub use session::SessionBody;
+pub use store::StoreBody;
+
+#[cfg(test)]
+mod tests;

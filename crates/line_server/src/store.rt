@@ -1,0 +1,143 @@
+// A thread that keeps tables for those that send to it.
+ghost use Rattle.line_server.specs.Stores.{is_invalid, store_by, store_next, store_next-keeps_lengths, store_opening, store_receives, store_received, store_replied, store_tells, told_sender, tables_after};
+ghost use Rattle.std.specs.Prelude.{◌≡◌, IfOk, OnOk};
+
+use crate::table::Table;
+use crate::words::was_replied;
+use indexmap::IndexMap;
+use lwp_types::{Answer, Body, Call, Env, LwpErr, Mode, NULL_TID, NoMemory, Text, Tid};
+use std::alloc::Global;
+use std::marker::Model;
+
+/// What a store's last call was.
+#[derive(Clone, Copy)]
+pub enum StorePlace {
+    Start,
+    Recv,
+    Reply,
+    Empty,
+}
+
+/// A thread that keeps a table for each thread that sends to it, for its whole life. It takes memory only for a new sender
+/// and for a new key, and finds a table, and a key in it, by their hashes.
+#[derive(Drop)]
+pub struct StoreBody {
+    alloc: Global,
+    tables: IndexMap<u64, Table>,
+    client: Tid,
+    place: StorePlace,
+}
+
+impl Model for StoreBody {
+    ghost use Rattle.line_server.specs.Stores.{StoreBody};
+
+    ghost Value = { StoreBody };
+
+    ghost view = { λ b. record { tables = b.tables.entries; client = b.client; place = b.place } };
+}
+
+// What a sender's text is told, by its own table.
+fn tell(
+    alloc: Global,
+    tables: &mut IndexMap<u64, Table>,
+    from: u64,
+    text: &Text,
+) -> Result<Text, NoMemory>
+    ensures reply { IfOk result (λ reply. reply ≡ (told_sender from text.now tables.old.entries).reply) }
+    ensures after { OnOk result (tables.new.entries ≡ tables_after from text.now tables.old.entries) }
+{
+    if let Some(table) = tables.get_mut(&from) {
+        return table.tell(text);
+    }
+    let mut table = Table::new(alloc);
+    let reply = table.tell(text)?;
+    tables.insert(from, table)?;
+    Ok(reply)
+}
+
+impl StoreBody {
+    /// A store at its start, without tables.
+    pub fn new(alloc: Global) -> StoreBody
+        ensures { result ≡ store_opening }
+    {
+        StoreBody {
+            alloc,
+            tables: IndexMap::new(alloc),
+            client: NULL_TID,
+            place: StorePlace::Start,
+        }
+    }
+
+    fn receive(&mut self) -> Call
+        ensures { (result, self.new) ≡ store_receives self.old }
+    {
+        self.place = StorePlace::Recv;
+        Call::Recv {
+            from: None,
+            mode: Mode::Block,
+        }
+    }
+
+    fn tell(&mut self, from: Tid, text: &Text) -> Result<Call, NoMemory>
+        ensures { IfOk result (λ call. (call, self.new) ≡ store_tells self.old from text.now) }
+    {
+        let reply = tell(self.alloc, &mut self.tables, from.number, text)?;
+        self.client = from;
+        self.place = StorePlace::Reply;
+        Ok(Call::Reply {
+            to: from,
+            text: reply,
+        })
+    }
+
+    fn take_letter(&mut self, got: &Answer) -> Result<Call, NoMemory>
+        ensures { IfOk result (λ call. (call, self.new) ≡ store_received self.old got.now) }
+    {
+        match got {
+            Answer::Letter { from, text, .. } => self.tell(*from, text),
+            Answer::Refused(_) => Ok(self.receive()),
+            _ => Ok(Call::Return),
+        }
+    }
+
+    // A reply that was too long is made once more, empty.
+    fn take_reply(&mut self, got: &Answer) -> Call
+        ensures { (result, self.new) ≡ store_replied self.old got.now }
+    {
+        if let Answer::Refused(LwpErr::InvalidArg) = got {
+            self.place = StorePlace::Empty;
+            return Call::Reply {
+                to: self.client,
+                text: Text::empty(),
+            };
+        }
+        if !was_replied(got) {
+            return Call::Return;
+        }
+        self.receive()
+    }
+
+    // The next call, by the last one.
+    fn go_on(&mut self, got: &Answer) -> Result<Call, NoMemory>
+        ensures { IfOk result (λ call. (call, self.new) ≡ store_by self.old got.now self.old.place) }
+    {
+        match self.place {
+            StorePlace::Start => Ok(self.receive()),
+            StorePlace::Recv => self.take_letter(got),
+            StorePlace::Reply => Ok(self.take_reply(got)),
+            StorePlace::Empty if was_replied(got) => Ok(self.receive()),
+            StorePlace::Empty => Ok(Call::Return),
+        }
+    }
+}
+
+impl Body for StoreBody {
+    ghost next = { store_next };
+
+    #[tactic(auto, unfolding(crate::specs::Stores::store_next))]
+    fn poll(&mut self, env: &mut Env, got: Answer) -> Result<Call, NoMemory> {
+        self.go_on(&got)
+    }
+
+    ghost keeps_lengths = { store_next-keeps_lengths };
+}

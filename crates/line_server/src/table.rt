@@ -1,0 +1,106 @@
+// What one client has put into a store.
+ghost use Rattle.line_server.specs.Commands.{command_of};
+ghost use Rattle.line_server.specs.Tables.{at_key, shown, told, told_put, told_del, told_value};
+ghost use Rattle.lwp_types.specs.TextFields.{is_printable, is_text};
+ghost use Rattle.std.specs.Prelude.{◌≡◌, ◌≤◌, [], length, IsTrue, IfOk, OnOk};
+
+use crate::command::{Asked, command_of};
+use crate::key::Key;
+use crate::words::text_of;
+use indexmap::IndexMap;
+use lwp_types::{NoMemory, TEXT_MAX, Text};
+use std::alloc::Global;
+use std::marker::Model;
+
+/// How many keys a table may have.
+pub const KEYS_MAX: usize = 100;
+
+/// The keys of one client, and what a get of each is told, so that a get makes no text.
+#[derive(Drop)]
+pub struct Table {
+    entries: IndexMap<Key, Text>,
+}
+
+impl Model for Table {
+    ghost use Rattle.line_server.specs.Tables.{Table};
+
+    ghost Value = { Table };
+
+    ghost view = { λ t. t.entries.entries };
+}
+
+// What a get is told of a value.
+fn shown(value: &[u8]) -> Text
+    requires short { length value.now ≤ 237 }
+    requires printable { IsTrue (is_printable value.now) }
+    ensures { result ≡ shown value.now }
+{
+    if value.is_empty() {
+        return text_of(b"is");
+    }
+    let len = 3 + value.len();
+    let mut bytes = [0u8; TEXT_MAX];
+    bytes[..3].copy_from_slice(b"is ");
+    bytes[3..len].copy_from_slice(value);
+    text_of(&bytes[..len])
+}
+
+impl Table {
+    /// A table without keys.
+    pub fn new(alloc: Global) -> Table
+        ensures { result ≡ [] }
+    {
+        Table {
+            entries: IndexMap::new(alloc),
+        }
+    }
+
+    fn put(&mut self, key: &[u8], value: &[u8]) -> Result<Text, NoMemory>
+        requires key { length key.now ≤ 16 }
+        requires short { length value.now ≤ 237 }
+        requires printable { IsTrue (is_printable value.now) }
+        ensures reply { IfOk result (λ reply. reply ≡ (told_put key.now value.now self.old).reply) }
+        ensures after { OnOk result (self.new ≡ (told_put key.now value.now self.old).table) }
+    {
+        let key = Key::new(key);
+        if KEYS_MAX <= self.entries.len() && !self.entries.contains_key(&key) {
+            return Ok(text_of(b"full"));
+        }
+        self.entries.insert(key, shown(value))?;
+        Ok(text_of(b"ok"))
+    }
+
+    fn get(&self, key: &[u8]) -> Text
+        requires { length key.now ≤ 16 }
+        ensures { result ≡ told_value (at_key key.now self.now) }
+    {
+        let Some(text) = self.entries.get(&Key::new(key)) else {
+            return text_of(b"none");
+        };
+        *text
+    }
+
+    fn del(&mut self, key: &[u8]) -> Text
+        requires { length key.now ≤ 16 }
+        ensures reply { result ≡ (told_del key.now self.old).reply }
+        ensures after { self.new ≡ (told_del key.now self.old).table }
+    {
+        match self.entries.swap_remove(&Key::new(key)) {
+            Some(_) => text_of(b"ok"),
+            None => text_of(b"none"),
+        }
+    }
+
+    /// What a text is replied to. After `NoMemory` the table may be anything.
+    pub fn tell(&mut self, text: &Text) -> Result<Text, NoMemory>
+        ensures reply { IfOk result (λ reply. reply ≡ (told text.now self.old).reply) }
+        ensures after { OnOk result (self.new ≡ (told text.now self.old).table) }
+    {
+        match command_of(text.bytes()) {
+            Some(Asked::Put { key, value }) => self.put(key, value),
+            Some(Asked::Get { key }) => Ok(self.get(key)),
+            Some(Asked::Del { key }) => Ok(self.del(key)),
+            None => Ok(text_of(b"bad")),
+        }
+    }
+}
