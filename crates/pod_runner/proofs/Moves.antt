@@ -2,7 +2,6 @@
 use Rattle.std.proofs.Common.{◌≡◌, ℕ, ◌<◌, ◌≤◌, List, [], length, None, Some, sym, ap, ◌∙◌, refl, arith, inl, inr, true, false, Bool}
 use Rattle.std.specs.Prelude.{Option, slice_get, IsTrue, if◌then◌else◌}
 use Rattle.std.proofs.lemmas.Option.{slice_get_past, slice_get_cases}
-use Rattle.lwp_calls.specs.Built.{is_built}
 use Rattle.lwp_calls.specs.Pod.{current_of}
 use Rattle.lwp_types.specs.Choice.{choice}
 use Rattle.lwp_types.specs.Names.{Names, polled_as}
@@ -11,7 +10,6 @@ use Rattle.lwp_types.specs.State.{State}
 use Rattle.lwp_types.specs.Step.{step}
 use Rattle.lwp_types.specs.declared.call.Call.{Call}
 use Rattle.lwp_types.specs.declared.call.Effect.{Effect}
-use Rattle.pod_runner.specs.Built.{is_next_built}
 use Rattle.pod_runner.specs.Parts.{Moves}
 use Rattle.script_text.specs.Lines.{step_lines}
 use Rattle.pod_runner.specs.Polls.{Polls, place_of}
@@ -53,11 +51,6 @@ moved next bodies live t row call after effects mid rows names h there polls a e
     let left : mid ≡ polled t reply.1 live.rows = polls.leaves ∙ sym (with_row-place t _ live.rows row there) in
     move_some next bodies live t row h found ∙ rw (r, e, a, left, polls.names, polls.gives) refl
 
--- the next call is one that the pod carries out
-pub built_call : {B : Type 0} (next : Next B) (live : Live B) (t : ℕ) (row : Row B) → choice live.state ≡ Some t → slice_get live.rows (place_of t live.rows) ≡ Some row
-    → IsTrue (is_next_built next live) → IsTrue (is_built (next row.body (polled_as t live.names) row.answer).0)
-built_call next live t row h there built = rw (h, row_of-place t live.rows, there) at built
-
 -- the same, by the place of the row, with its lines
 pub moves_at : {B : Type 0} (next : Next B) (bodies : List B) (procs : List (List ℕ)) (live : Live B) (t i : ℕ) (known : Names) (call : Call) (after : State) (effects : List Effect) (mid rows : List (Row B)) (names : Names) (out : List ℕ) (born : Option ℕ)
     → choice live.state ≡ Some t → i ≡ place_of t live.rows → i < length live.rows → known ≡ polled_as t live.names
@@ -75,14 +68,3 @@ moves_at next bodies procs live t i known call after effects mid rows names out 
 -- with no row, nothing happens
 pub moves_none : {B : Type 0} (next : Next B) (bodies : List B) (procs : List (List ℕ)) (live : Live B) (t : ℕ) (out : List ℕ) → choice live.state ≡ Some t → length live.rows ≤ place_of t live.rows → out ≡ [] → Moves next bodies procs live live out
 moves_none next bodies procs live t out h past none = let m = move_no_row next bodies live t h past in record { live = rw m refl; lines = none ∙ rw m refl }
-
--- the call that a polled body gave is one that the pod carries out
-pub built_at : {B : Type 0} (next : Next B) (live : Live B) (t i : ℕ) (known : Names) (call : Call) (mid : List (Row B)) (names : Names)
-    → choice live.state ≡ Some t → i ≡ place_of t live.rows → i < length live.rows → known ≡ polled_as t live.names
-    → ((row : Row B) → slice_get live.rows i ≡ Some row → Polls next row known call i live.rows mid names)
-    → IsTrue (is_next_built next live) → IsTrue (is_built call)
-built_at next live t i known call mid names h at there k polls built =
-    let found = slice_get_present live.rows i there in
-    let is : slice_get live.rows (place_of t live.rows) ≡ Some found.0 = ap (slice_get live.rows) (sym at) ∙ found.1 in
-    let p = polls found.0 found.1 in
-    rw (p.gives, k) (built_call next live t found.0 h is built)

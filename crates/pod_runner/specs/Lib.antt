@@ -10,4 +10,3 @@ pub mod Phase
 pub mod Run
 pub mod Keeps
 pub mod Parts
-pub mod Built

@@ -1,7 +1,6 @@
 // A run from call to call, until its end.
 ghost use Rattle.std.specs.Prelude.{◌≡◌, ◌≤◌, [], false, IfOk, OnOk, OnErr, IsErrOf};
 ghost use Rattle.lwp_types.specs.Streams.{Rose};
-ghost use Rattle.pod_runner.specs.Built.{AllBuilt};
 ghost use Rattle.pod_runner.specs.Due.{IsDefined};
 ghost use Rattle.pod_runner.specs.Phase.{phase_of_halt};
 ghost use Rattle.pod_runner.specs.Run.{setting_of, phase_now, trace_before, trace_of, IsBegun, IsPlanned, Writes, WritesCut, WritesPart, GoesOn};
@@ -19,7 +18,6 @@ pub fn run<B: Body, P: Program<B>, K: Sink>(
     sink: &mut K,
 ) -> Result<Halt, RunErr>
     requires sound { run.old.failed ≡ false }
-    requires built { AllBuilt (setting_of B.next P.bodies run.old) }
     requires defined { IsDefined (setting_of B.next P.bodies run.old) run.old.takes run.old.calls }
     requires room { run.old.calls ≤ run.old.turns }
     ensures same { GoesOn run.old run.new }

@@ -1,8 +1,7 @@
 // What a run moves: the pod, each live thread's body, and the names.
-ghost use Rattle.std.specs.Prelude.{◌≡◌, ◌<◌, ◌≤◌, ◌^◌, IfOk, IsSome, IsTrue, Some, slice_get, length};
+ghost use Rattle.std.specs.Prelude.{◌≡◌, ◌<◌, ◌≤◌, ◌^◌, IfOk, IsSome, Some, slice_get, length};
 ghost use Rattle.lwp_types.specs.State.{opening};
 ghost use Rattle.lwp_calls.specs.Pod.{current_of};
-ghost use Rattle.pod_runner.specs.Built.{is_next_built};
 ghost use Rattle.pod_runner.specs.Phase.{phase_of};
 ghost use Rattle.pod_runner.specs.Polls.{place_of};
 ghost use Rattle.pod_runner.specs.Session.{row_opened};
@@ -77,7 +76,6 @@ impl<B: Body> Parts<B> {
         names: &[Text],
     ) -> Result<Vec<u8>, NoMemory>
         requires current { IsSome (current_of self.old.pod) }
-        requires built { IsTrue (is_next_built B.next (live_of self.old)) }
         ensures { IfOk result (λ out. Moves B.next (P.bodies program.now) names.now (live_of self.old) (live_of self.new) out.items) }
     {
         match self.pod.current() {
@@ -104,7 +102,6 @@ impl<B: Body> Parts<B> {
         requires current { current_of self.old.pod ≡ Some tid }
         requires place { i ≡ place_of tid self.old.rows.items }
         requires within { i < length self.old.rows.items }
-        requires built { IsTrue (is_next_built B.next (live_of self.old)) }
         ensures { IfOk result (λ out. Moves B.next (P.bodies program.now) names.now (live_of self.old) (live_of self.new) out.items) }
     {
         self.env.set_me(tid);

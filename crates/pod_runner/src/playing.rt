@@ -1,7 +1,6 @@
 // A run: what it plays, how far it is, and its parts as they stand.
 ghost use Rattle.std.specs.Prelude.{◌≡◌, ◌≤◌, ◌<◌, ◌^◌, ◌+◌, [], false, true, length, IfOk, OnOk, OnErr, IsErrOf, IsTrue, slice_index_or};
 ghost use Rattle.lwp_types.specs.Streams.{Rose};
-ghost use Rattle.pod_runner.specs.Built.{AllBuilt};
 ghost use Rattle.pod_runner.specs.Due.{IsDefined};
 ghost use Rattle.pod_runner.specs.Run.{setting_of, phase_now, trace_of, names_like, Writes, WritesCut, WritesPart, GoesOn};
 ghost use Rattle.pod_runner.specs.declared.phase.Phase.TheVariants as phase;
@@ -130,7 +129,6 @@ impl<B: Body, P: Program<B>> Run<B, P> {
     pub fn turn<K: Sink>(&mut self, sink: &mut K) -> Result<(), RunErr>
         requires sound { self.old.failed ≡ false }
         requires due { phase_now B.next P.bodies self.old ≡ phase.Turn }
-        requires built { AllBuilt (setting_of B.next P.bodies self.old) }
         ensures same { GoesOn self.old self.new }
         ensures takes { self.new.takes ≡ self.old.takes }
         ensures calls { OnOk result ((self.new.calls ≡ self.old.calls + 1) × (self.new.failed ≡ false)) }

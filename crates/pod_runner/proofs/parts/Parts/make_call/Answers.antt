@@ -1,11 +1,6 @@
 use Rattle.pod_runner.specs.Parts.{live_of}
-use Rattle.pod_runner.proofs.Moves.{built_at, chosen_from, moves_at}
+use Rattle.pod_runner.proofs.Moves.{chosen_from, moves_at}
 use Rattle.pod_runner.proofs.parts.Parts.make_call.Goals as goal
-
-pub call-requires-clause-built : goal.call-requires-clause-built
-call-requires-clause-built g c =
-    let chosen = chosen_from c.args.self.now.pod c.args.tid c.requires.current in
-    built_at g.B.Body.next (live_of c.args.self.now) c.args.tid c.args.i c.set_me.new.self c.in_ok-call.call c.poll_at.new.rows.items c.poll_at.new.env chosen c.requires.place c.requires.within c.set_me.ensures c.in_ok-call.ensures c.requires.built
 
 pub returns : goal.returns
 returns g c =
