@@ -198,6 +198,13 @@ impl Sched {
         row_of(&self.rows, tid).is_some()
     }
 
+    /// How many threads it knows.
+    pub fn len(&self) -> usize
+        ensures { result ≡ length self.now.threads }
+    {
+        self.rows.len()
+    }
+
     /// The greatest priority that a thread may be given.
     pub fn maxpri(&self) -> u32
         ensures { result ≡ self.now.maxpri }
