@@ -2,10 +2,12 @@
 use Rattle.death_cleanup.specs.Moves.{block_set, kind_set}
 use Rattle.death_cleanup.specs.declared.rows.Kind.{Kind}
 use Rattle.lwp_types.specs.declared.rows.Block.{Block}
-use Rattle.stale_ids.specs.Register.{AreRising, value_of, with_value}
-use Rattle.std.proofs.Common.{List, None, Option, Some, [], ap, arith, inl, inr, map, refl, sym, ℕ, ◌<◌, ◌∙◌, ◌∷◌, ◌≡◌}
+use Rattle.stale_ids.specs.Register.{AreRising, numbers, value_of, with_value}
+use Rattle.std.proofs.Common.{List, None, Option, Some, [], ap, arith, drop, inl, inr, length, map, refl, suc, sym, true, zero, ℕ, ◌+◌, ◌<◌, ◌∙◌, ◌∷◌, ◌≡◌}
 use Rattle.std.proofs.lemmas.Bool.{cases_eq, eq-eqb, ne_eqb}
-use Rattle.std.specs.List.{AllByRecursion}
+use Rattle.std.specs.Borrow.{Bor}
+use Rattle.std.specs.List.{AllByRecursion, slice_get}
+use Rattle.std.specs.Prelude.{is_some, option_copied, slice_index}
 
 later-absent : (t : ℕ) (living : List (ℕ × Kind)) → AllByRecursion (λ (q : ℕ × Kind). t < q.0) living → value_of t living ≡ None
 later-absent t [] h = refl
@@ -38,3 +40,33 @@ written-block t b v (p ∷ living) h is = elim (cases_eq p.0 t) [
       ∙ ap (λ w. (p.0, kind_set b w) ∷ map (block_set t b) living) (sym same))
   | inr away ↦ rw (ne_eqb p.0 t away) (ap (λ ps. p ∷ ps) (written-block t b v living h.1 (rw (ne_eqb p.0 t away) at is)))
 ]
+
+-- a list from its i-th element on
+drop-suc : {A : Type 0} (xs : List A) (i : ℕ) (x : A) → slice_get xs i ≡ Some x → drop i xs ≡ x ∷ drop (suc i) xs
+drop-suc [] i x h = absurd (cc)
+drop-suc (y ∷ xs) zero x h = let e : y ≡ x = cc in ap (λ z. z ∷ xs) e
+drop-suc (y ∷ xs) (suc i) x h = drop-suc xs i x h
+
+pub drop-some : {A : Type 0} (xs : List A) (i : ℕ) (x : A) → slice_get xs i ≡ Some x → drop i xs ≡ x ∷ drop (i + 1) xs
+drop-some xs i x h = let e : suc i ≡ i + 1 = omega arith in drop-suc xs i x h ∙ ap (λ n. x ∷ drop n xs) e
+
+-- what is lent is there
+pub copied-some : {A : Type 0} (o : Option (Bor A)) (v : A) → option_copied o ≡ Some v → is_some o ≡ true
+copied-some None v h = absurd (cc)
+copied-some (Some r) v h = refl
+
+module _ {A : Type 0} where
+  later-number : (m : ℕ) (living : List (ℕ × A)) (i : ℕ) → AllByRecursion (λ (q : ℕ × A). m < q.0) living → i < length living → m < slice_index (numbers living) i
+  later-number m [] i h within = absurd (omega arith)
+  later-number m (p ∷ living) zero h within = h.0
+  later-number m (p ∷ living) (suc i) h within = later-number m living i h.1 (omega arith)
+
+  -- the i-th of the living is found under its number
+  pub nth-own : (living : List (ℕ × A)) (i n : ℕ) → AreRising living → i < length living → n ≡ slice_index (numbers living) i
+      → (v : A) × (value_of n living ≡ Some v) × (slice_get living i ≡ Some (n, v))
+  nth-own [] i n h within is = absurd (omega arith)
+  nth-own (p ∷ living) zero n h within is = (p.1, rw (is, eq-eqb p.0 p.0 refl) refl, ap (λ m. Some (m, p.1)) (sym is))
+  nth-own (p ∷ living) (suc i) n h within is =
+      let less : p.0 < slice_index (numbers living) i = later-number p.0 living i h.0 (omega arith) in
+      let rest = nth-own living i n h.1 (omega arith) is in
+      (rest.0, rw (ne_eqb p.0 n (λ e. omega (arith, is))) rest.1, rest.2)

@@ -1,6 +1,6 @@
 -- A dying thread leaves the scheduler first; its priority is noted.
 use Rattle.conditions.specs.ConditionTable as cond_table
-use Rattle.death_cleanup.proofs.Frames.{find-row, row-unblocked, same-some, waits}
+use Rattle.death_cleanup.proofs.Looks.{find-row, row-unblocked, same-some, waits}
 use Rattle.death_cleanup.specs.Moves.{block_set, kind_set, withdrawn}
 use Rattle.death_cleanup.specs.Ties.{IsTied}
 use Rattle.death_cleanup.specs.View.{known_of, row_of, row_onto, rows_of, state_of}

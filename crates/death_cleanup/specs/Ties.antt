@@ -2,10 +2,10 @@
 use Rattle.death_cleanup.specs.View.{state_of}
 use Rattle.death_cleanup.specs.declared.parts.Parts.{Parts}
 use Rattle.lwp_types.specs.Lawful.{NineParts, is_same_option}
-use Rattle.lwp_types.specs.State.{is_blocked_in, is_thread, priority_in}
+use Rattle.lwp_types.specs.State.{State, is_blocked_in, is_thread, priority_in}
 use Rattle.pod_sched.specs.Schedule as sched
 use Rattle.std.specs.List.{AllByRecursion}
-use Rattle.std.specs.Prelude.{length, not, ℕ, ◌&&◌, ◌+◌, ◌≡◌, ◌≤◌}
+use Rattle.std.specs.Prelude.{Option, length, not, ℕ, ◌&&◌, ◌+◌, ◌≡◌, ◌≤◌}
 
 -- the scheduler knows the threads but the dying one, and agrees who waits
 pub record IsTied (parts : Parts) : Type 0 where
@@ -36,3 +36,10 @@ pub record InStep (parts : Parts) : Type 0 where
 pub record LawfulParts (parts : Parts) : Type 0 where
   pub nine : NineParts (state_of parts) parts.dying
   pub step : InStep parts
+
+-- the threads are those of a lawful state
+pub record HasLawfulThreads (s : State) : Type 0 where
+  pub lawful : State
+  pub dying : Option ℕ
+  pub nine : NineParts lawful dying
+  pub threads : lawful.threads ≡ s.threads

@@ -8,7 +8,8 @@ ghost use Rattle.death_cleanup.specs.View.{state_of};
 
 use crate::frames::run_all_exits;
 use crate::parts::{Parts, set_block};
-use crate::waiters::{answer_joiners, end_agents, refuse_receivers, refuse_senders, release_all};
+use crate::rows::Awaited;
+use crate::waiters::{dismiss, end_agents, refuse_senders, release_all};
 use lwp_types::{Block, Effect, Effects, Tid};
 
 // The thread begins to die: it is out of all that it waited in, and out of the scheduler.
@@ -59,7 +60,7 @@ pub fn die(parts: &mut Parts, tid: Tid, effects: &mut Effects)
     release_all(parts, tid, effects);
     end_agents(parts, tid, effects);
     refuse_senders(parts, tid, effects);
-    refuse_receivers(parts, tid, effects);
-    answer_joiners(parts, tid, effects);
+    dismiss(parts, Awaited::Letter, tid, effects);
+    dismiss(parts, Awaited::Death, tid, effects);
     bury(parts, tid, effects);
 }

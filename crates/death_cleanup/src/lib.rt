@@ -15,6 +15,6 @@ pub use exits::{exit_call, reply, resume, set_exit};
 pub use frames::leave_frames;
 pub use locks::{monitor_break, monitor_exit, release};
 pub use parts::{Parts, is_thread, set_block, wake};
-pub use rows::{Kind, ThreadRec};
+pub use rows::{Awaited, Kind, ThreadRec};
 pub use signals::{broadcast, notify};
-pub use waiters::end_agent;
+pub use waiters::{dismiss, end_agent};

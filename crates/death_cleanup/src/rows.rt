@@ -1,9 +1,9 @@
-// What the registry keeps under a number.
+// What the registry keeps under a number, and whom a thread waits for.
 ghost use Rattle.std.specs.Prelude.{◌≡◌};
-ghost use Rattle.death_cleanup.specs.Waits.{awaits, joins};
+ghost use Rattle.death_cleanup.specs.Waits.{last_answer, waits_for};
 
 use exc_stack::ExcStack;
-use lwp_types::{Block, Flags, Tid};
+use lwp_types::{Answer, Block, Flags, LwpErr, Tid};
 
 /// What is kept of a thread, but for what the scheduler keeps.
 #[derive(Drop)]
@@ -20,28 +20,37 @@ pub enum Kind {
     Agent,
 }
 
-// Whether it is a thread that waits for a letter of this one by name.
-pub fn awaits(kind: &Kind, from: Tid) -> bool
-    ensures { result ≡ awaits from kind.now }
-{
-    match kind {
-        Kind::Thread(rec) => match rec.block {
-            Block::Receiving(Some(named)) => named == from,
-            _ => false,
-        },
-        Kind::Agent => false,
+/// What of a thread or an agent others wait for: its death, or a letter of it.
+#[derive(Clone, Copy)]
+pub enum Awaited {
+    Death,
+    Letter,
+}
+
+impl Awaited {
+    /// What those who wait are answered at the end of it.
+    pub fn answer(self) -> Answer
+        ensures { result ≡ last_answer self }
+    {
+        match self {
+            Awaited::Death => Answer::Value(0),
+            Awaited::Letter => Answer::Refused(LwpErr::NonExist),
+        }
     }
 }
 
-// Whether it is a thread that has joined this one.
-pub fn joins(kind: &Kind, tid: Tid) -> bool
-    ensures { result ≡ joins tid kind.now }
-{
-    match kind {
-        Kind::Thread(rec) => match rec.block {
-            Block::Joining(joined) => joined == tid,
+impl Kind {
+    /// Whether it is a thread that waits for this of that very thread or agent.
+    pub fn waits_for(&self, what: Awaited, tid: Tid) -> bool
+        ensures { result ≡ waits_for what tid self.now }
+    {
+        let Kind::Thread(rec) = self else {
+            return false;
+        };
+        match (what, rec.block) {
+            (Awaited::Death, Block::Joining(other)) => other == tid,
+            (Awaited::Letter, Block::Receiving(Some(from))) => from == tid,
             _ => false,
-        },
-        Kind::Agent => false,
+        }
     }
 }

@@ -1,41 +1,54 @@
 // Whoever waits for a thread or an agent that ends goes on.
-ghost use Rattle.std.specs.Prelude.{◌≡◌, [], Some, false, is_some};
-ghost use Rattle.lwp_types.specs.Agents.{agents_of, end_agent};
-ghost use Rattle.lwp_types.specs.Death.{answer_joiners, end_agents, refuse_receivers, refuse_senders, release_all};
+ghost use Rattle.std.specs.Prelude.{◌≡◌, ◌<◌, Some, IsTrue, false, length};
+ghost use Rattle.std.specs.List.{slice_get};
+ghost use Rattle.lwp_types.specs.Agents.{end_agent};
+ghost use Rattle.lwp_types.specs.Death.{end_agents, refuse_senders, release_all};
 ghost use Rattle.lwp_types.specs.State.{is_agent, is_thread};
-ghost use Rattle.std.specs.Prelude.{IsTrue};
 ghost use Rattle.death_cleanup.specs.Comes.{CameTo, HasRoom};
 ghost use Rattle.death_cleanup.specs.Moves.{agent_over};
-ghost use Rattle.death_cleanup.specs.Ties.{InStep, LawfulParts};
+ghost use Rattle.death_cleanup.specs.Ties.{HasLawfulThreads, InStep, LawfulParts};
 ghost use Rattle.death_cleanup.specs.View.{state_of};
+ghost use Rattle.death_cleanup.specs.Waits.{dismissed, first_waiting};
 ghost use Rattle.pod_laws.proofs.DeathLoops.{Lonely, Unowning};
 
 use crate::locks::release;
 use crate::parts::{Parts, wake};
-use crate::rows::{Kind, awaits, joins};
+use crate::rows::{Awaited, Kind};
 use lwp_types::{Answer, Effects, LwpErr, Tid};
 use stale_ids::Registry;
 
-// The oldest thread that waits for a letter of this one by name.
-fn first_receiver(ids: &Registry<Kind>, from: Tid) -> Option<Tid> {
+// The `i`-th of the living, counted from the oldest.
+fn nth_of(ids: &Registry<Kind>, i: usize) -> (Tid, &Kind)
+    requires { i < length ids.now.live }
+    ensures { slice_get ids.now.live i ≡ Some (result.0, result.1.now) }
+{
+    let number = ids.nth(i);
+    (Tid { number }, ids.get(number).unwrap())
+}
+
+// The oldest of the living that waits for this of the thread or agent.
+fn first_waiting(ids: &Registry<Kind>, what: Awaited, tid: Tid) -> Option<Tid>
+    ensures { result ≡ first_waiting what tid ids.now.live }
+{
     for i in 0..ids.len() {
-        let number = ids.nth(i);
-        if ids.get(number).is_some_and(|kind| awaits(kind, from)) {
-            return Some(Tid { number });
+        let (other, kind) = nth_of(ids, i);
+        if kind.waits_for(what, tid) {
+            return Some(other);
         }
     }
     None
 }
 
-// The oldest thread that has joined this one.
-fn first_joiner(ids: &Registry<Kind>, tid: Tid) -> Option<Tid> {
-    for i in 0..ids.len() {
-        let number = ids.nth(i);
-        if ids.get(number).is_some_and(|kind| joins(kind, tid)) {
-            return Some(Tid { number });
-        }
+/// Whoever waits for this of the thread or agent goes on, in the order of birth.
+pub fn dismiss(parts: &mut Parts, what: Awaited, tid: Tid, effects: &mut Effects)
+    requires threads { HasLawfulThreads (state_of parts.old) }
+    requires step { InStep parts.old }
+    requires room { HasRoom effects.old (dismissed what tid (state_of parts.old)) 0 }
+    ensures came { CameTo parts.old parts.new effects.old effects.new (dismissed what tid (state_of parts.old)) }
+{
+    while let Some(other) = first_waiting(&parts.ids, what, tid) {
+        wake(parts, other, what.answer(), effects);
     }
-    None
 }
 
 /// The thread leaves all its monitors, the last acquired first, and whoever enters one of them next goes on.
@@ -62,45 +75,23 @@ pub fn refuse_senders(parts: &mut Parts, tid: Tid, effects: &mut Effects)
     }
 }
 
-/// Whoever waits for a letter of this one by name goes on, in the order of birth.
-pub fn refuse_receivers(parts: &mut Parts, from: Tid, effects: &mut Effects)
-    requires step { InStep parts.old }
-    requires room { HasRoom effects.old (refuse_receivers from (state_of parts.old)) 0 }
-    ensures came { CameTo parts.old parts.new effects.old effects.new (refuse_receivers from (state_of parts.old)) }
-{
-    while let Some(receiver) = first_receiver(&parts.ids, from) {
-        wake(parts, receiver, Answer::Refused(LwpErr::NonExist), effects);
-    }
-}
-
-/// Whoever has joined the thread goes on, in the order of birth.
-pub fn answer_joiners(parts: &mut Parts, tid: Tid, effects: &mut Effects)
-    requires step { InStep parts.old }
-    requires room { HasRoom effects.old (answer_joiners tid (state_of parts.old)) 0 }
-    ensures came { CameTo parts.old parts.new effects.old effects.new (answer_joiners tid (state_of parts.old)) }
-{
-    while let Some(joiner) = first_joiner(&parts.ids, tid) {
-        wake(parts, joiner, Answer::Value(0), effects);
-    }
-}
-
 // An agent that is listed no more: whoever waits for it by name goes on, and its letter and its number go.
 fn clear_agent(parts: &mut Parts, agent: Tid, effects: &mut Effects)
+    requires threads { HasLawfulThreads (state_of parts.old) }
     requires step { InStep parts.old }
     requires no_thread { is_thread (state_of parts.old) agent ≡ false }
     requires room { HasRoom effects.old (agent_over agent (state_of parts.old)) 0 }
     ensures came { CameTo parts.old parts.new effects.old effects.new (agent_over agent (state_of parts.old)) }
 {
-    refuse_receivers(parts, agent, effects);
+    dismiss(parts, Awaited::Letter, agent, effects);
     parts.mail.forget(agent);
     parts.ids.remove(agent.number);
 }
 
-/// An agent ends: its letter goes, received or not, and whoever waits for it by name goes on.
+/// An agent ends: whoever waits for it by name goes on, and its letter goes, received or not.
 pub fn end_agent(parts: &mut Parts, agent: Tid, effects: &mut Effects)
-    requires step { InStep parts.old }
+    requires lawful { LawfulParts parts.old }
     requires lives { IsTrue (is_agent (state_of parts.old) agent) }
-    requires no_thread { is_thread (state_of parts.old) agent ≡ false }
     requires room { HasRoom effects.old (end_agent agent (state_of parts.old)) 0 }
     ensures came { CameTo parts.old parts.new effects.old effects.new (end_agent agent (state_of parts.old)) }
 {

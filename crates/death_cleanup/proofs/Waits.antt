@@ -1,0 +1,53 @@
+-- Whoever waits for a thread or an agent that ends goes on.
+use Rattle.death_cleanup.specs.Ties.{HasLawfulThreads}
+use Rattle.death_cleanup.specs.Waits.{block_waits, last_answer, waiting}
+use Rattle.death_cleanup.specs.declared.rows.Awaited.{Awaited}
+use Rattle.death_cleanup.specs.declared.rows.Awaited.TheVariants as awaited
+use Rattle.lwp_types.specs.State.{Outcome, State, ThreadRow, is_blocked_in, is_not_blocked, is_number, passes, with_block}
+use Rattle.std.specs.List.{find}
+use Rattle.lwp_types.specs.Unblock.{unblock, unblocked}
+use Rattle.lwp_types.specs.declared.rows.Block.{Block}
+use Rattle.lwp_types.specs.declared.rows.Block.TheVariants as block
+use Rattle.pod_laws.proofs.Drains.{first_waiter, wake_first}
+use Rattle.pod_laws.proofs.LetterMoves.{is_alone}
+use Rattle.std.proofs.Common.{List, ap, false, not, refl, sym, true, ℕ, ◌∙◌, ◌∷◌, ◌≡◌}
+
+-- who waits for something of a thread waits for nothing else
+alone : (what : Awaited) (t : ℕ) (b : Block) → block_waits what t b ≡ true → is_alone b ≡ true
+alone awaited.Death t block.Not e = absurd (cc)
+alone awaited.Letter t block.Not e = absurd (cc)
+alone what t (block.Joining u) e = refl
+alone awaited.Death t block.Sending e = absurd (cc)
+alone awaited.Letter t block.Sending e = absurd (cc)
+alone what t (block.Receiving from) e = refl
+alone awaited.Death t (block.Entering m) e = absurd (cc)
+alone awaited.Letter t (block.Entering m) e = absurd (cc)
+alone awaited.Death t (block.Waiting c) e = absurd (cc)
+alone awaited.Letter t (block.Waiting c) e = absurd (cc)
+
+waits : (b : Block) → is_alone b ≡ true → not (is_not_blocked b) ≡ true
+waits block.Not e = absurd (let no : false ≡ true = e in cc)
+waits (block.Joining u) e = refl
+waits block.Sending e = refl
+waits (block.Receiving from) e = refl
+waits (block.Entering m) e = refl
+waits (block.Waiting c) e = refl
+
+module _ (what : Awaited) (t : ℕ) where
+  abbrev pub list : State → List ℕ
+  list s = waiting what t s.threads
+
+  abbrev pub change : ℕ → State → Outcome
+  change = unblock (last_answer what)
+
+  pub one_less : (u : ℕ) (us : List ℕ) (s : State) → HasLawfulThreads s → list s ≡ u ∷ us → HasLawfulThreads (change u s).after × (list (change u s).after ≡ us)
+  one_less u us s has listed =
+      let next = wake_first (block_waits what t) (alone what t) has.lawful has.dying has.nine u us (ap (waiting what t) has.threads ∙ listed) in (
+        record { lawful = unblocked has.lawful u; dying = has.dying; nine = next.0; threads = ap (with_block u block.Not) has.threads },
+        ap (λ rows. waiting what t (with_block u block.Not rows)) (sym has.threads) ∙ next.1,
+      )
+
+  pub first_waits : (u : ℕ) (us : List ℕ) (s : State) → HasLawfulThreads s → list s ≡ u ∷ us → is_blocked_in s u ≡ true
+  first_waits u us s has listed =
+      let who = first_waiter (block_waits what t) (alone what t) has.lawful has.dying has.nine u us (ap (waiting what t) has.threads ∙ listed) in
+      ap (λ rows. passes (λ (row : ThreadRow). not (is_not_blocked row.block)) (find (is_number u) rows)) (sym has.threads) ∙ ap (passes (λ (row : ThreadRow). not (is_not_blocked row.block))) who.known ∙ waits who.row.block (alone what t who.row.block who.passes)
