@@ -9,7 +9,7 @@ ghost use Rattle.lwp_types.specs.Letters.{receivers_of};
 ghost use Rattle.lwp_types.specs.State.{is_agent, is_id, is_not_blocked, is_thread, numbers, priority_in, still};
 ghost use Rattle.lwp_types.specs.Unblock.{blocked};
 
-use death_cleanup::{Kind, Parts, is_thread, set_block};
+use death_cleanup::{Awaited, Kind, Parts, is_thread, set_block};
 use lwp_types::{Block, IdList, NoMemory, Tid};
 use stale_ids::Registry;
 use std::alloc::Global;
@@ -90,24 +90,11 @@ pub fn receivers(parts: &Parts, alloc: Global, from: Tid) -> Result<IdList, NoMe
     let mut list = IdList::new(alloc);
     for i in 0..parts.ids.len() {
         let (tid, kind) = nth_of(&parts.ids, i);
-        if awaits(kind, from) {
+        if kind.waits_for(Awaited::Letter, from) {
             list.push(tid.number)?;
         }
     }
     Ok(list)
-}
-
-// Whether it is a thread that waits for a letter of this one by name.
-fn awaits(kind: &Kind, from: Tid) -> bool
-    ensures { result ≡ kind_awaits from kind.now }
-{
-    let Kind::Thread(rec) = kind else {
-        return false;
-    };
-    match rec.block {
-        Block::Receiving(Some(named)) => named == from,
-        _ => false,
-    }
 }
 
 /// How many threads there are.
