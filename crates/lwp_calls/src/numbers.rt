@@ -1,12 +1,12 @@
 // Calls on the numbers of a pod, or on nothing at all.
-ghost use Rattle.std.specs.Prelude.{◌≡◌, Some, [], IsTrue, None};
+ghost use Rattle.std.specs.Prelude.{◌≡◌, [], None};
 ghost use Rattle.death_cleanup.specs.Comes.{Answers};
 ghost use Rattle.death_cleanup.specs.Ties.{InStep};
 ghost use Rattle.death_cleanup.specs.View.{state_of};
-ghost use Rattle.lwp_types.specs.Case.{answered};
 ghost use Rattle.lwp_types.specs.Families.{number_call};
 ghost use Rattle.lwp_types.specs.Step.{case_of};
 ghost use Rattle.lwp_types.specs.Threads.{pod_exit, set_maxpri};
+ghost use Rattle.lwp_calls.specs.Comes.{ComesTo};
 
 use death_cleanup::{Parts, set_exit};
 use lwp_types::{Answer, LwpErr, NumberCall, Tid};
