@@ -4,4 +4,6 @@ pub mod Compare
 pub mod Levels
 pub mod Made
 pub mod Waiting
-pub mod Suspensions
+pub mod Ranks
+pub mod Counts
+pub mod Lists

@@ -1,9 +1,16 @@
--- Which calls may ask for memory.
+-- What is asked of the living, and of a call.
+use Rattle.death_cleanup.specs.declared.rows.Kind.{Kind}
+use Rattle.death_cleanup.specs.declared.rows.Kind.TheVariants as kind
 use Rattle.lwp_types.specs.declared.call.Call.{Call}
 use Rattle.lwp_types.specs.declared.call.Call.TheVariants as call
 use Rattle.std.specs.Prelude.{Bool, false, true}
 
--- it is one of the fifteen that make something, or a list
+-- the pod may end while it lives: an agent, or a thread that is a server
+abbrev pub serves : Kind → Bool
+serves (kind.Thread rec) = rec.flags.server
+serves kind.Agent = true
+
+-- it may ask for memory: it is one of the fifteen that make something, or a list
 abbrev pub asks_memory : Call → Bool
 asks_memory (call.Create number prio flags) = true
 asks_memory call.Threads = true

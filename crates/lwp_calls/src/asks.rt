@@ -2,12 +2,13 @@
 ghost use Rattle.std.specs.Prelude.{◌≡◌, ◌<◌, false, length, IfOk, IsTrue, Some, None, []};
 ghost use Rattle.std.specs.List.{list_all, slice_get};
 ghost use Rattle.death_cleanup.specs.Comes.{CameTo};
-ghost use Rattle.death_cleanup.specs.Ties.{InStep};
+ghost use Rattle.death_cleanup.specs.Ties.{InStep, LawfulParts};
 ghost use Rattle.death_cleanup.specs.View.{state_of};
 ghost use Rattle.lwp_types.specs.Choice.{is_eligible_in, is_over};
 ghost use Rattle.lwp_types.specs.Letters.{receivers_of};
 ghost use Rattle.lwp_types.specs.State.{is_agent, is_id, is_not_blocked, is_thread, numbers, priority_in, still};
 ghost use Rattle.lwp_types.specs.Unblock.{blocked};
+ghost use Rattle.lwp_calls.specs.Asks.{serves};
 
 use death_cleanup::{Awaited, Kind, Parts, is_thread, set_block};
 use lwp_types::{Block, IdList, NoMemory, Tid};
@@ -76,8 +77,9 @@ pub fn threads(parts: &Parts, alloc: Global) -> Result<IdList, NoMemory>
     let mut list = IdList::new(alloc);
     for i in 0..parts.ids.len() {
         let (tid, kind) = nth_of(&parts.ids, i);
-        if let Kind::Thread(_) = kind {
-            list.push(tid.number)?;
+        match kind {
+            Kind::Thread(_) => list.push(tid.number)?,
+            Kind::Agent => {}
         }
     }
     Ok(list)
@@ -99,7 +101,7 @@ pub fn receivers(parts: &Parts, alloc: Global, from: Tid) -> Result<IdList, NoMe
 
 /// How many threads there are.
 pub fn thread_count(parts: &Parts) -> usize
-    requires step { InStep parts.now }
+    requires lawful { LawfulParts parts.now }
     requires alone { parts.now.dying ≡ None }
     ensures { result ≡ length (state_of parts.now).threads }
 {
@@ -113,16 +115,24 @@ pub fn is_over(parts: &Parts) -> bool
     parts.sched.current().is_none() && all_serve(parts)
 }
 
+// Whether the pod may end while it lives: an agent, or a thread that is a server.
+fn serves(kind: &Kind) -> bool
+    ensures { result ≡ serves kind.now }
+{
+    match kind {
+        Kind::Thread(rec) => rec.flags.server,
+        Kind::Agent => true,
+    }
+}
+
 // Whether all threads are servers.
 fn all_serve(parts: &Parts) -> bool
     ensures { result ≡ list_all (λ row. row.flags.server) (state_of parts.now).threads }
 {
     for i in 0..parts.ids.len() {
         let (_, kind) = nth_of(&parts.ids, i);
-        if let Kind::Thread(rec) = kind {
-            if !rec.flags.server {
-                return false;
-            }
+        if !serves(kind) {
+            return false;
         }
     }
     true

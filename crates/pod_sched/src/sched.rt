@@ -198,9 +198,10 @@ impl Sched {
         row_of(&self.rows, tid).is_some()
     }
 
-    /// How many threads it knows.
+    /// How many threads it knows, each once.
     pub fn len(&self) -> usize
-        ensures { result ≡ length self.now.threads }
+        ensures value { result ≡ length self.now.threads }
+        ensures ordered { IsOrdered self.now.threads self.now.order }
     {
         self.rows.len()
     }

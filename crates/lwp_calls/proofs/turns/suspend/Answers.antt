@@ -1,6 +1,6 @@
 use Rattle.lwp_calls.proofs.Agree.{known-same}
 use Rattle.lwp_calls.proofs.Made.{Answers-is}
-use Rattle.lwp_calls.proofs.Suspensions.{InStep-suspended, suspended-is}
+use Rattle.lwp_calls.proofs.Ranks.{InStep-suspended, suspended-is}
 use Rattle.lwp_calls.proofs.turns.suspend.Goals as goal
 use Rattle.lwp_types.specs.Case.{unless}
 use Rattle.std.proofs.Common.{refl, sym, ◌∙◌}
