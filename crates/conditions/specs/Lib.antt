@@ -1,2 +1,3 @@
 pub mod ConditionTable
 pub mod Kept
+pub mod Machine

@@ -8,10 +8,12 @@
 #![tactic(auto)]
 
 mod conds;
+mod laws;
 mod rows;
 mod waits;
 
 pub use conds::Conds;
+pub use laws::{every_broadcast, every_change, every_question, every_rank};
 pub use waits::WaitRec;
 
 #[cfg(test)]

@@ -4,5 +4,17 @@ pub mod Draining
 pub mod Fronts
 pub mod Keeping
 pub mod Waits
+pub mod Refusals
+pub mod Releases
+pub mod AgentEnds
+pub mod Unmarking
+pub mod Unwinding
 pub mod Burials
 pub mod Withdrawals
+pub mod Outcomes
+pub mod Locking
+pub mod Resuming
+pub mod Replying
+pub mod Crowds
+pub mod Asking
+pub mod Notices

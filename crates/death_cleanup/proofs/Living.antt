@@ -1,9 +1,12 @@
 -- The living in their registry, one by one.
-use Rattle.death_cleanup.specs.Moves.{block_set, kind_set}
+use Rattle.death_cleanup.specs.Moves.{block_set, kind_marked, kind_marks, kind_set, stack_of, stack_set}
 use Rattle.death_cleanup.specs.declared.rows.Kind.{Kind}
+use Rattle.death_cleanup.specs.declared.rows.Kind.TheVariants as kind
+use Rattle.death_cleanup.specs.declared.rows.ThreadRec.{ThreadRec}
 use Rattle.lwp_types.specs.declared.rows.Block.{Block}
+use Rattle.lwp_types.specs.declared.rows.Mark.{Mark}
 use Rattle.stale_ids.specs.Register.{AreRising, numbers, value_of, with_value}
-use Rattle.std.proofs.Common.{List, None, Option, Some, [], ap, arith, drop, inl, inr, length, map, refl, suc, sym, true, zero, ℕ, ◌+◌, ◌<◌, ◌∙◌, ◌∷◌, ◌≡◌}
+use Rattle.std.proofs.Common.{List, None, Option, Some, [], ap, arith, cond, drop, eqb, inl, inr, length, map, refl, suc, sym, true, zero, ℕ, ◌+◌, ◌<◌, ◌∙◌, ◌∷◌, ◌≡◌}
 use Rattle.std.proofs.lemmas.Bool.{cases_eq, eq-eqb, ne_eqb}
 use Rattle.std.specs.Borrow.{Bor}
 use Rattle.std.specs.List.{AllByRecursion, slice_get}
@@ -13,13 +16,20 @@ later-absent : (t : ℕ) (living : List (ℕ × Kind)) → AllByRecursion (λ (q
 later-absent t [] h = refl
 later-absent t (p ∷ living) h = rw (ne_eqb p.0 t (λ e. let less : t < p.0 = h.0 in omega arith)) (later-absent t living h.1)
 
+-- a pair, changed where it is that of t
+abbrev pub changed : ℕ → (Kind → Kind) → ℕ × Kind → ℕ × Kind
+changed t f live = (live.0, cond (eqb live.0 t) (f live.1) live.1)
+
 -- a number that nobody has is set in vain
-pub block-absent : (t : ℕ) (b : Block) (living : List (ℕ × Kind)) → value_of t living ≡ None → map (block_set t b) living ≡ living
-block-absent t b [] h = refl
-block-absent t b (p ∷ living) h = elim (cases_eq p.0 t) [
+pub changed-absent : (t : ℕ) (f : Kind → Kind) (living : List (ℕ × Kind)) → value_of t living ≡ None → map (changed t f) living ≡ living
+changed-absent t f [] h = refl
+changed-absent t f (p ∷ living) h = elim (cases_eq p.0 t) [
   | inl e ↦ absurd (let no : Some p.1 ≡ None = (rw (eq-eqb p.0 t e) at h) in cc)
-  | inr away ↦ rw (ne_eqb p.0 t away) (ap (λ ps. p ∷ ps) (block-absent t b living (rw (ne_eqb p.0 t away) at h)))
+  | inr away ↦ rw (ne_eqb p.0 t away) (ap (λ ps. p ∷ ps) (changed-absent t f living (rw (ne_eqb p.0 t away) at h)))
 ]
+
+pub block-absent : (t : ℕ) (b : Block) (living : List (ℕ × Kind)) → value_of t living ≡ None → map (block_set t b) living ≡ living
+block-absent t b living h = changed-absent t (kind_set b) living h
 
 value-absent : (t : ℕ) (v : Kind) (living : List (ℕ × Kind)) → value_of t living ≡ None → with_value t v living ≡ living
 value-absent t v [] h = refl
@@ -28,18 +38,30 @@ value-absent t v (p ∷ living) h = elim (cases_eq p.0 t) [
   | inr away ↦ rw (ne_eqb p.0 t away) (ap (λ ps. p ∷ ps) (value-absent t v living (rw (ne_eqb p.0 t away) at h)))
 ]
 
--- to write back who lives there with another block is to set its block
-pub written-block : (t : ℕ) (b : Block) (v : Kind) (living : List (ℕ × Kind)) → AreRising living → value_of t living ≡ Some v
-    → with_value t (kind_set b v) living ≡ map (block_set t b) living
-written-block t b v [] h is = absurd (cc)
-written-block t b v (p ∷ living) h is = elim (cases_eq p.0 t) [
+-- to write back who lives there, changed, is to change it
+pub written-changed : (t : ℕ) (f : Kind → Kind) (v : Kind) (living : List (ℕ × Kind)) → AreRising living → value_of t living ≡ Some v
+    → with_value t (f v) living ≡ map (changed t f) living
+written-changed t f v [] h is = absurd (cc)
+written-changed t f v (p ∷ living) h is = elim (cases_eq p.0 t) [
   | inl e ↦
       let same : p.1 ≡ v = (let k : Some p.1 ≡ Some v = (rw (eq-eqb p.0 t e) at is) in cc) in
       let none : value_of t living ≡ None = later-absent t living (rw (sym e) h.0) in
-      rw (eq-eqb p.0 t e) (ap (λ ps. (p.0, kind_set b v) ∷ ps) (value-absent t (kind_set b v) living none ∙ sym (block-absent t b living none))
-      ∙ ap (λ w. (p.0, kind_set b w) ∷ map (block_set t b) living) (sym same))
-  | inr away ↦ rw (ne_eqb p.0 t away) (ap (λ ps. p ∷ ps) (written-block t b v living h.1 (rw (ne_eqb p.0 t away) at is)))
+      rw (eq-eqb p.0 t e) (ap (λ ps. (p.0, f v) ∷ ps) (value-absent t (f v) living none ∙ sym (changed-absent t f living none))
+      ∙ ap (λ w. (p.0, f w) ∷ map (changed t f) living) (sym same))
+  | inr away ↦ rw (ne_eqb p.0 t away) (ap (λ ps. p ∷ ps) (written-changed t f v living h.1 (rw (ne_eqb p.0 t away) at is)))
 ]
+
+pub written-block : (t : ℕ) (b : Block) (v : Kind) (living : List (ℕ × Kind)) → AreRising living → value_of t living ≡ Some v
+    → with_value t (kind_set b v) living ≡ map (block_set t b) living
+written-block t b v living h is = written-changed t (kind_set b) v living h is
+
+-- the marks of who lives there, written back
+module _ (t : ℕ) (f : List Mark → List Mark) (living : List (ℕ × Kind)) where
+  pub written-marks : (k : Kind) → AreRising living → value_of t living ≡ Some k → with_value t (kind_marked (f (kind_marks (Some k))) k) living ≡ map (stack_set t (f (stack_of t living))) living
+  written-marks k h is = written-changed t (kind_marked (f (kind_marks (Some k)))) k living h is ∙ ap (λ o. map (stack_set t (f (kind_marks o))) living) (sym is)
+
+  pub no-marks : value_of t living ≡ None → living ≡ map (stack_set t (f (stack_of t living))) living
+  no-marks none = sym (changed-absent t (kind_marked (f (stack_of t living))) living none)
 
 -- a list from its i-th element on
 drop-suc : {A : Type 0} (xs : List A) (i : ℕ) (x : A) → slice_get xs i ≡ Some x → drop i xs ≡ x ∷ drop (suc i) xs

@@ -18,9 +18,10 @@ use Rattle.conditions.specs.declared.waits.WaitRec.{WaitRec}
 use Rattle.pod_sched.specs.Schedule as sched
 use Rattle.pod_sched.specs.Schedule.{newcomer}
 use Rattle.pod_sched.specs.declared.rows.Known.{Known}
-use Rattle.std.proofs.Common.{Bool, List, None, Option, Some, [], ap, arith, cond, eqb, false, inl, inr, length, map, not, refl, sym, true, ℕ, ◌&&◌, ◌++◌, ◌∙◌, ◌∷◌, ◌≡◌}
+use Rattle.std.proofs.Common.{Bool, List, None, Option, Some, [], ap, arith, cond, eqb, false, inl, inr, length, map, not, refl, sym, true, ℕ, ◌&&◌, ◌++◌, ◌<◌, ◌∙◌, ◌∷◌, ◌≡◌}
 use Rattle.std.proofs.lemmas.Bool.{cases_eq, eq-eqb, ne_eqb}
-use Rattle.std.specs.List.{find}
+use Rattle.stale_ids.specs.Register.{AreRising, value_of}
+use Rattle.std.specs.List.{AllByRecursion, find}
 use Rattle.std.specs.Prelude.{is_some, option_map, unwrap_or}
 
 -- the scheduler's list
@@ -187,3 +188,39 @@ pub IsRoomy-waked : (parts : Parts) (t : ℕ) → IsRoomy parts → IsRoomy (wak
 IsRoomy-waked parts t roomy =
     let same : length (state_of (waked parts t)).threads ≡ length (state_of parts).threads = ap length (rows-block parts.last_prio t block.Not false parts.sched.threads parts.ids.live) ∙ rows-length t block.Not (state_of parts).threads in
     record { letters = omega (arith, same, roomy.letters); threads = omega (arith, same, roomy.threads); requests = omega (arith, same, roomy.requests); waits = omega (arith, same, roomy.waits) }
+
+-- who is found under a number
+
+module _ (p : ℕ) (known : List Known) (t : ℕ) where
+  -- nobody later has an earlier number
+  rows-later : (living : List (ℕ × Kind)) → AllByRecursion (λ (q : ℕ × Kind). t < q.0) living → find (is_number t) (rows_of p known living) ≡ None
+  rows-later [] h = refl
+  rows-later (live ∷ living) h = by_kind live.0 live.1 h.0 (rows-later living h.1)
+    where
+      by_kind : (n : ℕ) (k : Kind) → t < n → find (is_number t) (rows_of p known living) ≡ None → find (is_number t) (row_onto (known_of p known n) n k (rows_of p known living)) ≡ None
+      by_kind n kind.Agent less rest = rest
+      by_kind n (kind.Thread rec) less rest = rw (ne_eqb n t (λ e. omega (arith, less, e))) rest
+
+  -- the row of a number is that of the thread that lives under it
+  abbrev pub row_under : Option Kind → Option ThreadRow
+  row_under None = None
+  row_under (Some (kind.Thread rec)) = Some (row_of (known_of p known t) t rec)
+  row_under (Some kind.Agent) = None
+
+  pub rows-under : (living : List (ℕ × Kind)) → AreRising living → find (is_number t) (rows_of p known living) ≡ row_under (value_of t living)
+  rows-under [] h = refl
+  rows-under (live ∷ living) h = by_kind live.0 live.1 h.0 (rows-under living h.1)
+    where
+      by_kind : (n : ℕ) (k : Kind) → AllByRecursion (λ (q : ℕ × Kind). n < q.0) living → find (is_number t) (rows_of p known living) ≡ row_under (value_of t living)
+          → find (is_number t) (row_onto (known_of p known n) n k (rows_of p known living)) ≡ row_under (option_map (λ (q : ℕ × Kind). q.1) (cond (eqb n t) (Some (n, k)) (find (λ (q : ℕ × Kind). eqb q.0 t) living)))
+      by_kind n kind.Agent later rest = elim (cases_eq n t) [
+        | inl e ↦ rw (eq-eqb n t e) (rows-later living (rw e at later))
+        | inr away ↦ rw (ne_eqb n t away) rest
+      ]
+      by_kind n (kind.Thread rec) later rest = elim (cases_eq n t) [
+        | inl e ↦ rw (eq-eqb n t e) (ap (λ m. Some (row_of (known_of p known m) m rec)) e)
+        | inr away ↦ rw (ne_eqb n t away) rest
+      ]
+
+pub thread-under : (parts : Parts) (t : ℕ) (o : Option Kind) → AreRising parts.ids.live → value_of t parts.ids.live ≡ o → machine.is_thread (state_of parts) t ≡ is_some (row_under parts.last_prio parts.sched.threads t o)
+thread-under parts t o rising e = ap is_some (rows-under parts.last_prio parts.sched.threads t parts.ids.live rising) ∙ ap (λ k. is_some (row_under parts.last_prio parts.sched.threads t k)) e

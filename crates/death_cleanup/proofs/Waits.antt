@@ -1,16 +1,22 @@
 -- Whoever waits for a thread or an agent that ends goes on.
+use Rattle.death_cleanup.proofs.Draining.{Draining, done, fewer, first_room, goes_on}
+use Rattle.death_cleanup.proofs.Fronts.{Front, waiting_first, waiting_none}
+use Rattle.death_cleanup.specs.Comes.{CameTo}
 use Rattle.death_cleanup.specs.Ties.{HasLawfulThreads}
-use Rattle.death_cleanup.specs.Waits.{block_waits, last_answer, waiting}
+use Rattle.death_cleanup.specs.View.{state_of}
+use Rattle.death_cleanup.specs.Waits.{block_waits, dismissed, first_waiting, last_answer, waiting}
+use Rattle.death_cleanup.specs.declared.parts.Parts.{Parts}
 use Rattle.death_cleanup.specs.declared.rows.Awaited.{Awaited}
 use Rattle.death_cleanup.specs.declared.rows.Awaited.TheVariants as awaited
 use Rattle.lwp_types.specs.State.{Outcome, State, ThreadRow, is_blocked_in, is_not_blocked, is_number, passes, with_block}
 use Rattle.std.specs.List.{find}
 use Rattle.lwp_types.specs.Unblock.{unblock, unblocked}
+use Rattle.lwp_types.specs.declared.call.Effect.{Effect}
 use Rattle.lwp_types.specs.declared.rows.Block.{Block}
 use Rattle.lwp_types.specs.declared.rows.Block.TheVariants as block
 use Rattle.pod_laws.proofs.Drains.{first_waiter, wake_first}
 use Rattle.pod_laws.proofs.LetterMoves.{is_alone}
-use Rattle.std.proofs.Common.{List, ap, false, not, refl, sym, true, ℕ, ◌∙◌, ◌∷◌, ◌≡◌}
+use Rattle.std.proofs.Common.{List, None, Some, ap, arith, false, length, not, refl, sym, true, ℕ, ◌<◌, ◌∙◌, ◌∷◌, ◌≡◌}
 
 -- who waits for something of a thread waits for nothing else
 alone : (what : Awaited) (t : ℕ) (b : Block) → block_waits what t b ≡ true → is_alone b ≡ true
@@ -51,3 +57,24 @@ module _ (what : Awaited) (t : ℕ) where
   first_waits u us s has listed =
       let who = first_waiter (block_waits what t) (alone what t) has.lawful has.dying has.nine u us (ap (waiting what t) has.threads ∙ listed) in
       ap (λ rows. passes (λ (row : ThreadRow). not (is_not_blocked row.block)) (find (is_number u) rows)) (sym has.threads) ∙ ap (passes (λ (row : ThreadRow). not (is_not_blocked row.block))) who.known ∙ waits who.row.block (alone what t who.row.block who.passes)
+
+  module _ (start : Parts) (before : List Effect) (parts : Parts) (after : List Effect) (h : Draining HasLawfulThreads list change 0 start before parts after) where
+    module _ (u : ℕ) (found : first_waiting what t parts.ids.live ≡ Some u) where
+      first : Front (list (state_of parts)) u
+      first = waiting_first what t parts.last_prio parts.sched.threads parts.ids.live u found
+
+      pub turn_waits : is_blocked_in (state_of parts) u ≡ true
+      turn_waits = first_waits u first.rest (state_of parts) h.keeps first.is
+
+      pub turn_room : length after < 2048
+      turn_room = omega (arith, first_room HasLawfulThreads list change one_less 0 start before parts after h u first.rest first.is)
+
+      module _ (new : Parts) (now : List Effect) (came : CameTo parts new after now (change u (state_of parts))) where
+        pub turn_fewer : length (list (state_of new)) < length (list (state_of parts))
+        turn_fewer = fewer HasLawfulThreads list change one_less 0 start before parts after h u first.rest first.is new now came
+
+        pub turn_on : Draining HasLawfulThreads list change 0 start before new now
+        turn_on = goes_on HasLawfulThreads list change one_less 0 start before parts after h u first.rest first.is new now came
+
+    pub over : first_waiting what t parts.ids.live ≡ None → CameTo start parts before after (dismissed what t (state_of start))
+    over none = done HasLawfulThreads list change one_less 0 start before parts after h (waiting_none what t parts.last_prio parts.sched.threads parts.ids.live none)

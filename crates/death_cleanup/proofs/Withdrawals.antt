@@ -2,7 +2,7 @@
 use Rattle.conditions.specs.ConditionTable as cond_table
 use Rattle.death_cleanup.proofs.Looks.{find-row, row-unblocked, same-some, waits}
 use Rattle.death_cleanup.specs.Moves.{block_set, kind_set, withdrawn}
-use Rattle.death_cleanup.specs.Ties.{IsTied}
+use Rattle.death_cleanup.specs.Ties.{InStep, IsRanked, IsRoomy, IsTied}
 use Rattle.death_cleanup.specs.View.{known_of, row_of, row_onto, rows_of, state_of}
 use Rattle.death_cleanup.specs.declared.rows.Kind.{Kind}
 use Rattle.death_cleanup.specs.declared.rows.Kind.TheVariants as kind
@@ -10,6 +10,7 @@ use Rattle.death_cleanup.specs.declared.rows.ThreadRec.{ThreadRec}
 use Rattle.death_cleanup.specs.declared.parts.Parts.{Parts}
 use Rattle.lwp_types.specs.Death.{withdraw}
 use Rattle.lwp_types.specs.Lawful.{is_same_option}
+use Rattle.lwp_types.specs.State as machine
 use Rattle.lwp_types.specs.State.{State, is_thread, passes, suspension_set, ThreadRow, is_number, with_block, with_suspension}
 use Rattle.lwp_types.specs.declared.rows.Block.TheVariants as block
 use Rattle.lwp_types.specs.Release as release
@@ -20,9 +21,10 @@ use Rattle.conditions.specs.declared.waits.WaitRec.{WaitRec}
 use Rattle.pod_sched.specs.Schedule as sched
 use Rattle.pod_sched.specs.Schedule.{newcomer}
 use Rattle.pod_sched.specs.declared.rows.Known.{Known}
-use Rattle.std.proofs.Common.{Bool, List, None, Option, Some, [], ap, arith, cond, eqb, false, inl, inr, map, not, refl, ◌&&◌, sym, true, ℕ, ◌∙◌, ◌∷◌, ◌≡◌}
+use Rattle.std.proofs.Common.{Bool, List, None, Option, Some, [], ap, arith, cond, eqb, false, inl, inr, length, map, not, refl, ◌&&◌, sym, true, ℕ, ◌∙◌, ◌∷◌, ◌≡◌}
 use Rattle.std.proofs.lemmas.Bool.{cases_eq, eq-eqb, eqb-true, ne_eqb}
-use Rattle.std.specs.List.{filter, find}
+use Rattle.std.specs.List.{AllByRecursion, filter, find}
+use Rattle.std.proofs.lemmas.List.{length-map}
 use Rattle.std.specs.Prelude.{is_some, option_map, unwrap_or}
 
 find-without : (t u : ℕ) (known : List Known) → find (sched.is_of u) (sched.without_row t known) ≡ cond (eqb u t) None (find (sched.is_of u) known)
@@ -130,6 +132,15 @@ find-suspension t u b (row ∷ rows) = by_test (find-suspension t u b rows) (is_
     by_test rest true = refl
     by_test rest false = rest
 
+-- of those that a filter keeps
+kept_all : {X : Type 0} (P Q : X → Type 0) (keep : X → Bool) → ((x : X) → P x → Q x) → (xs : List X) → AllByRecursion P xs → AllByRecursion Q (filter keep xs)
+kept_all P Q keep weaker [] all = tt
+kept_all P Q keep weaker (x ∷ xs) all = by_test (keep x) (kept_all P Q keep weaker xs all.1)
+  where
+    by_test : (c : Bool) → AllByRecursion Q (filter keep xs) → AllByRecursion Q (cond c (x ∷ filter keep xs) (filter keep xs))
+    by_test true rest = (weaker x all.0, rest)
+    by_test false rest = rest
+
 module _ (parts : Parts) (t : ℕ) (tied : IsTied parts) (alone : parts.dying ≡ None) where
   known-all : (u : ℕ) → is_thread (state_of parts) u ≡ sched.knows parts.sched u
   known-all u = sym (tied.known u ∙ ap (λ d. is_thread (state_of parts) u && not (is_same_option d u)) alone ∙ plain (is_thread (state_of parts) u))
@@ -180,3 +191,32 @@ module _ (parts : Parts) (t : ℕ) (tied : IsTied parts) (alone : parts.dying �
 
       waiting : (u : ℕ) → passes waits (find (is_number u) (state_of (withdrawn parts t)).threads) ≡ (not (eqb u t) && passes waits (find (is_number u) (state_of parts).threads))
       waiting u = ap (λ rs. passes waits (find (is_number u) rs)) rows ∙ ap (passes waits) (find-suspension t u false (with_block t block.Not (state_of parts).threads)) ∙ same (find (is_number u) (with_block t block.Not (state_of parts).threads)) ∙ row-unblocked t u (state_of parts).threads
+
+  abbrev priority : Option ThreadRow → ℕ
+  priority o = unwrap_or (option_map (λ (row : ThreadRow). row.priority) o) 0
+
+  priority-same : (u : ℕ) → machine.priority_in (state_of (withdrawn parts t)) u ≡ machine.priority_in (state_of parts) u
+  priority-same u = ap (λ rs. priority (find (is_number u) rs)) rows ∙ ap priority (find-suspension t u false (with_block t block.Not (state_of parts).threads)) ∙ suspended (find (is_number u) (with_block t block.Not (state_of parts).threads))
+      ∙ ap priority (find-row t u block.Not (state_of parts).threads) ∙ unblocked (find (is_number u) (state_of parts).threads)
+    where
+      suspended : (o : Option ThreadRow) → priority (option_map (suspension_set t false) o) ≡ priority o
+      suspended None = refl
+      suspended (Some row) = refl
+      unblocked : (o : Option ThreadRow) → priority (option_map (machine.block_set t block.Not) o) ≡ priority o
+      unblocked None = refl
+      unblocked (Some row) = refl
+
+  length-same : length (state_of (withdrawn parts t)).threads ≡ length (state_of parts).threads
+  length-same = ap length rows ∙ length-map (with_block t block.Not (state_of parts).threads) (suspension_set t false) ∙ length-map (state_of parts).threads (machine.block_set t block.Not)
+
+  pub InStep-withdrawn : InStep parts → InStep (withdrawn parts t)
+  InStep-withdrawn step = record {
+    tied = IsTied-withdrawn;
+    ranked = record {
+      requests = kept_all (λ (r : EntryRequest). r.prio ≡ machine.priority_in (state_of parts) r.tid) (λ r. r.prio ≡ machine.priority_in (state_of (withdrawn parts t)) r.tid) (λ r. not (mon_table.is_request_of t r)) (λ r e. e ∙ sym (priority-same r.tid)) parts.mons.requests step.ranked.requests;
+      waits = kept_all (λ (w : WaitRec). w.prio ≡ machine.priority_in (state_of parts) w.tid) (λ w. w.prio ≡ machine.priority_in (state_of (withdrawn parts t)) w.tid) (λ w. not (cond_table.is_wait_of t w)) (λ w e. e ∙ sym (priority-same w.tid)) parts.conds.waits step.ranked.waits;
+    };
+    roomy = record { letters = omega (arith, length-same, step.roomy.letters); threads = omega (arith, length-same, step.roomy.threads); requests = omega (arith, length-same, step.roomy.requests); waits = omega (arith, length-same, step.roomy.waits) };
+    monitors = step.monitors;
+    conditions = step.conditions;
+  }

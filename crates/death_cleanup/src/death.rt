@@ -5,6 +5,7 @@ ghost use Rattle.lwp_types.specs.State.{is_thread};
 ghost use Rattle.death_cleanup.specs.Comes.{CameTo};
 ghost use Rattle.death_cleanup.specs.Ties.{InStep, LawfulParts};
 ghost use Rattle.death_cleanup.specs.View.{state_of};
+ghost use Rattle.pod_laws.proofs.DeathEnds.{Forgotten};
 
 use crate::frames::run_all_exits;
 use crate::parts::{Parts, set_block};
@@ -32,6 +33,7 @@ fn withdraw(parts: &mut Parts, tid: Tid)
 
 // The dying thread is gone.
 fn bury(parts: &mut Parts, tid: Tid, effects: &mut Effects)
+    requires forgotten { Forgotten (state_of parts.old) tid }
     requires step { InStep parts.old }
     requires dying { parts.old.dying ≡ Some tid }
     requires room { length effects.old < 2048 }

@@ -8,7 +8,7 @@ ghost use Rattle.death_cleanup.specs.Ties.{InStep, LawfulParts};
 ghost use Rattle.death_cleanup.specs.View.{state_of};
 
 use crate::locks::{monitor_break, monitor_exit};
-use crate::parts::{Parts, is_thread, wake};
+use crate::parts::{Parts, is_agent, is_id, is_thread, wake};
 use crate::signals::{broadcast, notify};
 use lwp_types::{Answer, Effect, Effects, ExitCall, ExitMark, LwpErr, Text, Tid};
 
@@ -32,9 +32,10 @@ pub fn resume(parts: &mut Parts, tid: Tid) -> Answer
     if !is_thread(parts, tid) {
         return Answer::Refused(LwpErr::NonExist);
     }
-    if parts.sched.knows(tid) {
-        parts.sched.resume(tid);
+    if !parts.sched.knows(tid) {
+        return Answer::Value(0);
     }
+    parts.sched.resume(tid);
     Answer::Value(0)
 }
 
@@ -45,19 +46,18 @@ pub fn reply(parts: &mut Parts, tid: Tid, to: Tid, text: Text, effects: &mut Eff
     requires room { length effects.old < 2048 }
     ensures answers { Answers parts.old parts.new effects.old effects.new (reply (state_of parts.old) tid to text) result }
 {
-    let to_agent = parts.agents.owner_of(to).is_some();
-    if !to_agent && !is_thread(parts, to) {
+    if !is_id(parts, to) {
         return Answer::Refused(LwpErr::NonExist);
     }
     let len = text.bytes().len();
     if let Err(err) = parts.mail.reply(tid, to, len) {
         return Answer::Refused(err);
     }
-    if to_agent {
+    if is_agent(&parts.agents, to) {
         parts.agents.release(to);
-    } else {
-        wake(parts, to, Answer::Reply(text), effects);
+        return Answer::Value(0);
     }
+    wake(parts, to, Answer::Reply(text), effects);
     Answer::Value(0)
 }
 

@@ -1,12 +1,15 @@
 // Frames go, and the exit procedures that they have set are run.
-ghost use Rattle.std.specs.Prelude.{◌≡◌, ◌≤◌, [], Some};
+ghost use Rattle.std.specs.Prelude.{◌≡◌, ◌≤◌, IsTrue, Some, map};
+ghost use Rattle.exc_stack.specs.Stack.{UnwindsAll, UnwindsTo, unwound_all, unwound_to};
 ghost use Rattle.lwp_types.specs.Death.{run_all_exits};
 ghost use Rattle.lwp_types.specs.Exits.{unwind};
 ghost use Rattle.lwp_types.specs.Marks.{first_frames, frames, later_frames};
 ghost use Rattle.lwp_types.specs.State.{marks_in};
 ghost use Rattle.death_cleanup.specs.Comes.{CameTo, HasRoom};
+ghost use Rattle.death_cleanup.specs.Moves.{stack_of, stack_set};
 ghost use Rattle.death_cleanup.specs.Ties.{LawfulParts};
 ghost use Rattle.death_cleanup.specs.View.{state_of};
+ghost use Rattle.stale_ids.specs.Register.{AreRising};
 
 use crate::exits::exit_call;
 use crate::parts::Parts;
@@ -14,20 +17,30 @@ use crate::rows::Kind;
 use lwp_types::{Effects, ExitMark, Tid};
 use stale_ids::Registry;
 
-// The next exit procedure that a dying thread has to run, the last set first.
-fn next_exit(ids: &mut Registry<Kind>, tid: Tid) -> Option<ExitMark> {
-    match ids.get_mut(tid.number) {
-        Some(Kind::Thread(rec)) => rec.stack.unwind_all(),
-        _ => None,
-    }
+// The next exit procedure that a dying thread has to run, the last set first; its mark and those above it are gone.
+fn next_exit(ids: &mut Registry<Kind>, tid: Tid) -> Option<ExitMark>
+    ensures left { ids.new ≡ record ids.old { live = map (stack_set tid (unwound_all (stack_of tid ids.old.live)).left) ids.old.live } }
+    ensures next { UnwindsAll (stack_of tid ids.old.live) (unwound_all (stack_of tid ids.old.live)).left result }
+    ensures rising { AreRising ids.old.live }
+{
+    let Some(kind) = ids.get_mut(tid.number) else {
+        return None;
+    };
+    kind.unwind_all()
 }
 
 // The same of a thread that keeps so many frames.
-fn next_exit_above(ids: &mut Registry<Kind>, tid: Tid, depth: u32) -> Option<ExitMark> {
-    match ids.get_mut(tid.number) {
-        Some(Kind::Thread(rec)) => rec.stack.unwind_to(depth),
-        _ => None,
-    }
+fn next_exit_above(ids: &mut Registry<Kind>, tid: Tid, depth: u32) -> Option<ExitMark>
+    requires least { 1 ≤ depth }
+    requires most { depth ≤ frames (stack_of tid ids.old.live) }
+    ensures left { ids.new ≡ record ids.old { live = map (stack_set tid (unwound_to depth (stack_of tid ids.old.live)).left) ids.old.live } }
+    ensures next { UnwindsTo depth (stack_of tid ids.old.live) (unwound_to depth (stack_of tid ids.old.live)).left result }
+    ensures rising { AreRising ids.old.live }
+{
+    let Some(kind) = ids.get_mut(tid.number) else {
+        return None;
+    };
+    kind.unwind_to(depth)
 }
 
 /// All marks of the dying thread go, and its exit procedures run, the last set first.

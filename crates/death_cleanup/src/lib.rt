@@ -14,7 +14,7 @@ pub use death::die;
 pub use exits::{exit_call, reply, resume, set_exit};
 pub use frames::leave_frames;
 pub use locks::{monitor_break, monitor_exit, release};
-pub use parts::{Parts, is_thread, set_block, wake};
+pub use parts::{Parts, is_agent, is_id, is_thread, set_block, wake};
 pub use rows::{Awaited, Kind, ThreadRec};
 pub use signals::{broadcast, notify};
 pub use waiters::{dismiss, end_agent};

@@ -1,13 +1,41 @@
 // How a monitor becomes free.
-ghost use Rattle.std.specs.Prelude.{◌≡◌, ◌<◌, false, is_none, length};
-ghost use Rattle.lwp_types.specs.Locks.{monitor_break, monitor_exit};
+ghost use Rattle.std.specs.Prelude.{◌≡◌, ◌<◌, false, is_none, length, IfSome, IsTrue};
+ghost use Rattle.lwp_types.specs.Locks.{is_owner, monitor_break, monitor_exit};
 ghost use Rattle.lwp_types.specs.Release.{lock_of, release};
+ghost use Rattle.lwp_types.specs.State.{is_blocked_in};
+ghost use Rattle.monitors.specs.Machine.{with_owner};
+ghost use Rattle.monitors.specs.MonitorTable.{is_live};
 ghost use Rattle.death_cleanup.specs.Comes.{Answers, CameTo};
-ghost use Rattle.death_cleanup.specs.Ties.{LawfulParts};
+ghost use Rattle.death_cleanup.specs.Ties.{InStep, LawfulParts};
 ghost use Rattle.death_cleanup.specs.View.{state_of};
 
 use crate::parts::{Parts, wake};
 use lwp_types::{Answer, Effects, LwpErr, Mid, Tid};
+use monitors::Monitors;
+
+// Whether the thread holds the monitor.
+fn holds(mons: &Monitors, tid: Tid, mon: Mid) -> bool
+    requires { IsTrue (is_live mons.now mon) }
+    ensures { result ≡ is_owner mons.now.locks tid mon }
+{
+    match mons.owner(mon) {
+        Some(owner) => owner == tid,
+        None => false,
+    }
+}
+
+// Whoever holds a monitor from now on goes on.
+fn go_on(parts: &mut Parts, next: Option<Tid>, effects: &mut Effects)
+    requires step { InStep parts.old }
+    requires waits { IfSome next (λ u. IsTrue (is_blocked_in (state_of parts.old) u)) }
+    requires room { length effects.old < 2048 }
+    ensures came { CameTo parts.old parts.new effects.old effects.new (with_owner next (state_of parts.old)) }
+{
+    let Some(tid) = next else {
+        return;
+    };
+    wake(parts, tid, Answer::Value(0), effects);
+}
 
 /// The monitor loses its owner, and whoever enters next goes on.
 pub fn release(parts: &mut Parts, mon: Mid, effects: &mut Effects)
@@ -16,9 +44,8 @@ pub fn release(parts: &mut Parts, mon: Mid, effects: &mut Effects)
     requires room { length effects.old < 2048 }
     ensures came { CameTo parts.old parts.new effects.old effects.new (release mon (state_of parts.old)) }
 {
-    if let Some(next) = parts.mons.break_lock(mon) {
-        wake(parts, next, Answer::Value(0), effects);
-    }
+    let next = parts.mons.break_lock(mon);
+    go_on(parts, next, effects);
 }
 
 /// The thread leaves the monitor once, and the last time gives it up.
@@ -30,14 +57,11 @@ pub fn monitor_exit(parts: &mut Parts, tid: Tid, mon: Mid, effects: &mut Effects
     if !parts.mons.is_live(mon) {
         return Answer::Refused(LwpErr::NonExist);
     }
-    if parts.mons.owner(mon) != Some(tid) {
+    if !holds(&parts.mons, tid, mon) {
         return Answer::Refused(LwpErr::InvalidArg);
     }
-    if parts.mons.depth(mon) <= 1 {
-        release(parts, mon, effects);
-    } else {
-        let _ = parts.mons.exit(mon, tid);
-    }
+    let next = parts.mons.exit(mon, tid);
+    go_on(parts, next, effects);
     Answer::Value(0)
 }
 

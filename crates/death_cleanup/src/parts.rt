@@ -1,6 +1,7 @@
 // The parts, and the changes of one thread in them.
 ghost use Rattle.std.specs.Prelude.{◌≡◌, ◌<◌, length, map, IsTrue};
-ghost use Rattle.lwp_types.specs.State.{is_blocked_in, is_thread};
+ghost use Rattle.agents.specs.Roster.{is_listed};
+ghost use Rattle.lwp_types.specs.State.{is_blocked_in, is_id, is_thread};
 ghost use Rattle.lwp_types.specs.Unblock.{unblock};
 ghost use Rattle.death_cleanup.specs.Comes.{CameTo};
 ghost use Rattle.death_cleanup.specs.Moves.{block_set};
@@ -44,7 +45,27 @@ pub struct Parts {
 pub fn is_thread(parts: &Parts, tid: Tid) -> bool
     ensures { result ≡ is_thread (state_of parts.now) tid }
 {
-    matches!(parts.ids.get(tid.number), Some(Kind::Thread(_)))
+    // The check learns here that the living stand in birth order, so that a number finds one of them.
+    let _living = parts.ids.len();
+    match parts.ids.get(tid.number) {
+        Some(Kind::Thread(_)) => true,
+        Some(Kind::Agent) => false,
+        None => false,
+    }
+}
+
+/// Whether it is a live agent.
+pub fn is_agent(agents: &Agents, tid: Tid) -> bool
+    ensures { result ≡ is_listed agents.now.agents tid }
+{
+    agents.owner_of(tid).is_some()
+}
+
+/// Whether it is a live thread or agent.
+pub fn is_id(parts: &Parts, tid: Tid) -> bool
+    ensures { result ≡ is_id (state_of parts.now) tid }
+{
+    is_thread(parts, tid) || is_agent(&parts.agents, tid)
 }
 
 /// Says of a live thread what it waits for.

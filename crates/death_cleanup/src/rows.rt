@@ -1,9 +1,12 @@
 // What the registry keeps under a number, and whom a thread waits for.
-ghost use Rattle.std.specs.Prelude.{◌≡◌};
+ghost use Rattle.std.specs.Prelude.{◌≡◌, ◌≤◌, Some};
+ghost use Rattle.death_cleanup.specs.Moves.{kind_marked, kind_marks};
+ghost use Rattle.exc_stack.specs.Stack.{UnwindsAll, UnwindsTo, unwound_all, unwound_to};
+ghost use Rattle.lwp_types.specs.Marks.{frames};
 ghost use Rattle.death_cleanup.specs.Waits.{last_answer, waits_for};
 
 use exc_stack::ExcStack;
-use lwp_types::{Answer, Block, Flags, LwpErr, Tid};
+use lwp_types::{Answer, Block, ExitMark, Flags, LwpErr, Tid};
 
 /// What is kept of a thread, but for what the scheduler keeps.
 #[derive(Drop)]
@@ -51,6 +54,30 @@ impl Kind {
             (Awaited::Death, Block::Joining(other)) => other == tid,
             (Awaited::Letter, Block::Receiving(Some(from))) => from == tid,
             _ => false,
+        }
+    }
+
+    /// Takes marks from the top of a thread's stack until one of them was an exit procedure, which is given.
+    pub fn unwind_all(&mut self) -> Option<ExitMark>
+        ensures left { self.new ≡ kind_marked (unwound_all (kind_marks (Some self.old))).left self.old }
+        ensures next { UnwindsAll (kind_marks (Some self.old)) (unwound_all (kind_marks (Some self.old))).left result }
+    {
+        match self {
+            Kind::Thread(rec) => rec.stack.unwind_all(),
+            Kind::Agent => None,
+        }
+    }
+
+    /// The same, but the first `depth` frames stay.
+    pub fn unwind_to(&mut self, depth: u32) -> Option<ExitMark>
+        requires least { 1 ≤ depth }
+        requires most { depth ≤ frames (kind_marks (Some self.old)) }
+        ensures left { self.new ≡ kind_marked (unwound_to depth (kind_marks (Some self.old))).left self.old }
+        ensures next { UnwindsTo depth (kind_marks (Some self.old)) (unwound_to depth (kind_marks (Some self.old))).left result }
+    {
+        match self {
+            Kind::Thread(rec) => rec.stack.unwind_to(depth),
+            Kind::Agent => None,
         }
     }
 }

@@ -1,16 +1,33 @@
 // How those that wait on a condition are woken: they wait to enter its monitor again.
-ghost use Rattle.std.specs.Prelude.{[]};
+ghost use Rattle.std.specs.Prelude.{◌≡◌, ◌==◌, []};
+ghost use Rattle.lwp_types.specs.Release.{last_lock};
+ghost use Rattle.lwp_types.specs.State.{passes};
 ghost use Rattle.lwp_types.specs.Waits.{broadcast, notify};
 ghost use Rattle.death_cleanup.specs.Comes.{Answers};
+ghost use Rattle.death_cleanup.specs.Moves.{MayAsk, asked};
 ghost use Rattle.death_cleanup.specs.Ties.{LawfulParts};
 ghost use Rattle.death_cleanup.specs.View.{state_of};
 
 use crate::parts::{Parts, set_block};
 use conditions::WaitRec;
 use lwp_types::{Answer, Block, Cid, LwpErr, Mid, Tid};
+use monitors::Monitors;
 
-// Whoever waited on a condition of the monitor waits to enter it again.
-fn ask_again(parts: &mut Parts, mon: Mid, wait: WaitRec) {
+/// Whether of the monitors that the thread holds it acquired this one last.
+pub fn is_last(mons: &Monitors, tid: Tid, mon: Mid) -> bool
+    ensures { result ≡ passes (λ lock. mon == lock.mon) (last_lock mons.now.locks tid) }
+{
+    match mons.last_held(tid) {
+        Some(last) => mon == last,
+        None => false,
+    }
+}
+
+/// Whoever waited on a condition of the monitor waits to enter it again, behind all others.
+pub fn ask_again(parts: &mut Parts, mon: Mid, wait: WaitRec)
+    requires { MayAsk parts.old.mons mon wait }
+    ensures { parts.new ≡ asked parts.old mon wait }
+{
     parts.mons.request(mon, wait.tid, wait.prio, wait.depth);
     set_block(&mut parts.ids, wait.tid, Block::Entering(mon));
 }
@@ -23,12 +40,13 @@ pub fn notify(parts: &mut Parts, tid: Tid, cond: Cid) -> Answer
     let Some(mon) = parts.conds.monitor_of(cond) else {
         return Answer::Refused(LwpErr::NonExist);
     };
-    if parts.mons.last_held(tid) != Some(mon) {
+    if !is_last(&parts.mons, tid, mon) {
         return Answer::Refused(LwpErr::NotOwned);
     }
-    if let Some(wait) = parts.conds.notify(cond) {
-        ask_again(parts, mon, wait);
-    }
+    let Some(wait) = parts.conds.notify(cond) else {
+        return Answer::Value(0);
+    };
+    ask_again(parts, mon, wait);
     Answer::Value(0)
 }
 
@@ -40,7 +58,7 @@ pub fn broadcast(parts: &mut Parts, tid: Tid, cond: Cid) -> Answer
     let Some(mon) = parts.conds.monitor_of(cond) else {
         return Answer::Refused(LwpErr::NonExist);
     };
-    if parts.mons.last_held(tid) != Some(mon) {
+    if !is_last(&parts.mons, tid, mon) {
         return Answer::Refused(LwpErr::NotOwned);
     }
     while let Some(wait) = parts.conds.broadcast(cond) {

@@ -23,7 +23,8 @@ fn nth_of(ids: &Registry<Kind>, i: usize) -> (Tid, &Kind)
     ensures { slice_get ids.now.live i ≡ Some (result.0, result.1.now) }
 {
     let number = ids.nth(i);
-    (Tid { number }, ids.get(number).unwrap())
+    let kind = ids.get(number).unwrap();
+    (Tid { number }, kind)
 }
 
 // The oldest of the living that waits for this of the thread or agent.

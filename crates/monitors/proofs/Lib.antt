@@ -1,2 +1,4 @@
 pub mod KeptLemmas
 pub mod Room
+pub mod Ranks
+pub mod Machine

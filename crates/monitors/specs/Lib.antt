@@ -1,2 +1,3 @@
 pub mod MonitorTable
 pub mod Kept
+pub mod Machine

@@ -6,11 +6,13 @@
 //! keeps its thread's priority, which the machine looks up. The crate stands on `lwp_types` alone.
 #![tactic(auto)]
 
+mod laws;
 mod live;
 mod locks;
 mod monitors;
 mod requests;
 
+pub use laws::{every_change, every_question, every_rank};
 pub use monitors::Monitors;
 pub use requests::EntryRequest;
 

@@ -1,0 +1,26 @@
+use Rattle.death_cleanup.proofs.Draining.{starts}
+use Rattle.death_cleanup.proofs.Waits.{change, list, over, turn_fewer, turn_on, turn_room, turn_waits}
+use Rattle.death_cleanup.proofs.waiters.dismiss.Goals as goal
+use Rattle.death_cleanup.specs.Ties.{HasLawfulThreads}
+use Rattle.std.proofs.Common.{sym, ◌∙◌}
+
+pub wake-requires-clause-step : goal.wake-requires-clause-step
+wake-requires-clause-step c = c.loop-other.invariant.step
+
+pub wake-requires-clause-waits : goal.wake-requires-clause-waits
+wake-requires-clause-waits c = turn_waits c.args.what c.args.tid c.args.parts.now c.args.effects.now c.loop-other.parts c.loop-other.effects c.loop-other.invariant c.in-Some.other (sym c.first_waiting.ensures ∙ c.in-Some.is)
+
+pub wake-requires-clause-room : goal.wake-requires-clause-room
+wake-requires-clause-room c = turn_room c.args.what c.args.tid c.args.parts.now c.args.effects.now c.loop-other.parts c.loop-other.effects c.loop-other.invariant c.in-Some.other (sym c.first_waiting.ensures ∙ c.in-Some.is)
+
+pub loop-other-smaller : goal.loop-other-smaller
+loop-other-smaller c = turn_fewer c.args.what c.args.tid c.args.parts.now c.args.effects.now c.loop-other.parts c.loop-other.effects c.loop-other.invariant c.in-Some.other (sym c.first_waiting.ensures ∙ c.in-Some.is) c.wake.new.parts c.wake.new.effects (rw c.answer.ensures at c.wake.ensures.came)
+
+pub loop-other-preserved : goal.loop-other-preserved
+loop-other-preserved c = turn_on c.args.what c.args.tid c.args.parts.now c.args.effects.now c.loop-other.parts c.loop-other.effects c.loop-other.invariant c.in-Some.other (sym c.first_waiting.ensures ∙ c.in-Some.is) c.wake.new.parts c.wake.new.effects (rw c.answer.ensures at c.wake.ensures.came)
+
+pub returns : goal.returns
+returns c = record { came = over c.args.what c.args.tid c.args.parts.now c.args.effects.now c.loop-other.parts c.loop-other.effects c.loop-other.invariant (sym c.first_waiting.ensures ∙ c.in_default.is) }
+
+pub loop-other-init : goal.loop-other-init
+loop-other-init c = starts HasLawfulThreads (list c.args.what c.args.tid) (change c.args.what c.args.tid) 0 c.args.parts.now c.args.effects.now c.requires.threads c.requires.step c.requires.room
