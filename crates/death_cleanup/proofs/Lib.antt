@@ -9,6 +9,8 @@ pub mod Releases
 pub mod AgentEnds
 pub mod Unmarking
 pub mod Unwinding
+pub mod Costs
+pub mod Dying
 pub mod Burials
 pub mod Withdrawals
 pub mod Outcomes
@@ -18,3 +20,5 @@ pub mod Replying
 pub mod Crowds
 pub mod Asking
 pub mod Notices
+pub mod Exiting
+pub mod Leaving

@@ -99,17 +99,18 @@ module _ (parts : Parts) (lawful : LawfulParts parts) (t c m : ℕ) (found : con
 -- ---- all are woken
 
 -- those who wait still are to be woken, and who was woken was
-pub record Broadcasting (t c m : ℕ) (start parts : Parts) : Type 0 where
-  pub left : Signalling t c m (cond.waits_on parts.conds c) parts
+pub record Broadcasting (c m : ℕ) (start parts : Parts) : Type 0 where
+  pub caller : ℕ
+  pub left : Signalling caller c m (cond.waits_on parts.conds c) parts
   pub dying : parts.dying ≡ start.dying
   pub state : fold (λ now w. woken m w now) (state_of parts) (map cond.machine_row (cond.waits_on parts.conds c)) ≡ fold (λ now w. woken m w now) (state_of start) (map cond.machine_row (cond.waits_on start.conds c))
 
-module _ (t c m : ℕ) (start parts : Parts) (h : Broadcasting t c m start parts) where
+module _ (c m : ℕ) (start parts : Parts) (h : Broadcasting c m start parts) where
   module _ (w : WaitRec) (first : cond.first_wait parts.conds c ≡ Some w) where
     parted : cond.waits_on parts.conds c ≡ w ∷ cond.waits_on (cond.woken parts.conds (Some w)) c
     parted = conds.first_is_woken parts.conds c (IsWaitedOnce-lawful parts h.left.waking.nine c) w first
 
-    pub now : Signalling t c m (w ∷ cond.waits_on (cond.woken parts.conds (Some w)) c) parts
+    pub now : Signalling h.caller c m (w ∷ cond.waits_on (cond.woken parts.conds (Some w)) c) parts
     now = rw parted at h.left
 
     pub first-ranked : w.prio ≡ priority_in (state_of parts) w.tid
@@ -120,11 +121,12 @@ module _ (t c m : ℕ) (start parts : Parts) (h : Broadcasting t c m start parts
     pub fewer-wait : length (cond.waits_on (cond.woken parts.conds (Some w)) c) < length (cond.waits_on parts.conds c)
     fewer-wait = omega (arith, ap length parted)
 
-    pub Broadcasting-next : Broadcasting t c m start (signalled parts m w)
+    pub Broadcasting-next : Broadcasting c m start (signalled parts m w)
     Broadcasting-next = record {
-      left = Signalling-next parts t c m w (cond.waits_on (cond.woken parts.conds (Some w)) c) now first-ranked;
+      caller = h.caller;
+      left = Signalling-next parts h.caller c m w (cond.waits_on (cond.woken parts.conds (Some w)) c) now first-ranked;
       dying = h.dying;
-      state = ap (λ s. fold (λ now w. woken m w now) s (map cond.machine_row (cond.waits_on (cond.woken parts.conds (Some w)) c))) (signalled-is parts t c m w (cond.waits_on (cond.woken parts.conds (Some w)) c) now)
+      state = ap (λ s. fold (λ now w. woken m w now) s (map cond.machine_row (cond.waits_on (cond.woken parts.conds (Some w)) c))) (signalled-is parts h.caller c m w (cond.waits_on (cond.woken parts.conds (Some w)) c) now)
           ∙ ap (λ ws. fold (λ now w. woken m w now) (state_of parts) (map cond.machine_row ws)) (sym parted) ∙ h.state;
     }
 

@@ -13,13 +13,15 @@ use Rattle.conditions.specs.declared.waits.WaitRec.{WaitRec}
 use Rattle.monitors.specs.declared.requests.EntryRequest.{EntryRequest}
 use Rattle.exc_stack.specs.Stack.{UnwindsAll, below_last_exit, unwound_all}
 use Rattle.lwp_types.specs.Death.{run_all_exits}
-use Rattle.lwp_types.specs.Exits.{run_exit}
+use Rattle.lwp_types.specs.Exits.{exit_case, run_exit}
 use Rattle.lwp_types.specs.Marks.{exits_of, is_exit}
 use Rattle.lwp_types.specs.Lawful.{NineParts, is_same_option}
 use Rattle.lwp_types.specs.ListLaws.{All-weaker}
 use Rattle.lwp_types.specs.State as machine
 use Rattle.lwp_types.specs.State.{Outcome, State, ThreadRow, and_then, for_each, is_number, is_thread, marked, marks_in, marks_set, thread_of, with_marks}
+use Rattle.lwp_types.specs.Unblock.{zero_answer}
 use Rattle.lwp_types.specs.declared.call.Effect.{Effect}
+use Rattle.lwp_types.specs.declared.call.Effect.TheVariants as effect
 use Rattle.lwp_types.specs.declared.rows.ExitMark.{ExitMark}
 use Rattle.lwp_types.specs.declared.rows.Mark.{Mark}
 use Rattle.lwp_types.specs.CountLaws.{count-cons}
@@ -98,7 +100,7 @@ module _ (t : ℕ) (todo : List Mark → List ExitMark) (kept : List Mark) where
     pub dying : parts.dying ≡ start.dying
     pub state : (all (state_of parts)).after ≡ (all (state_of start)).after
     pub effects : after ++ (all (state_of parts)).effects ≡ before ++ (all (state_of start)).effects
-    pub room : HasRoom after (all (state_of parts)) 2
+    pub room : HasRoom after (all (state_of parts)) 1
 
   module _ (Fits : List Mark → Type 0) (start : Parts) (before : List Effect) (parts : Parts) (after : List Effect) (h : Unwinding Fits start before parts after) (left : List Mark) where
     abbrev pub popped : Parts
@@ -125,7 +127,7 @@ module _ (t : ℕ) (todo : List Mark → List ExitMark) (kept : List Mark) where
       turn = ap (λ xs. for_each (run_exit t) xs (marked (state_of parts) t kept)) first
           ∙ ap (λ (o : Outcome). record { after = (for_each (run_exit t) (todo left) o.after).after; effects = o.effects ++ (for_each (run_exit t) (todo left) o.after).effects }) (next kept)
 
-      pub exit_room : length after + ((length (run_exit t x (state_of parts)).effects + length (for_each (run_exit t) (todo left) (marked (run_exit t x (state_of parts)).after t kept)).effects) + 2) ≤ 2048
+      pub exit_room : length after + ((length (run_exit t x (state_of parts)).effects + length (for_each (run_exit t) (todo left) (marked (run_exit t x (state_of parts)).after t kept)).effects) + 1) ≤ 2048
       exit_room = omega (arith, h.room, ap (λ (o : Outcome). length o.effects) turn, length-append (run_exit t x (state_of parts)).effects (for_each (run_exit t) (todo left) (marked (run_exit t x (state_of parts)).after t kept)).effects)
 
       module _ (new : Parts) (now : List Effect) (came : CameTo popped new after now (run_exit t x (state_of popped))) (nine : LawfulParts new) (fit : Fits left) where
@@ -169,8 +171,12 @@ module _ (t : ℕ) (todo : List Mark → List ExitMark) (kept : List Mark) where
           dying = h.dying;
         }
 
+-- an exit procedure tells its result
+told : (t : ℕ) (x : ExitMark) (s : State) → 1 ≤ length (run_exit t x s).effects
+told t x s = omega (arith, length-append (exit_case s t x.call).others (effect.Exited t x.reg x.call (unwrap_or (exit_case s t x.call).own zero_answer) ∷ []))
+
 -- what lies below the last exit is fewer marks
-below_fewer : (ms : List Mark) → Fewer (below_last_exit ms) ms
+pub below_fewer : (ms : List Mark) → Fewer (below_last_exit ms) ms
 below_fewer [] p = omega arith
 below_fewer (m ∷ ms) p = by_test (list_any is_exit ms) (below_fewer ms p)
   where
@@ -208,7 +214,7 @@ module _ (t : ℕ) (start : Parts) (before : List Effect) (parts : Parts) (after
       all_lawful = popped_lawful t exits_of [] (λ ms. Unit {0}) start before parts after h left (rw same (below_fewer stack)) (ap (λ d. is_same_option d t || has_its_marks left) (h.dying ∙ dying) ∙ or_left (eqb t t) _ (eq-eqb t t refl))
 
       pub all_room : length after + 2 ≤ 2048
-      all_room = omega (arith, exit_room t exits_of [] (λ ms. Unit {0}) start before parts after h left x first)
+      all_room = omega (arith, exit_room t exits_of [] (λ ms. Unit {0}) start before parts after h left x first, told t x (state_of parts))
 
       module _ (new : Parts) (now : List Effect) (came : CameTo lighter new after now (run_exit t x (state_of lighter))) (nine : LawfulParts new) where
         pub all_fewer : length (marks_in (state_of new) t) < length (marks_in (state_of parts) t)

@@ -1,6 +1,6 @@
 // What an exit procedure does.
 ghost use Rattle.std.specs.Prelude.{◌≡◌, ◌<◌, ◌≤◌, ◌+◌, [], length};
-ghost use Rattle.lwp_types.specs.Exits.{run_exit};
+ghost use Rattle.lwp_types.specs.Exits.{exit_case, run_exit};
 ghost use Rattle.lwp_types.specs.Letters.{reply};
 ghost use Rattle.lwp_types.specs.Threads.{resume, set_exit};
 ghost use Rattle.death_cleanup.specs.Comes.{Answers, CameTo};
@@ -62,7 +62,11 @@ pub fn reply(parts: &mut Parts, tid: Tid, to: Tid, text: Text, effects: &mut Eff
 }
 
 // The call of an exit procedure is made.
-fn perform(parts: &mut Parts, tid: Tid, call: ExitCall, effects: &mut Effects) -> Answer {
+fn perform(parts: &mut Parts, tid: Tid, call: ExitCall, effects: &mut Effects) -> Answer
+    requires lawful { LawfulParts parts.old }
+    requires room { length effects.old < 2048 }
+    ensures answers { Answers parts.old parts.new effects.old effects.new (exit_case (state_of parts.old) tid call) result }
+{
     match call {
         ExitCall::MonExit { mon } => monitor_exit(parts, tid, mon, effects),
         ExitCall::MonBreak { mon } => monitor_break(parts, mon, effects),

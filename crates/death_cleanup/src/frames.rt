@@ -6,7 +6,7 @@ ghost use Rattle.lwp_types.specs.Exits.{unwind};
 ghost use Rattle.lwp_types.specs.Marks.{first_frames, frames, later_frames};
 ghost use Rattle.lwp_types.specs.State.{marks_in};
 ghost use Rattle.death_cleanup.specs.Comes.{CameTo, HasRoom};
-ghost use Rattle.death_cleanup.specs.Moves.{stack_of, stack_set};
+ghost use Rattle.death_cleanup.specs.Moves.{stack_of, stack_set, stacked};
 ghost use Rattle.death_cleanup.specs.Ties.{LawfulParts};
 ghost use Rattle.death_cleanup.specs.View.{state_of};
 ghost use Rattle.stale_ids.specs.Register.{AreRising};
@@ -30,14 +30,13 @@ fn next_exit(ids: &mut Registry<Kind>, tid: Tid) -> Option<ExitMark>
 }
 
 // The same of a thread that keeps so many frames.
-fn next_exit_above(ids: &mut Registry<Kind>, tid: Tid, depth: u32) -> Option<ExitMark>
+fn next_exit_above(parts: &mut Parts, tid: Tid, depth: u32) -> Option<ExitMark>
     requires least { 1 ≤ depth }
-    requires most { depth ≤ frames (stack_of tid ids.old.live) }
-    ensures left { ids.new ≡ record ids.old { live = map (stack_set tid (unwound_to depth (stack_of tid ids.old.live)).left) ids.old.live } }
-    ensures next { UnwindsTo depth (stack_of tid ids.old.live) (unwound_to depth (stack_of tid ids.old.live)).left result }
-    ensures rising { AreRising ids.old.live }
+    requires most { depth ≤ frames (marks_in (state_of parts.old) tid) }
+    ensures left { parts.new ≡ stacked parts.old tid (unwound_to depth (marks_in (state_of parts.old) tid)).left }
+    ensures next { UnwindsTo depth (marks_in (state_of parts.old) tid) (unwound_to depth (marks_in (state_of parts.old) tid)).left result }
 {
-    let Some(kind) = ids.get_mut(tid.number) else {
+    let Some(kind) = parts.ids.get_mut(tid.number) else {
         return None;
     };
     kind.unwind_to(depth)
@@ -47,7 +46,7 @@ fn next_exit_above(ids: &mut Registry<Kind>, tid: Tid, depth: u32) -> Option<Exi
 pub fn run_all_exits(parts: &mut Parts, tid: Tid, effects: &mut Effects)
     requires lawful { LawfulParts parts.old }
     requires dying { parts.old.dying ≡ Some tid }
-    requires room { HasRoom effects.old (run_all_exits tid (state_of parts.old)) 2 }
+    requires room { HasRoom effects.old (run_all_exits tid (state_of parts.old)) 1 }
     ensures came { CameTo parts.old parts.new effects.old effects.new (run_all_exits tid (state_of parts.old)) }
 {
     while let Some(mark) = next_exit(&mut parts.ids, tid) {
@@ -60,10 +59,10 @@ pub fn leave_frames(parts: &mut Parts, tid: Tid, depth: u32, effects: &mut Effec
     requires lawful { LawfulParts parts.old }
     requires least { 1 ≤ depth }
     requires most { depth ≤ frames (marks_in (state_of parts.old) tid) }
-    requires room { HasRoom effects.old (unwind tid (first_frames depth (marks_in (state_of parts.old) tid)) (later_frames depth (marks_in (state_of parts.old) tid)) (state_of parts.old)) 2 }
+    requires room { HasRoom effects.old (unwind tid (first_frames depth (marks_in (state_of parts.old) tid)) (later_frames depth (marks_in (state_of parts.old) tid)) (state_of parts.old)) 1 }
     ensures came { CameTo parts.old parts.new effects.old effects.new (unwind tid (first_frames depth (marks_in (state_of parts.old) tid)) (later_frames depth (marks_in (state_of parts.old) tid)) (state_of parts.old)) }
 {
-    while let Some(mark) = next_exit_above(&mut parts.ids, tid, depth) {
+    while let Some(mark) = next_exit_above(parts, tid, depth) {
         exit_call(parts, tid, mark, effects);
     }
 }

@@ -4,7 +4,7 @@ use Rattle.death_cleanup.proofs.signals.broadcast.Given as goal
 use Rattle.std.proofs.Common.{length}
 
 abbrev pub invariant-loop-wait : goal.invariant-loop-wait
-invariant-loop-wait l = Broadcasting l.tid l.cond l.mon l.fn.parts l.parts
+invariant-loop-wait l = Broadcasting l.cond l.mon l.fn.parts l.parts
 
 abbrev pub decreases-loop-wait : goal.decreases-loop-wait
 decreases-loop-wait l = length (waits_on l.parts.conds l.cond)
