@@ -1,6 +1,6 @@
 -- The frames above the first ones go.
 use Rattle.death_cleanup.proofs.Living.{written-marks}
-use Rattle.death_cleanup.proofs.Unwinding.{Unwinding, below_fewer, exit_room, marks-are, marks_left, popped, popped_lawful, unwinds_on, unwinds_over}
+use Rattle.death_cleanup.proofs.Unwinding.{Unwinding, below_fewer, exit_room, marks-are, marks_left, popped, popped_lawful, unwinds_on, unwinds_over, told}
 use Rattle.death_cleanup.specs.Comes.{CameTo, HasRoom}
 use Rattle.death_cleanup.specs.Moves.{kind_marked, kind_marks, stack_of, stacked}
 use Rattle.death_cleanup.specs.Ties.{LawfulParts}
@@ -81,7 +81,7 @@ module _ (t depth : ℕ) where
     abbrev pub Leaving : Parts → List Effect → Type 0
     Leaving parts after = Unwinding t above (stays start) (Fits start) start before parts after
 
-    pub leaving_starts : LawfulParts start → 1 ≤ depth → depth ≤ frames (marks_in (state_of start) t) → HasRoom before (unwind t (stays start) (later_frames depth (marks_in (state_of start) t)) (state_of start)) 2 → Leaving start before
+    pub leaving_starts : LawfulParts start → 1 ≤ depth → depth ≤ frames (marks_in (state_of start) t) → HasRoom before (unwind t (stays start) (later_frames depth (marks_in (state_of start) t)) (state_of start)) 1 → Leaving start before
     leaving_starts lawful least most room = record { lawful = lawful; lives = deep-lives (state_of start) t depth least most; fits = (refl, most); dying = refl; state = refl; effects = refl; room = room }
 
     module _ (parts : Parts) (after : List Effect) (h : Leaving parts after) (least : 1 ≤ depth) where
@@ -124,7 +124,7 @@ module _ (t depth : ℕ) where
           leaving_lawful = popped_lawful t above (stays start) (Fits start) start before parts after h left (left_fewer depth stack) still-stack
 
           pub leaving_room : length after + 2 ≤ 2048
-          leaving_room = omega (arith, exit_room t above (stays start) (Fits start) start before parts after h left x first)
+          leaving_room = omega (arith, exit_room t above (stays start) (Fits start) start before parts after h left x first, told t x (state_of parts))
 
           fit : Fits start left
           fit = (steps.stays ∙ h.fits.0, steps.has_frames)

@@ -172,7 +172,7 @@ module _ (t : ℕ) (todo : List Mark → List ExitMark) (kept : List Mark) where
         }
 
 -- an exit procedure tells its result
-told : (t : ℕ) (x : ExitMark) (s : State) → 1 ≤ length (run_exit t x s).effects
+pub told : (t : ℕ) (x : ExitMark) (s : State) → 1 ≤ length (run_exit t x s).effects
 told t x s = omega (arith, length-append (exit_case s t x.call).others (effect.Exited t x.reg x.call (unwrap_or (exit_case s t x.call).own zero_answer) ∷ []))
 
 -- what lies below the last exit is fewer marks
