@@ -7,3 +7,8 @@ pub mod Waiting
 pub mod Ranks
 pub mod Counts
 pub mod Lists
+pub mod Places
+pub mod Newcomers
+pub mod Results
+pub mod Agency
+pub mod Destroys

@@ -1,18 +1,19 @@
 // Calls on agents.
-ghost use Rattle.std.specs.Prelude.{◌≡◌, Some, None, IfOk, IsErr, IsTrue, OnErr, OnOk, []};
-ghost use Rattle.death_cleanup.specs.Comes.{Answers};
+ghost use Rattle.std.specs.Prelude.{◌≡◌, ◌<◌, ◌≤◌, false, Some, None, IfOk, IsErr, IsTrue, OnErr, OnOk, []};
+ghost use Rattle.death_cleanup.specs.Comes.{Answers, CameTo};
 ghost use Rattle.death_cleanup.specs.Ties.{InStep, LawfulParts};
 ghost use Rattle.death_cleanup.specs.View.{state_of};
-ghost use Rattle.lwp_types.specs.Agents.{make_agent};
+ghost use Rattle.lwp_types.specs.Agents.{agent_born, make_agent};
 ghost use Rattle.lwp_types.specs.Case.{listed};
 ghost use Rattle.lwp_types.specs.Families.{agent_call};
-ghost use Rattle.lwp_types.specs.State.{agent_numbers};
+ghost use Rattle.lwp_types.specs.State.{agent_numbers, still};
 ghost use Rattle.lwp_types.specs.Step.{case_of};
 ghost use Rattle.lwp_types.specs.declared.call.IdKind.TheVariants as kind;
-ghost use Rattle.lwp_calls.specs.Asks.{asks_memory};
+ghost use Rattle.agents.specs.Roster.{has_agent_for};
+ghost use Rattle.lwp_calls.specs.Asks.{HasAgentPlaces, asks_memory};
 ghost use Rattle.lwp_calls.specs.Comes.{IsAsBefore};
 
-use crate::asks::thread_count;
+use crate::asks::{next_count, thread_count};
 use death_cleanup::{Kind, Parts};
 use lwp_types::{AgentCall, Answer, IdKind, LwpErr, NoMemory, Tid};
 
@@ -50,28 +51,48 @@ fn create(parts: &mut Parts, caller: Tid, event: u32) -> Result<Answer, NoMemory
     if parts.agents.agent_of(event).is_some() {
         return Ok(Answer::Refused(LwpErr::InUse));
     }
-    let births = parts.ids.births();
-    if births >= parts.ids.limit() {
+    if parts.ids.births() >= parts.ids.limit() {
         return Ok(Answer::Refused(LwpErr::NoRoom));
     }
     make_places(parts)?;
-    let tid = Tid { number: births };
+    Ok(Answer::Thread(begin(parts, caller, event)))
+}
+
+// An agent begins. There are places for it.
+fn begin(parts: &mut Parts, caller: Tid, event: u8) -> Tid
+    requires lawful { LawfulParts parts.old }
+    requires alone { parts.old.dying ≡ None }
+    requires places { HasAgentPlaces parts.old }
+    requires births { parts.old.ids.births < parts.old.ids.limit }
+    requires least { 1 ≤ event }
+    requires most { event ≤ 31 }
+    requires free { has_agent_for parts.old.agents.agents event ≡ false }
+    ensures number { result ≡ parts.old.ids.births }
+    ensures came { CameTo parts.old parts.new [] [] (still (agent_born (state_of parts.old) caller event)) }
+{
+    let number = parts.ids.births();
+    let tid = Tid { number };
     let _ = parts.ids.insert(Kind::Agent);
     parts.agents.create(tid, event, caller);
-    Ok(Answer::Thread(tid))
+    tid
 }
 
 // Places for one agent more, and for its letter.
 fn make_places(parts: &mut Parts) -> Result<(), NoMemory>
     requires lawful { LawfulParts parts.old }
     requires alone { parts.old.dying ≡ None }
-    ensures ok { OnOk result (IsAsBefore parts.old parts.new) }
-    ensures err { OnErr result (IsAsBefore parts.old parts.new) }
+    requires births { parts.old.ids.births < parts.old.ids.limit }
+    ensures ok { OnOk result (HasAgentPlaces parts.new) }
+    ensures as_before { IsAsBefore parts.old parts.new }
+    ensures births { parts.new.ids.births ≡ parts.old.ids.births }
+    ensures limit { parts.new.ids.limit ≡ parts.old.ids.limit }
+    ensures agents { parts.new.agents.agents ≡ parts.old.agents.agents }
 {
-    let living = parts.ids.len() + 1;
+    let count = thread_count(parts);
+    let living = next_count(&parts.ids);
     parts.ids.reserve(living)?;
     parts.agents.reserve(MOST_AGENTS)?;
-    parts.mail.reserve(thread_count(parts) + MOST_AGENTS)?;
+    parts.mail.reserve(count + MOST_AGENTS)?;
     Ok(())
 }
 

@@ -1,33 +1,19 @@
 // What several calls ask of the parts, and how a caller begins to wait.
-ghost use Rattle.std.specs.Prelude.{◌≡◌, ◌<◌, false, length, IfOk, IsTrue, Some, None, []};
+ghost use Rattle.std.specs.Prelude.{◌≡◌, ◌<◌, ◌+◌, false, length, IfOk, IsTrue, Some, None, []};
 ghost use Rattle.std.specs.List.{list_all, slice_get};
 ghost use Rattle.death_cleanup.specs.Comes.{CameTo};
 ghost use Rattle.death_cleanup.specs.Ties.{InStep, LawfulParts};
 ghost use Rattle.death_cleanup.specs.View.{state_of};
 ghost use Rattle.lwp_types.specs.Choice.{is_eligible_in, is_over};
 ghost use Rattle.lwp_types.specs.Letters.{receivers_of};
-ghost use Rattle.lwp_types.specs.State.{is_agent, is_id, is_not_blocked, is_thread, numbers, priority_in, still};
+ghost use Rattle.lwp_types.specs.State.{is_not_blocked, is_thread, numbers, priority_in, still};
 ghost use Rattle.lwp_types.specs.Unblock.{blocked};
 ghost use Rattle.lwp_calls.specs.Asks.{serves};
 
-use death_cleanup::{Awaited, Kind, Parts, is_thread, set_block};
+use death_cleanup::{Awaited, Kind, Parts, set_block};
 use lwp_types::{Block, IdList, NoMemory, Tid};
 use stale_ids::Registry;
 use std::alloc::Global;
-
-/// Whether there is such an agent.
-pub fn is_agent(parts: &Parts, tid: Tid) -> bool
-    ensures { result ≡ is_agent (state_of parts.now) tid }
-{
-    parts.agents.owner_of(tid).is_some()
-}
-
-/// Whether there is such a thread or agent.
-pub fn is_id(parts: &Parts, tid: Tid) -> bool
-    ensures { result ≡ is_id (state_of parts.now) tid }
-{
-    is_thread(parts, tid) || is_agent(parts, tid)
-}
 
 /// The priority of a thread.
 pub fn prio_of(parts: &Parts, tid: Tid) -> u32
@@ -103,9 +89,20 @@ pub fn receivers(parts: &Parts, alloc: Global, from: Tid) -> Result<IdList, NoMe
 pub fn thread_count(parts: &Parts) -> usize
     requires lawful { LawfulParts parts.now }
     requires alone { parts.now.dying ≡ None }
-    ensures { result ≡ length (state_of parts.now).threads }
+    ensures value { result ≡ length (state_of parts.now).threads }
+    ensures known { result ≡ length parts.now.sched.threads }
 {
     parts.sched.len()
+}
+
+/// How many live once one more does.
+pub fn next_count(ids: &Registry<Kind>) -> usize
+    requires { ids.now.births < ids.now.limit }
+    ensures { result ≡ length ids.now.live + 1 }
+{
+    // The check learns here that whoever lives was born, and that the limit is a number of 64 bits.
+    let (_births, _limit) = (ids.births(), ids.limit());
+    ids.len() + 1
 }
 
 /// Whether nobody may run, and whoever is left is a server.

@@ -1,21 +1,21 @@
 // Calls on letters: a sender waits for the reply.
-ghost use Rattle.std.specs.Prelude.{◌≡◌, ◌<◌, ◌≤◌, ◌++◌, false, Some, None, IfOk, IsErr, IsTrue, OnErr, length, []};
+ghost use Rattle.std.specs.Prelude.{◌≡◌, ◌<◌, ◌≤◌, ◌==◌, ◌∷◌, false, Some, None, IfOk, IsErr, IsTrue, OnErr, length, []};
 ghost use Rattle.death_cleanup.specs.Comes.{Answers, CameTo};
 ghost use Rattle.death_cleanup.specs.Ties.{InStep, LawfulParts};
 ghost use Rattle.death_cleanup.specs.View.{state_of};
 ghost use Rattle.lwp_types.specs.Case.{listed};
 ghost use Rattle.lwp_types.specs.Choice.{is_eligible_in};
 ghost use Rattle.lwp_types.specs.Families.{letter_call};
-ghost use Rattle.lwp_types.specs.Letters.{post, receive, receivers_of, send, senders_to, takes_from};
+ghost use Rattle.lwp_types.specs.Letters.{is_no_source, post, receive, receivers_of, send, senders_to, takes_from};
 ghost use Rattle.lwp_types.specs.State.{passes, thread_of};
 ghost use Rattle.lwp_types.specs.Step.{case_of};
 ghost use Rattle.lwp_types.specs.declared.call.IdKind.TheVariants as kind;
 ghost use Rattle.rendezvous.specs.Mailbag.{has_letter_of};
-ghost use Rattle.lwp_calls.specs.Asks.{asks_memory};
+ghost use Rattle.lwp_calls.specs.Asks.{asks_memory, first_refusal};
 ghost use Rattle.lwp_calls.specs.Comes.{ComesTo, IsAsBefore};
 
-use crate::asks::{block, is_id, receivers};
-use death_cleanup::{Kind, Parts, is_thread, reply, wake};
+use crate::asks::{block, receivers};
+use death_cleanup::{Kind, Parts, is_id, is_thread, reply, wake};
 use lwp_types::{
     Answer, Block, Effects, IdKind, Letter, LetterCall, LwpErr, Mode, NoMemory, Text, Tid,
 };
@@ -86,6 +86,8 @@ fn send(
 fn takes_from(parts: &Parts, tid: Tid, sender: Tid) -> bool
     ensures { result ≡ passes (λ row. takes_from sender row.block) (thread_of (state_of parts.now) tid) }
 {
+    // The check learns here that the living stand in birth order, so that a number finds one of them.
+    let _living = parts.ids.len();
     match parts.ids.get(tid.number) {
         Some(Kind::Thread(rec)) => block_takes(rec.block, sender),
         Some(Kind::Agent) => false,
@@ -125,6 +127,22 @@ pub fn post(parts: &mut Parts, letter: Letter, effects: &mut Effects)
     }
 }
 
+// Why a receive is refused by whom it names, if so.
+fn source_refusal(parts: &Parts, caller: Tid, from: &Option<Tid>) -> Option<LwpErr>
+    ensures { result ≡ first_refusal (is_no_source (state_of parts.now) from.now ∷ (passes (λ x. x == caller) from.now, LwpErr.InvalidArg) ∷ []) }
+{
+    let Some(sender) = *from else {
+        return None;
+    };
+    if !is_id(parts, sender) {
+        return Some(LwpErr::NonExist);
+    }
+    if sender == caller {
+        return Some(LwpErr::InvalidArg);
+    }
+    None
+}
+
 // The caller has the first letter of whom it names, or of anybody. With none it waits, or is refused.
 fn receive(parts: &mut Parts, caller: Tid, from: &Option<Tid>, mode: Mode) -> Option<Answer>
     requires step { InStep parts.old }
@@ -132,13 +150,8 @@ fn receive(parts: &mut Parts, caller: Tid, from: &Option<Tid>, mode: Mode) -> Op
     requires may_run { IsTrue (is_eligible_in (state_of parts.old) caller) }
     ensures { ComesTo parts.old parts.new [] [] (receive (state_of parts.old) caller from.now mode) result }
 {
-    if let Some(sender) = *from {
-        if !is_id(parts, sender) {
-            return Some(Answer::Refused(LwpErr::NonExist));
-        }
-        if sender == caller {
-            return Some(Answer::Refused(LwpErr::InvalidArg));
-        }
+    if let Some(err) = source_refusal(parts, caller, from) {
+        return Some(Answer::Refused(err));
     }
     if let Some(letter) = parts.mail.take_letter(caller, *from) {
         return Some(Answer::Letter {

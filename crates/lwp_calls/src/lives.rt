@@ -1,21 +1,22 @@
 // Calls by which threads come and go.
-ghost use Rattle.std.specs.Prelude.{◌≡◌, ◌≤◌, ◌+◌, Some, None, IfOk, IsErr, IsTrue, OnErr, OnOk, length, []};
-ghost use Rattle.death_cleanup.specs.Comes.{Answers};
+ghost use Rattle.std.specs.Prelude.{◌≡◌, ◌<◌, ◌≤◌, ◌+◌, Some, None, IfOk, IsErr, IsTrue, OnErr, OnOk, length, []};
+ghost use Rattle.death_cleanup.specs.Comes.{Answers, CameTo};
 ghost use Rattle.death_cleanup.specs.Ties.{InStep, LawfulParts};
 ghost use Rattle.death_cleanup.specs.View.{state_of};
 ghost use Rattle.lwp_types.specs.Case.{listed};
 ghost use Rattle.lwp_types.specs.Choice.{is_eligible_in};
 ghost use Rattle.lwp_types.specs.Death.{destroy};
 ghost use Rattle.lwp_types.specs.Families.{life_call};
-ghost use Rattle.lwp_types.specs.State.{numbers};
+ghost use Rattle.lwp_types.specs.State.{numbers, still};
 ghost use Rattle.lwp_types.specs.Step.{case_of};
-ghost use Rattle.lwp_types.specs.Threads.{create, join, ping};
+ghost use Rattle.lwp_types.specs.Threads.{create, created, join, ping};
 ghost use Rattle.lwp_types.specs.declared.call.IdKind.TheVariants as kind;
-ghost use Rattle.lwp_calls.specs.Asks.{asks_memory};
+ghost use Rattle.exc_stack.specs.Stack.{one_frame};
+ghost use Rattle.lwp_calls.specs.Asks.{HasPlaces, asks_memory};
 ghost use Rattle.lwp_calls.specs.Comes.{ComesTo, IsAsBefore};
 
-use crate::asks::{block, is_agent, is_id, thread_count, threads};
-use death_cleanup::{Kind, Parts, ThreadRec, die, end_agent, is_thread};
+use crate::asks::{block, next_count, thread_count, threads};
+use death_cleanup::{Kind, Parts, ThreadRec, die, end_agent, is_agent, is_id, is_thread};
 use exc_stack::ExcStack;
 use lwp_types::{Answer, Block, Effects, Flags, IdKind, LifeCall, LwpErr, NoMemory, Tid};
 use std::alloc::Global;
@@ -72,37 +73,55 @@ fn create(
     if prio == 0 || prio > parts.sched.maxpri() {
         return Ok(Answer::Refused(LwpErr::IllPrio));
     }
-    let births = parts.ids.births();
-    if thread_count(parts) >= MOST_THREADS || births >= parts.ids.limit() {
+    if thread_count(parts) >= MOST_THREADS || parts.ids.births() >= parts.ids.limit() {
         return Ok(Answer::Refused(LwpErr::NoRoom));
     }
     make_places(parts)?;
     let stack = ExcStack::new(alloc)?;
-    let tid = Tid { number: births };
-    parts.sched.admit(tid, prio, flags.suspended);
-    let _ = parts.ids.insert(Kind::Thread(ThreadRec {
-        flags,
-        block: Block::Not,
-        stack,
-    }));
-    Ok(Answer::Thread(tid))
+    Ok(Answer::Thread(begin(parts, prio, flags, stack)))
 }
 
 // Places for one thread more, wherever a thread may have to wait.
 fn make_places(parts: &mut Parts) -> Result<(), NoMemory>
-    requires step { InStep parts.old }
+    requires lawful { LawfulParts parts.old }
     requires alone { parts.old.dying ≡ None }
-    ensures err { OnErr result (IsAsBefore parts.old parts.new) }
-    ensures ok { OnOk result (IsAsBefore parts.old parts.new) }
+    requires births { parts.old.ids.births < parts.old.ids.limit }
+    ensures ok { OnOk result (HasPlaces parts.new) }
+    ensures as_before { IsAsBefore parts.old parts.new }
+    ensures births { parts.new.ids.births ≡ parts.old.ids.births }
+    ensures limit { parts.new.ids.limit ≡ parts.old.ids.limit }
 {
     let count = thread_count(parts) + 1;
-    let living = parts.ids.len() + 1;
+    let living = next_count(&parts.ids);
     parts.ids.reserve(living)?;
     parts.sched.reserve(count)?;
     parts.mail.reserve(count + MOST_AGENTS)?;
     parts.mons.reserve(count)?;
     parts.conds.reserve(count)?;
     Ok(())
+}
+
+// A thread begins, with one frame. There are places for it.
+fn begin(parts: &mut Parts, prio: u32, flags: Flags, stack: ExcStack) -> Tid
+    requires lawful { LawfulParts parts.old }
+    requires alone { parts.old.dying ≡ None }
+    requires places { HasPlaces parts.old }
+    requires births { parts.old.ids.births < parts.old.ids.limit }
+    requires least { 1 ≤ prio }
+    requires most { prio ≤ parts.old.sched.maxpri }
+    requires frame { stack ≡ one_frame }
+    ensures number { result ≡ parts.old.ids.births }
+    ensures came { CameTo parts.old parts.new [] [] (still (created (state_of parts.old) prio flags)) }
+{
+    let number = parts.ids.births();
+    let tid = Tid { number };
+    parts.sched.admit(tid, prio, flags.suspended);
+    let _ = parts.ids.insert(Kind::Thread(ThreadRec {
+        flags,
+        block: Block::Not,
+        stack,
+    }));
+    tid
 }
 
 // An agent ends, or a thread dies.
@@ -113,7 +132,7 @@ fn destroy(parts: &mut Parts, caller: Tid, tid: Tid, effects: &mut Effects) -> O
     ensures comes { ComesTo parts.old parts.new effects.old effects.new (destroy (state_of parts.old) caller tid) result }
     ensures most { length effects.new ≤ 1280 }
 {
-    if is_agent(parts, tid) {
+    if is_agent(&parts.agents, tid) {
         end_agent(parts, tid, effects);
         return Some(Answer::Value(0));
     }
