@@ -57,11 +57,11 @@ as_long xs ys same = as_long_by (length xs) xs ys (omega arith) same
 
 -- numbers of rows
 module _ {X : Type 0} (key : X → ℕ) where
-  times-keys : (xs : List X) (n : ℕ) → times_in (map key xs) n ≡ count_by (λ x. eqb (key x) n) xs
+  pub times-keys : (xs : List X) (n : ℕ) → times_in (map key xs) n ≡ count_by (λ x. eqb (key x) n) xs
   times-keys [] n = refl
   times-keys (x ∷ xs) n = omega (arith, count-cons (λ m. eqb m n) (key x) (map key xs), count-cons (λ y. eqb (key y) n) x xs, times-keys xs n)
 
-  length-keys : (xs : List X) → length (map key xs) ≡ length xs
+  pub length-keys : (xs : List X) → length (map key xs) ≡ length xs
   length-keys [] = refl
   length-keys (x ∷ xs) = omega (arith, length-keys xs)
 

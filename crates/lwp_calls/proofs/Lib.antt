@@ -12,3 +12,4 @@ pub mod Newcomers
 pub mod Results
 pub mod Agency
 pub mod Destroys
+pub mod Mailing

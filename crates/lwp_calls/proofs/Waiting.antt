@@ -29,6 +29,23 @@ lives s t h = by_found (thread_of s t) h
     by_found None h = absurd (let no : false ≡ true = h in cc)
     by_found (Some row) h = refl
 
+-- its row
+pub record Running (s : machine.State) (t : ℕ) : Type 0 where
+  pub row : ThreadRow
+  pub known : thread_of s t ≡ Some row
+  pub runs : is_eligible row ≡ true
+
+pub running : (s : machine.State) (t : ℕ) → is_eligible_in s t ≡ true → Running s t
+running s t h = by_found (thread_of s t) refl h
+  where
+    by_found : (o : Option ThreadRow) → thread_of s t ≡ o → passes is_eligible o ≡ true → Running s t
+    by_found None e h = absurd (let no : false ≡ true = h in cc)
+    by_found (Some row) e h = record { row = row; known = e; runs = h }
+
+pub as_many : (t : ℕ) (why : Block) (rs : List ThreadRow) → length (machine.with_block t why rs) ≡ length rs
+as_many t why [] = refl
+as_many t why (row ∷ rs) = omega (arith, as_many t why rs)
+
 -- the parts once thread t waits
 abbrev pub waiting : Parts → ℕ → Block → Parts
 waiting parts t why = record parts {
@@ -68,13 +85,9 @@ module _ (parts : Parts) (t : ℕ) (why : Block) where
     priority-kept : (u : ℕ) → priority_in (state_of (waiting parts t why)) u ≡ priority_in (state_of parts) u
     priority-kept u = ap (λ rs. change.priority_of parts t f h (λ c k. refl) (λ c row. refl) (find (is_number u) rs)) same ∙ change.priority-changed parts t f h (λ c k. refl) (λ c row. refl) (λ c row. refl) u
 
-    as_many : (rs : List ThreadRow) → length (machine.with_block t why rs) ≡ length rs
-    as_many [] = refl
-    as_many (row ∷ rs) = omega (arith, as_many rs)
-
     pub InStep-waiting : InStep (waiting parts t why)
     InStep-waiting =
-        let count : length (state_of (waiting parts t why)).threads ≡ length rows = ap length same ∙ as_many rows in
+        let count : length (state_of (waiting parts t why)).threads ≡ length rows = ap length same ∙ as_many t why rows in
         record {
           tied = record {
             known = λ u. change.knows-changed parts t f h (λ c k. refl) (λ c row. refl) u ∙ step.tied.known u

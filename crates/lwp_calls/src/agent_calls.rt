@@ -54,7 +54,7 @@ fn create(parts: &mut Parts, caller: Tid, event: u32) -> Result<Answer, NoMemory
     if parts.ids.births() >= parts.ids.limit() {
         return Ok(Answer::Refused(LwpErr::NoRoom));
     }
-    make_places(parts)?;
+    make_places(parts, event)?;
     Ok(Answer::Thread(begin(parts, caller, event)))
 }
 
@@ -77,11 +77,14 @@ fn begin(parts: &mut Parts, caller: Tid, event: u8) -> Tid
     tid
 }
 
-// Places for one agent more, and for its letter.
-fn make_places(parts: &mut Parts) -> Result<(), NoMemory>
+// Places for one agent more, of an event that has none, and for its letter.
+fn make_places(parts: &mut Parts, _event: u8) -> Result<(), NoMemory>
     requires lawful { LawfulParts parts.old }
     requires alone { parts.old.dying ≡ None }
     requires births { parts.old.ids.births < parts.old.ids.limit }
+    requires least { 1 ≤ _event }
+    requires most { _event ≤ 31 }
+    requires free { has_agent_for parts.old.agents.agents _event ≡ false }
     ensures ok { OnOk result (HasAgentPlaces parts.new) }
     ensures as_before { IsAsBefore parts.old parts.new }
     ensures births { parts.new.ids.births ≡ parts.old.ids.births }
