@@ -11,11 +11,12 @@ use Rattle.lwp_calls.proofs.Newcomers.{rows-agent}
 use Rattle.lwp_calls.specs.Asks.{HasAgentPlaces}
 use Rattle.lwp_types.specs.Agents.{agent_born, new_agent}
 use Rattle.lwp_types.specs.Lawful.{is_same_option}
+use Rattle.lwp_types.specs.declared.rows.AgentRow.{AgentRow}
 use Rattle.lwp_types.specs.ListLaws.{All-weaker}
 use Rattle.lwp_types.specs.State.{ThreadRow, is_number, passes, priority_in, still}
 use Rattle.monitors.specs.declared.requests.EntryRequest.{EntryRequest}
 use Rattle.stale_ids.specs.Register.{inserted}
-use Rattle.std.proofs.Common.{List, [], ap, arith, length, length-append, not, refl, sym, ℕ, ◌&&◌, ◌+◌, ◌++◌, ◌∙◌, ◌∷◌, ◌≡◌}
+use Rattle.std.proofs.Common.{Bool, List, None, Option, Some, [], ap, arith, length, length-append, not, refl, sym, ℕ, ◌&&◌, ◌+◌, ◌++◌, ◌∙◌, ◌∷◌, ◌≡◌}
 use Rattle.std.specs.List.{find}
 use Rattle.std.specs.Prelude.{is_some, option_map, unwrap_or}
 
@@ -59,3 +60,8 @@ module _ (parts : Parts) (e t : ℕ) where
         };
         dying = refl;
       }
+
+-- an event has an agent where that has a number
+pub event-asked : (o : Option AgentRow) (r : Option ℕ) (b : Bool) → r ≡ option_map (λ (row : AgentRow). row.number) o → is_some r ≡ b → is_some o ≡ b
+event-asked None r b is there = sym (ap is_some is) ∙ there
+event-asked (Some row) r b is there = sym (ap is_some is) ∙ there

@@ -12,12 +12,12 @@ ghost use Rattle.lwp_calls.specs.Asks.{asks_memory};
 ghost use Rattle.lwp_calls.specs.Comes.{ComesTo, IsAsBefore};
 ghost use Rattle.lwp_calls.specs.Pod.{ForgetsTheDead, RunsExitsOnce, current_of, ending_of, is_refusal};
 
-use crate::asks::{is_id, is_over};
+use crate::asks::is_over;
 use crate::letters::post;
 use crate::{agent_calls, letters, lives, locks, marks, numbers, turns, waits};
 use agents::Agents;
 use conditions::Conds;
-use death_cleanup::{Kind, Parts, ThreadRec};
+use death_cleanup::{Kind, Parts, ThreadRec, is_id};
 use exc_stack::ExcStack;
 use lwp_types::{
     Answer, Block, Call, Effect, Effects, Family, Flags, Letter, NoMemory, PodParams, Text, Tid,
