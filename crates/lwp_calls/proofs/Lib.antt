@@ -10,6 +10,7 @@ pub mod Made
 pub mod Mailing
 pub mod Newcomers
 pub mod Places
+pub mod Pods
 pub mod Ranks
 pub mod Results
 pub mod Waiting

@@ -203,6 +203,25 @@ module _ (s : State) (was : NineParts s None) (e : ℕ) (row : AgentRow) (known 
     filter-less (λ (r : AgentRow). r.holding) (is_for e) s.agents row known free,
   )
 
+-- and so has no letter
+module _ (s : State) (was : NineParts s None) (row : AgentRow) (own : find (is_agent_row row.number) s.agents ≡ Some row) (free : row.holding ≡ false) where
+  no_thread : find (is_number row.number) s.threads ≡ None
+  no_thread = by_found (find (is_number row.number) s.threads) refl
+    where
+      by_found : (o : Option ThreadRow) → find (is_number row.number) s.threads ≡ o → o ≡ None
+      by_found None e = refl
+      by_found (Some r) e = absurd (let never : false ≡ true = rw (e, own) at (was.numbers.2 row.number) in cc)
+
+  pub agent_no_letter : has_letter_of s.letters row.number ≡ false
+  agent_no_letter = none_there (is_letter_of row.number) s.letters (omega (
+    arith,
+    was.blocks.1 row.number,
+    count_and-le (is_number row.number) (λ (r : ThreadRow). is_sending r.block) s.threads,
+    count_not_found (is_number row.number) s.threads no_thread,
+    count_found_and (is_agent_row row.number) (λ (r : AgentRow). r.holding) s.agents row own (omega (arith, once_rising (agent_numbers s.agents) was.numbers.0.1 row.number, times-keys (λ (r : AgentRow). r.number) s.agents row.number)),
+    ap one free,
+  ))
+
 -- what a receive comes to, by what the mail gives
 module _ (parts : Parts) (t : ℕ) (from : Option ℕ) where
   abbrev s : State

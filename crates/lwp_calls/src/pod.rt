@@ -1,6 +1,7 @@
 // A pod, and its calls.
 ghost use Rattle.std.specs.Prelude.{◌≡◌, ◌≤◌, ◌<◌, ◌^◌, ◌++◌, [], length, IfOk, OnOk, OnErr, IsErr, IsSome, IfSome, IsTrue, None, Some};
 ghost use Rattle.death_cleanup.specs.Comes.{CameTo};
+ghost use Rattle.exc_stack.specs.Stack.{one_frame};
 ghost use Rattle.death_cleanup.specs.Ties.{InStep, LawfulParts};
 ghost use Rattle.death_cleanup.specs.View.{state_of};
 ghost use Rattle.lwp_types.specs.Agents.{armed, deliver};
@@ -61,7 +62,9 @@ impl Model for Pod {
 }
 
 // What a thread has that begins.
-fn beginner(alloc: Global, flags: Flags) -> Result<ThreadRec, NoMemory> {
+fn beginner(alloc: Global, flags: Flags) -> Result<ThreadRec, NoMemory>
+    ensures { IfOk result (λ rec. rec ≡ record { flags = flags; block = Block.Not; stack = one_frame }) }
+{
     Ok(ThreadRec {
         flags,
         block: Block::Not,
@@ -262,6 +265,7 @@ fn finish(parts: &mut Parts, tid: Tid, own: Option<Answer>, effects: &mut Effect
     requires step { InStep parts.old }
     requires alone { parts.old.dying ≡ None }
     requires room { length effects.old < 2046 }
+    requires status { parts.old.exit ≤ 99 }
     ensures after { state_of parts.new ≡ record (state_of parts.old) { ended = ends (state_of parts.old) } }
     ensures effects { effects.new ≡ effects.old ++ (own_effects tid own ++ end_effects (state_of parts.old)) }
     ensures step { InStep parts.new }
