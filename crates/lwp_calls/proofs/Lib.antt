@@ -1,3 +1,6 @@
+pub mod Tables
+pub mod Entering
+pub mod Newborns
 pub mod Agree
 pub mod Changes
 pub mod Compare
