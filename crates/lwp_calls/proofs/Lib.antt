@@ -1,6 +1,8 @@
 pub mod Tables
 pub mod Entering
 pub mod Newborns
+pub mod WaitMoves
+pub mod Conditions
 pub mod Agree
 pub mod Changes
 pub mod Compare
