@@ -8,12 +8,12 @@ use Rattle.lwp_types.specs.Choice.{best_by}
 use Rattle.lwp_types.specs.CountLaws.{count-cons, count-filter-le, one}
 use Rattle.lwp_types.specs.ListLaws.{All-push, All-weaker}
 use Rattle.lwp_types.specs.Locks as locks
-use Rattle.lwp_types.specs.State.{State, priority_in}
+use Rattle.lwp_types.specs.State.{priority_in}
 use Rattle.lwp_types.specs.Waits as machine
 use Rattle.lwp_types.specs.declared.rows.CondRow.{CondRow}
 use Rattle.lwp_types.specs.declared.rows.WaitRow.{WaitRow}
-use Rattle.std.proofs.Common.{Bool, List, None, Option, Some, [], ap, arith, cond, count_by, eqb, false, inl, inr, length, map, not, refl, sym, true, ℕ, ◌&&◌, ◌++◌, ◌+◌, ◌∙◌, ◌∷◌, ◌≡◌, ◌≢◌, ◌≤◌, ◌||◌}
-use Rattle.std.proofs.lemmas.Bool.{cases_eq, eq-eqb, eqb-true, ne_eqb}
+use Rattle.std.proofs.Common.{Bool, List, None, Option, Some, [], ap, arith, cond, count_by, eqb, false, inl, inr, length, map, not, refl, sym, true, ℕ, ◌&&◌, ◌+◌, ◌∙◌, ◌∷◌, ◌≡◌, ◌≢◌, ◌≤◌, ◌||◌}
+use Rattle.std.proofs.lemmas.Bool.{cases_eq, eq-eqb, ne_eqb}
 use Rattle.std.proofs.lemmas.List.{map-append}
 use Rattle.std.specs.List.{filter, find, list_any}
 use Rattle.std.specs.Prelude.{option_map, option_to_list, suc, zero}
@@ -144,6 +144,7 @@ first-on c w (v ∷ ws) once found = by_test (is_on c v) refl found (first-on c 
       where
         its : one (is_on c v && is_wait_of v.tid v) ≡ 1
         its = rw (e, eq-eqb v.tid v.tid refl) refl
+
         none : count_by (λ w. is_on c w && is_wait_of v.tid w) ws ≡ 0
         none = omega (arith, once v.tid, counted v.tid, its)
     by_test false e is rest = rest (λ u. omega (arith, once u, counted u)) is ∙ ap (λ vs. w ∷ vs) (by_other (is_wait_of w.tid v))

@@ -7,7 +7,6 @@ use Rattle.lwp_types.specs.Choice.{best_by}
 use Rattle.lwp_types.specs.Locks as locks
 use Rattle.lwp_types.specs.State.{State, priority_in}
 use Rattle.lwp_types.specs.Waits as machine
-use Rattle.lwp_types.specs.declared.rows.WaitRow.{WaitRow}
 use Rattle.std.specs.List.{AllByRecursion, count_by}
 use Rattle.std.specs.Prelude.{List, None, Option, Some, [], length, map, option_map, option_to_list, ℕ, suc, zero, ◌&&◌, ◌++◌, ◌∷◌, ◌≡◌, ◌≢◌, ◌≤◌}
 

@@ -66,6 +66,7 @@ find-others t u (row ∷ rows) = elim (cases_eq row.number t) [
       | inl same ↦ rest ∙ rw (eq-eqb u t (sym same ∙ e)) refl
       | inr other ↦ rw (ne_eqb row.number u other) rest
     ]
+
     stays : find (is_number u) (others t rows) ≡ cond (eqb u t) None (find (is_number u) rows) → (row.number ≡ t → ⊥) → cond (is_number u row) (Some row) (find (is_number u) (others t rows)) ≡ cond (eqb u t) None (cond (is_number u row) (Some row) (find (is_number u) rows))
     stays rest away = elim (cases_eq row.number u) [
       | inl same ↦ rw (eq-eqb row.number u same, ne_eqb u t (λ e. away (same ∙ e))) refl
@@ -104,6 +105,7 @@ IsTied-buried parts t tied dying = record {
         none : (b : Bool) → (b && false) ≡ false
         none true = refl
         none false = refl
+
         unknown : (o : Option Known) → is_some o ≡ false → passes (λ (row : Known). row.blocked) o ≡ false
         unknown None h = refl
         unknown (Some row) h = absurd (cc)

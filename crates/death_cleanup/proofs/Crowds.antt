@@ -41,6 +41,7 @@ module _ {X : Type 0} (key place : X → ℕ) where
             none : (b : Bool) → one (b && false) ≡ 0
             none true = refl
             none false = refl
+
             one_and : (a b : Bool) → one (a && b) ≤ one a
             one_and true b = one-le b
             one_and false b = omega arith
@@ -95,6 +96,7 @@ none_there p xs none = by_any (list_any p xs) (λ some. any_free some)
   where
     any_free : list_any p xs ≡ true → ⊥
     any_free some = omega (arith, none, count_any p xs some)
+
     by_any : (b : Bool) → (b ≡ true → ⊥) → b ≡ false
     by_any true never = absurd (never refl)
     by_any false never = refl

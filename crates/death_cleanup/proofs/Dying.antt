@@ -30,18 +30,25 @@ told_then now before between after first more e rest = (rest.0, rest.1 ∙ ap (�
 module _ (parts : Parts) (t : ℕ) (lawful : LawfulParts parts) (none : parts.dying ≡ None) (lives : is_thread (state_of parts) t ≡ true) where
   abbrev s0 : State
   s0 = state_of parts
+
   abbrev s1 : State
   s1 = (withdraw t s0).after
+
   abbrev s2 : State
   s2 = (run_all_exits t s1).after
+
   abbrev s3 : State
   s3 = (release_all t s2).after
+
   abbrev s4 : State
   s4 = (end_agents t s3).after
+
   abbrev s5 : State
   s5 = (refuse_senders t s4).after
+
   abbrev s6 : State
   s6 = (refuse_receivers t s5).after
+
   abbrev s7 : State
   s7 = (answer_joiners t s6).after
 

@@ -22,3 +22,4 @@ pub mod Asking
 pub mod Notices
 pub mod Exiting
 pub mod Leaving
+pub mod Example

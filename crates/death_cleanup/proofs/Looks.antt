@@ -174,6 +174,7 @@ priority-same parts t u = ap (λ rows. prio (find (is_number u) rows)) (rows-blo
   where
     prio : Option ThreadRow → ℕ
     prio o = unwrap_or (option_map (λ (row : ThreadRow). row.priority) o) 0
+
     same : (o : Option ThreadRow) → unwrap_or (option_map (λ (row : ThreadRow). row.priority) (option_map (machine.block_set t block.Not) o)) 0 ≡ unwrap_or (option_map (λ (row : ThreadRow). row.priority) o) 0
     same None = refl
     same (Some row) = refl

@@ -106,6 +106,7 @@ module _ (parts : Parts) (t : ℕ) where
     where
       prio : Option ThreadRow → ℕ
       prio o = unwrap_or (option_map (λ (row : ThreadRow). row.priority) o) 0
+
       same : (o : Option ThreadRow) → unwrap_or (option_map (λ (row : ThreadRow). row.priority) (option_map (machine.suspension_set t false) o)) 0 ≡ unwrap_or (option_map (λ (row : ThreadRow). row.priority) o) 0
       same None = refl
       same (Some row) = refl
@@ -133,6 +134,7 @@ module _ (parts : Parts) (t : ℕ) where
         blocked : (o : Option Known) → passes (λ (row : Known). row.blocked) (option_map (sched.suspension_set t false) o) ≡ passes (λ (row : Known). row.blocked) o
         blocked None = refl
         blocked (Some row) = refl
+
         waiting : (o : Option ThreadRow) → passes (λ (row : ThreadRow). not (is_not_blocked row.block)) (option_map (machine.suspension_set t false) o) ≡ passes (λ (row : ThreadRow). not (is_not_blocked row.block)) o
         waiting None = refl
         waiting (Some row) = refl

@@ -43,6 +43,7 @@ find-without t u (row ∷ known) = elim (cases_eq row.tid t) [
       | inl same ↦ rest ∙ rw (eq-eqb u t (sym same ∙ e)) refl
       | inr other ↦ rw (ne_eqb row.tid u other) rest
     ]
+
     stays : find (sched.is_of u) (sched.without_row t known) ≡ cond (eqb u t) None (find (sched.is_of u) known) → (row.tid ≡ t → ⊥) → cond (sched.is_of u row) (Some row) (find (sched.is_of u) (sched.without_row t known)) ≡ cond (eqb u t) None (cond (sched.is_of u row) (Some row) (find (sched.is_of u) known))
     stays rest away = elim (cases_eq row.tid u) [
       | inl same ↦ rw (eq-eqb row.tid u same, ne_eqb u t (λ e. away (same ∙ e))) refl
@@ -177,6 +178,7 @@ module _ (parts : Parts) (t : ℕ) (tied : IsTied parts) (alone : parts.dying �
           none : (o : Option Known) → false ≡ (is_some o && false)
           none None = refl
           none (Some row) = refl
+
           some : (o : Option Known) → is_some o ≡ (is_some o && true)
           some None = refl
           some (Some row) = refl
@@ -202,6 +204,7 @@ module _ (parts : Parts) (t : ℕ) (tied : IsTied parts) (alone : parts.dying �
       suspended : (o : Option ThreadRow) → priority (option_map (suspension_set t false) o) ≡ priority o
       suspended None = refl
       suspended (Some row) = refl
+
       unblocked : (o : Option ThreadRow) → priority (option_map (machine.block_set t block.Not) o) ≡ priority o
       unblocked None = refl
       unblocked (Some row) = refl

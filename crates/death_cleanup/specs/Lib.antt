@@ -3,3 +3,4 @@ pub mod Ties
 pub mod Comes
 pub mod Moves
 pub mod Waits
+pub mod Example

@@ -8,6 +8,8 @@ mod locks;
 mod parts;
 mod rows;
 mod signals;
+#[cfg(test)]
+mod tests;
 mod waiters;
 
 pub use death::die;
@@ -16,5 +18,5 @@ pub use frames::leave_frames;
 pub use locks::{monitor_break, monitor_exit, release};
 pub use parts::{Parts, is_agent, is_id, is_thread, set_block, wake};
 pub use rows::{Awaited, Kind, ThreadRec};
-pub use signals::{broadcast, notify};
+pub use signals::{ask_again, broadcast, cond_send, is_last, notify};
 pub use waiters::{dismiss, end_agent};

@@ -2,13 +2,13 @@
 ghost use Rattle.std.specs.Prelude.{◌≡◌, ◌==◌, []};
 ghost use Rattle.lwp_types.specs.Release.{last_lock};
 ghost use Rattle.lwp_types.specs.State.{passes};
-ghost use Rattle.lwp_types.specs.Waits.{broadcast, notify};
+ghost use Rattle.lwp_types.specs.Waits.{broadcast, cond_send, notify};
 ghost use Rattle.death_cleanup.specs.Comes.{Answers};
 ghost use Rattle.death_cleanup.specs.Moves.{MayAsk, asked};
 ghost use Rattle.death_cleanup.specs.Ties.{LawfulParts};
 ghost use Rattle.death_cleanup.specs.View.{state_of};
 
-use crate::parts::{Parts, set_block};
+use crate::parts::{Parts, is_thread, set_block};
 use conditions::WaitRec;
 use lwp_types::{Answer, Block, Cid, LwpErr, Mid, Tid};
 use monitors::Monitors;
@@ -64,5 +64,26 @@ pub fn broadcast(parts: &mut Parts, tid: Tid, cond: Cid) -> Answer
     while let Some(wait) = parts.conds.broadcast(cond) {
         ask_again(parts, mon, wait);
     }
+    Answer::Value(0)
+}
+
+/// This thread is woken, if it waits on the condition.
+pub fn cond_send(parts: &mut Parts, tid: Tid, cond: Cid, to: Tid) -> Answer
+    requires lawful { LawfulParts parts.old }
+    ensures answers { Answers parts.old parts.new [] [] (cond_send (state_of parts.old) tid cond to) result }
+{
+    let Some(mon) = parts.conds.monitor_of(cond) else {
+        return Answer::Refused(LwpErr::NonExist);
+    };
+    if !is_last(&parts.mons, tid, mon) {
+        return Answer::Refused(LwpErr::NotOwned);
+    }
+    if !is_thread(parts, to) {
+        return Answer::Refused(LwpErr::NonExist);
+    }
+    let Some(wait) = parts.conds.send_to(cond, to) else {
+        return Answer::Refused(LwpErr::NoWait);
+    };
+    ask_again(parts, mon, wait);
     Answer::Value(0)
 }

@@ -71,7 +71,10 @@ fn destroy(parts: &mut Parts, mon: Mid) -> Answer
     if !parts.mons.is_live(mon) {
         return Answer::Refused(LwpErr::NonExist);
     }
-    if parts.mons.owner(mon).is_some() || parts.conds.waited_of(mon) {
+    if parts.mons.owner(mon).is_some() {
+        return Answer::Refused(LwpErr::InUse);
+    }
+    if parts.conds.waited_of(mon) {
         return Answer::Refused(LwpErr::InUse);
     }
     parts.mons.destroy(mon);

@@ -7,14 +7,14 @@ ghost use Rattle.lwp_types.specs.Case.{listed};
 ghost use Rattle.lwp_types.specs.Choice.{is_eligible_in};
 ghost use Rattle.lwp_types.specs.Families.{wait_call};
 ghost use Rattle.lwp_types.specs.Step.{case_of};
-ghost use Rattle.lwp_types.specs.Waits.{cond_send, condition_create, condition_destroy, condition_numbers, condition_waiters, is_not_last, wait};
+ghost use Rattle.lwp_types.specs.Waits.{condition_create, condition_destroy, condition_numbers, condition_waiters, wait};
 ghost use Rattle.lwp_types.specs.declared.call.IdKind.TheVariants as kind;
 ghost use Rattle.lwp_calls.specs.Asks.{asks_memory};
 ghost use Rattle.lwp_calls.specs.Comes.{ComesTo, IsAsBefore};
 
 use crate::asks::{block, prio_of};
 use conditions::WaitRec;
-use death_cleanup::{Parts, ask_again, broadcast, is_thread, notify, release};
+use death_cleanup::{Parts, broadcast, cond_send, is_last, notify, release};
 use lwp_types::{Answer, Block, Cid, Effects, IdKind, LwpErr, Mid, NoMemory, Tid, WaitCall};
 
 /// A call of this family.
@@ -39,7 +39,7 @@ pub fn carry_out(
         WaitCall::Wait(cond) => wait(parts, tid, cond, effects),
         WaitCall::Notify(cond) => Some(notify(parts, tid, cond)),
         WaitCall::Broadcast(cond) => Some(broadcast(parts, tid, cond)),
-        WaitCall::Send(cond, to) => Some(send(parts, tid, cond, to)),
+        WaitCall::Send(cond, to) => Some(cond_send(parts, tid, cond, to)),
         WaitCall::List => Some(list(parts)?),
         WaitCall::Waiters(cond) => Some(waiters(parts, cond)?),
     };
@@ -90,7 +90,7 @@ fn wait(parts: &mut Parts, caller: Tid, cond: Cid, effects: &mut Effects) -> Opt
     let Some(mon) = parts.conds.monitor_of(cond) else {
         return Some(Answer::Refused(LwpErr::NonExist));
     };
-    if parts.mons.last_held(caller) != Some(mon) {
+    if !is_last(&parts.mons, caller, mon) {
         return Some(Answer::Refused(LwpErr::NotOwned));
     }
     let depth = parts.mons.depth(mon);
@@ -104,28 +104,6 @@ fn wait(parts: &mut Parts, caller: Tid, cond: Cid, effects: &mut Effects) -> Opt
     });
     block(parts, caller, Block::Waiting(cond));
     None
-}
-
-// One thread that waits on the condition is woken.
-fn send(parts: &mut Parts, caller: Tid, cond: Cid, to: Tid) -> Answer
-    requires lawful { LawfulParts parts.old }
-    requires alone { parts.old.dying ≡ None }
-    ensures { Answers parts.old parts.new [] [] (cond_send (state_of parts.old) caller cond to) result }
-{
-    let Some(mon) = parts.conds.monitor_of(cond) else {
-        return Answer::Refused(LwpErr::NonExist);
-    };
-    if parts.mons.last_held(caller) != Some(mon) {
-        return Answer::Refused(LwpErr::NotOwned);
-    }
-    if !is_thread(parts, to) {
-        return Answer::Refused(LwpErr::NonExist);
-    }
-    let Some(wait) = parts.conds.send_to(cond, to) else {
-        return Answer::Refused(LwpErr::NoWait);
-    };
-    ask_again(parts, mon, wait);
-    Answer::Value(0)
 }
 
 // The live conditions.

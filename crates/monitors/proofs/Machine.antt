@@ -5,7 +5,7 @@ use Rattle.lwp_types.specs.ListLaws.{All-push, All-weaker}
 use Rattle.lwp_types.specs.Locks as machine
 use Rattle.lwp_types.specs.Release as machine_release
 use Rattle.lwp_types.specs.Release.{grant, next_owner, release}
-use Rattle.lwp_types.specs.State.{Outcome, State, priority_in, still}
+use Rattle.lwp_types.specs.State.{State, priority_in, still}
 use Rattle.lwp_types.specs.Unblock.{blocked, unblock, zero_answer}
 use Rattle.lwp_types.specs.declared.rows.Request.{Request}
 use Rattle.monitors.proofs.Ranks.{All-filter, best-map, map-filter}
@@ -16,7 +16,6 @@ use Rattle.monitors.specs.declared.requests.EntryRequest.{EntryRequest}
 use Rattle.std.proofs.Common.{Bool, List, None, Option, Some, [], ap, cond, eqb, false, inl, inr, length, map, refl, sym, true, ℕ, ◌++◌, ◌+◌, ◌-◌, ◌∙◌, ◌∷◌, ◌≡◌, ◌≢◌, ◌||◌}
 use Rattle.std.proofs.lemmas.Bool.{cases_eq, eq-eqb, ne_eqb}
 use Rattle.std.proofs.lemmas.List.{map-append}
-use Rattle.std.specs.List.{AllByRecursion, filter}
 use Rattle.std.specs.Prelude.{nat_le, option_map}
 use Rattle.lwp_types.specs.declared.call.Answer.TheVariants as answer
 use Rattle.lwp_types.specs.declared.call.LwpErr.TheVariants as error

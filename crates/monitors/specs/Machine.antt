@@ -2,15 +2,14 @@
 -- what becomes of the monitors what becomes of the threads.
 use Rattle.lwp_types.specs.Case.{Case, answered, refused}
 use Rattle.lwp_types.specs.Locks as machine
-use Rattle.lwp_types.specs.Release.{is_owned_by, next_owner, release, requests_of, without_request}
+use Rattle.lwp_types.specs.Release.{next_owner, release, requests_of, without_request}
 use Rattle.lwp_types.specs.State.{Outcome, State, priority_in, still}
 use Rattle.lwp_types.specs.Unblock.{blocked, unblock, zero_answer}
-use Rattle.lwp_types.specs.declared.rows.Lock.{Lock}
 use Rattle.monitors.specs.MonitorTable as table
 use Rattle.monitors.specs.MonitorTable.{MonitorTable, machine_row}
 use Rattle.monitors.specs.declared.requests.EntryRequest.{EntryRequest}
-use Rattle.std.specs.List.{AllByRecursion, filter, list_any}
-use Rattle.std.specs.Prelude.{List, None, Option, Some, map, not, option_map, option_to_list, reverse, ℕ, ◌++◌, ◌==◌, ◌∷◌, [], ◌≡◌, ◌≢◌, ◌≤◌, pos}
+use Rattle.std.specs.List.{AllByRecursion}
+use Rattle.std.specs.Prelude.{List, None, Option, Some, map, option_map, ℕ, ◌≡◌, ◌≢◌}
 use Rattle.lwp_types.specs.declared.call.Answer.TheVariants as answer
 use Rattle.lwp_types.specs.declared.call.LwpErr.TheVariants as error
 use Rattle.lwp_types.specs.declared.rows.Block.TheVariants as block

@@ -37,13 +37,13 @@ pub wake-requires-clause-waits : goal.wake-requires-clause-waits
 wake-requires-clause-waits c =
     let fine : refusal (received_from c.args.parts.now.mail.letters c.args.tid c.args.to) (length c.args.text) ≡ None = rw (← c.bytes-len.ensures.same) (sym c.reply.ensures.cause ∙ ap result_err c.in_default.is) in
     sender-waits c.args.parts.now c.args.to c.requires.lawful c.args.tid
-        (reply-some (state_of c.args.parts.now) c.args.tid c.args.to c.args.text fine) (thread-is (state_of c.args.parts.now) c.args.to (sym c.if-not-is_id.ensures) (sym c.if-is_agent.ensures))
+    (reply-some (state_of c.args.parts.now) c.args.tid c.args.to c.args.text fine) (thread-is (state_of c.args.parts.now) c.args.to (sym c.if-not-is_id.ensures) (sym c.if-is_agent.ensures))
 
 pub returns : goal.returns
 returns c =
     let fine : refusal (received_from c.args.parts.now.mail.letters c.args.tid c.args.to) (length c.args.text) ≡ None = rw (← c.bytes-len.ensures.same) (sym c.reply.ensures.cause ∙ ap result_err c.in_default.is) in
     let is : replied c.args.to c.args.text (state_of c.args.parts.now) ≡ unblock (answer.Reply c.args.text) c.args.to (state_of (record c.args.parts.now { mail = c.reply.new.self })) =
-        rw c.in_default.ensures.ok (replied-thread c.args.parts.now c.args.to c.args.text (sym c.if-is_agent.ensures)) in
+    rw c.in_default.ensures.ok (replied-thread c.args.parts.now c.args.to c.args.text (sym c.if-is_agent.ensures)) in
     record {
       answers = answers_zero _ _ _ _ (replied c.args.to c.args.text (state_of c.args.parts.now)) _ (came_as _ _ _ _ _ _ _ c.wake.ensures.came refl is)
           (reply-made (state_of c.args.parts.now) c.args.tid c.args.to c.args.text (sym c.if-not-is_id.ensures) fine);

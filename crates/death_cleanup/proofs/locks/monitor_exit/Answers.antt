@@ -22,7 +22,7 @@ go_on-requires-clause-waits c = leaver-waits c.args.parts.now c.requires.lawful 
 pub returns : goal.returns
 returns c =
     let is : exited c.args.mon (state_of c.args.parts.now) ≡ with_owner c.exit-next.result (state_of (record c.args.parts.now { mons = c.exit-next.new.self })) =
-        rw c.exit-next.ensures.after (exited-is c.args.parts.now c.requires.lawful.step c.args.mon c.exit-next.result c.exit-next.ensures.value) in
+    rw c.exit-next.ensures.after (exited-is c.args.parts.now c.requires.lawful.step c.args.mon c.exit-next.result c.exit-next.ensures.value) in
     record {
       answers = answers_zero _ _ _ _ (exited c.args.mon (state_of c.args.parts.now)) _ (came_as _ _ _ _ _ _ _ c.go_on.ensures.came refl is)
           (exit-own (state_of c.args.parts.now) c.args.tid c.args.mon (sym c.if-not-is_live.ensures) (sym c.if-not-holds.ensures));

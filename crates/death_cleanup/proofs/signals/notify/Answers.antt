@@ -10,12 +10,12 @@ use Rattle.lwp_types.specs.declared.call.LwpErr.TheVariants as error
 use Rattle.std.proofs.Common.{Some, [], refl, sym, ◌∙◌, ◌≡◌}
 
 pub returns-in_default : goal.returns-in_default
-returns-in_default c = record { answers = answers_refused c.args.parts.now [] _ error.NonExist c.requires.lawful.step (waking-absent (state_of c.args.parts.now) c.args.tid c.args.cond _ (row-none c.args.parts.now.conds.conditions c.args.cond (sym c.monitor_of.ensures ∙ c.in_default.is))) }
+returns-in_default c = record { answers = answers_refused c.args.parts.now [] _ error.NonExist c.requires.lawful.step (waking-absent (state_of c.args.parts.now) c.args.tid c.args.cond [] _ (row-none c.args.parts.now.conds.conditions c.args.cond (sym c.monitor_of.ensures ∙ c.in_default.is))) }
 
 pub returns-then-not-is_last : goal.returns-then-not-is_last
 returns-then-not-is_last c = record {
   answers = answers_refused c.args.parts.now [] _ error.NotOwned c.requires.lawful.step
-      (waking-other (state_of c.args.parts.now) c.args.tid c.args.cond _ c.in-Some.mon (row-is c.args.parts.now.conds.conditions c.args.cond c.in-Some.mon (sym c.monitor_of.ensures ∙ c.in-Some.is)) (sym c.if-not-is_last.ensures));
+      (waking-other (state_of c.args.parts.now) c.args.tid c.args.cond [] _ c.in-Some.mon (row-is c.args.parts.now.conds.conditions c.args.cond c.in-Some.mon (sym c.monitor_of.ensures ∙ c.in-Some.is)) (sym c.if-not-is_last.ensures));
 }
 
 pub returns-in_default-notify : goal.returns-in_default-notify
@@ -30,7 +30,7 @@ pub ask_again-requires : goal.ask_again-requires
 ask_again-requires c =
     let found : condition_of c.args.parts.now.conds.conditions c.args.cond ≡ Some (record { number = c.args.cond; mon = c.in-Some.mon }) = row-is c.args.parts.now.conds.conditions c.args.cond c.in-Some.mon (sym c.monitor_of.ensures ∙ c.in-Some.is) in
     may-ask c.args.parts.now c.args.tid c.args.cond c.in-Some.mon c.in-Some-notify.wait []
-        (begins-best c.args.parts.now c.requires.lawful c.args.tid c.args.cond c.in-Some.mon found (sym c.if-not-is_last.ensures) (Some c.in-Some-notify.wait) (sym c.in-Some-notify.is ∙ c.notify.ensures.value))
+    (begins-best c.args.parts.now c.requires.lawful c.args.tid c.args.cond c.in-Some.mon found (sym c.if-not-is_last.ensures) (Some c.in-Some-notify.wait) (sym c.in-Some-notify.is ∙ c.notify.ensures.value))
 
 pub returns : goal.returns
 returns c =
