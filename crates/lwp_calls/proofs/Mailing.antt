@@ -265,7 +265,7 @@ pub awaited_comes : (parts new : Parts) (t : ℕ) (from : Option ℕ) (mail : Ma
     → made ≡ unanswered (still (blocked (state_of parts) t (block.Receiving from))) → ComesTo parts new [] [] made None
 awaited_comes parts new t from mail made same came is =
     let there : CameTo parts new [] [] (still (blocked (state_of parts) t (block.Receiving from))) =
-        subst (λ (m : Mailbag). CameTo (record parts { mail = m }) new [] [] (still (blocked (state_of (record parts { mail = m })) t (block.Receiving from)))) same came in
+    subst (λ (m : Mailbag). CameTo (record parts { mail = m }) new [] [] (still (blocked (state_of (record parts { mail = m })) t (block.Receiving from)))) same came in
     rw is (record { came = there; own = refl })
 
 -- a reply is told to one at most

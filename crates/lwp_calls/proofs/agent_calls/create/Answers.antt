@@ -35,4 +35,4 @@ returns-clause-ok c =
     let fine = a_priority c.args.event 31 (omega arith) (omega (arith, c.if-event-gt-MOST_EVENT.false)) in
     let under = le-false c.args.parts.now.ids.limit c.args.parts.now.ids.births (omega (arith, c.births.ensures.value, c.limit.ensures, c.if-births-limit.false)) in
     rw (fine, event-asked (event_agent c.args.parts.now.agents.agents c.args.event) c.agent_of.result _ c.agent_of.ensures (sym c.if-is_some.ensures), under, c.begin.ensures.number, c.make_places.ensures.births)
-      (record { came = came_after c.make_places.ensures.as_before (λ s. still (agent_born s c.args.caller c.args.event)) c.begin.ensures.came; own = refl })
+    (record { came = came_after c.make_places.ensures.as_before (λ s. still (agent_born s c.args.caller c.args.event)) c.begin.ensures.came; own = refl })

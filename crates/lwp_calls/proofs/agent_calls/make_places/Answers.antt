@@ -7,7 +7,7 @@ pub returns-clause-as_before : goal.returns-clause-as_before
 returns-clause-as_before c =
     let was = c.args.parts.now in
     rw (c.in_ok-reserve.ensures.ok, c.in_ok-reserve-2.ensures.ok, c.in_ok-reserve-3.ensures.ok)
-      (came_agents_grown was c.requires.lawful.step (max was.ids.places c.next_count-living.result) (max was.agents.places 31) (max was.mail.places (c.thread_count-count.result + 31)) (omega arith))
+    (came_agents_grown was c.requires.lawful.step (max was.ids.places c.next_count-living.result) (max was.agents.places 31) (max was.mail.places (c.thread_count-count.result + 31)) (omega arith))
 
 pub returns-clause-ok : goal.returns-clause-ok
 returns-clause-ok c =

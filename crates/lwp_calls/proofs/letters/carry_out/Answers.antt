@@ -20,12 +20,12 @@ returns-clause-most c = elim c.match-call.branch [
   | in-Send w ↦ rw w.effects-is (omega (arith, w.send-own.ensures.most))
   | in-Recv w ↦ rw w.effects-is (omega (arith, c.requires.room))
   | in-Reply w ↦ rw w.effects-is (omega (
-      arith,
-      c.requires.room,
-      ap length w.reply.ensures.answers.came.effects,
-      length-append c.args.effects.now (reply (state_of c.args.parts.now) c.args.tid w.in-Reply.to w.in-Reply.text).others,
-      few_replied (state_of c.args.parts.now) c.args.tid w.in-Reply.to w.in-Reply.text,
-    ))
+    arith,
+    c.requires.room,
+    ap length w.reply.ensures.answers.came.effects,
+    length-append c.args.effects.now (reply (state_of c.args.parts.now) c.args.tid w.in-Reply.to w.in-Reply.text).others,
+    few_replied (state_of c.args.parts.now) c.args.tid w.in-Reply.to w.in-Reply.text,
+  ))
   | in-Senders+in_ok-list_senders-in-Senders w ↦ rw w.effects-is (omega (arith, c.requires.room))
   | in-Receivers+in_ok-list_receivers-in-Receivers w ↦ rw w.effects-is (omega (arith, c.requires.room))
 ]

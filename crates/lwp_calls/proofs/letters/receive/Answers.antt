@@ -18,10 +18,10 @@ pub returns-in-Poll : goal.returns-in-Poll
 returns-in-Poll c =
     let none = sym c.take_letter.ensures.value ∙ c.in_default-take_letter.is in
     rw (c.take_letter.ensures.after, untouched c.args.parts.now c.args.caller c.args.from.now none, c.in-Poll.is)
-      (ComesTo-is (unless_passed (state_of c.args.parts.now) _ _ (sym c.source_refusal.ensures ∙ c.in_default.is) ∙ polled-is c.args.parts.now c.args.caller c.args.from.now none) c.requires.step refl)
+    (ComesTo-is (unless_passed (state_of c.args.parts.now) _ _ (sym c.source_refusal.ensures ∙ c.in_default.is) ∙ polled-is c.args.parts.now c.args.caller c.args.from.now none) c.requires.step refl)
 
 pub returns-in-Block : goal.returns-in-Block
 returns-in-Block c =
     let none = sym c.take_letter.ensures.value ∙ c.in_default-take_letter.is in
     rw c.in-Block.is (awaited_comes c.args.parts.now c.block.new.parts c.args.caller c.args.from.now c.take_letter.new.self _ (c.take_letter.ensures.after ∙ untouched c.args.parts.now c.args.caller c.args.from.now none) c.block.ensures
-      (unless_passed (state_of c.args.parts.now) _ _ (sym c.source_refusal.ensures ∙ c.in_default.is) ∙ awaited-is c.args.parts.now c.args.caller c.args.from.now none))
+    (unless_passed (state_of c.args.parts.now) _ _ (sym c.source_refusal.ensures ∙ c.in_default.is) ∙ awaited-is c.args.parts.now c.args.caller c.args.from.now none))

@@ -20,4 +20,4 @@ returns-clause-as_before c =
     let was = c.args.parts.now in
     let count = c.thread_count-count.result + 1 in
     rw (c.in_ok-reserve.ensures.ok, c.in_ok-reserve-2.ensures.ok, c.in_ok-reserve-3.ensures.ok, c.in_ok-reserve-4.ensures.ok, c.in_ok-reserve-5.ensures.ok)
-      (came_grown was c.requires.lawful.step (max was.ids.places c.next_count-living.result) (max was.sched.places count) (max was.mail.places (count + 31)) (max was.mons.places count) (max was.conds.places count) (omega arith) (omega arith) (omega arith) (omega arith))
+    (came_grown was c.requires.lawful.step (max was.ids.places c.next_count-living.result) (max was.sched.places count) (max was.mail.places (count + 31)) (max was.mons.places count) (max was.conds.places count) (omega arith) (omega arith) (omega arith) (omega arith))

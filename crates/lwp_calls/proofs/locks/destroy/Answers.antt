@@ -22,7 +22,7 @@ returns-then-is_some c = answers_refused c.args.parts.now [] _ error.InUse c.req
 pub returns-then-waited_of : goal.returns-then-waited_of
 returns-then-waited_of c = answers_refused c.args.parts.now [] _ error.InUse c.requires.lawful.step
     (destroy-waited (state_of c.args.parts.now) c.args.mon (sym c.if-not-is_live.ensures) (lock-some (lock_of c.args.parts.now.mons.locks c.args.mon) false c.owner.result c.owner.ensures (sym c.if-is_some.ensures))
-      (has_waits_agrees c.args.parts.now.conds (state_of c.args.parts.now) c.args.mon ∙ sym c.if-waited_of.ensures))
+    (has_waits_agrees c.args.parts.now.conds (state_of c.args.parts.now) c.args.mon ∙ sym c.if-waited_of.ensures))
 
 pub destroy-requires-clause-unwanted : goal.destroy-requires-clause-unwanted
 destroy-requires-clause-unwanted c = unwanted c.args.parts.now c.requires.lawful c.args.mon (lock-gone _ (lock-some (lock_of c.args.parts.now.mons.locks c.args.mon) false c.owner.result c.owner.ensures (sym c.if-is_some.ensures)))
@@ -30,8 +30,8 @@ destroy-requires-clause-unwanted c = unwanted c.args.parts.now c.requires.lawful
 pub returns : goal.returns
 returns c = rw (c.destroy.ensures, c.destroy_of.ensures) (Answers-is
     (destroy-idle (state_of c.args.parts.now) c.args.mon (sym c.if-not-is_live.ensures) (lock-some (lock_of c.args.parts.now.mons.locks c.args.mon) false c.owner.result c.owner.ensures (sym c.if-is_some.ensures))
-      (has_waits_agrees c.args.parts.now.conds (state_of c.args.parts.now) c.args.mon ∙ sym c.if-waited_of.ensures))
+    (has_waits_agrees c.args.parts.now.conds (state_of c.args.parts.now) c.args.mon ∙ sym c.if-waited_of.ensures))
     (InStep-conditions (record c.args.parts.now { mons = mon.destroyed c.args.parts.now.mons c.args.mon })
-      (InStep-monitors c.args.parts.now c.requires.lawful.step (mon.destroyed c.args.parts.now.mons c.args.mon) c.requires.lawful.step.ranked.requests refl refl)
-      (cond.destroyed_of c.args.parts.now.conds c.args.mon) c.requires.lawful.step.ranked.waits refl refl)
+    (InStep-monitors c.args.parts.now c.requires.lawful.step (mon.destroyed c.args.parts.now.mons c.args.mon) c.requires.lawful.step.ranked.requests refl refl)
+    (cond.destroyed_of c.args.parts.now.conds c.args.mon) c.requires.lawful.step.ranked.waits refl refl)
     refl)

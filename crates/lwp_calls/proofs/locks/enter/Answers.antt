@@ -27,5 +27,5 @@ pub returns : goal.returns
 returns c =
     let is : enter (state_of c.args.parts.now) c.args.caller c.args.mon ≡ unanswered (still (blocked (state_of (record c.args.parts.now { mons = c.request.new.self })) c.args.caller (block.Entering c.args.mon))) =
     rw c.request.ensures (enter-other (state_of c.args.parts.now) c.args.caller c.args.mon (sym c.if-not-is_live.ensures) (sym c.if-not-is_others.ensures)
-      ∙ ap (λ (s : State). unanswered (still s)) (waits_agree c.args.parts.now.mons (state_of c.args.parts.now) c.args.caller c.args.mon c.prio_of-prio.result)) in
+    ∙ ap (λ (s : State). unanswered (still s)) (waits_agree c.args.parts.now.mons (state_of c.args.parts.now) c.args.caller c.args.mon c.prio_of-prio.result)) in
     rw is (record { came = came_as _ _ _ _ _ _ _ c.block.ensures refl refl; own = refl })

@@ -26,4 +26,4 @@ returns c =
     let known = known-same c.args.parts.now c.requires.step.tied c.requires.alone c.args.tid ∙ sym c.if-not-is_thread.ensures in
     let same : to_z w64 (of_z w64 c.from.result) ≡ pos (priority_in (state_of c.args.parts.now) c.args.tid) = rw (priority-same c.args.parts.now c.requires.step.tied c.requires.alone c.args.tid) (search rules) in
     rw (c.set_prio-before.ensures.after, c.requeue.ensures, c.requeue-2.ensures, same) (Answers-is (rw (sym c.if-not-is_thread.ensures, a_priority c.args.prio c.args.parts.now.sched.maxpri (omega arith) (omega (arith, c.maxpri.ensures, c.if-prio-maxpri.false)), prioritized-is c.args.tid c.args.prio c.args.parts.now c.requires.step c.requires.alone known) refl)
-      (InStep-prioritized c.args.tid c.args.prio c.args.parts.now c.requires.step c.requires.alone known) refl)
+    (InStep-prioritized c.args.tid c.args.prio c.args.parts.now c.requires.step c.requires.alone known) refl)

@@ -15,11 +15,11 @@ returns-then-is_none c = answers_refused c.args.parts.now [] _ error.NonExist c.
 pub returns-then-waited : goal.returns-then-waited
 returns-then-waited c = answers_refused c.args.parts.now [] _ error.InUse c.requires.step
     (destroy-waited (state_of c.args.parts.now) c.args.cond (there c.args.parts.now.conds.conditions c.args.cond c.monitor_of.result true c.monitor_of.ensures c.if-is_none.ensures)
-      (waited_agrees c.args.parts.now.conds (state_of c.args.parts.now) c.args.cond ∙ sym c.if-waited.ensures))
+    (waited_agrees c.args.parts.now.conds (state_of c.args.parts.now) c.args.cond ∙ sym c.if-waited.ensures))
 
 pub returns : goal.returns
 returns c = rw c.destroy.ensures (Answers-is
     (destroy-idle (state_of c.args.parts.now) c.args.cond (there c.args.parts.now.conds.conditions c.args.cond c.monitor_of.result true c.monitor_of.ensures c.if-is_none.ensures)
-      (waited_agrees c.args.parts.now.conds (state_of c.args.parts.now) c.args.cond ∙ sym c.if-waited.ensures))
+    (waited_agrees c.args.parts.now.conds (state_of c.args.parts.now) c.args.cond ∙ sym c.if-waited.ensures))
     (InStep-conditions c.args.parts.now c.requires.step (table.destroyed c.args.parts.now.conds c.args.cond) c.requires.step.ranked.waits refl refl)
     refl)

@@ -15,5 +15,5 @@ returns-then-is_none c = answers_refused c.args.parts.now [] _ error.NonExist c.
 pub returns : goal.returns
 returns c = rw c.in_ok-list.ensures (Answers-is
     (waiters-live (state_of c.args.parts.now) c.args.cond (there c.args.parts.now.conds.conditions c.args.cond c.monitor_of.result true c.monitor_of.ensures c.if-is_none.ensures)
-      ∙ ap (listed (state_of c.args.parts.now) kind.Thread) (waiters_agree c.args.parts.now.conds (state_of c.args.parts.now) c.args.cond))
+    ∙ ap (listed (state_of c.args.parts.now) kind.Thread) (waiters_agree c.args.parts.now.conds (state_of c.args.parts.now) c.args.cond))
     c.requires refl)

@@ -32,7 +32,7 @@ pub returns-in-Ok-clause-effects : goal.returns-in-Ok-clause-effects
 returns-in-Ok-clause-effects c =
     let turn : current_of (state_of c.self.inside.parts) ≡ Some c.unwrap-tid.result = (rw (← c.self.view_is) at (sym c.current.ensures.value ∙ c.unwrap-tid.ensures)) in
     let effects : c.finish.new.effects ≡ (step (state_of c.self.inside.parts) c.args.call).effects =
-        c.finish.ensures.effects ∙ told (state_of c.self.inside.parts) c.self.invariant.0 c.args.call c.unwrap-tid.result turn c.carry_out.new.parts c.in-Ok.ensures.ok.came.state c.in-Ok.own c.push.new.self c.carry_out.new.effects c.in-Ok.ensures.ok.own c.in-Ok.ensures.ok.came.effects (c.push.ensures ∙ ap (λ (es : List Effect). es ++ effect.Called c.unwrap-tid.result c.args.call ∷ []) c.clear.ensures) in
+    c.finish.ensures.effects ∙ told (state_of c.self.inside.parts) c.self.invariant.0 c.args.call c.unwrap-tid.result turn c.carry_out.new.parts c.in-Ok.ensures.ok.came.state c.in-Ok.own c.push.new.self c.carry_out.new.effects c.in-Ok.ensures.ok.own c.in-Ok.ensures.ok.came.effects (c.push.ensures ∙ ap (λ (es : List Effect). es ++ effect.Called c.unwrap-tid.result c.args.call ∷ []) c.clear.ensures) in
     rw (← c.self.view_is) effects
 
 pub returns-in-Ok-clause-lawful : goal.returns-in-Ok-clause-lawful
@@ -52,7 +52,7 @@ returns-in-Ok-clause-dead c =
     let turn : current_of (state_of c.self.inside.parts) ≡ Some c.unwrap-tid.result = (rw (← c.self.view_is) at (sym c.current.ensures.value ∙ c.unwrap-tid.ensures)) in
     let after : state_of c.finish.new.parts ≡ (step (state_of c.self.inside.parts) c.args.call).after = c.finish.ensures.after ∙ sym (stepped (state_of c.self.inside.parts) c.self.invariant.0 c.args.call c.unwrap-tid.result turn c.carry_out.new.parts c.in-Ok.ensures.ok.came.state) in
     let effects : c.finish.new.effects ≡ (step (state_of c.self.inside.parts) c.args.call).effects =
-        c.finish.ensures.effects ∙ told (state_of c.self.inside.parts) c.self.invariant.0 c.args.call c.unwrap-tid.result turn c.carry_out.new.parts c.in-Ok.ensures.ok.came.state c.in-Ok.own c.push.new.self c.carry_out.new.effects c.in-Ok.ensures.ok.own c.in-Ok.ensures.ok.came.effects (c.push.ensures ∙ ap (λ (es : List Effect). es ++ effect.Called c.unwrap-tid.result c.args.call ∷ []) c.clear.ensures) in
+    c.finish.ensures.effects ∙ told (state_of c.self.inside.parts) c.self.invariant.0 c.args.call c.unwrap-tid.result turn c.carry_out.new.parts c.in-Ok.ensures.ok.came.state c.in-Ok.own c.push.new.self c.carry_out.new.effects c.in-Ok.ensures.ok.own c.in-Ok.ensures.ok.came.effects (c.push.ensures ∙ ap (λ (es : List Effect). es ++ effect.Called c.unwrap-tid.result c.args.call ∷ []) c.clear.ensures) in
     let there : ForgetsTheDead (step (state_of c.self.inside.parts) c.args.call).after (step (state_of c.self.inside.parts) c.args.call).effects = the_dead_are_forgotten (state_of c.self.inside.parts) c.self.invariant.0 c.args.call in
     subst (λ (s : State). ForgetsTheDead s c.finish.new.effects) (sym after) (subst (λ (es : List Effect). ForgetsTheDead (step (state_of c.self.inside.parts) c.args.call).after es) (sym effects) there)
 
@@ -61,6 +61,6 @@ returns-in-Ok-clause-exits c =
     let turn : current_of (state_of c.self.inside.parts) ≡ Some c.unwrap-tid.result = (rw (← c.self.view_is) at (sym c.current.ensures.value ∙ c.unwrap-tid.ensures)) in
     let after : state_of c.finish.new.parts ≡ (step (state_of c.self.inside.parts) c.args.call).after = c.finish.ensures.after ∙ sym (stepped (state_of c.self.inside.parts) c.self.invariant.0 c.args.call c.unwrap-tid.result turn c.carry_out.new.parts c.in-Ok.ensures.ok.came.state) in
     let effects : c.finish.new.effects ≡ (step (state_of c.self.inside.parts) c.args.call).effects =
-        c.finish.ensures.effects ∙ told (state_of c.self.inside.parts) c.self.invariant.0 c.args.call c.unwrap-tid.result turn c.carry_out.new.parts c.in-Ok.ensures.ok.came.state c.in-Ok.own c.push.new.self c.carry_out.new.effects c.in-Ok.ensures.ok.own c.in-Ok.ensures.ok.came.effects (c.push.ensures ∙ ap (λ (es : List Effect). es ++ effect.Called c.unwrap-tid.result c.args.call ∷ []) c.clear.ensures) in
+    c.finish.ensures.effects ∙ told (state_of c.self.inside.parts) c.self.invariant.0 c.args.call c.unwrap-tid.result turn c.carry_out.new.parts c.in-Ok.ensures.ok.came.state c.in-Ok.own c.push.new.self c.carry_out.new.effects c.in-Ok.ensures.ok.own c.in-Ok.ensures.ok.came.effects (c.push.ensures ∙ ap (λ (es : List Effect). es ++ effect.Called c.unwrap-tid.result c.args.call ∷ []) c.clear.ensures) in
     let there : RunsExitsOnce (state_of c.self.inside.parts) c.args.call (step (state_of c.self.inside.parts) c.args.call).after (step (state_of c.self.inside.parts) c.args.call).effects = exits_run_once (state_of c.self.inside.parts) c.self.invariant.0 c.args.call in
     rw (← c.self.view_is) (subst (λ (s : State). RunsExitsOnce (state_of c.self.inside.parts) c.args.call s c.finish.new.effects) (sym after) (subst (λ (es : List Effect). RunsExitsOnce (state_of c.self.inside.parts) c.args.call (step (state_of c.self.inside.parts) c.args.call).after es) (sym effects) there))
