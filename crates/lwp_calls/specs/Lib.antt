@@ -1,7 +1,3 @@
-pub mod Built
-pub mod Pod
-pub mod Parts
-pub mod Held
-pub mod Waits
-pub mod Roll
+pub mod Asks
 pub mod Comes
+pub mod Pod

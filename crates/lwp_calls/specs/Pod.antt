@@ -1,9 +1,17 @@
--- What is read off a pod.
+-- What is read off a pod, and what a call keeps.
 use Rattle.lwp_calls.specs.declared.pod.PodEnd.{PodEnd}
 use Rattle.lwp_calls.specs.declared.pod.PodEnd.TheVariants.{Ended, Idle}
 use Rattle.lwp_types.specs.Choice.{choice}
-use Rattle.lwp_types.specs.State.{State}
-use Rattle.std.specs.Prelude.{None, Option, Some, if◌then◌else◌, ℕ}
+use Rattle.lwp_types.specs.State.{State, passes}
+use Rattle.lwp_types.specs.Step.{case_of}
+use Rattle.lwp_types.specs.declared.call.Answer.{Answer}
+use Rattle.lwp_types.specs.declared.call.Answer.TheVariants as answer
+use Rattle.lwp_types.specs.declared.call.Call.{Call}
+use Rattle.lwp_types.specs.declared.call.Effect.{Effect}
+use Rattle.pod_laws.specs.Forgotten.{IsForgotten, is_died}
+use Rattle.pod_laws.specs.Once.{ExitTest, exits_passing, marks_passing, set_now}
+use Rattle.std.specs.List.{count_by}
+use Rattle.std.specs.Prelude.{Bool, List, None, Option, Some, false, if◌then◌else◌, true, ℕ, ◌+◌, ◌≡◌, ◌≤◌}
 
 -- the thread whose turn it is; nobody's in a pod that has ended
 abbrev pub current_of : State → Option ℕ
@@ -17,3 +25,20 @@ idle_if (Some t) = None
 -- why it is nobody's turn
 abbrev pub ending_of : State → Option PodEnd
 ending_of s = if s.ended then Some (Ended s.status) else idle_if (choice s)
+
+-- the answer is a refusal
+abbrev pub refuses : Answer → Bool
+refuses (answer.Refused e) = true
+refuses _ = false
+
+-- the call of the thread whose turn it is is refused
+abbrev pub is_refusal : State → Call → Bool
+is_refusal s c = passes (λ t. passes refuses (case_of s t c).own) (choice s)
+
+-- whoever died is gone, its number is given to nobody, and no list names it
+abbrev pub ForgetsTheDead : State → List Effect → Type 0
+ForgetsTheDead after effects = (n : ℕ) → 1 ≤ count_by (is_died n) effects → IsForgotten after n
+
+-- of each exit procedure: where it was set it still is, or it has run now, once
+abbrev pub RunsExitsOnce : State → Call → State → List Effect → Type 0
+RunsExitsOnce before c after effects = (p : ExitTest) → marks_passing p after + exits_passing p effects ≡ marks_passing p before + set_now p before (choice before) c

@@ -1,131 +1,194 @@
 // Calls on letters: a sender waits for the reply.
-ghost use Rattle.std.specs.Prelude.{◌≡◌, ◌≤◌, [], Some, length, IfOk, IsTrue};
-ghost use Rattle.lwp_types.specs.Case.{answered, listed};
+ghost use Rattle.std.specs.Prelude.{◌≡◌, ◌<◌, ◌≤◌, ◌==◌, ◌∷◌, false, Some, None, IfOk, IsErr, IsTrue, OnErr, length, []};
+ghost use Rattle.death_cleanup.specs.Comes.{Answers, CameTo};
+ghost use Rattle.death_cleanup.specs.Ties.{InStep, LawfulParts};
+ghost use Rattle.death_cleanup.specs.View.{state_of};
+ghost use Rattle.lwp_types.specs.Case.{listed};
 ghost use Rattle.lwp_types.specs.Choice.{is_eligible_in};
-ghost use Rattle.lwp_types.specs.Letters.{receive, receivers_of, reply, send, senders_to};
+ghost use Rattle.lwp_types.specs.Families.{letter_call};
+ghost use Rattle.lwp_types.specs.Letters.{is_no_source, post, receive, receivers_of, send, senders_to, takes_from};
+ghost use Rattle.lwp_types.specs.State.{passes, thread_of};
+ghost use Rattle.lwp_types.specs.Step.{case_of};
 ghost use Rattle.lwp_types.specs.declared.call.IdKind.TheVariants as kind;
-ghost use Rattle.lwp_calls.specs.Comes.{ComesTo};
+ghost use Rattle.rendezvous.specs.Mailbag.{has_letter_of};
+ghost use Rattle.lwp_calls.specs.Asks.{asks_memory, first_refusal};
+ghost use Rattle.lwp_calls.specs.Comes.{ComesTo, IsAsBefore};
 
-use crate::parts::Parts;
-use crate::rows::Awaited;
+use crate::asks::{block, receivers};
+use death_cleanup::{Kind, Parts, is_id, is_thread, reply, wake};
 use lwp_types::{
-    Answer, Block, Effect, Effects, IdKind, Letter, LwpErr, Mode, NoMemory, Text, Tid,
+    Answer, Block, Effects, IdKind, Letter, LetterCall, LwpErr, Mode, NoMemory, Text, Tid,
 };
 use std::alloc::Global;
 
-impl Parts {
-    /// The caller waits for the reply to its letter. Who waits for such a letter has it at once.
-    pub fn send(
-        &mut self,
-        caller: Tid,
-        to: Tid,
-        room: u8,
-        text: Text,
-        effects: &mut Effects,
-    ) -> Option<Answer>
-        requires lives { IsTrue (is_eligible_in self.old caller) }
-        requires room { length effects.old ≤ 1 }
-        ensures comes { ComesTo (send self.old caller to room text) self.new effects.old effects.new result }
-        ensures most { length effects.new ≤ 1026 }
-    {
-        if !self.roll.is_thread(to) {
-            return Some(Answer::Refused(LwpErr::NonExist));
-        }
-        if caller == to {
-            return Some(Answer::Refused(LwpErr::InvalidArg));
-        }
-        self.roll.block(caller, Block::Sending);
-        let received = self.roll.takes_from(to, caller);
-        self.mail.post_letter(Letter {
-            from: caller,
-            to,
-            text,
-            room,
-            received,
+/// A call of this family.
+pub fn carry_out(
+    parts: &mut Parts,
+    alloc: Global,
+    tid: Tid,
+    call: LetterCall,
+    effects: &mut Effects,
+) -> Result<Option<Answer>, NoMemory>
+    requires lawful { LawfulParts parts.old }
+    requires alone { parts.old.dying ≡ None }
+    requires may_run { IsTrue (is_eligible_in (state_of parts.old) tid) }
+    requires room { length effects.old ≤ 1 }
+    ensures ok { IfOk result (λ own. ComesTo parts.old parts.new effects.old effects.new (case_of (state_of parts.old) tid (letter_call call)) own) }
+    ensures most { length effects.new ≤ 1280 }
+    ensures err { OnErr result (IsAsBefore parts.old parts.new) }
+    ensures memory { IsErr result → IsTrue (asks_memory (letter_call call)) }
+{
+    let own = match call {
+        LetterCall::Send(to, room, text) => send(parts, tid, to, room, text, effects),
+        LetterCall::Recv(from, mode) => receive(parts, tid, &from, mode),
+        LetterCall::Reply(to, text) => Some(reply(parts, tid, to, text, effects)),
+        LetterCall::Senders => Some(list_senders(parts, tid)?),
+        LetterCall::Receivers => Some(list_receivers(parts, alloc, tid)?),
+    };
+    Ok(own)
+}
+
+// The caller waits for the reply to its letter.
+fn send(
+    parts: &mut Parts,
+    caller: Tid,
+    to: Tid,
+    room: u8,
+    text: Text,
+    effects: &mut Effects,
+) -> Option<Answer>
+    requires lawful { LawfulParts parts.old }
+    requires alone { parts.old.dying ≡ None }
+    requires may_run { IsTrue (is_eligible_in (state_of parts.old) caller) }
+    requires room { length effects.old ≤ 1 }
+    ensures comes { ComesTo parts.old parts.new effects.old effects.new (send (state_of parts.old) caller to room text) result }
+    ensures most { length effects.new ≤ 2 }
+{
+    if !is_thread(parts, to) {
+        return Some(Answer::Refused(LwpErr::NonExist));
+    }
+    if caller == to {
+        return Some(Answer::Refused(LwpErr::InvalidArg));
+    }
+    block(parts, caller, Block::Sending);
+    let letter = Letter {
+        from: caller,
+        to,
+        text,
+        room,
+        received: false,
+    };
+    post(parts, letter, effects);
+    None
+}
+
+// Whether the thread waits for a letter that this sender may write.
+fn takes_from(parts: &Parts, tid: Tid, sender: Tid) -> bool
+    ensures { result ≡ passes (λ row. takes_from sender row.block) (thread_of (state_of parts.now) tid) }
+{
+    // The check learns here that the living stand in birth order, so that a number finds one of them.
+    let _living = parts.ids.len();
+    match parts.ids.get(tid.number) {
+        Some(Kind::Thread(rec)) => block_takes(rec.block, sender),
+        Some(Kind::Agent) => false,
+        None => false,
+    }
+}
+
+// Whether who waits so waits for a letter that this sender may write.
+fn block_takes(why: Block, sender: Tid) -> bool
+    ensures { result ≡ takes_from sender why }
+{
+    match why {
+        Block::Receiving(from) => from.is_none_or(|named| named == sender),
+        _ => false,
+    }
+}
+
+/// A letter more, which nobody has received. Who waits for such a letter has it at once, and goes on.
+pub fn post(parts: &mut Parts, letter: Letter, effects: &mut Effects)
+    requires step { InStep parts.old }
+    requires alone { parts.old.dying ≡ None }
+    requires unread { letter.received ≡ false }
+    requires new { has_letter_of parts.old.mail.letters letter.from ≡ false }
+    requires place { length parts.old.mail.letters < parts.old.mail.places }
+    requires room { length effects.old < 2048 }
+    ensures { CameTo parts.old parts.new effects.old effects.new (post letter (state_of parts.old)) }
+{
+    let received = takes_from(parts, letter.to, letter.from);
+    parts.mail.post_letter(Letter { received, ..letter });
+    if received {
+        let answer = Answer::Letter {
+            from: letter.from,
+            text: letter.text,
+            room: letter.room,
+        };
+        wake(parts, letter.to, answer, effects);
+    }
+}
+
+// Why a receive is refused by whom it names, if so.
+fn source_refusal(parts: &Parts, caller: Tid, from: &Option<Tid>) -> Option<LwpErr>
+    ensures { result ≡ first_refusal (is_no_source (state_of parts.now) from.now ∷ (passes (λ x. x == caller) from.now, LwpErr.InvalidArg) ∷ []) }
+{
+    let Some(sender) = *from else {
+        return None;
+    };
+    if !is_id(parts, sender) {
+        return Some(LwpErr::NonExist);
+    }
+    if sender == caller {
+        return Some(LwpErr::InvalidArg);
+    }
+    None
+}
+
+// The caller has the first letter of whom it names, or of anybody. With none it waits, or is refused.
+fn receive(parts: &mut Parts, caller: Tid, from: &Option<Tid>, mode: Mode) -> Option<Answer>
+    requires step { InStep parts.old }
+    requires alone { parts.old.dying ≡ None }
+    requires may_run { IsTrue (is_eligible_in (state_of parts.old) caller) }
+    ensures { ComesTo parts.old parts.new [] [] (receive (state_of parts.old) caller from.now mode) result }
+{
+    if let Some(err) = source_refusal(parts, caller, from) {
+        return Some(Answer::Refused(err));
+    }
+    if let Some(letter) = parts.mail.take_letter(caller, *from) {
+        return Some(Answer::Letter {
+            from: letter.from,
+            text: letter.text,
+            room: letter.room,
         });
-        if received {
-            self.roll.unblock(to);
-            effects.push(Effect::Answered {
-                tid: to,
-                answer: Answer::Letter {
-                    from: caller,
-                    text,
-                    room,
-                },
-            });
-        }
-        None
     }
+    match mode {
+        Mode::Poll => Some(Answer::Refused(LwpErr::Timeout)),
+        Mode::Block => {
+            block(parts, caller, Block::Receiving(*from));
+            None
+        }
+    }
+}
 
-    /// The caller has the first letter of whom it names, or of anybody. With none it waits, or is refused.
-    pub fn receive(&mut self, caller: Tid, from: &Option<Tid>, mode: Mode) -> Option<Answer>
-        requires { IsTrue (is_eligible_in self.old caller) }
-        ensures { receive self.old caller from.now mode ≡ record { after = self.new; others = []; own = result } }
-    {
-        if let Some(sender) = *from {
-            if !self.roll.is_thread(sender) {
-                return Some(Answer::Refused(LwpErr::NonExist));
-            }
-            if sender == caller {
-                return Some(Answer::Refused(LwpErr::InvalidArg));
-            }
-        }
-        if let Some(letter) = self.mail.take_letter(caller, *from) {
-            return Some(Answer::Letter {
-                from: letter.from,
-                text: letter.text,
-                room: letter.room,
-            });
-        }
-        match mode {
-            Mode::Poll => Some(Answer::Refused(LwpErr::Timeout)),
-            Mode::Block => {
-                self.roll.block(caller, Block::Receiving(*from));
-                None
-            }
-        }
-    }
+// Who sent the letters to the caller, received or not.
+fn list_senders(parts: &Parts, caller: Tid) -> Result<Answer, NoMemory>
+    requires { InStep parts.now }
+    ensures { IfOk result (λ a. Answers parts.now parts.now [] [] (listed (state_of parts.now) kind.Thread (senders_to (state_of parts.now).letters caller)) a) }
+{
+    let list = parts.mail.senders(caller)?;
+    Ok(Answer::Ids {
+        kind: IdKind::Thread,
+        list,
+    })
+}
 
-    /// The letter that the caller has received from the thread is done with, and the thread goes on with the text.
-    pub fn reply(&mut self, caller: Tid, to: Tid, text: Text, effects: &mut Effects) -> Answer
-        requires { length effects.old ≤ 1 }
-        ensures comes { ComesTo (reply self.old caller to text) self.new effects.old effects.new (Some result) }
-        ensures most { length effects.new ≤ 1026 }
-    {
-        if !self.roll.is_thread(to) {
-            return Answer::Refused(LwpErr::NonExist);
-        }
-        let len = text.bytes().len();
-        if let Err(err) = self.mail.reply(caller, to, len) {
-            return Answer::Refused(err);
-        }
-        self.roll.unblock(to);
-        effects.push(Effect::Answered {
-            tid: to,
-            answer: Answer::Reply(text),
-        });
-        Answer::Value(0)
-    }
-
-    /// Who sent the letters to the caller, received or not, in the order of sending.
-    pub fn senders(&self, caller: Tid) -> Result<Answer, NoMemory>
-        ensures { IfOk result (λ a. listed self.now kind.Thread (senders_to self.now.letters caller) ≡ answered self.now a) }
-    {
-        let list = self.mail.senders(caller)?;
-        Ok(Answer::Ids {
-            kind: IdKind::Thread,
-            list,
-        })
-    }
-
-    /// Who waits for a letter of the caller by name, in the order of birth.
-    pub fn receivers(&self, alloc: Global, caller: Tid) -> Result<Answer, NoMemory>
-        ensures { IfOk result (λ a. listed self.now kind.Thread (receivers_of self.now caller) ≡ answered self.now a) }
-    {
-        let list = self.roll.waiting_ids(alloc, Awaited::Letter, caller)?;
-        Ok(Answer::Ids {
-            kind: IdKind::Thread,
-            list,
-        })
-    }
+// Who waits for a letter of the caller by name.
+fn list_receivers(parts: &Parts, alloc: Global, caller: Tid) -> Result<Answer, NoMemory>
+    requires { InStep parts.now }
+    ensures { IfOk result (λ a. Answers parts.now parts.now [] [] (listed (state_of parts.now) kind.Thread (receivers_of (state_of parts.now) caller)) a) }
+{
+    let list = receivers(parts, alloc, caller)?;
+    Ok(Answer::Ids {
+        kind: IdKind::Thread,
+        list,
+    })
 }

@@ -1,96 +1,189 @@
 // Calls by which threads come and go.
-ghost use Rattle.std.specs.Prelude.{◌≡◌, ◌≤◌, [], length, IfOk, OnErr, IsTrue};
-ghost use Rattle.lwp_types.specs.Case.{answered, listed};
+ghost use Rattle.std.specs.Prelude.{◌≡◌, ◌<◌, ◌≤◌, ◌+◌, Some, None, IfOk, IsErr, IsTrue, OnErr, OnOk, length, []};
+ghost use Rattle.death_cleanup.specs.Comes.{Answers, CameTo};
+ghost use Rattle.death_cleanup.specs.Ties.{InStep, LawfulParts};
+ghost use Rattle.death_cleanup.specs.View.{state_of};
+ghost use Rattle.lwp_types.specs.Case.{listed};
 ghost use Rattle.lwp_types.specs.Choice.{is_eligible_in};
-ghost use Rattle.lwp_types.specs.Death.{destroy, return_from};
-ghost use Rattle.lwp_types.specs.State.{numbers};
-ghost use Rattle.lwp_types.specs.Threads.{create, join, ping};
+ghost use Rattle.lwp_types.specs.Death.{destroy};
+ghost use Rattle.lwp_types.specs.Families.{life_call};
+ghost use Rattle.lwp_types.specs.State.{numbers, still};
+ghost use Rattle.lwp_types.specs.Step.{case_of};
+ghost use Rattle.lwp_types.specs.Threads.{create, created, join, ping};
 ghost use Rattle.lwp_types.specs.declared.call.IdKind.TheVariants as kind;
-ghost use Rattle.lwp_calls.specs.Comes.{ComesTo};
+ghost use Rattle.exc_stack.specs.Stack.{one_frame};
+ghost use Rattle.lwp_calls.specs.Asks.{HasPlaces, asks_memory};
+ghost use Rattle.lwp_calls.specs.Comes.{ComesTo, IsAsBefore};
 
-use crate::death::die;
-use crate::parts::Parts;
-use lwp_types::{Answer, Block, Effects, Flags, IdKind, LwpErr, NoMemory, Tid};
+use crate::asks::{block, next_count, thread_count, threads};
+use death_cleanup::{Kind, Parts, ThreadRec, die, end_agent, is_agent, is_id, is_thread};
+use exc_stack::ExcStack;
+use lwp_types::{Answer, Block, Effects, Flags, IdKind, LifeCall, LwpErr, NoMemory, Tid};
 use std::alloc::Global;
 
-impl Parts {
-    pub fn create(&mut self, number: u32, prio: u32, flags: Flags) -> Result<Answer, NoMemory>
-        ensures ok { IfOk result (λ a. create self.old number prio flags ≡ answered self.new a) }
-        ensures err { OnErr result (self.new ≡ self.old) }
-    {
-        if number >= self.procs {
-            return Ok(Answer::Refused(LwpErr::InvalidArg));
-        }
-        if prio == 0 || prio > self.roll.maxpri() {
-            return Ok(Answer::Refused(LwpErr::IllPrio));
-        }
-        if !self.roll.has_room() {
-            return Ok(Answer::Refused(LwpErr::NoRoom));
-        }
-        let count = self.roll.len() + 1;
-        self.mail.reserve(count)?;
-        self.mons.reserve(count)?;
-        let tid = self.roll.create(prio, flags)?;
-        Ok(Answer::Thread(tid))
-    }
+// The most threads that live at once.
+const MOST_THREADS: usize = 1024;
 
-    pub fn destroy(&mut self, caller: Tid, tid: Tid, effects: &mut Effects) -> Option<Answer>
-        requires { length effects.old ≤ 1 }
-        ensures comes { ComesTo (destroy self.old caller tid) self.new effects.old effects.new result }
-        ensures most { length effects.new ≤ 1026 }
-    {
-        if !self.roll.is_thread(tid) {
-            return Some(Answer::Refused(LwpErr::NonExist));
-        }
-        die(self, tid, effects);
-        if caller == tid {
-            None
-        } else {
-            Some(Answer::Value(0))
-        }
-    }
+// The most agents that live at once: one an event.
+const MOST_AGENTS: usize = 31;
 
-    pub fn retire(&mut self, tid: Tid, effects: &mut Effects) -> Option<Answer>
-        requires lives { IsTrue (is_eligible_in self.old tid) }
-        requires room { length effects.old ≤ 1 }
-        ensures comes { ComesTo (return_from self.old tid) self.new effects.old effects.new result }
-        ensures most { length effects.new ≤ 1026 }
-    {
-        die(self, tid, effects);
+/// A call of this family.
+pub fn carry_out(
+    parts: &mut Parts,
+    alloc: Global,
+    tid: Tid,
+    call: LifeCall,
+    effects: &mut Effects,
+) -> Result<Option<Answer>, NoMemory>
+    requires lawful { LawfulParts parts.old }
+    requires alone { parts.old.dying ≡ None }
+    requires may_run { IsTrue (is_eligible_in (state_of parts.old) tid) }
+    requires room { length effects.old ≤ 1 }
+    ensures ok { IfOk result (λ own. ComesTo parts.old parts.new effects.old effects.new (case_of (state_of parts.old) tid (life_call call)) own) }
+    ensures most { length effects.new ≤ 1280 }
+    ensures err { OnErr result (IsAsBefore parts.old parts.new) }
+    ensures memory { IsErr result → IsTrue (asks_memory (life_call call)) }
+{
+    let own = match call {
+        LifeCall::Create(number, prio, flags) => Some(create(parts, alloc, number, prio, flags)?),
+        LifeCall::Destroy(other) => destroy(parts, tid, other, effects),
+        LifeCall::Ping(other) => Some(ping(parts, other)),
+        LifeCall::Join(other) => join(parts, tid, other),
+        LifeCall::Threads => Some(list(parts, alloc)?),
+    };
+    Ok(own)
+}
+
+// A thread more, which begins in a procedure.
+fn create(
+    parts: &mut Parts,
+    alloc: Global,
+    number: u32,
+    prio: u32,
+    flags: Flags,
+) -> Result<Answer, NoMemory>
+    requires lawful { LawfulParts parts.old }
+    requires alone { parts.old.dying ≡ None }
+    ensures ok { IfOk result (λ a. Answers parts.old parts.new [] [] (create (state_of parts.old) number prio flags) a) }
+    ensures err { OnErr result (IsAsBefore parts.old parts.new) }
+{
+    if number >= parts.procs {
+        return Ok(Answer::Refused(LwpErr::InvalidArg));
+    }
+    if prio == 0 || prio > parts.sched.maxpri() {
+        return Ok(Answer::Refused(LwpErr::IllPrio));
+    }
+    if thread_count(parts) >= MOST_THREADS || parts.ids.births() >= parts.ids.limit() {
+        return Ok(Answer::Refused(LwpErr::NoRoom));
+    }
+    make_places(parts)?;
+    let stack = ExcStack::new(alloc)?;
+    Ok(Answer::Thread(begin(parts, prio, flags, stack)))
+}
+
+// Places for one thread more, wherever a thread may have to wait.
+fn make_places(parts: &mut Parts) -> Result<(), NoMemory>
+    requires lawful { LawfulParts parts.old }
+    requires alone { parts.old.dying ≡ None }
+    requires births { parts.old.ids.births < parts.old.ids.limit }
+    ensures ok { OnOk result (HasPlaces parts.new) }
+    ensures as_before { IsAsBefore parts.old parts.new }
+    ensures births { parts.new.ids.births ≡ parts.old.ids.births }
+    ensures limit { parts.new.ids.limit ≡ parts.old.ids.limit }
+{
+    let count = thread_count(parts) + 1;
+    let living = next_count(&parts.ids);
+    parts.ids.reserve(living)?;
+    parts.sched.reserve(count)?;
+    parts.mail.reserve(count + MOST_AGENTS)?;
+    parts.mons.reserve(count)?;
+    parts.conds.reserve(count)?;
+    Ok(())
+}
+
+// A thread begins, with one frame. There are places for it.
+fn begin(parts: &mut Parts, prio: u32, flags: Flags, stack: ExcStack) -> Tid
+    requires lawful { LawfulParts parts.old }
+    requires alone { parts.old.dying ≡ None }
+    requires places { HasPlaces parts.old }
+    requires births { parts.old.ids.births < parts.old.ids.limit }
+    requires least { 1 ≤ prio }
+    requires most { prio ≤ parts.old.sched.maxpri }
+    requires frame { stack ≡ one_frame }
+    ensures number { result ≡ parts.old.ids.births }
+    ensures came { CameTo parts.old parts.new [] [] (still (created (state_of parts.old) prio flags)) }
+{
+    let number = parts.ids.births();
+    let tid = Tid { number };
+    parts.sched.admit(tid, prio, flags.suspended);
+    let _ = parts.ids.insert(Kind::Thread(ThreadRec {
+        flags,
+        block: Block::Not,
+        stack,
+    }));
+    tid
+}
+
+// An agent ends, or a thread dies.
+fn destroy(parts: &mut Parts, caller: Tid, tid: Tid, effects: &mut Effects) -> Option<Answer>
+    requires lawful { LawfulParts parts.old }
+    requires alone { parts.old.dying ≡ None }
+    requires room { length effects.old ≤ 1 }
+    ensures comes { ComesTo parts.old parts.new effects.old effects.new (destroy (state_of parts.old) caller tid) result }
+    ensures most { length effects.new ≤ 1280 }
+{
+    if is_agent(&parts.agents, tid) {
+        end_agent(parts, tid, effects);
+        return Some(Answer::Value(0));
+    }
+    if !is_thread(parts, tid) {
+        return Some(Answer::Refused(LwpErr::NonExist));
+    }
+    die(parts, tid, effects);
+    if caller == tid {
         None
+    } else {
+        Some(Answer::Value(0))
     }
+}
 
-    pub fn join(&mut self, caller: Tid, tid: Tid) -> Option<Answer>
-        requires { IsTrue (is_eligible_in self.old caller) }
-        ensures { join self.old caller tid ≡ record { after = self.new; others = []; own = result } }
-    {
-        if !self.roll.is_thread(tid) {
-            return Some(Answer::Refused(LwpErr::NonExist));
-        }
-        if caller == tid {
-            return Some(Answer::Refused(LwpErr::InvalidArg));
-        }
-        self.roll.block(caller, Block::Joining(tid));
-        None
+// Whether there is such a thread or agent.
+fn ping(parts: &Parts, tid: Tid) -> Answer
+    requires { InStep parts.now }
+    ensures { Answers parts.now parts.now [] [] (ping (state_of parts.now) tid) result }
+{
+    if is_id(parts, tid) {
+        Answer::Value(0)
+    } else {
+        Answer::Refused(LwpErr::NonExist)
     }
+}
 
-    pub fn ping(&self, tid: Tid) -> Answer
-        ensures { ping self.now tid ≡ answered self.now result }
-    {
-        if self.roll.is_thread(tid) {
-            Answer::Value(0)
-        } else {
-            Answer::Refused(LwpErr::NonExist)
-        }
+// The caller waits for the death of another.
+fn join(parts: &mut Parts, caller: Tid, tid: Tid) -> Option<Answer>
+    requires step { InStep parts.old }
+    requires alone { parts.old.dying ≡ None }
+    requires may_run { IsTrue (is_eligible_in (state_of parts.old) caller) }
+    ensures { ComesTo parts.old parts.new [] [] (join (state_of parts.old) caller tid) result }
+{
+    if !is_thread(parts, tid) {
+        return Some(Answer::Refused(LwpErr::NonExist));
     }
+    if caller == tid {
+        return Some(Answer::Refused(LwpErr::InvalidArg));
+    }
+    block(parts, caller, Block::Joining(tid));
+    None
+}
 
-    pub fn threads(&self, alloc: Global) -> Result<Answer, NoMemory>
-        ensures { IfOk result (λ a. listed self.now kind.Thread (numbers self.now.threads) ≡ answered self.now a) }
-    {
-        let list = self.roll.ids(alloc)?;
-        Ok(Answer::Ids {
-            kind: IdKind::Thread,
-            list,
-        })
-    }
+// The live threads.
+fn list(parts: &Parts, alloc: Global) -> Result<Answer, NoMemory>
+    requires { InStep parts.now }
+    ensures { IfOk result (λ a. Answers parts.now parts.now [] [] (listed (state_of parts.now) kind.Thread (numbers (state_of parts.now).threads)) a) }
+{
+    let list = threads(parts, alloc)?;
+    Ok(Answer::Ids {
+        kind: IdKind::Thread,
+        list,
+    })
 }

@@ -1,45 +1,60 @@
-// Calls on the numbers of a pod.
-ghost use Rattle.std.specs.Prelude.{◌≡◌, []};
-ghost use Rattle.lwp_types.specs.Case.{answered};
-ghost use Rattle.lwp_types.specs.Threads.{pod_exit, set_exit, set_maxpri};
+// Calls on the numbers of a pod, or on nothing at all.
+ghost use Rattle.std.specs.Prelude.{◌≡◌, [], None};
+ghost use Rattle.death_cleanup.specs.Comes.{Answers};
+ghost use Rattle.death_cleanup.specs.Ties.{InStep};
+ghost use Rattle.death_cleanup.specs.View.{state_of};
+ghost use Rattle.lwp_types.specs.Families.{number_call};
+ghost use Rattle.lwp_types.specs.Step.{case_of};
+ghost use Rattle.lwp_types.specs.Threads.{pod_exit, set_maxpri};
+ghost use Rattle.lwp_calls.specs.Comes.{ComesTo};
 
-use crate::parts::Parts;
-use lwp_types::{Answer, LwpErr};
+use death_cleanup::{Parts, set_exit};
+use lwp_types::{Answer, LwpErr, NumberCall, Tid};
 
 // The greatest status, and the greatest priority that a pod may be given.
 const MOST_STATUS: u32 = 99;
 
 const MOST_PRIORITY: u32 = 255;
 
-impl Parts {
-    pub fn set_maxpri(&mut self, prio: u32) -> Answer
-        ensures { set_maxpri self.old prio ≡ answered self.new result }
-    {
-        if prio < self.roll.maxpri() || prio > MOST_PRIORITY {
-            return Answer::Refused(LwpErr::IllPrio);
-        }
-        self.roll.set_maxpri(prio);
-        Answer::Value(0)
+/// A call of this family.
+pub fn carry_out(parts: &mut Parts, tid: Tid, call: NumberCall) -> Option<Answer>
+    requires step { InStep parts.old }
+    requires alone { parts.old.dying ≡ None }
+    ensures { ComesTo parts.old parts.new [] [] (case_of (state_of parts.old) tid (number_call call)) result }
+{
+    match call {
+        NumberCall::Me => Some(Answer::Thread(tid)),
+        NumberCall::SetMaxPri(prio) => Some(set_maxpri(parts, prio)),
+        NumberCall::SetExit(code) => Some(set_exit(parts, code)),
+        NumberCall::GetExit => Some(Answer::Value(i64::from(parts.exit))),
+        NumberCall::PodExit(code) => pod_exit(parts, code),
+        NumberCall::Say(_) => Some(Answer::Value(0)),
     }
+}
 
-    pub fn set_exit(&mut self, code: u32) -> Answer
-        ensures { set_exit self.old code ≡ answered self.new result }
-    {
-        if code > MOST_STATUS {
-            return Answer::Refused(LwpErr::InvalidArg);
-        }
-        self.status = code as u8;
-        Answer::Value(0)
+// The greatest priority grows.
+fn set_maxpri(parts: &mut Parts, prio: u32) -> Answer
+    requires step { InStep parts.old }
+    requires alone { parts.old.dying ≡ None }
+    ensures { Answers parts.old parts.new [] [] (set_maxpri (state_of parts.old) prio) result }
+{
+    if prio < parts.sched.maxpri() || prio > MOST_PRIORITY {
+        return Answer::Refused(LwpErr::IllPrio);
     }
+    parts.sched.set_maxpri(prio);
+    Answer::Value(0)
+}
 
-    pub fn pod_exit(&mut self, code: u32) -> Option<Answer>
-        ensures { pod_exit self.old code ≡ record { after = self.new; others = []; own = result } }
-    {
-        if code > MOST_STATUS {
-            return Some(Answer::Refused(LwpErr::InvalidArg));
-        }
-        self.status = code as u8;
-        self.ended = true;
-        None
+// The pod ends here.
+fn pod_exit(parts: &mut Parts, code: u32) -> Option<Answer>
+    requires step { InStep parts.old }
+    requires alone { parts.old.dying ≡ None }
+    ensures { ComesTo parts.old parts.new [] [] (pod_exit (state_of parts.old) code) result }
+{
+    if code > MOST_STATUS {
+        return Some(Answer::Refused(LwpErr::InvalidArg));
     }
+    parts.exit = code;
+    parts.ended = true;
+    None
 }

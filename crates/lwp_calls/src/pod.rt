@@ -1,19 +1,37 @@
 // A pod, and its calls.
-ghost use Rattle.std.specs.Prelude.{◌≡◌, ◌≤◌, ◌<◌, ◌+◌, ◌^◌, ◌++◌, ◌∷◌, [], false, length, IfOk, OnOk, OnErr, IsErr, IsSome, IfSome, IsTrue, Some, None, Option};
-ghost use Rattle.lwp_types.specs.Choice.{is_eligible_in};
+ghost use Rattle.std.specs.Prelude.{◌≡◌, ◌≤◌, ◌<◌, ◌^◌, ◌++◌, [], length, IfOk, OnOk, OnErr, IsErr, IsSome, IfSome, IsTrue, None, Some};
+ghost use Rattle.death_cleanup.specs.Comes.{CameTo};
+ghost use Rattle.exc_stack.specs.Stack.{one_frame};
+ghost use Rattle.death_cleanup.specs.Ties.{InStep, LawfulParts};
+ghost use Rattle.death_cleanup.specs.View.{state_of};
+ghost use Rattle.lwp_types.specs.Agents.{armed, deliver};
+ghost use Rattle.lwp_types.specs.Choice.{is_eligible_in, is_over};
+ghost use Rattle.lwp_types.specs.Lawful.{Lawful};
 ghost use Rattle.lwp_types.specs.State.{is_id, opening};
 ghost use Rattle.lwp_types.specs.Step.{case_of, step, end_effects, ends, own_effects};
-ghost use Rattle.lwp_calls.specs.Built.{asks_memory, is_built, is_for_monitors};
-ghost use Rattle.lwp_calls.specs.Comes.{ComesTo};
-ghost use Rattle.lwp_calls.specs.Pod.{current_of, ending_of};
+ghost use Rattle.lwp_calls.specs.Asks.{asks_memory};
+ghost use Rattle.lwp_calls.specs.Comes.{ComesTo, IsAsBefore};
+ghost use Rattle.lwp_calls.specs.Pod.{ForgetsTheDead, RunsExitsOnce, current_of, ending_of, is_refusal};
 
-use crate::parts::Parts;
-use crate::roll::Roll;
-use lwp_types::{Answer, Call, Effect, Effects, NoMemory, PodParams, Tid};
+use crate::asks::is_over;
+use crate::letters::post;
+use crate::{agent_calls, letters, lives, locks, marks, numbers, turns, waits};
+use agents::Agents;
+use conditions::Conds;
+use death_cleanup::{Kind, Parts, ThreadRec, is_id};
+use exc_stack::ExcStack;
+use lwp_types::{
+    Answer, Block, Call, Effect, Effects, Family, Flags, Letter, NoMemory, PodParams, Text, Tid,
+};
 use monitors::Monitors;
+use pod_sched::Sched;
 use rendezvous::Mail;
+use stale_ids::Registry;
 use std::alloc::Global;
 use std::marker::Model;
+
+// An agent's letter has room for a reply of so many bytes.
+const AGENT_ROOM: u8 = 240;
 
 /// Why it is nobody's turn: the pod has ended, with a status; or nobody may run as it stands.
 #[derive(Clone, Copy, Debug, PartialEq, Eq)]
@@ -22,7 +40,7 @@ pub enum PodEnd {
     Idle,
 }
 
-/// The threads of a pod.
+/// The threads of a pod, and all that they have.
 #[derive(Drop)]
 pub struct Pod {
     parts: Parts,
@@ -30,11 +48,68 @@ pub struct Pod {
 }
 
 impl Model for Pod {
+    ghost use Rattle.death_cleanup.specs.Ties.{InStep};
+    ghost use Rattle.death_cleanup.specs.View.{state_of};
+    ghost use Rattle.lwp_types.specs.Lawful.{Lawful};
     ghost use Rattle.lwp_types.specs.State.{State};
+    ghost use Rattle.std.specs.Prelude.{None, ◌≡◌};
 
     ghost Value = { State };
 
-    ghost view = { λ p. p.parts };
+    ghost view = { λ p. state_of p.parts };
+
+    ghost invariant = { λ p. Lawful (state_of p.parts) None × InStep p.parts × (p.parts.dying ≡ None) };
+}
+
+// What a thread has that begins.
+fn beginner(alloc: Global, flags: Flags) -> Result<ThreadRec, NoMemory>
+    ensures { IfOk result (λ rec. rec ≡ record { flags = flags; block = Block.Not; stack = one_frame }) }
+{
+    Ok(ThreadRec {
+        flags,
+        block: Block::Not,
+        stack: ExcStack::new(alloc)?,
+    })
+}
+
+// The parts of a pod as it is made.
+fn first_parts(alloc: Global, params: PodParams) -> Result<Parts, NoMemory>
+    requires least { 1 ≤ params.maxpri }
+    requires most { params.maxpri ≤ 255 }
+    requires births { 1 ≤ params.births }
+    ensures state { IfOk result (λ parts. state_of parts ≡ opening params) }
+    ensures step { IfOk result (λ parts. InStep parts) }
+    ensures alone { IfOk result (λ parts. parts.dying ≡ None) }
+{
+    let flags = Flags {
+        suspended: false,
+        nolastrites: false,
+        server: false,
+    };
+    let mut parts = Parts {
+        ids: Registry::new(alloc, params.births),
+        sched: Sched::new(alloc, params.maxpri)?,
+        mail: Mail::new(alloc),
+        mons: Monitors::new(alloc, params.births),
+        conds: Conds::new(alloc, params.births),
+        agents: Agents::new(alloc),
+        exit: 0,
+        ended: false,
+        procs: params.procs,
+        registration: 0,
+        pattern: 1_073_741_824,
+        dying: None,
+        last_prio: 0,
+    };
+    parts.ids.reserve(1)?;
+    parts.sched.reserve(1)?;
+    parts.mail.reserve(1)?;
+    parts.mons.reserve(1)?;
+    parts.conds.reserve(1)?;
+    let first = beginner(alloc, flags)?;
+    parts.sched.admit(Tid { number: 0 }, params.maxpri, false);
+    let _ = parts.ids.insert(Kind::Thread(first));
+    Ok(parts)
 }
 
 impl Pod {
@@ -47,19 +122,7 @@ impl Pod {
         requires procs { 1 ≤ params.procs }
         ensures { IfOk result (λ pod. pod ≡ opening params) }
     {
-        let roll = Roll::new(alloc, params.maxpri, params.births)?;
-        let mut mail = Mail::new(alloc);
-        mail.reserve(1)?;
-        let mut mons = Monitors::new(alloc, params.births);
-        mons.reserve(1)?;
-        let parts = Parts {
-            roll,
-            mail,
-            mons,
-            status: 0,
-            procs: params.procs,
-            ended: false,
-        };
+        let parts = first_parts(alloc, params)?;
         Ok(Pod { parts, alloc })
     }
 
@@ -71,7 +134,7 @@ impl Pod {
         if self.parts.ended {
             return None;
         }
-        self.parts.roll.current()
+        self.parts.sched.current()
     }
 
     /// Why it is nobody's turn, if so.
@@ -79,9 +142,9 @@ impl Pod {
         ensures { result ≡ ending_of self.now }
     {
         if self.parts.ended {
-            return Some(PodEnd::Ended(self.parts.status));
+            return Some(PodEnd::Ended(self.parts.exit as u8));
         }
-        match self.parts.roll.current() {
+        match self.parts.sched.current() {
             None => Some(PodEnd::Idle),
             Some(_) => None,
         }
@@ -91,25 +154,35 @@ impl Pod {
     pub fn is_live(&self, tid: Tid) -> bool
         ensures { result ≡ is_id self.now tid }
     {
-        self.parts.roll.is_thread(tid)
+        is_id(&self.parts, tid)
+    }
+
+    /// Whether an event can be delivered: its agent holds no message, and the pod goes on.
+    pub fn armed(&self, event: u8) -> bool
+        ensures { result ≡ armed self.now event }
+    {
+        !self.parts.ended && self.parts.agents.armed(event)
     }
 
     /// One call of the thread whose turn it is. `effects` is emptied first, and then has what the step did, in order.
     pub fn call(&mut self, call: Call, effects: &mut Effects) -> Result<(), NoMemory>
-        requires current { IsSome (current_of self.old) }
-        requires built { IsTrue (is_built call) }
+        requires { IsSome (current_of self.old) }
         ensures after { OnOk result (self.new ≡ (step self.old call).after) }
         ensures effects { OnOk result (effects.new ≡ (step self.old call).effects) }
         ensures err { OnErr result (self.new ≡ self.old) }
         ensures err_effects { OnErr result (effects.new ≡ []) }
         ensures memory { IsErr result → IsTrue (asks_memory call) }
+        ensures lawful { Lawful self.new None }
+        ensures refused { OnOk result (IsTrue (is_refusal self.old call) → self.new ≡ self.old) }
+        ensures dead { OnOk result (ForgetsTheDead self.new effects.new) }
+        ensures exits { OnOk result (RunsExitsOnce self.old call self.new effects.new) }
     {
         effects.clear();
         let tid = self.current().unwrap();
         effects.push(Effect::Called { tid, call });
-        match self.carry_out(tid, &call, effects) {
+        match carry_out(&mut self.parts, self.alloc, tid, &call, effects) {
             Ok(own) => {
-                self.finish(tid, own, effects);
+                finish(&mut self.parts, tid, own, effects);
                 Ok(())
             }
             Err(no_memory) => {
@@ -119,92 +192,92 @@ impl Pod {
         }
     }
 
-    // What the call comes to, before the end of the pod is tested: the caller's answer, if it has one now.
-    fn carry_out(
-        &mut self,
-        tid: Tid,
-        call: &Call,
-        effects: &mut Effects,
-    ) -> Result<Option<Answer>, NoMemory>
-        requires may_run { IsTrue (is_eligible_in self.old tid) }
-        requires built { IsTrue (is_built call.now) }
-        requires room { length effects.old ≤ 1 }
-        ensures ok { IfOk result (λ own. ComesTo (case_of self.old tid call.now) self.new effects.old effects.new own) }
-        ensures most { length effects.new ≤ 1026 }
-        ensures err { OnErr result (self.new ≡ self.old) }
-        ensures memory { IsErr result → IsTrue (asks_memory call.now) }
+    /// An event's text becomes a letter of its agent to the agent's owner. `effects` is emptied first, and then has what that
+    /// did, in order.
+    pub fn deliver(&mut self, event: u8, text: Text, effects: &mut Effects)
+        requires { IsTrue (armed self.old event) }
+        ensures after { self.new ≡ (deliver self.old event text).after }
+        ensures effects { effects.new ≡ (deliver self.old event text).effects }
+        ensures lawful { Lawful self.new None }
     {
-        let own = match *call {
-            Call::Create { proc, prio, flags } => Some(self.parts.create(proc, prio, flags)?),
-            Call::Destroy { tid: other } => self.parts.destroy(tid, other, effects),
-            Call::Ping { tid: other } => Some(self.parts.ping(other)),
-            Call::Yield { to } => Some(self.parts.yield_to(tid, to)),
-            Call::Resched { prio } => Some(self.parts.resched(tid, prio)),
-            Call::SetPri { tid: other, prio } => Some(self.parts.set_priority(other, prio)),
-            Call::Suspend { tid: other } => Some(self.parts.suspend(other)),
-            Call::Resume { tid: other } => Some(self.parts.resume(other)),
-            Call::Join { tid: other } => self.parts.join(tid, other),
-            Call::Me => Some(Answer::Thread(tid)),
-            Call::SetMaxPri { prio } => Some(self.parts.set_maxpri(prio)),
-            Call::SetExit { code } => Some(self.parts.set_exit(code)),
-            Call::GetExit => Some(Answer::Value(i64::from(self.parts.status))),
-            Call::PodExit { code } => self.parts.pod_exit(code),
-            Call::Threads => Some(self.parts.threads(self.alloc)?),
-            Call::Send { to, room, text } => self.parts.send(tid, to, room, text, effects),
-            Call::Recv { from, mode } => self.parts.receive(tid, &from, mode),
-            Call::Reply { to, text } => Some(self.parts.reply(tid, to, text, effects)),
-            Call::Senders => Some(self.parts.senders(tid)?),
-            Call::Receivers => Some(self.parts.receivers(self.alloc, tid)?),
-            Call::Return => self.parts.retire(tid, effects),
-            Call::Say { .. } => Some(Answer::Value(0)),
-            _ => self.on_monitors(tid, call, effects)?,
-        };
-        Ok(own)
+        effects.clear();
+        deliver(&mut self.parts, event, text, effects);
     }
+}
 
-    // The same, of a call on monitors.
-    fn on_monitors(
-        &mut self,
-        tid: Tid,
-        call: &Call,
-        effects: &mut Effects,
-    ) -> Result<Option<Answer>, NoMemory>
-        requires may_run { IsTrue (is_eligible_in self.old tid) }
-        requires monitors { IsTrue (is_for_monitors call.now) }
-        requires room { length effects.old ≤ 1 }
-        ensures ok { IfOk result (λ own. ComesTo (case_of self.old tid call.now) self.new effects.old effects.new own) }
-        ensures most { length effects.new ≤ 1026 }
-        ensures err { OnErr result (self.new ≡ self.old) }
-        ensures memory { IsErr result → IsTrue (asks_memory call.now) }
-    {
-        let own = match *call {
-            Call::MonCreate => Some(self.parts.monitor_create()?),
-            Call::MonDestroy { mon } => Some(self.parts.monitor_destroy(mon)),
-            Call::Enter { mon } => self.parts.enter(tid, mon),
-            Call::CondEnter { mon } => Some(self.parts.cond_enter(tid, mon)),
-            Call::MonExit { mon } => Some(self.parts.monitor_exit(tid, mon, effects)),
-            Call::MonBreak { mon } => Some(self.parts.monitor_break(mon, effects)),
-            Call::Monitors => Some(self.parts.monitors()?),
-            Call::MonWaiters { mon } => Some(self.parts.monitor_waiters(mon)?),
-            _ => unreachable!(),
-        };
-        Ok(own)
+// The same, of the parts.
+fn deliver(parts: &mut Parts, event: u8, text: Text, effects: &mut Effects)
+    requires lawful { LawfulParts parts.old }
+    requires alone { parts.old.dying ≡ None }
+    requires armed { IsTrue (armed (state_of parts.old) event) }
+    requires room { effects.old ≡ [] }
+    ensures { CameTo parts.old parts.new effects.old effects.new (deliver (state_of parts.old) event text) }
+{
+    let Some(agent) = parts.agents.agent_of(event) else {
+        return;
+    };
+    let Some(owner) = parts.agents.owner_of(agent) else {
+        return;
+    };
+    parts.agents.hold(event);
+    effects.push(Effect::Delivered { agent, event });
+    let letter = Letter {
+        from: agent,
+        to: owner,
+        text,
+        room: AGENT_ROOM,
+        received: false,
+    };
+    post(parts, letter, effects);
+}
+
+// What the call comes to, before the end of the pod is tested: the caller's answer, if it has one now.
+fn carry_out(
+    parts: &mut Parts,
+    alloc: Global,
+    tid: Tid,
+    call: &Call,
+    effects: &mut Effects,
+) -> Result<Option<Answer>, NoMemory>
+    requires lawful { LawfulParts parts.old }
+    requires alone { parts.old.dying ≡ None }
+    requires may_run { IsTrue (is_eligible_in (state_of parts.old) tid) }
+    requires room { length effects.old ≤ 1 }
+    ensures ok { IfOk result (λ own. ComesTo parts.old parts.new effects.old effects.new (case_of (state_of parts.old) tid call.now) own) }
+    ensures most { length effects.new ≤ 1280 }
+    ensures err { OnErr result (IsAsBefore parts.old parts.new) }
+    ensures memory { IsErr result → IsTrue (asks_memory call.now) }
+{
+    match call.family() {
+        Family::Lives(life) => lives::carry_out(parts, alloc, tid, life, effects),
+        Family::Turns(turn) => Ok(Some(turns::carry_out(parts, tid, turn))),
+        Family::Numbers(number) => Ok(numbers::carry_out(parts, tid, number)),
+        Family::Letters(letter) => letters::carry_out(parts, alloc, tid, letter, effects),
+        Family::Locks(lock) => locks::carry_out(parts, tid, lock, effects),
+        Family::Waits(wait) => waits::carry_out(parts, tid, wait, effects),
+        Family::Marks(mark) => marks::carry_out(parts, tid, mark, effects),
+        Family::Agents(agent) => Ok(Some(agent_calls::carry_out(parts, tid, agent)?)),
     }
+}
 
-    // The caller's answer, if it has one now; and the pod ends, if nobody is left to run and nobody is worth waiting for.
-    fn finish(&mut self, tid: Tid, own: Option<Answer>, effects: &mut Effects)
-        requires { length effects.old < 2046 }
-        ensures after { self.new ≡ record self.old { ended = ends self.old } }
-        ensures effects { effects.new ≡ effects.old ++ (own_effects tid own ++ end_effects self.old) }
-    {
-        if let Some(answer) = own {
-            effects.push(Effect::Answered { tid, answer });
-        }
-        self.parts.ended = self.parts.ended || self.parts.roll.is_over();
-        if self.parts.ended {
-            effects.push(Effect::Ended {
-                status: self.parts.status,
-            });
-        }
+// The caller's answer, if it has one now; and the pod ends, if nobody is left to run and nobody is worth waiting for.
+fn finish(parts: &mut Parts, tid: Tid, own: Option<Answer>, effects: &mut Effects)
+    requires step { InStep parts.old }
+    requires alone { parts.old.dying ≡ None }
+    requires room { length effects.old < 2046 }
+    requires status { parts.old.exit ≤ 99 }
+    ensures after { state_of parts.new ≡ record (state_of parts.old) { ended = ends (state_of parts.old) } }
+    ensures effects { effects.new ≡ effects.old ++ (own_effects tid own ++ end_effects (state_of parts.old)) }
+    ensures step { InStep parts.new }
+    ensures still_alone { parts.new.dying ≡ None }
+{
+    if let Some(answer) = own {
+        effects.push(Effect::Answered { tid, answer });
+    }
+    parts.ended = parts.ended || is_over(parts);
+    if parts.ended {
+        effects.push(Effect::Ended {
+            status: parts.exit as u8,
+        });
     }
 }

@@ -1,75 +1,97 @@
 // Calls that move threads in the order.
-ghost use Rattle.std.specs.Prelude.{◌≡◌, IsTrue};
-ghost use Rattle.lwp_types.specs.Case.{answered};
+ghost use Rattle.std.specs.Prelude.{◌≡◌, Some, IsTrue, [], None};
+ghost use Rattle.death_cleanup.specs.Comes.{Answers};
+ghost use Rattle.death_cleanup.specs.Ties.{InStep};
+ghost use Rattle.death_cleanup.specs.View.{state_of};
 ghost use Rattle.lwp_types.specs.Choice.{is_eligible_in};
-ghost use Rattle.lwp_types.specs.Threads.{resched, resume, set_priority, suspend, yield_to};
+ghost use Rattle.lwp_types.specs.Families.{turn_call};
+ghost use Rattle.lwp_types.specs.Step.{case_of};
+ghost use Rattle.lwp_types.specs.Threads.{resched, set_priority, suspend, yield_to};
 
-use crate::parts::Parts;
-use lwp_types::{Answer, LwpErr, Tid};
+use crate::asks::{may_run, prio_of};
+use death_cleanup::{Parts, is_thread, resume};
+use lwp_types::{Answer, LwpErr, Tid, TurnCall};
 
-impl Parts {
-    pub fn yield_to(&mut self, caller: Tid, to: Tid) -> Answer
-        requires { IsTrue (is_eligible_in self.old caller) }
-        ensures { yield_to self.old caller to ≡ answered self.new result }
-    {
-        if !self.roll.is_thread(to) {
-            return Answer::Refused(LwpErr::NonExist);
-        }
-        if self.roll.prio_of(to) != self.roll.prio_of(caller) {
-            return Answer::Refused(LwpErr::IllPrio);
-        }
-        if !self.roll.is_eligible(to) {
-            return Answer::Refused(LwpErr::InvalidArg);
-        }
-        self.roll.yield_to(caller, to);
-        Answer::Value(0)
+/// A call of this family.
+pub fn carry_out(parts: &mut Parts, tid: Tid, call: TurnCall) -> Answer
+    requires step { InStep parts.old }
+    requires alone { parts.old.dying ≡ None }
+    requires may_run { IsTrue (is_eligible_in (state_of parts.old) tid) }
+    ensures { Answers parts.old parts.new [] [] (case_of (state_of parts.old) tid (turn_call call)) result }
+{
+    match call {
+        TurnCall::Yield(to) => yield_to(parts, tid, to),
+        TurnCall::Resched(prio) => resched(parts, tid, prio),
+        TurnCall::SetPri(other, prio) => set_priority(parts, other, prio),
+        TurnCall::Suspend(other) => suspend(parts, other),
+        TurnCall::Resume(other) => resume(parts, other),
     }
+}
 
-    pub fn resched(&mut self, caller: Tid, prio: u32) -> Answer
-        requires { IsTrue (is_eligible_in self.old caller) }
-        ensures { resched self.old caller prio ≡ answered self.new result }
-    {
-        if prio == 0 || prio > self.roll.maxpri() {
-            return Answer::Refused(LwpErr::IllPrio);
-        }
-        if prio > self.roll.prio_of(caller) {
-            return Answer::Refused(LwpErr::InvalidArg);
-        }
-        self.roll.resched(prio);
-        Answer::Value(0)
+// Another goes ahead of the caller, or all others of its priority do.
+fn yield_to(parts: &mut Parts, caller: Tid, to: Tid) -> Answer
+    requires step { InStep parts.old }
+    requires alone { parts.old.dying ≡ None }
+    requires may_run { IsTrue (is_eligible_in (state_of parts.old) caller) }
+    ensures { Answers parts.old parts.new [] [] (yield_to (state_of parts.old) caller to) result }
+{
+    if !is_thread(parts, to) {
+        return Answer::Refused(LwpErr::NonExist);
     }
+    if prio_of(parts, to) != prio_of(parts, caller) {
+        return Answer::Refused(LwpErr::IllPrio);
+    }
+    if !may_run(parts, to) {
+        return Answer::Refused(LwpErr::InvalidArg);
+    }
+    parts.sched.yield_to(caller, to);
+    Answer::Value(0)
+}
 
-    pub fn set_priority(&mut self, tid: Tid, prio: u32) -> Answer
-        ensures { set_priority self.old tid prio ≡ answered self.new result }
-    {
-        if !self.roll.is_thread(tid) {
-            return Answer::Refused(LwpErr::NonExist);
-        }
-        if prio == 0 || prio > self.roll.maxpri() {
-            return Answer::Refused(LwpErr::IllPrio);
-        }
-        let before = self.roll.set_prio(tid, prio);
-        self.mons.requeue(tid, prio);
-        Answer::Value(i64::from(before))
+// The first of a priority goes last.
+fn resched(parts: &mut Parts, caller: Tid, prio: u32) -> Answer
+    requires step { InStep parts.old }
+    requires alone { parts.old.dying ≡ None }
+    requires may_run { IsTrue (is_eligible_in (state_of parts.old) caller) }
+    ensures { Answers parts.old parts.new [] [] (resched (state_of parts.old) caller prio) result }
+{
+    if prio == 0 || prio > parts.sched.maxpri() {
+        return Answer::Refused(LwpErr::IllPrio);
     }
+    if prio > prio_of(parts, caller) {
+        return Answer::Refused(LwpErr::InvalidArg);
+    }
+    parts.sched.resched(prio);
+    Answer::Value(0)
+}
 
-    pub fn suspend(&mut self, tid: Tid) -> Answer
-        ensures { suspend self.old tid ≡ answered self.new result }
-    {
-        if !self.roll.is_thread(tid) {
-            return Answer::Refused(LwpErr::NonExist);
-        }
-        self.roll.suspend(tid);
-        Answer::Value(0)
+// A thread has another priority, also in what it waits for.
+fn set_priority(parts: &mut Parts, tid: Tid, prio: u32) -> Answer
+    requires step { InStep parts.old }
+    requires alone { parts.old.dying ≡ None }
+    ensures { Answers parts.old parts.new [] [] (set_priority (state_of parts.old) tid prio) result }
+{
+    if !is_thread(parts, tid) {
+        return Answer::Refused(LwpErr::NonExist);
     }
+    if prio == 0 || prio > parts.sched.maxpri() {
+        return Answer::Refused(LwpErr::IllPrio);
+    }
+    let before = parts.sched.set_prio(tid, prio);
+    parts.mons.requeue(tid, prio);
+    parts.conds.requeue(tid, prio);
+    Answer::Value(i64::from(before))
+}
 
-    pub fn resume(&mut self, tid: Tid) -> Answer
-        ensures { resume self.old tid ≡ answered self.new result }
-    {
-        if !self.roll.is_thread(tid) {
-            return Answer::Refused(LwpErr::NonExist);
-        }
-        self.roll.resume(tid);
-        Answer::Value(0)
+// A thread may not run until it is resumed.
+fn suspend(parts: &mut Parts, tid: Tid) -> Answer
+    requires step { InStep parts.old }
+    requires alone { parts.old.dying ≡ None }
+    ensures { Answers parts.old parts.new [] [] (suspend (state_of parts.old) tid) result }
+{
+    if !is_thread(parts, tid) {
+        return Answer::Refused(LwpErr::NonExist);
     }
+    parts.sched.suspend(tid);
+    Answer::Value(0)
 }

@@ -269,6 +269,14 @@ impl Sched {
         self.row_of(tid).is_some()
     }
 
+    /// How many threads it knows, each once.
+    pub fn len(&self) -> usize
+        ensures value { result ≡ length self.now.threads }
+        ensures ordered { IsOrdered self.now.threads self.now.order }
+    {
+        self.rows.len()
+    }
+
     /// The greatest priority that a thread may be given.
     pub fn maxpri(&self) -> u32
         ensures { result ≡ self.now.maxpri }

@@ -146,6 +146,13 @@ impl<T> Registry<T> {
         self.births
     }
 
+    /// How many may ever be born.
+    pub fn limit(&self) -> u64
+        ensures { result ≡ self.now.limit }
+    {
+        self.limit
+    }
+
     /// How many live.
     pub fn len(&self) -> usize
         ensures value { result ≡ length self.now.live }

@@ -1,0 +1,52 @@
+-- What a call comes to that tells others nothing, by the case that the machine makes of it.
+use Rattle.death_cleanup.specs.Comes.{Answers, CameTo}
+use Rattle.death_cleanup.specs.Ties.{InStep, LawfulParts}
+use Rattle.death_cleanup.specs.View.{state_of}
+use Rattle.death_cleanup.specs.declared.parts.Parts.{Parts}
+use Rattle.lwp_calls.specs.Comes.{ComesTo, IsAsBefore}
+use Rattle.lwp_types.specs.Case.{Case, answered}
+use Rattle.lwp_types.specs.State.{Outcome, State}
+use Rattle.lwp_types.specs.Lawful.{NineParts}
+use Rattle.lwp_types.specs.declared.call.Answer.{Answer}
+use Rattle.lwp_types.specs.declared.call.Effect.{Effect}
+use Rattle.std.proofs.Common.{List, None, Option, Some, [], ap, append-nil, refl, subst, sym, ℕ, ◌++◌, ◌∙◌, ◌≡◌}
+
+module _ {old new : Parts} {made : Case} where
+  pub ComesTo-is : {own : Option Answer} → made ≡ record { after = state_of new; others = []; own = own } → InStep new → new.dying ≡ old.dying → ComesTo old new [] [] made own
+  ComesTo-is is step dying = record {
+    came = record { state = sym (ap (λ (m : Case). m.after) is); effects = sym (ap (λ (m : Case). m.others) is); step = step; dying = dying };
+    own = ap (λ (m : Case). m.own) is;
+  }
+
+  pub Answers-is : {a : Answer} → made ≡ answered (state_of new) a → InStep new → new.dying ≡ old.dying → Answers old new [] [] made a
+  Answers-is is step dying = record {
+    came = record { state = sym (ap (λ (m : Case). m.after) is); effects = sym (ap (λ (m : Case). m.others) is); step = step; dying = dying };
+    own = ap (λ (m : Case). m.own) is;
+  }
+
+  -- an answer at once is one of two
+  pub ComesTo-answers : {before after : List Effect} {a : Answer} → Answers old new before after made a → ComesTo old new before after made (Some a)
+  ComesTo-answers answers = record { came = answers.came; own = answers.own }
+
+  -- nothing more was told
+  pub ComesTo-quiet : {own : Option Answer} → ComesTo old new [] [] made own → (effects : List Effect) → ComesTo old new effects effects made own
+  ComesTo-quiet comes effects = record {
+    came = record { state = comes.came.state; effects = sym (append-nil effects) ∙ ap (λ es. effects ++ es) comes.came.effects; step = comes.came.step; dying = comes.came.dying };
+    own = comes.own;
+  }
+
+  pub ComesTo-said : {a : Answer} → Answers old new [] [] made a → (effects : List Effect) → ComesTo old new effects effects made (Some a)
+  ComesTo-said answers effects = ComesTo-quiet (ComesTo-answers answers) effects
+
+-- a call after which nothing has changed but places, and then another
+module _ {old mid : Parts} (same : IsAsBefore old mid) where
+  pub lawful_after : LawfulParts old → LawfulParts mid
+  lawful_after lawful = record {
+    nine = subst (λ (s : State). NineParts s mid.dying) (sym same.state) (subst (λ (d : Option ℕ). NineParts (state_of old) d) (sym same.dying) lawful.nine);
+    step = same.step;
+  }
+
+  pub came_after : {new : Parts} {before after : List Effect} → (f : State → Outcome) → CameTo mid new before after (f (state_of mid)) → CameTo old new before after (f (state_of old))
+  came_after {new} {before} {after} f came =
+      let there = subst (λ (s : State). CameTo mid new before after (f s)) same.state came in
+      record { state = there.state; effects = there.effects; step = there.step; dying = there.dying ∙ same.dying }

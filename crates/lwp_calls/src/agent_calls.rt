@@ -1,0 +1,112 @@
+// Calls on agents.
+ghost use Rattle.std.specs.Prelude.{◌≡◌, ◌<◌, ◌≤◌, false, Some, None, IfOk, IsErr, IsTrue, OnErr, OnOk, []};
+ghost use Rattle.death_cleanup.specs.Comes.{Answers, CameTo};
+ghost use Rattle.death_cleanup.specs.Ties.{InStep, LawfulParts};
+ghost use Rattle.death_cleanup.specs.View.{state_of};
+ghost use Rattle.lwp_types.specs.Agents.{agent_born, make_agent};
+ghost use Rattle.lwp_types.specs.Case.{listed};
+ghost use Rattle.lwp_types.specs.Families.{agent_call};
+ghost use Rattle.lwp_types.specs.State.{agent_numbers, still};
+ghost use Rattle.lwp_types.specs.Step.{case_of};
+ghost use Rattle.lwp_types.specs.declared.call.IdKind.TheVariants as kind;
+ghost use Rattle.agents.specs.Roster.{has_agent_for};
+ghost use Rattle.lwp_calls.specs.Asks.{HasAgentPlaces, asks_memory};
+ghost use Rattle.lwp_calls.specs.Comes.{IsAsBefore};
+
+use crate::asks::{next_count, thread_count};
+use death_cleanup::{Kind, Parts};
+use lwp_types::{AgentCall, Answer, IdKind, LwpErr, NoMemory, Tid};
+
+// Events are numbered from 1 to this.
+const MOST_EVENT: u32 = 31;
+
+// The most agents that live at once: one an event.
+const MOST_AGENTS: usize = 31;
+
+/// A call of this family.
+pub fn carry_out(parts: &mut Parts, tid: Tid, call: AgentCall) -> Result<Answer, NoMemory>
+    requires lawful { LawfulParts parts.old }
+    requires alone { parts.old.dying ≡ None }
+    ensures ok { IfOk result (λ own. Answers parts.old parts.new [] [] (case_of (state_of parts.old) tid (agent_call call)) own) }
+    ensures err { OnErr result (IsAsBefore parts.old parts.new) }
+    ensures memory { IsErr result → IsTrue (asks_memory (agent_call call)) }
+{
+    match call {
+        AgentCall::Create(event) => create(parts, tid, event),
+        AgentCall::List => list(parts),
+    }
+}
+
+// An agent of the caller, for an event that has none. What a delivery needs later is reserved now.
+fn create(parts: &mut Parts, caller: Tid, event: u32) -> Result<Answer, NoMemory>
+    requires lawful { LawfulParts parts.old }
+    requires alone { parts.old.dying ≡ None }
+    ensures ok { IfOk result (λ a. Answers parts.old parts.new [] [] (make_agent (state_of parts.old) caller event) a) }
+    ensures err { OnErr result (IsAsBefore parts.old parts.new) }
+{
+    if event == 0 || event > MOST_EVENT {
+        return Ok(Answer::Refused(LwpErr::InvalidArg));
+    }
+    let event = event as u8;
+    if parts.agents.agent_of(event).is_some() {
+        return Ok(Answer::Refused(LwpErr::InUse));
+    }
+    if parts.ids.births() >= parts.ids.limit() {
+        return Ok(Answer::Refused(LwpErr::NoRoom));
+    }
+    make_places(parts, event)?;
+    Ok(Answer::Thread(begin(parts, caller, event)))
+}
+
+// An agent begins. There are places for it.
+fn begin(parts: &mut Parts, caller: Tid, event: u8) -> Tid
+    requires lawful { LawfulParts parts.old }
+    requires alone { parts.old.dying ≡ None }
+    requires places { HasAgentPlaces parts.old }
+    requires births { parts.old.ids.births < parts.old.ids.limit }
+    requires least { 1 ≤ event }
+    requires most { event ≤ 31 }
+    requires free { has_agent_for parts.old.agents.agents event ≡ false }
+    ensures number { result ≡ parts.old.ids.births }
+    ensures came { CameTo parts.old parts.new [] [] (still (agent_born (state_of parts.old) caller event)) }
+{
+    let number = parts.ids.births();
+    let tid = Tid { number };
+    let _ = parts.ids.insert(Kind::Agent);
+    parts.agents.create(tid, event, caller);
+    tid
+}
+
+// Places for one agent more, of an event that has none, and for its letter.
+fn make_places(parts: &mut Parts, _event: u8) -> Result<(), NoMemory>
+    requires lawful { LawfulParts parts.old }
+    requires alone { parts.old.dying ≡ None }
+    requires births { parts.old.ids.births < parts.old.ids.limit }
+    requires least { 1 ≤ _event }
+    requires most { _event ≤ 31 }
+    requires free { has_agent_for parts.old.agents.agents _event ≡ false }
+    ensures ok { OnOk result (HasAgentPlaces parts.new) }
+    ensures as_before { IsAsBefore parts.old parts.new }
+    ensures births { parts.new.ids.births ≡ parts.old.ids.births }
+    ensures limit { parts.new.ids.limit ≡ parts.old.ids.limit }
+    ensures agents { parts.new.agents.agents ≡ parts.old.agents.agents }
+{
+    let count = thread_count(parts);
+    let living = next_count(&parts.ids);
+    parts.ids.reserve(living)?;
+    parts.agents.reserve(MOST_AGENTS)?;
+    parts.mail.reserve(count + MOST_AGENTS)?;
+    Ok(())
+}
+
+// The live agents.
+fn list(parts: &Parts) -> Result<Answer, NoMemory>
+    requires { InStep parts.now }
+    ensures { IfOk result (λ a. Answers parts.now parts.now [] [] (listed (state_of parts.now) kind.Thread (agent_numbers (state_of parts.now).agents)) a) }
+{
+    let list = parts.agents.list()?;
+    Ok(Answer::Ids {
+        kind: IdKind::Thread,
+        list,
+    })
+}

@@ -1,0 +1,136 @@
+// What several calls ask of the parts, and how a caller begins to wait.
+ghost use Rattle.std.specs.Prelude.{◌≡◌, ◌<◌, ◌+◌, false, length, IfOk, IsTrue, Some, None, []};
+ghost use Rattle.std.specs.List.{list_all, slice_get};
+ghost use Rattle.death_cleanup.specs.Comes.{CameTo};
+ghost use Rattle.death_cleanup.specs.Ties.{InStep, LawfulParts};
+ghost use Rattle.death_cleanup.specs.View.{state_of};
+ghost use Rattle.lwp_types.specs.Choice.{is_eligible_in, is_over};
+ghost use Rattle.lwp_types.specs.Letters.{receivers_of};
+ghost use Rattle.lwp_types.specs.State.{is_not_blocked, is_thread, numbers, priority_in, still};
+ghost use Rattle.lwp_types.specs.Unblock.{blocked};
+ghost use Rattle.lwp_calls.specs.Asks.{serves};
+
+use death_cleanup::{Awaited, Kind, Parts, set_block};
+use lwp_types::{Block, IdList, NoMemory, Tid};
+use stale_ids::Registry;
+use std::alloc::Global;
+
+/// The priority of a thread.
+pub fn prio_of(parts: &Parts, tid: Tid) -> u32
+    requires step { InStep parts.now }
+    requires alone { parts.now.dying ≡ None }
+    requires lives { IsTrue (is_thread (state_of parts.now) tid) }
+    ensures { result ≡ priority_in (state_of parts.now) tid }
+{
+    parts.sched.prio_of(tid)
+}
+
+/// Whether the thread may run.
+pub fn may_run(parts: &Parts, tid: Tid) -> bool
+    requires step { InStep parts.now }
+    requires alone { parts.now.dying ≡ None }
+    ensures { result ≡ is_eligible_in (state_of parts.now) tid }
+{
+    parts.sched.eligible(tid)
+}
+
+/// A thread that may run waits for something.
+pub fn block(parts: &mut Parts, tid: Tid, why: Block)
+    requires step { InStep parts.old }
+    requires alone { parts.old.dying ≡ None }
+    requires may_run { IsTrue (is_eligible_in (state_of parts.old) tid) }
+    requires waits { is_not_blocked why ≡ false }
+    ensures { CameTo parts.old parts.new [] [] (still (blocked (state_of parts.old) tid why)) }
+{
+    parts.sched.block(tid);
+    set_block(&mut parts.ids, tid, why);
+}
+
+// The `i`-th of the living, counted from the oldest.
+fn nth_of(ids: &Registry<Kind>, i: usize) -> (Tid, &Kind)
+    requires { i < length ids.now.live }
+    ensures { slice_get ids.now.live i ≡ Some (result.0, result.1.now) }
+{
+    let number = ids.nth(i);
+    let kind = ids.get(number).unwrap();
+    (Tid { number }, kind)
+}
+
+/// The live threads, in the order of birth.
+pub fn threads(parts: &Parts, alloc: Global) -> Result<IdList, NoMemory>
+    ensures { IfOk result (λ ids. ids ≡ numbers (state_of parts.now).threads) }
+{
+    let mut list = IdList::new(alloc);
+    for i in 0..parts.ids.len() {
+        let (tid, kind) = nth_of(&parts.ids, i);
+        match kind {
+            Kind::Thread(_) => list.push(tid.number)?,
+            Kind::Agent => {}
+        }
+    }
+    Ok(list)
+}
+
+/// The threads that wait for a letter of this one by name, in the order of birth.
+pub fn receivers(parts: &Parts, alloc: Global, from: Tid) -> Result<IdList, NoMemory>
+    ensures { IfOk result (λ ids. ids ≡ receivers_of (state_of parts.now) from) }
+{
+    let mut list = IdList::new(alloc);
+    for i in 0..parts.ids.len() {
+        let (tid, kind) = nth_of(&parts.ids, i);
+        if kind.waits_for(Awaited::Letter, from) {
+            list.push(tid.number)?;
+        }
+    }
+    Ok(list)
+}
+
+/// How many threads there are.
+pub fn thread_count(parts: &Parts) -> usize
+    requires lawful { LawfulParts parts.now }
+    requires alone { parts.now.dying ≡ None }
+    ensures value { result ≡ length (state_of parts.now).threads }
+    ensures known { result ≡ length parts.now.sched.threads }
+{
+    parts.sched.len()
+}
+
+/// How many live once one more does.
+pub fn next_count(ids: &Registry<Kind>) -> usize
+    requires { ids.now.births < ids.now.limit }
+    ensures { result ≡ length ids.now.live + 1 }
+{
+    // The check learns here that whoever lives was born, and that the limit is a number of 64 bits.
+    let (_births, _limit) = (ids.births(), ids.limit());
+    ids.len() + 1
+}
+
+/// Whether nobody may run, and whoever is left is a server.
+pub fn is_over(parts: &Parts) -> bool
+    ensures { result ≡ is_over (state_of parts.now) }
+{
+    parts.sched.current().is_none() && all_serve(parts)
+}
+
+// Whether the pod may end while it lives: an agent, or a thread that is a server.
+fn serves(kind: &Kind) -> bool
+    ensures { result ≡ serves kind.now }
+{
+    match kind {
+        Kind::Thread(rec) => rec.flags.server,
+        Kind::Agent => true,
+    }
+}
+
+// Whether all threads are servers.
+fn all_serve(parts: &Parts) -> bool
+    ensures { result ≡ list_all (λ row. row.flags.server) (state_of parts.now).threads }
+{
+    for i in 0..parts.ids.len() {
+        let (_, kind) = nth_of(&parts.ids, i);
+        if !serves(kind) {
+            return false;
+        }
+    }
+    true
+}

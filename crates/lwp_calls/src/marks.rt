@@ -1,0 +1,394 @@
+// Calls on the caller's stack: procedures, handlers, exit procedures.
+ghost use Rattle.std.specs.Prelude.{◌≡◌, ◌<◌, ◌≤◌, [], Some, None, IfOk, IfSome, IsErr, IsTrue, OnErr, OnOk, length, not};
+ghost use Rattle.std.specs.Result.{result_err};
+ghost use Rattle.death_cleanup.specs.Comes.{Answers};
+ghost use Rattle.death_cleanup.specs.Moves.{kind_marked, kind_marks};
+ghost use Rattle.death_cleanup.specs.Ties.{InStep, LawfulParts};
+ghost use Rattle.death_cleanup.specs.View.{state_of};
+ghost use Rattle.exc_stack.specs.Stack.{IsInReach, handlers_on_top, has_all_frames, is_full, refusal_on, settled_at, unhandled, with_frame, with_mark};
+ghost use Rattle.lwp_types.specs.Choice.{is_eligible_in};
+ghost use Rattle.lwp_types.specs.Death.{return_from};
+ghost use Rattle.lwp_types.specs.Exits.{caught, exc_notify, raise};
+ghost use Rattle.lwp_types.specs.Families.{mark_call};
+ghost use Rattle.lwp_types.specs.Marks.{bound, call_procedure, check_pattern, found, found_in, frames, handle, is_no_pattern, on_exit, unhandle, unique_pattern};
+ghost use Rattle.lwp_types.specs.State.{marks_in};
+ghost use Rattle.lwp_types.specs.Step.{case_of};
+ghost use Rattle.lwp_types.specs.declared.rows.Mark.TheVariants as Mark;
+ghost use Rattle.lwp_calls.specs.Asks.{asks_memory};
+ghost use Rattle.lwp_calls.specs.Comes.{ComesTo, IsAsBefore};
+
+use death_cleanup::{Kind, Parts, die, leave_frames};
+use lwp_types::{Answer, Effects, ExitCall, Found, Func, LwpErr, MarkCall, NoMemory, Pattern, Tid};
+
+// The greatest number of an exception, and as many exit procedures as may ever be set.
+const MOST_PATTERN: u32 = 2_147_483_647;
+
+const MOST_REGISTRATIONS: u64 = 4_294_967_295;
+
+/// A call of this family.
+pub fn carry_out(
+    parts: &mut Parts,
+    tid: Tid,
+    call: MarkCall,
+    effects: &mut Effects,
+) -> Result<Option<Answer>, NoMemory>
+    requires lawful { LawfulParts parts.old }
+    requires alone { parts.old.dying ≡ None }
+    requires may_run { IsTrue (is_eligible_in (state_of parts.old) tid) }
+    requires room { length effects.old ≤ 1 }
+    ensures ok { IfOk result (λ own. ComesTo parts.old parts.new effects.old effects.new (case_of (state_of parts.old) tid (mark_call call)) own) }
+    ensures most { length effects.new ≤ 1280 }
+    ensures err { OnErr result (IsAsBefore parts.old parts.new) }
+    ensures memory { IsErr result → IsTrue (asks_memory (mark_call call)) }
+{
+    let own = match call {
+        MarkCall::CallProc(number) => Some(call_procedure(parts, tid, number)?),
+        MarkCall::Return => return_from(parts, tid, effects),
+        MarkCall::Handle(pattern, func, arg) => Some(handle(parts, tid, pattern, func, arg)?),
+        MarkCall::Unhandle => Some(unhandle(parts, tid)),
+        MarkCall::OnExit(exit) => Some(on_exit(parts, tid, &exit)?),
+        MarkCall::Raise(pattern) => Some(raise(parts, tid, pattern, effects)),
+        MarkCall::ExcNotify(pattern) => Some(notify(parts, tid, pattern, effects)),
+        MarkCall::Bound(pattern) => Some(bound(parts, tid, pattern)),
+        MarkCall::UniqPatt => Some(unique_pattern(parts)),
+    };
+    Ok(own)
+}
+
+// A procedure more on a stack. The answer is false where there is no room for its frame.
+fn enter_frame(kind: &mut Kind) -> Result<bool, NoMemory>
+    requires { 0 < length (kind_marks (Some kind.old)) }
+    ensures room { IfOk result (λ entered. entered ≡ not (has_all_frames (kind_marks (Some kind.old)))) }
+    ensures ok { OnOk result (kind.new ≡ kind_marked (with_frame (kind_marks (Some kind.old))) kind.old) }
+    ensures err { OnErr result (kind.new ≡ kind.old) }
+{
+    match kind {
+        Kind::Thread(rec) => rec.stack.enter_frame(),
+        Kind::Agent => Ok(false),
+    }
+}
+
+// A handler more on a stack. The answer is false where there is no room for it.
+fn set_handler(kind: &mut Kind, pattern: Pattern, func: Func, arg: u32) -> Result<bool, NoMemory>
+    requires { 0 < length (kind_marks (Some kind.old)) }
+    ensures room { IfOk result (λ set. set ≡ not (is_full (kind_marks (Some kind.old)))) }
+    ensures ok { OnOk result (kind.new ≡ kind_marked (with_mark (Mark.Handler pattern func arg) (kind_marks (Some kind.old))) kind.old) }
+    ensures err { OnErr result (kind.new ≡ kind.old) }
+{
+    match kind {
+        Kind::Thread(rec) => rec.stack.handle(pattern, func, arg),
+        Kind::Agent => Ok(false),
+    }
+}
+
+// An exit procedure more on a stack. The answer is false where there is no room for it.
+fn set_exit(kind: &mut Kind, reg: u64, exit: ExitCall) -> Result<bool, NoMemory>
+    requires { 0 < length (kind_marks (Some kind.old)) }
+    ensures room { IfOk result (λ set. set ≡ not (is_full (kind_marks (Some kind.old)))) }
+    ensures ok { OnOk result (kind.new ≡ kind_marked (with_mark (Mark.Exit reg exit) (kind_marks (Some kind.old))) kind.old) }
+    ensures err { OnErr result (kind.new ≡ kind.old) }
+{
+    match kind {
+        Kind::Thread(rec) => rec.stack.on_exit(reg, exit),
+        Kind::Agent => Ok(false),
+    }
+}
+
+// Takes the topmost handler of a stack back, if nothing was set above it.
+fn take_handler(kind: &mut Kind) -> Result<(), LwpErr>
+    requires { 0 < length (kind_marks (Some kind.old)) }
+    ensures refusal { result_err result ≡ refusal_on (kind_marks (Some kind.old)) }
+    ensures after { kind.new ≡ kind_marked (unhandled (kind_marks (Some kind.old))) kind.old }
+{
+    match kind {
+        Kind::Thread(rec) => rec.stack.unhandle(),
+        Kind::Agent => Err(LwpErr::NonExist),
+    }
+}
+
+// The handler of a stack that catches an exception of this number.
+fn found_on(kind: &Kind, pattern: u32) -> Option<Found>
+    requires { 0 < length (kind_marks (Some kind.now)) }
+    ensures value { result ≡ found_in pattern (kind_marks (Some kind.now)) }
+    ensures in_reach { IfSome result (IsInReach (kind_marks (Some kind.now))) }
+{
+    match kind {
+        Kind::Thread(rec) => rec.stack.find(pattern),
+        Kind::Agent => None,
+    }
+}
+
+// Whether it is no number of an exception.
+fn is_no_pattern(pattern: u32) -> bool
+    ensures { result ≡ (is_no_pattern pattern).0 }
+{
+    pattern == 0 || pattern > MOST_PATTERN
+}
+
+// A frame more.
+fn call_procedure(parts: &mut Parts, tid: Tid, number: u32) -> Result<Answer, NoMemory>
+    requires lawful { LawfulParts parts.old }
+    requires alone { parts.old.dying ≡ None }
+    requires may_run { IsTrue (is_eligible_in (state_of parts.old) tid) }
+    ensures ok { IfOk result (λ a. Answers parts.old parts.new [] [] (call_procedure (state_of parts.old) tid number) a) }
+    ensures err { OnErr result (IsAsBefore parts.old parts.new) }
+{
+    if number >= parts.procs {
+        return Ok(Answer::Refused(LwpErr::InvalidArg));
+    }
+    let Some(kind) = parts.ids.get_mut(tid.number) else {
+        return Ok(Answer::Refused(LwpErr::NonExist));
+    };
+    let entered = enter_frame(kind)?;
+    if !entered {
+        return Ok(Answer::Refused(LwpErr::NoRoom));
+    }
+    Ok(Answer::Value(0))
+}
+
+// Whether a handler can't be set for this pattern.
+fn is_bad(pattern: Pattern) -> bool
+    ensures { result ≡ (check_pattern pattern).0 }
+{
+    match pattern {
+        Pattern::All => false,
+        Pattern::Num(number) => is_no_pattern(number),
+    }
+}
+
+// A handler more, in the present frame.
+fn handle(
+    parts: &mut Parts,
+    tid: Tid,
+    pattern: Pattern,
+    func: Func,
+    arg: u32,
+) -> Result<Answer, NoMemory>
+    requires lawful { LawfulParts parts.old }
+    requires alone { parts.old.dying ≡ None }
+    requires may_run { IsTrue (is_eligible_in (state_of parts.old) tid) }
+    ensures ok { IfOk result (λ a. Answers parts.old parts.new [] [] (handle (state_of parts.old) tid pattern func arg) a) }
+    ensures err { OnErr result (IsAsBefore parts.old parts.new) }
+{
+    if is_bad(pattern) {
+        return Ok(Answer::Refused(LwpErr::InvalidArg));
+    }
+    let Some(kind) = parts.ids.get_mut(tid.number) else {
+        return Ok(Answer::Refused(LwpErr::NonExist));
+    };
+    let set = set_handler(kind, pattern, func, arg)?;
+    if !set {
+        return Ok(Answer::Refused(LwpErr::NoRoom));
+    }
+    Ok(Answer::Value(0))
+}
+
+// The topmost mark goes, if it is a handler.
+fn unhandle(parts: &mut Parts, tid: Tid) -> Answer
+    requires lawful { LawfulParts parts.old }
+    requires alone { parts.old.dying ≡ None }
+    requires may_run { IsTrue (is_eligible_in (state_of parts.old) tid) }
+    ensures { Answers parts.old parts.new [] [] (unhandle (state_of parts.old) tid) result }
+{
+    let Some(kind) = parts.ids.get_mut(tid.number) else {
+        return Answer::Refused(LwpErr::NonExist);
+    };
+    match take_handler(kind) {
+        Ok(()) => Answer::Value(0),
+        Err(err) => Answer::Refused(err),
+    }
+}
+
+// An exit procedure more, in the present frame; the answer is its number.
+fn on_exit(parts: &mut Parts, tid: Tid, exit: &ExitCall) -> Result<Answer, NoMemory>
+    requires lawful { LawfulParts parts.old }
+    requires alone { parts.old.dying ≡ None }
+    requires may_run { IsTrue (is_eligible_in (state_of parts.old) tid) }
+    ensures ok { IfOk result (λ a. Answers parts.old parts.new [] [] (on_exit (state_of parts.old) tid exit.now) a) }
+    ensures err { OnErr result (IsAsBefore parts.old parts.new) }
+{
+    let reg = parts.registration;
+    if reg >= MOST_REGISTRATIONS {
+        return Ok(Answer::Refused(LwpErr::NoRoom));
+    }
+    let Some(kind) = parts.ids.get_mut(tid.number) else {
+        return Ok(Answer::Refused(LwpErr::NonExist));
+    };
+    let set = set_exit(kind, reg, *exit)?;
+    if !set {
+        return Ok(Answer::Refused(LwpErr::NoRoom));
+    }
+    parts.registration = reg + 1;
+    Ok(Answer::Value(reg as i64))
+}
+
+// The handler by which the thread catches an exception of this number.
+fn found(parts: &Parts, tid: Tid, pattern: u32) -> Option<Found>
+    requires lawful { LawfulParts parts.now }
+    requires alone { parts.now.dying ≡ None }
+    requires may_run { IsTrue (is_eligible_in (state_of parts.now) tid) }
+    ensures value { result ≡ found (state_of parts.now) tid pattern }
+    ensures in_reach { IfSome result (IsInReach (marks_in (state_of parts.now) tid)) }
+{
+    // The check learns here that the living stand in birth order, so that a number finds one of them.
+    let _living = parts.ids.len();
+    let Some(kind) = parts.ids.get(tid.number) else {
+        return None;
+    };
+    found_on(kind, pattern)
+}
+
+// What the handler was set with.
+fn bound(parts: &Parts, tid: Tid, pattern: u32) -> Answer
+    requires lawful { LawfulParts parts.now }
+    requires alone { parts.now.dying ≡ None }
+    requires may_run { IsTrue (is_eligible_in (state_of parts.now) tid) }
+    ensures { Answers parts.now parts.now [] [] (bound (state_of parts.now) tid pattern) result }
+{
+    if is_no_pattern(pattern) {
+        return Answer::Refused(LwpErr::InvalidArg);
+    }
+    let Some(handler) = found(parts, tid, pattern) else {
+        return Answer::Refused(LwpErr::NonExist);
+    };
+    Answer::Bound {
+        func: handler.func,
+        arg: handler.arg,
+    }
+}
+
+// A number of an exception that was never given before.
+fn unique_pattern(parts: &mut Parts) -> Answer
+    requires step { InStep parts.old }
+    ensures { Answers parts.old parts.new [] [] (unique_pattern (state_of parts.old)) result }
+{
+    let pattern = parts.pattern;
+    if pattern > MOST_PATTERN {
+        return Answer::Refused(LwpErr::NoRoom);
+    }
+    parts.pattern = pattern + 1;
+    Answer::Value(i64::from(pattern))
+}
+
+// How many procedures are on a stack.
+fn frames_on(kind: &Kind) -> u32
+    ensures { result ≡ frames (kind_marks (Some kind.now)) }
+{
+    match kind {
+        Kind::Thread(rec) => rec.stack.frames(),
+        Kind::Agent => 0,
+    }
+}
+
+// How many procedures the thread is in.
+fn frames(parts: &Parts, tid: Tid) -> u32
+    requires lawful { LawfulParts parts.now }
+    requires alone { parts.now.dying ≡ None }
+    requires may_run { IsTrue (is_eligible_in (state_of parts.now) tid) }
+    ensures { result ≡ frames (marks_in (state_of parts.now) tid) }
+{
+    // The check learns here that the living stand in birth order, so that a number finds one of them.
+    let _living = parts.ids.len();
+    let Some(kind) = parts.ids.get(tid.number) else {
+        return 0;
+    };
+    frames_on(kind)
+}
+
+// The topmost frame goes, or the caller dies.
+fn return_from(parts: &mut Parts, tid: Tid, effects: &mut Effects) -> Option<Answer>
+    requires lawful { LawfulParts parts.old }
+    requires alone { parts.old.dying ≡ None }
+    requires may_run { IsTrue (is_eligible_in (state_of parts.old) tid) }
+    requires room { length effects.old ≤ 1 }
+    ensures comes { ComesTo parts.old parts.new effects.old effects.new (return_from (state_of parts.old) tid) result }
+    ensures most { length effects.new ≤ 1280 }
+{
+    let count = frames(parts, tid);
+    if count < 2 {
+        die(parts, tid, effects);
+        return None;
+    }
+    leave_frames(parts, tid, count - 1, effects);
+    Some(Answer::Value(0))
+}
+
+// In the topmost frame of a stack, the handlers from this number on go.
+fn settle(kind: &mut Kind, mark: u32)
+    requires { mark < handlers_on_top (kind_marks (Some kind.old)) }
+    ensures { kind.new ≡ kind_marked (settled_at mark (kind_marks (Some kind.old))) kind.old }
+{
+    match kind {
+        Kind::Thread(rec) => rec.stack.settle(mark),
+        Kind::Agent => {}
+    }
+}
+
+// The exception is caught: the stack is cut back to the handler's frame, and the handler goes.
+fn catch(
+    parts: &mut Parts,
+    tid: Tid,
+    pattern: u32,
+    handler: Found,
+    effects: &mut Effects,
+) -> Answer
+    requires lawful { LawfulParts parts.old }
+    requires alone { parts.old.dying ≡ None }
+    requires may_run { IsTrue (is_eligible_in (state_of parts.old) tid) }
+    requires reach { IsInReach (marks_in (state_of parts.old) tid) handler }
+    requires room { length effects.old ≤ 1 }
+    ensures comes { Answers parts.old parts.new effects.old effects.new (caught (state_of parts.old) tid pattern handler) result }
+    ensures most { length effects.new ≤ 1280 }
+{
+    let answer = Answer::Caught {
+        depth: handler.depth,
+        mark: handler.mark,
+        pattern,
+    };
+    leave_frames(parts, tid, handler.depth, effects);
+    let Some(kind) = parts.ids.get_mut(tid.number) else {
+        return answer;
+    };
+    settle(kind, handler.mark);
+    answer
+}
+
+// The caller goes on where the handler was set.
+fn raise(parts: &mut Parts, tid: Tid, pattern: u32, effects: &mut Effects) -> Answer
+    requires lawful { LawfulParts parts.old }
+    requires alone { parts.old.dying ≡ None }
+    requires may_run { IsTrue (is_eligible_in (state_of parts.old) tid) }
+    requires room { length effects.old ≤ 1 }
+    ensures comes { Answers parts.old parts.new effects.old effects.new (raise (state_of parts.old) tid pattern) result }
+    ensures most { length effects.new ≤ 1280 }
+{
+    if is_no_pattern(pattern) {
+        return Answer::Refused(LwpErr::InvalidArg);
+    }
+    let Some(handler) = found(parts, tid, pattern) else {
+        return Answer::Refused(LwpErr::NonExist);
+    };
+    catch(parts, tid, pattern, handler, effects)
+}
+
+// The same, but the handler may answer in place of catching.
+fn notify(parts: &mut Parts, tid: Tid, pattern: u32, effects: &mut Effects) -> Answer
+    requires lawful { LawfulParts parts.old }
+    requires alone { parts.old.dying ≡ None }
+    requires may_run { IsTrue (is_eligible_in (state_of parts.old) tid) }
+    requires room { length effects.old ≤ 1 }
+    ensures comes { Answers parts.old parts.new effects.old effects.new (exc_notify (state_of parts.old) tid pattern) result }
+    ensures most { length effects.new ≤ 1280 }
+{
+    if is_no_pattern(pattern) {
+        return Answer::Refused(LwpErr::InvalidArg);
+    }
+    let Some(handler) = found(parts, tid, pattern) else {
+        return Answer::Refused(LwpErr::NonExist);
+    };
+    match handler.func {
+        Func::Give => Answer::Value(i64::from(handler.arg)),
+        Func::Sum => Answer::Value(i64::from(handler.arg) + i64::from(pattern)),
+        Func::Nothing => catch(parts, tid, pattern, handler, effects),
+    }
+}
