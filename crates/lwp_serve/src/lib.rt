@@ -24,7 +24,6 @@ pub use session::{Session, SessionEnd, Taken};
 pub use source::SCRIPT_MAX;
 pub use texts::fault_text;
 
-
 #[cfg(test)]
 mod letter_tests;
 #[cfg(test)]
