@@ -24,6 +24,5 @@ pub use session::{Session, SessionEnd, Taken};
 pub use source::SCRIPT_MAX;
 pub use texts::fault_text;
 
-
 #[cfg(test)]
 mod tests;

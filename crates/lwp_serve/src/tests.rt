@@ -126,7 +126,10 @@ fn names_the_first_bad_line(rt: HostRuntime) -> Result<(), Fail> {
         let mut source = MemSource::new(script.to_vec(alloc)?, Vec::new(alloc));
         let mut sink = MemSink::new(alloc, 4096, 4, Vec::new(alloc))?;
         let session = plan_main(alloc, 100, &mut source, &mut sink);
-        assert!(rt; session.end == SessionEnd::Script { line, reason }, "line {line}");
+        assert!(rt;
+            session.end == SessionEnd::Script { line, reason },
+            "line {line}"
+        );
         assert!(rt; sink.bytes().is_empty());
     }
     Ok(())

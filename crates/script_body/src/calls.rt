@@ -39,7 +39,9 @@ fn exit_call_of(texts: &Texts, sender: Tid, env: &Env, exit: &ExitStmt) -> ExitC
             tid: who_id(sender, env, *who),
         },
         ExitStmt::SetExit { code } => ExitCall::SetExit { code: *code },
-        ExitStmt::Note { text } => ExitCall::Note { text: texts.get(*text as usize) },
+        ExitStmt::Note { text } => ExitCall::Note {
+            text: texts.get(*text as usize),
+        },
     }
 }
 

@@ -1,5 +1,5 @@
 -- How a text begins: with a line that has ended, or with none.
-use Rattle.std.proofs.Common.{◌≡◌, ◌<◌, ◌≤◌, ◌-◌, ◌+◌, arith, ℕ, zero, suc, true, false, cond, eqb, fold, List, [], ◌∷◌, ◌++◌, length, take, take_all, drop, refl, sym, ap, subst, ◌∙◌, append_assoc}
+use Rattle.std.proofs.Common.{◌≡◌, ◌<◌, ◌-◌, ◌+◌, arith, ℕ, zero, suc, true, false, cond, eqb, fold, List, [], ◌∷◌, ◌++◌, length, take, take_all, drop, refl, sym, ap, ◌∙◌}
 use Rattle.std.proofs.lemmas.List.{length-drop}
 use Rattle.memchr.specs.Find.{Nowhere, NoneBefore, Passes, is_byte}
 use Rattle.script_text.specs.Words.{reach}

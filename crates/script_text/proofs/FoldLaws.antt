@@ -1,5 +1,5 @@
 -- What a reader answers at the end is the verdict on the lines.
-use Rattle.std.proofs.Common.{◌≡◌, ℕ, suc, ◌+◌, ◌≤◌, true, false, ◌&&◌, cond, List, [], ◌∷◌, ◌++◌, length, fold, Option, Some, None, Result, Ok, Err, refl, sym, ap, subst, ◌∙◌, arith, append_assoc}
+use Rattle.std.proofs.Common.{◌≡◌, ℕ, suc, ◌+◌, ◌≤◌, true, false, ◌&&◌, cond, List, [], ◌∷◌, ◌++◌, length, fold, Option, Some, None, Result, Ok, Err, refl, sym, ap, subst, ◌∙◌, arith}
 use Rattle.lwp_types.specs.TextFields.{is_printable}
 use Rattle.script_text.specs.declared.table.Op.{Op}
 use Rattle.script_text.specs.declared.table.Op.TheVariants as op
@@ -11,16 +11,15 @@ use Rattle.script_text.specs.declared.stage.Stage.{Stage}
 use Rattle.script_text.specs.declared.stage.Stage.TheVariants as stages
 use Rattle.script_text.specs.declared.reason.Reason.{Reason}
 use Rattle.script_text.specs.declared.reason.Reason.TheVariants as reason
-use Rattle.script_text.specs.declared.reason.ReadErr.{ReadErr}
 use Rattle.script_text.specs.declared.draft.Draft.{Draft}
 use Rattle.script_text.specs.declared.reader.Mention.{Mention}
 use Rattle.script_text.specs.declared.reader.Reader.{Reader}
 use Rattle.script_text.specs.declared.script.Script.{Script}
 use Rattle.script_text.specs.Table.{role_of, starts, starts_any}
-use Rattle.script_text.specs.Reading.{first_word, phrase_at}
-use Rattle.script_text.specs.Grammar.{follows, keeps_rule, declares, declared_of, posted_of, nothing, has, stage_after, stage_of, may_stand, is_declared}
+use Rattle.script_text.specs.Reading.{phrase_at}
+use Rattle.script_text.specs.Grammar.{follows, keeps_rule, declared_of, posted_of, nothing, has, stage_after, stage_of, may_stand, is_declared}
 use Rattle.script_text.specs.Meaning.{added}
-use Rattle.script_text.specs.Spelling.{cut, word_reason, reason_behind, reason_at, judge_said, judge, at_line, read_on, noted, declared_in, whole, finish, verdict_by, Gives}
+use Rattle.script_text.specs.Spelling.{reason_behind, reason_at, judge_said, judge, at_line, read_on, noted, declared_in, finish, verdict_by}
 use Rattle.script_text.specs.Track.{judge_told, judge_alone, mention_of, took, judged, knows, step, start, first_missing, answer_by, answer_at}
 use Rattle.script_text.proofs.WordLemmas.{both}
 use Rattle.script_text.proofs.PhraseLaws.{phrase_found}

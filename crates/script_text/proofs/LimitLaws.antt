@@ -1,5 +1,5 @@
 -- A script that is read is within the limits of a pod.
-use Rattle.std.proofs.Common.{◌≡◌, ℕ, suc, ◌+◌, ◌^◌, ◌<◌, ◌≤◌, Bool, true, false, not, ◌&&◌, cond, leb, List, [], ◌∷◌, ◌++◌, length, fold, Option, Some, None, Result, Ok, Err, refl, sym, ap, subst, ◌∙◌, arith, append_assoc, length-append}
+use Rattle.std.proofs.Common.{◌≡◌, ℕ, suc, ◌+◌, ◌^◌, ◌<◌, ◌≤◌, Bool, true, false, not, ◌&&◌, cond, leb, List, [], ◌∷◌, ◌++◌, length, fold, Option, Some, None, Result, Ok, Err, refl, sym, ap, subst, arith, append_assoc, length-append}
 use Rattle.std.specs.Prelude.{IfOk, option_to_list}
 use Rattle.std.specs.List.{AllByRecursion}
 use Rattle.std.proofs.lemmas.Bool.{leb-true}
@@ -21,7 +21,7 @@ use Rattle.script_text.specs.Phrase.{Phrase}
 use Rattle.script_text.specs.Table.{role_of, slots_of}
 use Rattle.script_text.specs.Grammar.{phrase_text, SlotFits, IsPhrase, IsLine, declared_of, posted_of, opened, stage_after, stage_of, follows, keeps_rule, may_stand, AllStand, spelling, SpelledBy, Spells}
 use Rattle.script_text.specs.Limits.{IsWithinLimits}
-use Rattle.script_text.specs.Meaning.{contains_name, is_some_text, enter, statement_of, grown, pushed, native_kind, empty_draft, closed, named, places_of, entered, added_at, added, draft_of, script_of}
+use Rattle.script_text.specs.Meaning.{contains_name, is_some_text, enter, statement_of, grown, pushed, native_kind, empty_draft, named, places_of, entered, added_at, added, draft_of, script_of}
 use Rattle.script_text.proofs.WordLemmas.{both}
 use Rattle.script_text.proofs.TrackLaws.{fold_push, stage_push}
 

@@ -1,5 +1,5 @@
 -- What a reader of pieces knows after one more piece, and at the end.
-use Rattle.std.proofs.Common.{◌≡◌, ℕ, ◌+◌, ◌-◌, ◌≤◌, ◌<◌, true, false, ltb, fold, List, [], ◌∷◌, ◌++◌, length, Result, Ok, Err, refl, sym, ap, subst, ◌∙◌, arith, length-append}
+use Rattle.std.proofs.Common.{◌≡◌, ℕ, ◌+◌, ◌-◌, ◌≤◌, ◌<◌, true, false, fold, List, ◌++◌, length, Result, Err, sym, ap, subst, ◌∙◌, arith, length-append}
 use Rattle.std.proofs.lemmas.Bool.{le-ltb, lt-ltb, ltb-true, ltb-false}
 use Rattle.script_text.specs.declared.pieces.ScriptReader.{ScriptReader}
 use Rattle.script_text.specs.declared.reason.Reason.TheVariants as reason
@@ -8,7 +8,7 @@ use Rattle.script_text.specs.declared.reason.ReadErr.{ReadErr}
 use Rattle.script_text.specs.declared.script.Script.{Script}
 use Rattle.script_text.specs.Pieces.{IsTail, HasRead}
 use Rattle.script_text.specs.Spelling.{cut, verdict, Gives}
-use Rattle.script_text.specs.Track.{start, step, answer_at}
+use Rattle.script_text.specs.Track.{step, answer_at}
 use Rattle.script_text.proofs.CutLaws.{tail_of_cut, piece_lines, piece_tail}
 use Rattle.script_text.proofs.FoldLaws.{verdict_folds}
 use Rattle.script_text.proofs.ScriptLaws.{verdict_long, verdict_short}

@@ -1,7 +1,6 @@
 -- What a line that says something is besides: printable, and it declares what its phrase does.
-use Rattle.std.proofs.Common.{◌≡◌, ℕ, suc, ◌≤◌, ◌<◌, ◌^◌, Bool, true, false, not, ◌&&◌, cond, eqb, ltb, leb, List, [], ◌∷◌, ◌++◌, length, take, drop, Some, None, refl, sym, ap, subst, ◌∙◌, arith, inl, inr, length-append}
-use Rattle.std.specs.Prelude.{Option, option_map, codes}
-use Rattle.std.specs.List.{flat_map, AllByRecursion, list_all}
+use Rattle.std.proofs.Common.{◌≡◌, ℕ, ◌<◌, ◌^◌, Bool, true, false, ◌&&◌, eqb, ltb, leb, List, [], ◌∷◌, ◌++◌, length, Some, None, refl, sym, ap, subst, ◌∙◌, arith, inl, inr, length-append}
+use Rattle.std.specs.List.{flat_map, AllByRecursion}
 use Rattle.std.specs.Str.{all_ascii_digits}
 use Rattle.std.specs.Char.{is_ascii_digit}
 use Rattle.std.specs.Fmt.{decimal}
@@ -19,7 +18,6 @@ use Rattle.lwp_types.specs.declared.call.Mode.TheVariants as mode
 use Rattle.lwp_types.specs.declared.call.Pattern.{Pattern}
 use Rattle.lwp_types.specs.declared.call.Pattern.TheVariants as pattern
 use Rattle.script_text.specs.declared.reader.Declared.{Declared}
-use Rattle.script_text.specs.declared.reason.Reason.{Reason}
 use Rattle.script_text.specs.declared.script.Test.{Test}
 use Rattle.script_text.specs.declared.script.Test.TheVariants as test
 use Rattle.script_text.specs.declared.table.Kind.{Kind}
@@ -33,7 +31,7 @@ use Rattle.script_text.specs.Words.{is_name, reach}
 use Rattle.script_text.specs.Table.{key_of, role_of, slots_of, starts}
 use Rattle.script_text.specs.Lines.{spaced, flags_text, mode_text, pattern_text, func_text}
 use Rattle.script_text.specs.Grammar.{who_text, built_text, test_text, SourceFits, TestFits, PatternFits, BuiltFits, slot_text, phrase_text, SlotFits, IsPhrase, declares}
-use Rattle.script_text.specs.Reading.{flags_by, first_word, only_name, spaced_word, phrase_at}
+use Rattle.script_text.specs.Reading.{flags_by, first_word, spaced_word, phrase_at}
 use Rattle.script_text.specs.Spelling.{word_reason, noted}
 use Rattle.script_text.proofs.WordLemmas.{both, reach-append, name_is_text, own}
 use Rattle.script_text.proofs.PhraseLaws.{on_all, phrase_found, slots_stop, stops_there, name_is_whole, who_is_source}

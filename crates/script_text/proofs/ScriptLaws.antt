@@ -16,7 +16,7 @@ use Rattle.script_text.specs.Table.{role_of}
 use Rattle.script_text.specs.Reading.{phrase_at}
 use Rattle.script_text.specs.Meaning.{script_of}
 use Rattle.script_text.specs.Grammar.{phrase_text, IsLine, declares, declared_of, nothing, may_stand, is_declared, AllStand, ended, spelling, SpelledBy, Spells}
-use Rattle.script_text.specs.Spelling.{onto_first, cut, reason_at, judge_said, judge, at_line, read_on, noted, declared_in, whole, finish, verdict_by, verdict, Gives, IsReadAs}
+use Rattle.script_text.specs.Spelling.{onto_first, cut, reason_at, judge_said, judge, at_line, read_on, noted, declared_in, finish, verdict_by, verdict, Gives, IsReadAs}
 use Rattle.script_text.proofs.WordLemmas.{both}
 use Rattle.script_text.proofs.PhraseLaws.{phrase_found, phrase_again, phrase_needed}
 use Rattle.script_text.proofs.SaidLaws.{phrase_is_printable, said_declares}

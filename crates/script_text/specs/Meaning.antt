@@ -1,5 +1,5 @@
 -- The script that lines say.
-use Rattle.std.specs.Prelude.{ℕ, zero, suc, Bool, true, false, not, codes, ◌&&◌, ◌==◌, List, [], ◌∷◌, ◌++◌, length, Option, Some, None, fold, if◌then◌else◌, option_map, option_to_list, slice_index_or}
+use Rattle.std.specs.Prelude.{ℕ, zero, suc, Bool, false, not, ◌&&◌, ◌==◌, List, [], ◌∷◌, ◌++◌, length, Option, Some, None, fold, if◌then◌else◌, option_map, option_to_list, slice_index_or}
 use Rattle.std.specs.List.{list_any}
 use Rattle.std.specs.Str.{bytes_eq}
 use Rattle.lwp_types.specs.TextFields.{is_text}

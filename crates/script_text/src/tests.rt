@@ -53,22 +53,24 @@ fn reads_what_the_lines_say(rt: HostRuntime) -> Result<(), Fail> {
         return Err("two procedures".into());
     };
     assert_eq!(rt; (main.name, worker.name, script.maxpri), (0, 1, 1));
-    assert!(rt;
-        matches!(
-            main.stmts.as_slice(),
-            [
-                Stmt::Create {
-                    name: 0,
-                    proc: 1,
-                    prio: 1,
-                    ..
-                },
-                Stmt::Yield { to: Who::Me }
-            ]
-        )
-    );
-    assert!(rt; matches!(worker.stmts.as_slice(), [Stmt::Say { text: 0 }]));
-    assert_eq!(rt; script.texts.get(0).bytes(), b"hi".as_slice());
+    let [
+        Stmt::Create {
+            name,
+            proc,
+            prio,
+            ..
+        },
+        Stmt::Yield { to },
+    ] = main.stmts.as_slice()
+    else {
+        return Err("create and yield".into());
+    };
+    assert_eq!(rt; (*name, *proc, *prio), (0, 1, 1));
+    assert!(rt; matches!(to, Who::Me));
+    let [Stmt::Say { text }] = worker.stmts.as_slice() else {
+        return Err("say".into());
+    };
+    assert_eq!(rt; script.texts.get(*text as usize).bytes(), b"hi".as_slice());
     assert!(rt; size_of::<Stmt>() <= 24);
     Ok(())
 }
@@ -211,29 +213,12 @@ fn reads_every_row(rt: HostRuntime) -> Result<(), Fail> {
         (script.clients.len(), script.natives.len(), script.births),
         (2, 2, 7)
     );
-    let posts = script.posts.as_slice();
-    assert!(rt;
-        matches!(
-            posts,
-            [
-                Post {
-                    client: 0,
-                    seq: 0,
-                    ..
-                },
-                Post {
-                    client: 1,
-                    seq: 0,
-                    ..
-                },
-                Post {
-                    client: 0,
-                    seq: 1,
-                    text: 9
-                }
-            ]
-        )
-    );
+    let [first, second, third] = script.posts.as_slice() else {
+        return Err("three posts".into());
+    };
+    assert_eq!(rt; (first.client, first.seq, first.text), (0, 0, 7));
+    assert_eq!(rt; (second.client, second.seq, second.text), (1, 0, 8));
+    assert_eq!(rt; (third.client, third.seq, third.text), (0, 1, 9));
     assert_eq!(rt; script.texts.get(9).bytes(), b" b".as_slice());
     Ok(())
 }

@@ -1,4 +1,4 @@
-use Rattle.std.proofs.Common.{◌≤◌, ◌-◌, ◌+◌, length, refl, ap, arith, rules, ◌∙◌}
+use Rattle.std.proofs.Common.{◌≤◌, ◌-◌, ◌+◌, length, refl, ap, rules, ◌∙◌}
 use Rattle.script_text.specs.declared.pieces.ScriptReader.{ScriptReader}
 use Rattle.script_text.proofs.PieceLaws.{feeds}
 use Rattle.script_text.proofs.pieces.ScriptReader.feed.Goals as goal

@@ -1,5 +1,4 @@
 use Rattle.std.proofs.Common.{◌≡◌, ◌++◌, ◌∷◌, [], ap, rules, length, ◌∙◌, List, ℕ}
-use Rattle.script_text.specs.Parts.{texts_in}
 use Rattle.script_text.proofs.TextLaws.{texts_push, within_push, are_push, within_bytes, are_bytes}
 use Rattle.script_text.proofs.texts.Texts.push.Goals as goal
 
