@@ -38,22 +38,6 @@ Puts-gone n es es' is = record {
   others = λ m differs. rw is (ap (option_map (λ (e : Place). e.slot)) (find_kept n m es differs));
 }
 
-not_longer : (n : ℕ) (es : List Place) → length (without_entry n es) ≤ length es
-not_longer n [] = omega arith
-not_longer n (e ∷ es) = by_test (eqb e.number n) (not_longer n es)
-  where
-    by_test : (t : Bool) → length (without_entry n es) ≤ length es → length (cond (not t) (e ∷ without_entry n es) (without_entry n es)) ≤ length (e ∷ es)
-    by_test true rest = omega arith
-    by_test false rest = omega arith
-
-pub shorter_gone : (n : ℕ) (es : List Place) → IsSome (slot_in es n) → length (without_entry n es) + 1 ≤ length es
-shorter_gone n [] some = absurd (cc)
-shorter_gone n (e ∷ es) some = by_test (eqb e.number n) (not_longer n es) (shorter_gone n es) some
-  where
-    by_test : (t : Bool) → length (without_entry n es) ≤ length es → (IsSome (slot_in es n) → length (without_entry n es) + 1 ≤ length es) → IsSome (option_map (λ (p : Place). p.slot) (cond t (Some e) (find (is_entry_of n) es))) → length (cond (not t) (e ∷ without_entry n es) (without_entry n es)) + 1 ≤ length (e ∷ es)
-    by_test true short rest some = omega arith
-    by_test false short rest some = omega (arith, rest some)
-
 -- ---- rising numbers
 
 All-at : (P : Place → Type 0) (es : List Place) (i : ℕ) (d : Place) → i < length es → AllByRecursion P es → P (get_or es i d)
@@ -191,6 +175,16 @@ absent_stays n (e ∷ es) absent = rw (ne_eqb e.number n absent.0) (ap (λ fs. e
 All-absent : (n : ℕ) (es : List Place) → AllByRecursion (λ f. n < f.number) es → IsAbsent n es
 All-absent n [] all = tt
 All-absent n (e ∷ es) all = ((λ same. omega (arith, all.0, same)), All-absent n es all.1)
+
+pub one_gone : (n : ℕ) (es : List Place) → IsRising es → IsSome (slot_in es n) → length (without_entry n es) + 1 ≡ length es
+one_gone n [] rising some = absurd (cc)
+one_gone n (e ∷ es) rising some = by_test (eqb e.number n) refl (one_gone n es rising.1) some
+  where
+    by_test : (t : Bool) → eqb e.number n ≡ t → (IsSome (slot_in es n) → length (without_entry n es) + 1 ≡ length es) → IsSome (option_map (λ (p : Place). p.slot) (cond t (Some e) (find (is_entry_of n) es))) → length (cond (not t) (e ∷ without_entry n es) (without_entry n es)) + 1 ≡ length (e ∷ es)
+    by_test true is rest some =
+        let same : e.number ≡ n = eqb-true e.number n is in
+        omega (arith, ap length (absent_stays n es (All-absent n es (rw same at rising.0))))
+    by_test false is rest some = omega (arith, rest some)
 
 pub remove_at : (n : ℕ) (es : List Place) (at : ℕ) → IsRising es → IsAt n es at → remove es at ≡ without_entry n es
 remove_at n [] at rising here = absurd (omega (arith, here.within))

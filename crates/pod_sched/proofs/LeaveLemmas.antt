@@ -149,7 +149,7 @@ module _ (slots : Lists) (order : Order) (rows : List Known) (slot_of : ℕ → 
       let puts : Puts slot_of gone t None = record { here = rw (eq-eqb t t refl) refl; others = λ u differs. rw (ne_eqb u t differs) refl } in
       rw (known_left, threads_left gone puts, order_left gone puts) refl
 
-  module _ (slot_of' : ℕ → Option ℕ) (map_len' room' : ℕ) (puts : Puts slot_of slot_of' t None) (shorter : map_len' + 1 ≤ map_len) (same_room : room' ≡ room) where
+  module _ (slot_of' : ℕ → Option ℕ) (map_len' room' : ℕ) (puts : Puts slot_of slot_of' t None) (shorter : map_len' + 1 ≡ map_len) (same_room : room' ≡ room) where
     here_once : times_in (items slots 0) slot ≡ 1
     here_once = once_known (row_at rows) (items slots 0) (items slots 1) slot_of slot_of' places held.are_slots t slot at puts
 

@@ -28,7 +28,7 @@ pub record IsHeld (slots : Lists) (order : Order) (rows : List Known) (slot_of :
   pub levels : order.levels ≡ 256
   pub order_room : places ≤ length order.prios
   pub row_room : places ≤ length rows
-  pub as_long : map_len ≤ length (items slots 0)
+  pub as_long : map_len ≡ length (items slots 0)
   pub map_room : places ≤ room
   pub least : 1 ≤ maxpri
   pub most : maxpri ≤ 255

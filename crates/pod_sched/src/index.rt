@@ -181,13 +181,20 @@ pub fn put(index: &mut Index, number: u64, slot: usize)
 pub fn take(index: &mut Index, number: u64)
     requires { IsSome (slot_in index.old.entries number) }
     ensures puts { Puts (slot_in index.old.entries) (slot_in index.new.entries) number None }
-    ensures len { length index.new.entries + 1 ≤ length index.old.entries }
+    ensures len { length index.new.entries + 1 ≡ length index.old.entries }
     ensures capacity { index.new.room ≡ index.old.room }
 {
     take_out(&mut index.places, number);
     if is_own(&index.cells, number) {
         set_cell(&mut index.cells, number, None);
     }
+}
+
+// How many threads are kept.
+pub fn count(index: &Index) -> usize
+    ensures { result ≡ length index.now.entries }
+{
+    index.places.len()
 }
 
 // Room for so many in all.

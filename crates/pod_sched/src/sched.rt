@@ -274,7 +274,7 @@ impl Sched {
         ensures value { result ≡ length self.now.threads }
         ensures ordered { IsOrdered self.now.threads self.now.order }
     {
-        self.rows.len()
+        index::count(&self.index)
     }
 
     /// The greatest priority that a thread may be given.

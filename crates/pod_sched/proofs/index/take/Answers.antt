@@ -1,4 +1,4 @@
-use Rattle.pod_sched.proofs.IndexLemmas.{IsIndexed-take, IsIndexed-take_past, Puts-gone, shorter_gone}
+use Rattle.pod_sched.proofs.IndexLemmas.{IsIndexed-take, IsIndexed-take_past, Puts-gone, one_gone}
 use Rattle.pod_sched.proofs.index.take.Goals as goal
 use Rattle.std.proofs.Common.{sym, ◌∙◌}
 
@@ -13,11 +13,11 @@ returns-then-is_own-clause-puts c = rw (← c.index.view_is) (Puts-gone c.args.n
 
 pub returns-then-is_own-clause-len : goal.returns-then-is_own-clause-len
 returns-then-is_own-clause-len c =
-    rw (c.take_out.ensures.items, ← c.index.view_is) (shorter_gone c.args.number c.index.inside.places.items (rw (← c.index.view_is) at c.requires))
+    rw (c.take_out.ensures.items, ← c.index.view_is) (one_gone c.args.number c.index.inside.places.items c.index.invariant.rising (rw (← c.index.view_is) at c.requires))
 
 pub returns-else-is_own-clause-puts : goal.returns-else-is_own-clause-puts
 returns-else-is_own-clause-puts c = rw (← c.index.view_is) (Puts-gone c.args.number c.index.inside.places.items _ c.take_out.ensures.items)
 
 pub returns-else-is_own-clause-len : goal.returns-else-is_own-clause-len
 returns-else-is_own-clause-len c =
-    rw (c.take_out.ensures.items, ← c.index.view_is) (shorter_gone c.args.number c.index.inside.places.items (rw (← c.index.view_is) at c.requires))
+    rw (c.take_out.ensures.items, ← c.index.view_is) (one_gone c.args.number c.index.inside.places.items c.index.invariant.rising (rw (← c.index.view_is) at c.requires))
