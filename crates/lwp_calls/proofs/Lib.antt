@@ -16,6 +16,8 @@ pub mod Places
 pub mod Pods
 pub mod Ranks
 pub mod Results
+pub mod Stacks
 pub mod Tables
+pub mod Unwound
 pub mod WaitMoves
 pub mod Waiting

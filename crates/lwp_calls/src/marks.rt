@@ -1,22 +1,24 @@
 // Calls on the caller's stack: procedures, handlers, exit procedures.
-ghost use Rattle.std.specs.Prelude.{◌≡◌, ◌≤◌, Some, None, IfOk, IsErr, IsTrue, OnErr, length};
-ghost use Rattle.death_cleanup.specs.Ties.{LawfulParts};
+ghost use Rattle.std.specs.Prelude.{◌≡◌, ◌<◌, ◌≤◌, [], Some, None, IfOk, IfSome, IsErr, IsTrue, OnErr, OnOk, length, not};
+ghost use Rattle.std.specs.Result.{result_err};
 ghost use Rattle.death_cleanup.specs.Comes.{Answers};
+ghost use Rattle.death_cleanup.specs.Moves.{kind_marked, kind_marks};
 ghost use Rattle.death_cleanup.specs.Ties.{InStep, LawfulParts};
 ghost use Rattle.death_cleanup.specs.View.{state_of};
+ghost use Rattle.exc_stack.specs.Stack.{IsInReach, handlers_on_top, has_all_frames, is_full, refusal_on, settled_at, unhandled, with_frame, with_mark};
 ghost use Rattle.lwp_types.specs.Choice.{is_eligible_in};
 ghost use Rattle.lwp_types.specs.Death.{return_from};
 ghost use Rattle.lwp_types.specs.Exits.{caught, exc_notify, raise};
 ghost use Rattle.lwp_types.specs.Families.{mark_call};
-ghost use Rattle.lwp_types.specs.Marks.{bound, call_procedure, found, handle, is_no_pattern, on_exit, unhandle, unique_pattern};
+ghost use Rattle.lwp_types.specs.Marks.{bound, call_procedure, check_pattern, found, found_in, frames, handle, is_no_pattern, on_exit, unhandle, unique_pattern};
+ghost use Rattle.lwp_types.specs.State.{marks_in};
 ghost use Rattle.lwp_types.specs.Step.{case_of};
+ghost use Rattle.lwp_types.specs.declared.rows.Mark.TheVariants as Mark;
 ghost use Rattle.lwp_calls.specs.Asks.{asks_memory};
 ghost use Rattle.lwp_calls.specs.Comes.{ComesTo, IsAsBefore};
 
 use death_cleanup::{Kind, Parts, die, leave_frames};
-use exc_stack::ExcStack;
 use lwp_types::{Answer, Effects, ExitCall, Found, Func, LwpErr, MarkCall, NoMemory, Pattern, Tid};
-use stale_ids::Registry;
 
 // The greatest number of an exception, and as many exit procedures as may ever be set.
 const MOST_PATTERN: u32 = 2_147_483_647;
@@ -53,19 +55,66 @@ pub fn carry_out(
     Ok(own)
 }
 
-// The stack of a thread.
-fn stack_of(ids: &Registry<Kind>, tid: Tid) -> Option<&ExcStack> {
-    match ids.get(tid.number) {
-        Some(Kind::Thread(rec)) => Some(&rec.stack),
-        _ => None,
+// A procedure more on a stack. The answer is false where there is no room for its frame.
+fn enter_frame(kind: &mut Kind) -> Result<bool, NoMemory>
+    requires { 0 < length (kind_marks (Some kind.old)) }
+    ensures room { IfOk result (λ entered. entered ≡ not (has_all_frames (kind_marks (Some kind.old)))) }
+    ensures ok { OnOk result (kind.new ≡ kind_marked (with_frame (kind_marks (Some kind.old))) kind.old) }
+    ensures err { OnErr result (kind.new ≡ kind.old) }
+{
+    match kind {
+        Kind::Thread(rec) => rec.stack.enter_frame(),
+        Kind::Agent => Ok(false),
     }
 }
 
-// The stack of a thread, to be changed.
-fn stack_mut(ids: &mut Registry<Kind>, tid: Tid) -> Option<&mut ExcStack> {
-    match ids.get_mut(tid.number) {
-        Some(Kind::Thread(rec)) => Some(&mut rec.stack),
-        _ => None,
+// A handler more on a stack. The answer is false where there is no room for it.
+fn set_handler(kind: &mut Kind, pattern: Pattern, func: Func, arg: u32) -> Result<bool, NoMemory>
+    requires { 0 < length (kind_marks (Some kind.old)) }
+    ensures room { IfOk result (λ set. set ≡ not (is_full (kind_marks (Some kind.old)))) }
+    ensures ok { OnOk result (kind.new ≡ kind_marked (with_mark (Mark.Handler pattern func arg) (kind_marks (Some kind.old))) kind.old) }
+    ensures err { OnErr result (kind.new ≡ kind.old) }
+{
+    match kind {
+        Kind::Thread(rec) => rec.stack.handle(pattern, func, arg),
+        Kind::Agent => Ok(false),
+    }
+}
+
+// An exit procedure more on a stack. The answer is false where there is no room for it.
+fn set_exit(kind: &mut Kind, reg: u64, exit: ExitCall) -> Result<bool, NoMemory>
+    requires { 0 < length (kind_marks (Some kind.old)) }
+    ensures room { IfOk result (λ set. set ≡ not (is_full (kind_marks (Some kind.old)))) }
+    ensures ok { OnOk result (kind.new ≡ kind_marked (with_mark (Mark.Exit reg exit) (kind_marks (Some kind.old))) kind.old) }
+    ensures err { OnErr result (kind.new ≡ kind.old) }
+{
+    match kind {
+        Kind::Thread(rec) => rec.stack.on_exit(reg, exit),
+        Kind::Agent => Ok(false),
+    }
+}
+
+// Takes the topmost handler of a stack back, if nothing was set above it.
+fn take_handler(kind: &mut Kind) -> Result<(), LwpErr>
+    requires { 0 < length (kind_marks (Some kind.old)) }
+    ensures refusal { result_err result ≡ refusal_on (kind_marks (Some kind.old)) }
+    ensures after { kind.new ≡ kind_marked (unhandled (kind_marks (Some kind.old))) kind.old }
+{
+    match kind {
+        Kind::Thread(rec) => rec.stack.unhandle(),
+        Kind::Agent => Err(LwpErr::NonExist),
+    }
+}
+
+// The handler of a stack that catches an exception of this number.
+fn found_on(kind: &Kind, pattern: u32) -> Option<Found>
+    requires { 0 < length (kind_marks (Some kind.now)) }
+    ensures value { result ≡ found_in pattern (kind_marks (Some kind.now)) }
+    ensures in_reach { IfSome result (IsInReach (kind_marks (Some kind.now))) }
+{
+    match kind {
+        Kind::Thread(rec) => rec.stack.find(pattern),
+        Kind::Agent => None,
     }
 }
 
@@ -87,38 +136,24 @@ fn call_procedure(parts: &mut Parts, tid: Tid, number: u32) -> Result<Answer, No
     if number >= parts.procs {
         return Ok(Answer::Refused(LwpErr::InvalidArg));
     }
-    let entered = match stack_mut(&mut parts.ids, tid) {
-        Some(stack) => stack.enter_frame()?,
-        None => false,
+    let Some(kind) = parts.ids.get_mut(tid.number) else {
+        return Ok(Answer::Refused(LwpErr::NonExist));
     };
-    Ok(zero_if(entered))
-}
-
-// The answer 0 where there was room, and a refusal where there wasn't.
-fn zero_if(fits: bool) -> Answer {
-    if fits {
-        Answer::Value(0)
-    } else {
-        Answer::Refused(LwpErr::NoRoom)
+    let entered = enter_frame(kind)?;
+    if !entered {
+        return Ok(Answer::Refused(LwpErr::NoRoom));
     }
+    Ok(Answer::Value(0))
 }
 
-// The topmost frame goes, or the caller dies.
-fn return_from(parts: &mut Parts, tid: Tid, effects: &mut Effects) -> Option<Answer>
-    requires lawful { LawfulParts parts.old }
-    requires alone { parts.old.dying ≡ None }
-    requires may_run { IsTrue (is_eligible_in (state_of parts.old) tid) }
-    requires room { length effects.old ≤ 1 }
-    ensures comes { ComesTo parts.old parts.new effects.old effects.new (return_from (state_of parts.old) tid) result }
-    ensures most { length effects.new ≤ 1280 }
+// Whether a handler can't be set for this pattern.
+fn is_bad(pattern: Pattern) -> bool
+    ensures { result ≡ (check_pattern pattern).0 }
 {
-    let frames = stack_of(&parts.ids, tid).map_or(0, |stack| stack.frames());
-    if frames < 2 {
-        die(parts, tid, effects);
-        return None;
+    match pattern {
+        Pattern::All => false,
+        Pattern::Num(number) => is_no_pattern(number),
     }
-    leave_frames(parts, tid, frames - 1, effects);
-    Some(Answer::Value(0))
 }
 
 // A handler more, in the present frame.
@@ -135,16 +170,17 @@ fn handle(
     ensures ok { IfOk result (λ a. Answers parts.old parts.new [] [] (handle (state_of parts.old) tid pattern func arg) a) }
     ensures err { OnErr result (IsAsBefore parts.old parts.new) }
 {
-    if let Pattern::Num(number) = pattern {
-        if is_no_pattern(number) {
-            return Ok(Answer::Refused(LwpErr::InvalidArg));
-        }
+    if is_bad(pattern) {
+        return Ok(Answer::Refused(LwpErr::InvalidArg));
     }
-    let set = match stack_mut(&mut parts.ids, tid) {
-        Some(stack) => stack.handle(pattern, func, arg)?,
-        None => false,
+    let Some(kind) = parts.ids.get_mut(tid.number) else {
+        return Ok(Answer::Refused(LwpErr::NonExist));
     };
-    Ok(zero_if(set))
+    let set = set_handler(kind, pattern, func, arg)?;
+    if !set {
+        return Ok(Answer::Refused(LwpErr::NoRoom));
+    }
+    Ok(Answer::Value(0))
 }
 
 // The topmost mark goes, if it is a handler.
@@ -154,10 +190,10 @@ fn unhandle(parts: &mut Parts, tid: Tid) -> Answer
     requires may_run { IsTrue (is_eligible_in (state_of parts.old) tid) }
     ensures { Answers parts.old parts.new [] [] (unhandle (state_of parts.old) tid) result }
 {
-    let Some(stack) = stack_mut(&mut parts.ids, tid) else {
+    let Some(kind) = parts.ids.get_mut(tid.number) else {
         return Answer::Refused(LwpErr::NonExist);
     };
-    match stack.unhandle() {
+    match take_handler(kind) {
         Ok(()) => Answer::Value(0),
         Err(err) => Answer::Refused(err),
     }
@@ -172,10 +208,14 @@ fn on_exit(parts: &mut Parts, tid: Tid, exit: &ExitCall) -> Result<Answer, NoMem
     ensures err { OnErr result (IsAsBefore parts.old parts.new) }
 {
     let reg = parts.registration;
-    let Some(stack) = stack_mut(&mut parts.ids, tid) else {
+    if reg >= MOST_REGISTRATIONS {
         return Ok(Answer::Refused(LwpErr::NoRoom));
+    }
+    let Some(kind) = parts.ids.get_mut(tid.number) else {
+        return Ok(Answer::Refused(LwpErr::NonExist));
     };
-    if reg >= MOST_REGISTRATIONS || !stack.on_exit(reg, *exit)? {
+    let set = set_exit(kind, reg, *exit)?;
+    if !set {
         return Ok(Answer::Refused(LwpErr::NoRoom));
     }
     parts.registration = reg + 1;
@@ -183,83 +223,37 @@ fn on_exit(parts: &mut Parts, tid: Tid, exit: &ExitCall) -> Result<Answer, NoMem
 }
 
 // The handler by which the thread catches an exception of this number.
-fn find(parts: &Parts, tid: Tid, pattern: u32) -> Result<Found, LwpErr> {
-    if is_no_pattern(pattern) {
-        return Err(LwpErr::InvalidArg);
-    }
-    stack_of(&parts.ids, tid)
-        .and_then(|stack| stack.find(pattern))
-        .ok_or(LwpErr::NonExist)
-}
-
-// The exception is caught: the stack is cut back to the handler's frame, and the handler goes.
-fn catch(parts: &mut Parts, tid: Tid, pattern: u32, found: Found, effects: &mut Effects) -> Answer
-    requires lawful { LawfulParts parts.old }
-    requires alone { parts.old.dying ≡ None }
-    requires may_run { IsTrue (is_eligible_in (state_of parts.old) tid) }
-    requires found { found (state_of parts.old) tid pattern ≡ Some found }
-    requires room { length effects.old ≤ 1 }
-    ensures comes { Answers parts.old parts.new effects.old effects.new (caught (state_of parts.old) tid pattern found) result }
-    ensures most { length effects.new ≤ 1280 }
+fn found(parts: &Parts, tid: Tid, pattern: u32) -> Option<Found>
+    requires lawful { LawfulParts parts.now }
+    requires alone { parts.now.dying ≡ None }
+    requires may_run { IsTrue (is_eligible_in (state_of parts.now) tid) }
+    ensures value { result ≡ found (state_of parts.now) tid pattern }
+    ensures in_reach { IfSome result (IsInReach (marks_in (state_of parts.now) tid)) }
 {
-    leave_frames(parts, tid, found.depth, effects);
-    if let Some(stack) = stack_mut(&mut parts.ids, tid) {
-        stack.settle(found.mark);
-    }
-    Answer::Caught {
-        depth: found.depth,
-        mark: found.mark,
-        pattern,
-    }
-}
-
-// The caller goes on where the handler was set.
-fn raise(parts: &mut Parts, tid: Tid, pattern: u32, effects: &mut Effects) -> Answer
-    requires lawful { LawfulParts parts.old }
-    requires alone { parts.old.dying ≡ None }
-    requires may_run { IsTrue (is_eligible_in (state_of parts.old) tid) }
-    requires room { length effects.old ≤ 1 }
-    ensures comes { Answers parts.old parts.new effects.old effects.new (raise (state_of parts.old) tid pattern) result }
-    ensures most { length effects.new ≤ 1280 }
-{
-    match find(parts, tid, pattern) {
-        Ok(found) => catch(parts, tid, pattern, found, effects),
-        Err(err) => Answer::Refused(err),
-    }
-}
-
-// The same, but the handler may answer in place of catching.
-fn notify(parts: &mut Parts, tid: Tid, pattern: u32, effects: &mut Effects) -> Answer
-    requires lawful { LawfulParts parts.old }
-    requires alone { parts.old.dying ≡ None }
-    requires may_run { IsTrue (is_eligible_in (state_of parts.old) tid) }
-    requires room { length effects.old ≤ 1 }
-    ensures comes { Answers parts.old parts.new effects.old effects.new (exc_notify (state_of parts.old) tid pattern) result }
-    ensures most { length effects.new ≤ 1280 }
-{
-    let found = match find(parts, tid, pattern) {
-        Ok(found) => found,
-        Err(err) => return Answer::Refused(err),
+    // The check learns here that the living stand in birth order, so that a number finds one of them.
+    let _living = parts.ids.len();
+    let Some(kind) = parts.ids.get(tid.number) else {
+        return None;
     };
-    match found.func {
-        Func::Give => Answer::Value(i64::from(found.arg)),
-        Func::Sum => Answer::Value(i64::from(found.arg) + i64::from(pattern)),
-        Func::Nothing => catch(parts, tid, pattern, found, effects),
-    }
+    found_on(kind, pattern)
 }
 
 // What the handler was set with.
 fn bound(parts: &Parts, tid: Tid, pattern: u32) -> Answer
     requires lawful { LawfulParts parts.now }
+    requires alone { parts.now.dying ≡ None }
     requires may_run { IsTrue (is_eligible_in (state_of parts.now) tid) }
     ensures { Answers parts.now parts.now [] [] (bound (state_of parts.now) tid pattern) result }
 {
-    match find(parts, tid, pattern) {
-        Ok(found) => Answer::Bound {
-            func: found.func,
-            arg: found.arg,
-        },
-        Err(err) => Answer::Refused(err),
+    if is_no_pattern(pattern) {
+        return Answer::Refused(LwpErr::InvalidArg);
+    }
+    let Some(handler) = found(parts, tid, pattern) else {
+        return Answer::Refused(LwpErr::NonExist);
+    };
+    Answer::Bound {
+        func: handler.func,
+        arg: handler.arg,
     }
 }
 
@@ -274,4 +268,127 @@ fn unique_pattern(parts: &mut Parts) -> Answer
     }
     parts.pattern = pattern + 1;
     Answer::Value(i64::from(pattern))
+}
+
+// How many procedures are on a stack.
+fn frames_on(kind: &Kind) -> u32
+    ensures { result ≡ frames (kind_marks (Some kind.now)) }
+{
+    match kind {
+        Kind::Thread(rec) => rec.stack.frames(),
+        Kind::Agent => 0,
+    }
+}
+
+// How many procedures the thread is in.
+fn frames(parts: &Parts, tid: Tid) -> u32
+    requires lawful { LawfulParts parts.now }
+    requires alone { parts.now.dying ≡ None }
+    requires may_run { IsTrue (is_eligible_in (state_of parts.now) tid) }
+    ensures { result ≡ frames (marks_in (state_of parts.now) tid) }
+{
+    // The check learns here that the living stand in birth order, so that a number finds one of them.
+    let _living = parts.ids.len();
+    let Some(kind) = parts.ids.get(tid.number) else {
+        return 0;
+    };
+    frames_on(kind)
+}
+
+// The topmost frame goes, or the caller dies.
+fn return_from(parts: &mut Parts, tid: Tid, effects: &mut Effects) -> Option<Answer>
+    requires lawful { LawfulParts parts.old }
+    requires alone { parts.old.dying ≡ None }
+    requires may_run { IsTrue (is_eligible_in (state_of parts.old) tid) }
+    requires room { length effects.old ≤ 1 }
+    ensures comes { ComesTo parts.old parts.new effects.old effects.new (return_from (state_of parts.old) tid) result }
+    ensures most { length effects.new ≤ 1280 }
+{
+    let count = frames(parts, tid);
+    if count < 2 {
+        die(parts, tid, effects);
+        return None;
+    }
+    leave_frames(parts, tid, count - 1, effects);
+    Some(Answer::Value(0))
+}
+
+// In the topmost frame of a stack, the handlers from this number on go.
+fn settle(kind: &mut Kind, mark: u32)
+    requires { mark < handlers_on_top (kind_marks (Some kind.old)) }
+    ensures { kind.new ≡ kind_marked (settled_at mark (kind_marks (Some kind.old))) kind.old }
+{
+    match kind {
+        Kind::Thread(rec) => rec.stack.settle(mark),
+        Kind::Agent => {}
+    }
+}
+
+// The exception is caught: the stack is cut back to the handler's frame, and the handler goes.
+fn catch(
+    parts: &mut Parts,
+    tid: Tid,
+    pattern: u32,
+    handler: Found,
+    effects: &mut Effects,
+) -> Answer
+    requires lawful { LawfulParts parts.old }
+    requires alone { parts.old.dying ≡ None }
+    requires may_run { IsTrue (is_eligible_in (state_of parts.old) tid) }
+    requires reach { IsInReach (marks_in (state_of parts.old) tid) handler }
+    requires room { length effects.old ≤ 1 }
+    ensures comes { Answers parts.old parts.new effects.old effects.new (caught (state_of parts.old) tid pattern handler) result }
+    ensures most { length effects.new ≤ 1280 }
+{
+    let answer = Answer::Caught {
+        depth: handler.depth,
+        mark: handler.mark,
+        pattern,
+    };
+    leave_frames(parts, tid, handler.depth, effects);
+    let Some(kind) = parts.ids.get_mut(tid.number) else {
+        return answer;
+    };
+    settle(kind, handler.mark);
+    answer
+}
+
+// The caller goes on where the handler was set.
+fn raise(parts: &mut Parts, tid: Tid, pattern: u32, effects: &mut Effects) -> Answer
+    requires lawful { LawfulParts parts.old }
+    requires alone { parts.old.dying ≡ None }
+    requires may_run { IsTrue (is_eligible_in (state_of parts.old) tid) }
+    requires room { length effects.old ≤ 1 }
+    ensures comes { Answers parts.old parts.new effects.old effects.new (raise (state_of parts.old) tid pattern) result }
+    ensures most { length effects.new ≤ 1280 }
+{
+    if is_no_pattern(pattern) {
+        return Answer::Refused(LwpErr::InvalidArg);
+    }
+    let Some(handler) = found(parts, tid, pattern) else {
+        return Answer::Refused(LwpErr::NonExist);
+    };
+    catch(parts, tid, pattern, handler, effects)
+}
+
+// The same, but the handler may answer in place of catching.
+fn notify(parts: &mut Parts, tid: Tid, pattern: u32, effects: &mut Effects) -> Answer
+    requires lawful { LawfulParts parts.old }
+    requires alone { parts.old.dying ≡ None }
+    requires may_run { IsTrue (is_eligible_in (state_of parts.old) tid) }
+    requires room { length effects.old ≤ 1 }
+    ensures comes { Answers parts.old parts.new effects.old effects.new (exc_notify (state_of parts.old) tid pattern) result }
+    ensures most { length effects.new ≤ 1280 }
+{
+    if is_no_pattern(pattern) {
+        return Answer::Refused(LwpErr::InvalidArg);
+    }
+    let Some(handler) = found(parts, tid, pattern) else {
+        return Answer::Refused(LwpErr::NonExist);
+    };
+    match handler.func {
+        Func::Give => Answer::Value(i64::from(handler.arg)),
+        Func::Sum => Answer::Value(i64::from(handler.arg) + i64::from(pattern)),
+        Func::Nothing => catch(parts, tid, pattern, handler, effects),
+    }
 }
