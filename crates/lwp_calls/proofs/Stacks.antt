@@ -106,7 +106,7 @@ module _ (parts : Parts) (t : ℕ) (k : Kind) (rising : AreRising parts.ids.live
       → Answers parts (record (put v) { registration = n }) [] [] made a
   put-registered v made a ms n e answers = subst (λ (new : Parts). Answers parts (record new { registration = n }) [] [] made a) (sym (ap put e ∙ put-marked ms))
       (answers_quietly parts (record (stacked parts t ms) { registration = n }) [] made a (InStep-given (stacked parts t ms) (InStep-stacked parts t ms step) n parts.pattern) refl
-        (answers ∙ ap (λ (s : State). answered (record s { next_registration = n }) a) (sym (stacked-is parts t ms))))
+      (answers ∙ ap (λ (s : State). answered (record s { next_registration = n }) a) (sym (stacked-is parts t ms))))
 
   -- the calls that set a mark
   here : marks_in (state_of parts) t ≡ kind_marks (Some k)
@@ -233,7 +233,7 @@ module _ (s : State) (t : ℕ) where
 
   pub exit-late : (x : ExitCall) → nat_le 4294967295 s.next_registration ≡ true → on_exit s t x ≡ refused s error.NoRoom
   unfolding unless
-  exit-late x late = by_room (nat_le 256 (length (marks_in s t))) 
+  exit-late x late = by_room (nat_le 256 (length (marks_in s t)))
     where
       by_room : (b : Bool) → cond b (refused s error.NoRoom) (unless s ((nat_le 4294967295 s.next_registration, error.NoRoom) ∷ []) (valued (with_mark (record s { next_registration = s.next_registration + 1 }) t (mark.Exit s.next_registration x)) s.next_registration)) ≡ refused s error.NoRoom
       by_room true = refl

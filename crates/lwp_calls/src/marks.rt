@@ -325,13 +325,7 @@ fn settle(kind: &mut Kind, mark: u32)
 }
 
 // The exception is caught: the stack is cut back to the handler's frame, and the handler goes.
-fn catch(
-    parts: &mut Parts,
-    tid: Tid,
-    pattern: u32,
-    handler: Found,
-    effects: &mut Effects,
-) -> Answer
+fn catch(parts: &mut Parts, tid: Tid, pattern: u32, handler: Found, effects: &mut Effects) -> Answer
     requires lawful { LawfulParts parts.old }
     requires alone { parts.old.dying ≡ None }
     requires may_run { IsTrue (is_eligible_in (state_of parts.old) tid) }

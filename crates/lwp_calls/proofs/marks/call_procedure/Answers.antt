@@ -7,7 +7,6 @@ use Rattle.lwp_types.specs.declared.call.LwpErr.TheVariants as error
 use Rattle.stale_ids.specs.Register.{value_of}
 use Rattle.std.proofs.Common.{[], ap, sym, ◌∙◌}
 
-
 pub returns-then-number-parts-clause-ok : goal.returns-then-number-parts-clause-ok
 returns-then-number-parts-clause-ok c = answers_refused c.args.parts.now [] _ error.InvalidArg c.requires.lawful.step (call-unknown (state_of c.args.parts.now) c.args.tid c.args.number (le-true c.args.parts.now.procs c.args.number c.if-number-parts.true))
 

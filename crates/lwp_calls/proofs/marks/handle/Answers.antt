@@ -6,7 +6,6 @@ use Rattle.lwp_types.specs.declared.call.LwpErr.TheVariants as error
 use Rattle.stale_ids.specs.Register.{value_of}
 use Rattle.std.proofs.Common.{[], ap, sym, ◌∙◌}
 
-
 pub returns-then-is_bad-clause-ok : goal.returns-then-is_bad-clause-ok
 returns-then-is_bad-clause-ok c = answers_refused c.args.parts.now [] _ error.InvalidArg c.requires.lawful.step (handle-bad (state_of c.args.parts.now) c.args.tid c.args.pattern c.args.func c.args.arg (sym c.if-is_bad.ensures))
 

@@ -7,7 +7,6 @@ use Rattle.lwp_types.specs.declared.call.LwpErr.TheVariants as error
 use Rattle.stale_ids.specs.Register.{value_of}
 use Rattle.std.proofs.Common.{[], ap, arith, pos, rules, sym, to_z, w64, ◌∙◌, ◌≡◌}
 
-
 pub returns-then-reg-ge-MOST_REGISTRATIONS-clause-ok : goal.returns-then-reg-ge-MOST_REGISTRATIONS-clause-ok
 returns-then-reg-ge-MOST_REGISTRATIONS-clause-ok c = answers_refused c.args.parts.now [] _ error.NoRoom c.requires.lawful.step (exit-late (state_of c.args.parts.now) c.args.tid c.args.exit.now (le-true 4294967295 c.args.parts.now.registration (omega (arith, c.if-reg-ge-MOST_REGISTRATIONS.true))))
 
