@@ -26,7 +26,7 @@ use Rattle.script_body.specs.Naming.{named}
 use Rattle.script_body.specs.Frame.{without_handler}
 use Rattle.script_body.specs.ScriptBody.{ScriptBody, frame_above, is_return, polled_by, returned, script_next, stmt_after, taken, taken_by, taken_caught, taken_plain, taken_refused, unhandled, caught_at, with_sender_by, with_top}
 use Rattle.script_body.specs.Walk.{first_stmt, meets, next_stmt}
-use Rattle.script_text.specs.Limits.{is_so_far}
+use Rattle.lwp_serve.specs.SoFar.{is_so_far}
 use Rattle.script_text.specs.Script.{stmts_at, stmts_of}
 use Rattle.script_text.specs.declared.script.Native.{Native}
 use Rattle.script_text.specs.declared.script.Proc.{Proc}

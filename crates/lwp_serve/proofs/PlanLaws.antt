@@ -2,7 +2,7 @@
 use Rattle.lwp_serve.proofs.BuiltLaws.{all-built}
 use Rattle.lwp_serve.specs.Bodies.{Body, bodies_of, body_next}
 use Rattle.lwp_serve.specs.Outcome.{HasRead}
-use Rattle.lwp_serve.specs.Plan.{AreDue, EndSays, Holds, HoldsNone, IsBroken, IsFaultless, IsPart, IsStopped, IsWhole, RunSays, Stream, ReadSays, lines_after, opening_names, opening_run, session_at, tail_after}
+use Rattle.lwp_serve.specs.Plan.{AreDue, EndSays, IsBroken, IsFaultless, IsPart, IsStopped, IsUnbuilt, IsWhole, Refuses, RunSays, Says, SourceSays, Stream, ReadSays, lines_after, opening_names, opening_run, session_at, tail_after}
 use Rattle.lwp_serve.specs.Reading.{IsReadOut, IsReadPart, IsReadUp}
 use Rattle.lwp_serve.specs.Planned.{calls_of, halt_of, plan_of, planned_of, setting_of, takes_of, trace_of}
 use Rattle.lwp_serve.specs.declared.session.Session.{Session}
@@ -20,16 +20,20 @@ use Rattle.pod_runner.specs.Run.{AppendsCut, GoesOn, IsBegun, IsPlanned, Played,
 use Rattle.pod_runner.specs.Session.{Made, Setting}
 use Rattle.pod_runner.specs.Trace.{left_from, lines, made_lines, tail, tail_by, trace}
 use Rattle.script_text.specs.Grammar.{Spells}
-use Rattle.script_text.specs.Limits.{IsSoFar}
+use Rattle.lwp_serve.specs.SoFar.{IsSoFar, are_so_far, is_carried_out}
 use Rattle.script_text.specs.Lines.{end_text}
-use Rattle.script_text.specs.Spelling.{IsReadAs}
-use Rattle.script_text.specs.declared.reason.Reason.{Reason}
+use Rattle.script_text.specs.Spelling.{Gives, verdict}
 use Rattle.script_text.specs.declared.reason.ReadErr.{ReadErr}
 use Rattle.script_text.specs.declared.reason.ReadErr.TheVariants as err
-use Rattle.script_text.specs.Script.{params_of, proc_names}
+use Rattle.script_text.proofs.ScriptLaws.{one_script, verdict_long}
+use Rattle.script_text.specs.declared.reason.Reason.{Reason}
+use Rattle.script_text.specs.declared.reason.Reason.TheVariants as reasons
+use Rattle.script_text.specs.Script.{line_of, lines_posted, params_of, proc_names}
 use Rattle.script_text.specs.declared.script.Halt.{Halt}
 use Rattle.script_text.specs.declared.script.Script.{Script}
-use Rattle.std.proofs.Common.{Err, List, None, Ok, OnErr, Option, Result, Some, [], ap, append-nil, append_assoc, arith, length, length-append, length-take, refl, suc, sym, take, take_all, inr, zero, ℕ, ◌++◌, ◌+◌, ◌-◌, ◌≤◌, ◌∙◌, ◌∷◌, ◌≡◌}
+use Rattle.std.specs.List.{list_all}
+use Rattle.std.proofs.lemmas.Bool.{cases_lt, eqb-true, lt-ltb}
+use Rattle.std.proofs.Common.{Bool, Err, eqb, false, inl, map, subst, true, ◌&&◌, List, None, Ok, OnErr, Option, Result, Some, [], ap, append-nil, append_assoc, arith, length, length-append, length-take, refl, suc, sym, take, take_all, inr, zero, ℕ, ◌++◌, ◌+◌, ◌-◌, ◌≤◌, ◌∙◌, ◌∷◌, ◌≡◌}
 use Rattle.std.proofs.Math.Seq.{take-append-add, take-length}
 use Rattle.std.proofs.lemmas.List.{drop_all, take-append-le}
 use Rattle.std.proofs.lemmas.List.Concat.{flat_map-append}
@@ -180,14 +184,14 @@ broken-of script turns r old new h p = cut-more old new (lines_after script (r.c
 
 -- ---- the first part of the session
 
-plan-is : (script : Script) (turns : ℕ) → script.posts ≡ [] → plan_of script turns ≡ plan_whole (planned_of script turns) []
+plan-is : (script : Script) (turns : ℕ) → lines_posted script ≡ [] → plan_of script turns ≡ plan_whole (planned_of script turns) []
 plan-is script turns none = ap (λ posts. plan_whole (planned_of script turns) posts) none
 
-trace-is : (script : Script) (turns : ℕ) → script.posts ≡ [] → trace_of script turns ≡ trace (proc_names script) (planned_of script turns) (plan_whole (planned_of script turns) [])
+trace-is : (script : Script) (turns : ℕ) → lines_posted script ≡ [] → trace_of script turns ≡ trace (proc_names script) (planned_of script turns) (plan_whole (planned_of script turns) [])
 unfolding trace_of
 trace-is script turns none = ap (trace (proc_names script) (planned_of script turns)) (plan-is script turns none)
 
-calls-is : (script : Script) (turns : ℕ) → script.posts ≡ [] → calls_of script turns ≡ (plan_whole (planned_of script turns) []).calls
+calls-is : (script : Script) (turns : ℕ) → lines_posted script ≡ [] → calls_of script turns ≡ (plan_whole (planned_of script turns) []).calls
 unfolding calls_of
 calls-is script turns none = ap (λ (plan : Plan Body). plan.calls) (plan-is script turns none)
 
@@ -262,7 +266,7 @@ part-last script turns r halt old mid new last h so_far begun planned due g e p 
 
 -- where the run is, the session of the script is after as many calls
 now-is : (script : Script) (turns : ℕ) (r : Played Script) → Plays script turns r → IsSoFar script
-    → run.plan_now body_next bodies_of r ≡ record { session = session_at script r.calls; calls = r.calls; left = script.posts; takes = [] }
+    → run.plan_now body_next bodies_of r ≡ record { session = session_at script r.calls; calls = r.calls; left = lines_posted script; takes = [] }
 now-is script turns r h so_far =
     ap (λ session. the_plan session []) (play-is script turns r h r.calls) ∙ ap (λ posts. the_plan (session_at script r.calls) posts) (sym so_far.no_posts)
   where
@@ -296,13 +300,59 @@ broken-last script turns r halt old mid new last h so_far planned g e p =
 short-read : (told : List ℕ) → length (take 16777217 told) ≤ 16777216 → take 16777217 told ≡ told
 short-read told h = take_all 16777217 told (omega (arith, length-take 16777217 told, h))
 
+-- a verdict on what was read is one on all that there was
+same-verdict : (told : List ℕ) → verdict (take 16777217 told) ≡ verdict told
+same-verdict told = elim (cases_lt 16777216 (length told)) [
+  | inl long ↦ verdict_long (take 16777217 told) (lt-ltb 16777216 (length (take 16777217 told)) (omega (arith, length-take 16777217 told, long))) ∙ sym (verdict_long told (lt-ltb 16777216 (length told) long))
+  | inr short ↦ ap verdict (take_all 16777217 told (omega (arith, short)))
+]
+
+-- what the source had left spells this script, if it tells
+abbrev pub Holds : Option (List ℕ) → Script → Type 0
+Holds None script = Unit {0}
+Holds (Some told) script = Spells told script
+
 pub holds-of : (left : Option (List ℕ)) (bytes : List ℕ) (script : Script) → HasRead left bytes → Spells bytes script → Holds left script
 holds-of None bytes script read spells = tt
 holds-of (Some told) bytes script read spells = rw (sym (short-read told (rw (sym read) spells.1.short)), sym read) spells
 
-pub holds-none : (left : Option (List ℕ)) (bytes : List ℕ) → HasRead left bytes → ((script : Script) → Spells bytes script → ⊥) → HoldsNone left
-holds-none None bytes read none = tt
-holds-none (Some told) bytes read none = λ script spells. none script (rw (read, take_all 16777217 told (omega (arith, spells.1.short))) spells)
+-- what holds of a script that is spelt holds of whatever script is
+pub says-all : (left : Option (List ℕ)) (script : Script) (says : Script → Type 0) → Holds left script → says script → Says left says
+says-all None script says h s = (script, s)
+says-all (Some told) script says h s = ((script, h), λ other spells. subst says (one_script told script other h spells) s)
+
+pub refuses-of : (left : Option (List ℕ)) (bytes : List ℕ) (line : ℕ) (why : Reason) → HasRead left bytes → verdict bytes ≡ Err (line, why) → Refuses left line why
+refuses-of None bytes line why read v = tt
+refuses-of (Some told) bytes line why read v = inl (sym (same-verdict told) ∙ ap verdict (sym read) ∙ v)
+
+pub gives-bad : (bytes : List ℕ) (r : Result Script ReadErr) (line : ℕ) (why : Reason) → r ≡ Err (err.Bad line why) → Gives (verdict bytes) r → verdict bytes ≡ Err (line, why)
+gives-bad bytes r line why is g = subst (λ (x : Result Script ReadErr). Gives (verdict bytes) x) is g
+
+pub unbuilt-of : (left : Option (List ℕ)) (script : Script) → Holds left script → is_carried_out script ≡ false → Refuses left 0 reasons.Unbuilt
+unbuilt-of None script h other = tt
+unbuilt-of (Some told) script h other = inr (refl, refl, (script, h), λ s spells. subst (λ (x : Script). is_carried_out x ≡ false) (one_script told script s h spells) other)
+
+-- a script that is carried out has only what is
+pub so-far-of : (script : Script) → is_carried_out script ≡ true → IsSoFar script
+unfolding is_carried_out
+so-far-of script h =
+    let a = both (eqb (length script.clients) 0 && eqb (length script.natives) 0 && eqb (length script.posts) 0) (list_all are_so_far script.procs) h in
+    let b = both (eqb (length script.clients) 0 && eqb (length script.natives) 0) (eqb (length script.posts) 0) a.0 in
+    let d = both (eqb (length script.clients) 0) (eqb (length script.natives) 0) b.0 in
+    record {
+      no_clients = none-of script.clients d.0;
+      no_natives = none-of script.natives d.1;
+      no_posts = ap (map (line_of script.texts)) (none-of script.posts b.1);
+      stmts = a.1;
+    }
+  where
+    both : (a b : Bool) → (a && b) ≡ true → (a ≡ true) × (b ≡ true)
+    both true b h = (refl, h)
+    both false b h = absurd cc
+
+    none-of : {A : Type 0} (xs : List A) → eqb (length xs) 0 ≡ true → xs ≡ []
+    none-of [] h = refl
+    none-of (x ∷ xs) h = absurd (let z : length (x ∷ xs) ≡ 0 = eqb-true (length (x ∷ xs)) 0 h in omega (arith, z))
 
 -- what is a script was read to its end
 out-of : (source : Stream) (script : Script) → Holds source.old script → IsReadUp source.old source.new → IsReadOut source.old source.new
@@ -326,20 +376,15 @@ read-of turns source sink session script end.Usage h up s = s
 read-of turns source sink session script end.ReadFault h up s = absurd s
 read-of turns source sink session script (end.Script line reason) h up s = absurd s
 
--- bad bytes are read as no script
-pub bad-none : (bytes : List ℕ) (e : ReadErr) (line : ℕ) (why : Reason) → e ≡ err.Bad line why → ((script : Script) → Spells bytes script → IsReadAs script (Err e))
-    → (script : Script) → Spells bytes script → ⊥
-bad-none bytes e line why is only script spells = (rw is at only script spells)
-
 -- ---- what the end says
 
-pub says-of : (turns : ℕ) (source sink : Stream) (session : Session) (script : Script) (e : SessionEnd) → Holds source.old script → IsFaultless source
+pub says-of : (turns : ℕ) (source sink : Stream) (session : Session) (script : Script) (e : SessionEnd) → Holds source.old script → is_carried_out script ≡ true → IsFaultless source
     → RunSays turns script sink session e → EndSays turns source sink session e
-says-of turns source sink session script (end.Ended status) h f s = (f, (script, h, s))
-says-of turns source sink session script end.Stuck h f s = (f, (script, h, s))
-says-of turns source sink session script end.Spent h f s = (f, (script, h, s))
-says-of turns source sink session script end.WriteFault h f s = (f, (script, h, s))
-says-of turns source sink session script end.NoMemory h f s = inr (f, (script, h, s))
-says-of turns source sink session script end.Usage h f s = s
-says-of turns source sink session script end.ReadFault h f s = absurd s
-says-of turns source sink session script (end.Script line reason) h f s = absurd s
+says-of turns source sink session script (end.Ended status) h o f s = (f, says-all source.old script (λ (x : Script). (is_carried_out x ≡ true) × RunSays turns x sink session (end.Ended status)) h (o, s))
+says-of turns source sink session script end.Stuck h o f s = (f, says-all source.old script (λ (x : Script). (is_carried_out x ≡ true) × RunSays turns x sink session end.Stuck) h (o, s))
+says-of turns source sink session script end.Spent h o f s = (f, says-all source.old script (λ (x : Script). (is_carried_out x ≡ true) × RunSays turns x sink session end.Spent) h (o, s))
+says-of turns source sink session script end.WriteFault h o f s = (f, says-all source.old script (λ (x : Script). (is_carried_out x ≡ true) × RunSays turns x sink session end.WriteFault) h (o, s))
+says-of turns source sink session script end.NoMemory h o f s = inr (f, says-all source.old script (λ (x : Script). (is_carried_out x ≡ true) × RunSays turns x sink session end.NoMemory) h (o, s))
+says-of turns source sink session script end.Usage h o f s = s
+says-of turns source sink session script end.ReadFault h o f s = absurd s
+says-of turns source sink session script (end.Script line reason) h o f s = absurd s

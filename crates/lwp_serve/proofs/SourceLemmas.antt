@@ -1,8 +1,8 @@
 -- What was read of a source, once it ends or enough was read.
-use Rattle.std.proofs.Common.{◌≡◌, ◌≤◌, ◌<◌, ℕ, List, [], ◌∷◌, ◌++◌, length, take, drop, ◌+◌, Some, None, refl, sym, ap, ◌∙◌, arith, append-nil, zero, suc}
+use Rattle.std.proofs.Common.{◌≡◌, ◌≤◌, ◌<◌, ℕ, List, [], ◌∷◌, ◌++◌, length, take, drop, ◌+◌, Some, None, refl, sym, ap, ◌∙◌, arith, append-nil, append_assoc, zero, suc}
 use Rattle.std.specs.Prelude.{Option}
 use Rattle.std.proofs.Math.Seq.{drop-append-add}
-use Rattle.std.proofs.lemmas.List.{drop_all, take-append-le}
+use Rattle.std.proofs.lemmas.List.{drop_all, take-append-drop, take-append-le}
 use Rattle.lwp_types.specs.Streams.{Reads}
 use Rattle.lwp_serve.specs.Outcome.{HasRead}
 use Rattle.lwp_serve.specs.Reading.{IsReadPart, IsReadUp, ReadSoFar, behind}
@@ -76,3 +76,13 @@ up-end (Some told) (Some rest) after bytes got n h r none within =
     let over : rest ≡ [] = empty_list rest (λ some. let more : 0 < n = r.3 some in omega arith) in
     let all : told ≡ bytes = h.2 ∙ ap (λ xs. bytes ++ xs) (sym same ∙ over) ∙ append-nil bytes in
     r.1 ∙ ap (λ xs. Some xs) (ap (drop n) over ∙ ap (λ k. drop k []) none ∙ sym (ap (drop 16777217) all ∙ drop_all 16777217 bytes within))
+
+-- one more read
+pub so_far-more : (left now after : Option (List ℕ)) (bytes got : List ℕ) (n : ℕ) → ReadSoFar left now bytes → Reads now after got n → ReadSoFar left after (bytes ++ got)
+so_far-more None None after bytes got n h r = r
+so_far-more None (Some rest) after bytes got n h r = let no : Some rest ≡ None = h in absurd (cc)
+so_far-more (Some told) None after bytes got n h r = let no : None ≡ Some h.0 = h.1 in absurd (cc)
+so_far-more (Some told) (Some rest) after bytes got n h r =
+    let same : rest ≡ h.0 = (let e : Some rest ≡ Some h.0 = h.1 in cc) in
+    let all : got ++ drop n rest ≡ rest = ap (λ xs. xs ++ drop n rest) r.0 ∙ take-append-drop n rest in
+    (drop n rest, r.1, h.2 ∙ ap (λ xs. bytes ++ xs) (sym same ∙ sym all) ∙ sym (append_assoc bytes got (drop n rest)))

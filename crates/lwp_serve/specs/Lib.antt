@@ -1,4 +1,5 @@
 pub mod Bodies
+pub mod SoFar
 pub mod Planned
 pub mod Outcome
 pub mod Reading

@@ -6,7 +6,9 @@ use Rattle.lwp_serve.specs.declared.session.Session.{Session}
 use Rattle.lwp_serve.specs.declared.session.SessionEnd.{SessionEnd}
 use Rattle.lwp_serve.specs.declared.session.SessionEnd.TheVariants as end
 use Rattle.lwp_types.specs.Streams.{AppendsPrefix, Rose, appended}
+use Rattle.lwp_serve.specs.SoFar.{is_carried_out}
 use Rattle.script_text.specs.Grammar.{Spells}
+use Rattle.script_text.specs.Spelling.{verdict}
 use Rattle.script_text.specs.declared.reason.Reason.{Reason}
 use Rattle.script_text.specs.declared.reason.Reason.TheVariants as reasons
 use Rattle.script_text.specs.declared.script.Halt.{Halt}
@@ -18,8 +20,8 @@ use Rattle.pod_runner.specs.Play.{play}
 use Rattle.pod_runner.specs.Run.{AppendsCut, Played}
 use Rattle.pod_runner.specs.Session as Sessions
 use Rattle.pod_runner.specs.Trace.{lines, tail}
-use Rattle.script_text.specs.Script.{params_of, proc_names}
-use Rattle.std.specs.Prelude.{List, Option, None, Some, [], false, length, ℕ, ◌++◌, ◌-◌, ◌≡◌, ◌≤◌, ◌⊎◌}
+use Rattle.script_text.specs.Script.{lines_posted, params_of, proc_names}
+use Rattle.std.specs.Prelude.{List, Option, None, Some, Err, [], false, true, length, ℕ, ◌++◌, ◌-◌, ◌≡◌, ◌≤◌, ◌⊎◌}
 
 -- a source or a sink before and after: what it tells, and its count of faults
 pub record Stream : Type 0 where
@@ -40,15 +42,19 @@ IsFaulty stream = Rose stream.faults_old stream.faults_new
 abbrev pub IsQuiet : Stream → Type 0
 IsQuiet sink = (sink.new ≡ sink.old) × IsFaultless sink
 
--- what the source had left spells this script; of a source that doesn't tell, nothing is known
-abbrev pub Holds : Option (List ℕ) → Script → Type 0
-Holds None script = Unit {0}
-Holds (Some told) script = Spells told script
+-- what the source had left spells a script, and this holds of whatever script it spells; of a source that doesn't tell, some script
+abbrev pub Says : Option (List ℕ) → (Script → Type 0) → Type 0
+Says None says = (script : Script) × says script
+Says (Some told) says = ((script : Script) × Spells told script) × ((script : Script) → Spells told script → says script)
 
--- what the source had left spells no script
-abbrev pub HoldsNone : Option (List ℕ) → Type 0
-HoldsNone None = Unit {0}
-HoldsNone (Some told) = (script : Script) → Spells told script → ⊥
+-- it spells a script of which not all is carried out yet: that is told as line 0
+abbrev pub IsUnbuilt : List ℕ → ℕ → Reason → Type 0
+IsUnbuilt told line why = (line ≡ 0) × (why ≡ reasons.Unbuilt) × ((script : Script) × Spells told script) × ((script : Script) → Spells told script → is_carried_out script ≡ false)
+
+-- it spells no script, and these are its first bad line and the first reason that fits; or it spells one that is told so
+abbrev pub Refuses : Option (List ℕ) → ℕ → Reason → Type 0
+Refuses None line why = Unit {0}
+Refuses (Some told) line why = (verdict told ≡ Err (line, why)) ⊎ IsUnbuilt told line why
 
 -- the session of a script after its first calls, with no line taken
 abbrev pub session_at : Script → ℕ → Sessions.Session Body
@@ -64,7 +70,7 @@ lines_after script n = lines (proc_names script) (session_at script n).steps
 
 -- what stands behind these lines, if the session is over by then; else nothing
 unfoldable pub tail_after : Script → ℕ → ℕ → List ℕ
-tail_after script turns n = tail (planned_of script turns) (record { session = session_at script n; calls = n; left = script.posts; takes = [] })
+tail_after script turns n = tail (planned_of script turns) (record { session = session_at script n; calls = n; left = lines_posted script; takes = [] })
 
 -- what was told before and is told now: the session of a script, to its end; its whole trace was written, so many calls were made,
 -- each of them was due, and no line was there to be taken
@@ -118,19 +124,15 @@ RunSays turns script sink session end.WriteFault = IsFaulty sink × IsRunBroken 
 RunSays turns script sink session end.NoMemory = IsFaultless sink × (IsUnread sink session ⊎ IsRunStopped turns script sink session)
 RunSays turns script sink session _ = ⊥
 
--- the same, where that script is the one that the source held
+-- the same of the script that the source held, all of which is carried out
 abbrev pub SourceSays : Stream → (Script → Type 0) → Type 0
-SourceSays source says = IsFaultless source × ((script : Script) × Holds source.old script × says script)
-
--- which line is bad and why isn't told yet
-abbrev pub IsUnbuilt : ℕ → Reason → Type 0
-IsUnbuilt line reason = (line ≡ 0) × (reason ≡ reasons.Unbuilt)
+SourceSays source says = IsFaultless source × Says source.old (λ script. (is_carried_out script ≡ true) × says script)
 
 -- what each end says: a script was read, and run as far as this; or else nothing was written, and there is a cause
 abbrev pub EndSays : ℕ → Stream → Stream → Session → SessionEnd → Type 0
 EndSays turns source sink session end.Usage = ⊥
 EndSays turns source sink session end.ReadFault = IsFaulty source × IsUnread sink session
-EndSays turns source sink session (end.Script line reason) = IsFaultless source × HoldsNone source.old × IsUnread sink session × IsUnbuilt line reason
+EndSays turns source sink session (end.Script line reason) = IsFaultless source × Refuses source.old line reason × IsUnread sink session
 EndSays turns source sink session end.NoMemory =
     IsFaultless source × IsUnread sink session ⊎ SourceSays source (λ script. RunSays turns script sink session end.NoMemory)
 EndSays turns source sink session e = SourceSays source (λ script. RunSays turns script sink session e)

@@ -5,7 +5,7 @@ use Rattle.pod_runner.specs.Eager.{Plan, Planned, plan_over, plan_whole}
 use Rattle.pod_runner.specs.Session.{Setting}
 use Rattle.pod_runner.specs.Trace.{trace}
 use Rattle.pod_runner.specs.declared.session.Took.{Took}
-use Rattle.script_text.specs.Script.{params_of, proc_names}
+use Rattle.script_text.specs.Script.{lines_posted, params_of, proc_names}
 use Rattle.script_text.specs.declared.script.Halt.{Halt}
 use Rattle.script_text.specs.declared.script.Script.{Script}
 use Rattle.std.specs.Prelude.{List, Option, length, ℕ}
@@ -25,7 +25,7 @@ planned_of script turns = record { setting = setting_of script; clients = script
 
 -- its session
 abbrev pub plan_of : Script → ℕ → Plan Body
-plan_of script turns = plan_whole (planned_of script turns) script.posts
+plan_of script turns = plan_whole (planned_of script turns) (lines_posted script)
 
 -- the bytes that are written
 unfoldable pub trace_of : Script → ℕ → List ℕ

@@ -12,6 +12,7 @@ mod command;
 mod plan;
 mod program;
 mod session;
+mod so_far;
 mod source;
 mod texts;
 
@@ -22,6 +23,7 @@ pub use program::ScriptProgram;
 pub use session::{Session, SessionEnd, Taken};
 pub use source::SCRIPT_MAX;
 pub use texts::fault_text;
+
 
 #[cfg(test)]
 mod tests;

@@ -1,16 +1,18 @@
 // A script is read, and run with all lines in place.
 ghost use Rattle.std.specs.Prelude.{◌≡◌, ◌≤◌, IfOk, OnOk, OnErr, IsErrOf};
 ghost use Rattle.lwp_types.specs.Streams.{Rose};
-ghost use Rattle.script_text.specs.Limits.{IsSoFar, IsWithinLimits};
+ghost use Rattle.lwp_serve.specs.SoFar.{IsSoFar};
+ghost use Rattle.script_text.specs.Limits.{IsWithinLimits};
 ghost use Rattle.lwp_serve.specs.Plan.{IsBroken, IsPart, IsPlan, IsPlayed, IsStopped, IsWhole, opening_run};
 
 use crate::body::ThreadBody;
 use crate::program::ScriptProgram;
 use crate::session::{Session, SessionEnd, end_of};
+use crate::so_far::is_carried_out;
 use crate::source::{ReadFailure, read_all};
 use lwp_types::{Env, NoMemory, PodParams, Sink, Source};
 use pod_runner::{Run, RunErr, run, write_all};
-use script_text::{Halt, ReadErr, Reason, Script, end_lines, read_script};
+use script_text::{Halt, ReadErr, Reason, Script, ScriptReader, end_lines};
 use std::alloc::Global;
 
 // A run of a script, before its first call.
@@ -79,7 +81,7 @@ fn play_script<K: Sink>(alloc: Global, turns: u64, script: &Script, sink: &mut K
 }
 
 /// Reads a script to its end and runs it, all lines in place, with so many turns allowed. Nothing is written before all is
-/// read.
+/// read, and of what is read only a buffer and the reader are kept.
 pub fn plan_main<S: Source, K: Sink>(
     alloc: Global,
     turns: u64,
@@ -91,20 +93,25 @@ pub fn plan_main<S: Source, K: Sink>(
     ensures { IsPlan turns (record { old = S.left source.old; new = S.left source.new; faults_old = S.faults source.old; faults_new = S.faults source.new })
         (record { old = K.written sink.old; new = K.written sink.new; faults_old = K.faults sink.old; faults_new = K.faults sink.new }) result }
 {
-    let bytes = match read_all(alloc, source) {
-        Ok(bytes) => bytes,
+    let mut reader = ScriptReader::new(alloc);
+    match read_all(&mut reader, source) {
+        Ok(()) => {}
         Err(ReadFailure::Fault) => return Session::new(alloc, SessionEnd::ReadFault, 0),
         Err(ReadFailure::NoMemory) => return Session::new(alloc, SessionEnd::NoMemory, 0),
-    };
-    match read_script(alloc, &bytes) {
-        Ok(script) => play_script(alloc, turns, &script, sink),
-        Err(ReadErr::NoMemory) => Session::new(alloc, SessionEnd::NoMemory, 0),
-        Err(ReadErr::Bad { .. }) => {
-            let end = SessionEnd::Script {
-                line: 0,
-                reason: Reason::Unbuilt,
-            };
-            Session::new(alloc, end, 0)
-        }
     }
+    let script = match reader.finish() {
+        Ok(script) => script,
+        Err(ReadErr::NoMemory) => return Session::new(alloc, SessionEnd::NoMemory, 0),
+        Err(ReadErr::Bad { line, reason }) => {
+            return Session::new(alloc, SessionEnd::Script { line, reason }, 0);
+        }
+    };
+    if is_carried_out(&script) {
+        return play_script(alloc, turns, &script, sink);
+    }
+    let end = SessionEnd::Script {
+        line: 0,
+        reason: Reason::Unbuilt,
+    };
+    Session::new(alloc, end, 0)
 }

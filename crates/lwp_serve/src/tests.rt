@@ -110,10 +110,25 @@ fn a_write_that_fails_leaves_a_first_part(rt: HostRuntime) -> Result<(), Fail> {
     Err("each of a hundred writes fails".into())
 }
 
+// Scripts that aren't run, and how their sessions end.
+const NOT_RUN: [(&[u8], u32, Reason); 5] = [
+    (b"", 1, Reason::Missing),
+    (b"lwp 1\npod 1\nproc main\nnonsense\n", 4, Reason::Statement),
+    (b"lwp 1\npod 1\nproc main\nproc main\n", 4, Reason::Proc),
+    (b"lwp 1\npod 1\nproc main\nsay h", 4, Reason::Unended),
+    (b"lwp 1\npod 1\nproc main\nagents\n", 0, Reason::Unbuilt),
+];
+
 #[test]
-fn other_bytes_are_no_script(rt: HostRuntime) -> Result<(), Fail> {
-    let outcome = plain(rt.alloc(), b"lwp 1\npod 1\nproc main\nnonsense\n", 100_000)?;
-    assert!(rt; is(&outcome, 103, 0, b""));
+fn names_the_first_bad_line(rt: HostRuntime) -> Result<(), Fail> {
+    let alloc = rt.alloc();
+    for (script, line, reason) in NOT_RUN {
+        let mut source = MemSource::new(script.to_vec(alloc)?, Vec::new(alloc));
+        let mut sink = MemSink::new(alloc, 4096, 4, Vec::new(alloc))?;
+        let session = plan_main(alloc, 100, &mut source, &mut sink);
+        assert!(rt; session.end == SessionEnd::Script { line, reason }, "line {line}");
+        assert!(rt; sink.bytes().is_empty());
+    }
     Ok(())
 }
 

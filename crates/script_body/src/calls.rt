@@ -5,7 +5,7 @@ ghost use Rattle.script_body.specs.Calls.{who_id, exit_call_of, plain_call, lock
 
 use crate::numbers::proc_number;
 use lwp_types::{Call, Env, ExitCall, NULL_TID, Tid};
-use script_text::{ExitStmt, Script, Stmt, Who};
+use script_text::{ExitStmt, Script, Stmt, Texts, Who};
 
 fn who_id(sender: Tid, env: &Env, who: Who) -> Tid
     ensures { result ≡ who_id sender env.now who }
@@ -19,8 +19,8 @@ fn who_id(sender: Tid, env: &Env, who: Who) -> Tid
     }
 }
 
-fn exit_call_of(sender: Tid, env: &Env, exit: &ExitStmt) -> ExitCall
-    ensures { result ≡ exit_call_of sender env.now exit.now }
+fn exit_call_of(texts: &Texts, sender: Tid, env: &Env, exit: &ExitStmt) -> ExitCall
+    ensures { result ≡ exit_call_of texts.now sender env.now exit.now }
 {
     match exit {
         ExitStmt::MonExit { mon } => ExitCall::MonExit { mon: env.mon(*mon) },
@@ -33,19 +33,19 @@ fn exit_call_of(sender: Tid, env: &Env, exit: &ExitStmt) -> ExitCall
         },
         ExitStmt::Reply { to, text } => ExitCall::Reply {
             to: who_id(sender, env, *to),
-            text: *text,
+            text: texts.get(*text as usize),
         },
         ExitStmt::Resume { who } => ExitCall::Resume {
             tid: who_id(sender, env, *who),
         },
         ExitStmt::SetExit { code } => ExitCall::SetExit { code: *code },
-        ExitStmt::Note { text } => ExitCall::Note { text: *text },
+        ExitStmt::Note { text } => ExitCall::Note { text: texts.get(*text as usize) },
     }
 }
 
 // A statement that names nothing.
-fn plain_call(stmt: &Stmt) -> Call
-    ensures { result ≡ plain_call stmt.now }
+fn plain_call(texts: &Texts, stmt: &Stmt) -> Call
+    ensures { result ≡ plain_call texts.now stmt.now }
 {
     match stmt {
         Stmt::Resched { prio } => Call::Resched { prio: *prio },
@@ -72,15 +72,17 @@ fn plain_call(stmt: &Stmt) -> Call
         Stmt::UniqPatt => Call::UniqPatt,
         Stmt::Agent { event, .. } => Call::Agent { event: *event },
         Stmt::Agents => Call::Agents,
-        Stmt::Say { text } => Call::Say { text: *text },
+        Stmt::Say { text } => Call::Say {
+            text: texts.get(*text as usize),
+        },
         // A return; and what makes no call, for which nobody asks.
         _ => Call::Return,
     }
 }
 
 // A statement that names monitors or conditions, or nothing.
-fn lock_call(sender: Tid, env: &Env, stmt: &Stmt) -> Call
-    ensures { result ≡ lock_call sender env.now stmt.now }
+fn lock_call(texts: &Texts, sender: Tid, env: &Env, stmt: &Stmt) -> Call
+    ensures { result ≡ lock_call texts.now sender env.now stmt.now }
 {
     match stmt {
         Stmt::CvCreate { mon, .. } => Call::CvCreate { mon: env.mon(*mon) },
@@ -109,7 +111,7 @@ fn lock_call(sender: Tid, env: &Env, stmt: &Stmt) -> Call
         Stmt::CvWaiters { cond } => Call::CvWaiters {
             cond: env.cond(*cond),
         },
-        _ => plain_call(stmt),
+        _ => plain_call(texts, stmt),
     }
 }
 
@@ -123,8 +125,8 @@ fn source_of(sender: Tid, env: &Env, from: &Option<Who>) -> Option<Tid>
 }
 
 // A statement that names threads, or anything but procedures.
-fn thread_call(sender: Tid, env: &Env, stmt: &Stmt) -> Call
-    ensures { result ≡ thread_call sender env.now stmt.now }
+fn thread_call(texts: &Texts, sender: Tid, env: &Env, stmt: &Stmt) -> Call
+    ensures { result ≡ thread_call texts.now sender env.now stmt.now }
 {
     let id = |who: &Who| who_id(sender, env, *who);
     match stmt {
@@ -141,7 +143,7 @@ fn thread_call(sender: Tid, env: &Env, stmt: &Stmt) -> Call
         Stmt::Send { to, room, text } => Call::Send {
             to: id(to),
             room: *room,
-            text: *text,
+            text: texts.get(*text as usize),
         },
         Stmt::Recv { from, mode } => Call::Recv {
             from: source_of(sender, env, from),
@@ -149,12 +151,12 @@ fn thread_call(sender: Tid, env: &Env, stmt: &Stmt) -> Call
         },
         Stmt::Reply { to, text } => Call::Reply {
             to: id(to),
-            text: *text,
+            text: texts.get(*text as usize),
         },
         Stmt::OnExit { exit } => Call::OnExit {
-            call: exit_call_of(sender, env, exit),
+            call: exit_call_of(texts, sender, env, exit),
         },
-        _ => lock_call(sender, env, stmt),
+        _ => lock_call(texts, sender, env, stmt),
     }
 }
 
@@ -177,6 +179,6 @@ pub fn call_of(script: &Script, sender: Tid, env: &Env, stmt: &Stmt) -> Call
         Stmt::CallProc { proc } => Call::CallProc {
             proc: proc_number(script, *proc),
         },
-        _ => thread_call(sender, env, stmt),
+        _ => thread_call(&script.texts, sender, env, stmt),
     }
 }

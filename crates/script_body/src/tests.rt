@@ -3,7 +3,7 @@ use lwp_types::{
     Answer, Body, Call, Env, ExitCall, Flags, Func, LwpErr, Mode, NULL_TID, NoMemory, Pattern,
     Sequence, Text, Tid,
 };
-use script_text::{Names, Proc, Script, Stmt, Test, Who};
+use script_text::{NameList, Names, Proc, Script, Stmt, Test, Texts, Who};
 use std::alloc::Global;
 use std::test::Fail;
 
@@ -28,11 +28,12 @@ fn script_of(alloc: Global, first: &[Stmt], second: &[Stmt]) -> Result<Script, N
         procs,
         posts: Sequence::new(alloc),
         names: Names {
-            procs: Sequence::new(alloc),
-            threads: Sequence::new(alloc),
-            mons: Sequence::new(alloc),
-            conds: Sequence::new(alloc),
+            procs: NameList::new(alloc),
+            threads: NameList::new(alloc),
+            mons: NameList::new(alloc),
+            conds: NameList::new(alloc),
         },
+        texts: Texts::new(alloc),
     })
 }
 

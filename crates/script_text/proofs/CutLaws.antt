@@ -1,7 +1,12 @@
 -- How a text begins: with a line that has ended, or with none.
-use Rattle.std.proofs.Common.{◌≡◌, ◌<◌, ◌≤◌, ◌-◌, arith, ℕ, suc, true, false, cond, eqb, List, [], ◌∷◌, length, take, take_all, drop, refl, sym, ap}
+use Rattle.std.proofs.Common.{◌≡◌, ◌<◌, ◌≤◌, ◌-◌, ◌+◌, arith, ℕ, zero, suc, true, false, cond, eqb, fold, List, [], ◌∷◌, ◌++◌, length, take, take_all, drop, refl, sym, ap, subst, ◌∙◌, append_assoc}
+use Rattle.std.proofs.lemmas.List.{length-drop}
+use Rattle.memchr.specs.Find.{Nowhere, NoneBefore, Passes, is_byte}
 use Rattle.script_text.specs.Words.{reach}
+use Rattle.script_text.specs.Pieces.{IsTail}
 use Rattle.script_text.specs.Spelling.{onto_first, cut}
+use Rattle.script_text.specs.Track.{start, step}
+use Rattle.script_text.specs.declared.reader.Reader.{Reader}
 
 pub cut_none : (text : List ℕ) → drop (reach 10 text) text ≡ [] → cut text ≡ ([], text)
 cut_none [] h = refl
@@ -17,13 +22,110 @@ cut_some (x ∷ bs) b after h = elim (eqb x 10) as (λ v. drop (cond v 0 (suc (r
   | false ↦ λ f. rw (cut_some bs b after f) refl
 ] h
 
-pub first_none : (text rest : List ℕ) → rest ≡ drop (reach 10 text) text → length rest < 1 → cut text ≡ ([], text)
-first_none text [] e h = cut_none text (sym e)
-first_none text (b ∷ rest) e h = absurd (omega arith)
+-- ---- Where the first end is.
 
-pub first_some : (text front rest : List ℕ) → front ≡ take (reach 10 text) text → rest ≡ drop (reach 10 text) text → 1 ≤ length rest → cut text ≡ (front ∷ (cut (take (length rest - 1) (drop 1 rest))).0, (cut (take (length rest - 1) (drop 1 rest))).1)
-first_some text front [] f e h = absurd (omega arith)
-first_some text front (b ∷ rest) f e h =
-    let n : length (b ∷ rest) - 1 ≡ length rest = omega arith in
-    let all : take (length (b ∷ rest) - 1) rest ≡ rest = rw n (take_all (length rest) rest (omega arith)) in
-    rw (f, all) (cut_some text b rest (sym e))
+pub reach_none : (c : ℕ) (text : List ℕ) → Nowhere (Passes (is_byte c) text) 0 (length text) → drop (reach c text) text ≡ []
+reach_none c [] h = refl
+reach_none c (b ∷ bs) h = elim (eqb b c) as (λ v. eqb b c ≡ v → drop (cond v 0 (suc (reach c bs))) (b ∷ bs) ≡ []) [
+  | true ↦ λ e. absurd (h 0 (omega arith) (omega arith) e)
+  | false ↦ λ e. reach_none c bs (λ k low high is. h (suc k) (omega arith) (omega (arith, high)) is)
+] refl
+
+pub reach_is : (c : ℕ) (text : List ℕ) (k : ℕ) → k < length text → Nowhere (Passes (is_byte c) text) 0 k → Passes (is_byte c) text k → reach c text ≡ k
+reach_is c [] k h n p = absurd (omega (arith, h))
+reach_is c (b ∷ bs) zero h n p = rw p refl
+reach_is c (b ∷ bs) (suc k) h n p = elim (eqb b c) as (λ v. eqb b c ≡ v → cond v 0 (suc (reach c bs)) ≡ suc k) [
+  | true ↦ λ e. absurd (n 0 (omega arith) (omega arith) e)
+  | false ↦ λ e. ap suc (reach_is c bs k (omega (arith, h)) (λ j low high is. n (suc j) (omega arith) (omega (arith, high)) is) p)
+] refl
+
+rest_at : (text : List ℕ) (k : ℕ) → k < length text → (b : ℕ) × (drop k text ≡ b ∷ drop (suc k) text)
+rest_at [] k h = absurd (omega (arith, h))
+rest_at (b ∷ bs) zero h = (b, refl)
+rest_at (b ∷ bs) (suc k) h = rest_at bs k (omega (arith, h))
+
+pub line_none : (text : List ℕ) → Nowhere (Passes (is_byte 10) text) 0 (length text) → cut text ≡ ([], text)
+line_none text h = cut_none text (reach_none 10 text h)
+
+pub line_some : (text after : List ℕ) (k : ℕ) → NoneBefore (Passes (is_byte 10) text) 0 (length text) k → Passes (is_byte 10) text k → after ≡ take (length text - (k + 1)) (drop (k + 1) text) → cut text ≡ (take k text ∷ (cut after).0, (cut after).1)
+line_some text after k h p e =
+    let r = reach_is 10 text k h.high h.before p in
+    let at = rest_at text k h.high in
+    let next : k + 1 ≡ suc k = omega arith in
+    let all : after ≡ drop (suc k) text = e ∙ rw next (take_all (length text - suc k) (drop (suc k) text) (omega (arith, length-drop (suc k) text))) in
+    let there : drop (reach 10 text) text ≡ at.0 ∷ drop (suc k) text = rw r at.1 in
+    rw all (cut_some text at.0 (drop (suc k) text) there ∙ ap (λ (n : ℕ). (take n text ∷ (cut (drop (suc k) text)).0, (cut (drop (suc k) text)).1)) r)
+
+-- ---- Pieces.
+
+abbrev Cut : Type 0
+Cut = List (List ℕ) × List ℕ
+
+pair_is : (c : Cut) (ls : List (List ℕ)) (t : List ℕ) → c.0 ≡ ls → c.1 ≡ t → c ≡ (ls, t)
+pair_is c ls t e f = ap (λ (x : List (List ℕ)). (x, c.1)) e ∙ ap (λ (y : List ℕ). (ls, y)) f
+
+onto_inv : (b : ℕ) (ls : List (List ℕ)) (t tl : List ℕ) → onto_first b (ls, t) ≡ ([], b ∷ tl) → (ls ≡ []) × (t ≡ tl)
+onto_inv b [] t tl e = (refl, let f : b ∷ t ≡ b ∷ tl = ap (λ (c : Cut). c.1) e in cc)
+onto_inv b (l ∷ ls) t tl e = absurd (let f : (b ∷ l) ∷ ls ≡ [] = ap (λ (c : Cut). c.0) e in cc)
+
+tail_inv : (b : ℕ) (tl : List ℕ) → IsTail (b ∷ tl) → (eqb b 10 ≡ false) × IsTail tl
+tail_inv b tl h = elim (eqb b 10) as (λ v. eqb b 10 ≡ v → cond v ([] ∷ (cut tl).0, (cut tl).1) (onto_first b (cut tl)) ≡ ([], b ∷ tl) → (eqb b 10 ≡ false) × IsTail tl) [
+  | true ↦ λ e f. absurd (let g : [] ∷ (cut tl).0 ≡ [] = ap (λ (c : Cut). c.0) f in cc)
+  | false ↦ λ e f. let i = onto_inv b (cut tl).0 (cut tl).1 tl f in (e, pair_is (cut tl) [] tl i.0 i.1)
+] refl h
+
+pub cut_push_line : (tail rest line : List ℕ) (ls : List (List ℕ)) (t : List ℕ) → IsTail tail → cut rest ≡ (line ∷ ls, t) → cut (tail ++ rest) ≡ ((tail ++ line) ∷ ls, t)
+cut_push_line [] rest line ls t h e = e
+cut_push_line (b ∷ tl) rest line ls t h e = let i = tail_inv b tl h in rw (i.0, cut_push_line tl rest line ls t i.1 e) refl
+
+pub cut_push_rest : (tail rest : List ℕ) → IsTail tail → IsTail rest → IsTail (tail ++ rest)
+cut_push_rest [] rest h e = e
+cut_push_rest (b ∷ tl) rest h e = let i = tail_inv b tl h in rw (i.0, cut_push_rest tl rest i.1 e) refl
+
+append_step : (b : ℕ) (ls : List (List ℕ)) (t ys : List ℕ) → eqb b 10 ≡ false → onto_first b (ls ++ (cut (t ++ ys)).0, (cut (t ++ ys)).1) ≡ ((onto_first b (ls, t)).0 ++ (cut ((onto_first b (ls, t)).1 ++ ys)).0, (cut ((onto_first b (ls, t)).1 ++ ys)).1)
+append_step b [] t ys other = rw other refl
+append_step b (l ∷ ls) t ys other = refl
+
+-- a text that goes on: its lines, and those of its tail with what follows
+pub cut_append : (xs ys : List ℕ) → cut (xs ++ ys) ≡ ((cut xs).0 ++ (cut ((cut xs).1 ++ ys)).0, (cut ((cut xs).1 ++ ys)).1)
+cut_append [] ys = refl
+cut_append (b ∷ bs) ys = elim (eqb b 10) as (λ v. eqb b 10 ≡ v → cond v ([] ∷ (cut (bs ++ ys)).0, (cut (bs ++ ys)).1) (onto_first b (cut (bs ++ ys))) ≡ ((cond v ([] ∷ (cut bs).0, (cut bs).1) (onto_first b (cut bs))).0 ++ (cut ((cond v ([] ∷ (cut bs).0, (cut bs).1) (onto_first b (cut bs))).1 ++ ys)).0, (cut ((cond v ([] ∷ (cut bs).0, (cut bs).1) (onto_first b (cut bs))).1 ++ ys)).1)) [
+  | true ↦ λ e. ap (λ (c : Cut). ([] ∷ c.0, c.1)) (cut_append bs ys)
+  | false ↦ λ e. ap (onto_first b) (cut_append bs ys) ∙ append_step b (cut bs).0 (cut bs).1 ys e
+] refl
+
+tail_step : (b : ℕ) (ls : List (List ℕ)) (t : List ℕ) → eqb b 10 ≡ false → IsTail t → IsTail (onto_first b (ls, t)).1
+tail_step b [] t other h = rw (other, h) refl
+tail_step b (l ∷ ls) t other h = h
+
+pub tail_of_cut : (text : List ℕ) → IsTail (cut text).1
+tail_of_cut [] = refl
+tail_of_cut (b ∷ bs) = elim (eqb b 10) as (λ v. eqb b 10 ≡ v → IsTail (cond v ([] ∷ (cut bs).0, (cut bs).1) (onto_first b (cut bs))).1) [
+  | true ↦ λ e. tail_of_cut bs
+  | false ↦ λ e. tail_step b (cut bs).0 (cut bs).1 e (tail_of_cut bs)
+] refl
+
+fold_append : {A B : Type 0} (f : B → A → B) (b : B) (xs ys : List A) → fold f b (xs ++ ys) ≡ fold f (fold f b xs) ys
+fold_append f b [] ys = refl
+fold_append f b (x ∷ xs) ys = fold_append f (f b x) xs ys
+
+-- a text grows by a piece
+pub piece_lines : (r : Reader) (text tail piece : List ℕ) → r ≡ fold step start (cut text).0 → tail ≡ (cut text).1 → fold step r (cut (tail ++ piece)).0 ≡ fold step start (cut (text ++ piece)).0
+piece_lines r text tail piece e f = rw (e, f, cut_append text piece) (sym (fold_append step start (cut text).0 (cut ((cut text).1 ++ piece)).0))
+
+pub piece_tail : (text tail piece : List ℕ) → tail ≡ (cut text).1 → (cut (tail ++ piece)).1 ≡ (cut (text ++ piece)).1
+piece_tail text tail piece f = rw (f, cut_append text piece) refl
+
+-- a line of a piece
+pub line_lines : (r : Reader) (tail rest line after : List ℕ) → IsTail tail → cut rest ≡ (line ∷ (cut after).0, (cut after).1) → fold step (step r (tail ++ line)) (cut after).0 ≡ fold step r (cut (tail ++ rest)).0
+line_lines r tail rest line after h e = rw (cut_push_line tail rest line (cut after).0 (cut after).1 h e) refl
+
+pub line_tail : (tail rest line after : List ℕ) → IsTail tail → cut rest ≡ (line ∷ (cut after).0, (cut after).1) → (cut after).1 ≡ (cut (tail ++ rest)).1
+line_tail tail rest line after h e = rw (cut_push_line tail rest line (cut after).0 (cut after).1 h e) refl
+
+-- the end of a piece
+pub end_lines : (r : Reader) (tail rest : List ℕ) → IsTail tail → IsTail rest → fold step r (cut (tail ++ rest)).0 ≡ r
+end_lines r tail rest h e = rw (cut_push_rest tail rest h e) refl
+
+pub end_tail : (tail rest : List ℕ) → IsTail tail → IsTail rest → tail ++ rest ≡ (cut (tail ++ rest)).1
+end_tail tail rest h e = rw (cut_push_rest tail rest h e) refl

@@ -1,14 +1,12 @@
 -- What a reader answers at the end is the verdict on the lines.
 use Rattle.std.proofs.Common.{◌≡◌, ℕ, suc, ◌+◌, ◌≤◌, true, false, ◌&&◌, cond, List, [], ◌∷◌, ◌++◌, length, fold, Option, Some, None, Result, Ok, Err, refl, sym, ap, subst, ◌∙◌, arith, append_assoc}
-use Rattle.std.specs.List.{flat_map}
-use Rattle.std.proofs.lemmas.List.{append-nil}
-use Rattle.std.proofs.lemmas.Grind.{flat_map-append}
 use Rattle.lwp_types.specs.TextFields.{is_printable}
 use Rattle.script_text.specs.declared.table.Op.{Op}
 use Rattle.script_text.specs.declared.table.Op.TheVariants as op
 use Rattle.script_text.specs.declared.table.Role.{Role}
 use Rattle.script_text.specs.declared.table.Role.TheVariants as role
-use Rattle.script_text.specs.declared.phrase.Phrase.{Phrase}
+use Rattle.script_text.specs.Phrase.{Phrase}
+use Rattle.script_text.specs.declared.reader.Declared.{Declared}
 use Rattle.script_text.specs.declared.stage.Stage.{Stage}
 use Rattle.script_text.specs.declared.stage.Stage.TheVariants as stages
 use Rattle.script_text.specs.declared.reason.Reason.{Reason}
@@ -18,15 +16,16 @@ use Rattle.script_text.specs.declared.draft.Draft.{Draft}
 use Rattle.script_text.specs.declared.reader.Mention.{Mention}
 use Rattle.script_text.specs.declared.reader.Reader.{Reader}
 use Rattle.script_text.specs.declared.script.Script.{Script}
-use Rattle.script_text.specs.Table.{op_at, role_of, starts}
-use Rattle.script_text.specs.Reading.{phrase_at}
-use Rattle.script_text.specs.Grammar.{follows, keeps_rule, declared_by, stage_after, stage_of, may_stand, is_declared}
-use Rattle.script_text.specs.Meaning.{contains_name, added}
-use Rattle.script_text.specs.Spelling.{cut, reason_behind, reason_at, judge_said, judge, at_line, read_on, declared_on, declared_in, finish, verdict_by, Gives}
-use Rattle.script_text.specs.Track.{judge_told, judge_alone, mention_of, took, judged, noted, step, start, first_missing, answer_by, answer_at}
+use Rattle.script_text.specs.Table.{role_of, starts, starts_any}
+use Rattle.script_text.specs.Reading.{first_word, phrase_at}
+use Rattle.script_text.specs.Grammar.{follows, keeps_rule, declares, declared_of, posted_of, nothing, has, stage_after, stage_of, may_stand, is_declared}
+use Rattle.script_text.specs.Meaning.{added}
+use Rattle.script_text.specs.Spelling.{cut, word_reason, reason_behind, reason_at, judge_said, judge, at_line, read_on, noted, declared_in, whole, finish, verdict_by, Gives}
+use Rattle.script_text.specs.Track.{judge_told, judge_alone, mention_of, took, judged, knows, step, start, first_missing, answer_by, answer_at}
 use Rattle.script_text.proofs.WordLemmas.{both}
-use Rattle.script_text.proofs.PhraseLaws.{phrase_found, phrase_op}
-use Rattle.script_text.proofs.TrackLaws.{first_undeclared, undeclared_push, Tracks, tracks_more}
+use Rattle.script_text.proofs.PhraseLaws.{phrase_found}
+use Rattle.script_text.proofs.SaidLaws.{said_declares, starting_word}
+use Rattle.script_text.proofs.TrackLaws.{fold_push, first_undeclared, undeclared_push, Tracks, tracks_more}
 
 -- ---- One line, by itself and in its text.
 
@@ -37,12 +36,12 @@ record Alone (before : List Phrase) (line : List ℕ) (p : Phrase) : Type 0 wher
   stands : may_stand before p ≡ true
 
 abbrev alone : List Phrase → List ℕ → Result Phrase Reason
-alone before line = judge_alone (stage_of before) (flat_map declared_by before) line
+alone before line = judge_alone (stage_of before) (declared_of before) (posted_of before) line
 
 alone_ok : (before : List Phrase) (line : List ℕ) (p : Phrase) → alone before line ≡ Ok p → Alone before line p
-alone_ok before line p e = elim (is_printable line) as (λ v. is_printable line ≡ v → cond v (judge_told (stage_of before) (flat_map declared_by before) line (phrase_at line)) (Err reason.Bytes) ≡ Ok p → Alone before line p) [
+alone_ok before line p e = elim (is_printable line) as (λ v. is_printable line ≡ v → cond v (judge_told (stage_of before) (declared_of before) (posted_of before) line (phrase_at line)) (Err reason.Bytes) ≡ Ok p → Alone before line p) [
   | false ↦ λ i f. absurd cc
-  | true ↦ λ i f. elim (phrase_at line) as (λ o. phrase_at line ≡ o → judge_told (stage_of before) (flat_map declared_by before) line o ≡ Ok p → Alone before line p) [
+  | true ↦ λ i f. elim (phrase_at line) as (λ o. phrase_at line ≡ o → judge_told (stage_of before) (declared_of before) (posted_of before) line o ≡ Ok p → Alone before line p) [
     | None ↦ λ j g. absurd cc
     | Some q ↦ λ j g. elim (may_stand before q) as (λ v. may_stand before q ≡ v → cond v (Ok q) (Err (reason_at before line)) ≡ Ok p → Alone before line p) [
       | false ↦ λ k h. absurd cc
@@ -52,10 +51,10 @@ alone_ok before line p e = elim (is_printable line) as (λ v. is_printable line 
 ] refl e
 
 -- what is bad by itself is bad in every text
-alone_err : (d : List (List ℕ)) (before : List Phrase) (line : List ℕ) (why : Reason) → alone before line ≡ Err why → judge d before line ≡ Err why
-alone_err d before line why e = elim (is_printable line) as (λ v. cond v (judge_told (stage_of before) (flat_map declared_by before) line (phrase_at line)) (Err reason.Bytes) ≡ Err why → cond v (judge_said d before line (phrase_at line)) (Err reason.Bytes) ≡ Err why) [
+alone_err : (d : Declared) (before : List Phrase) (line : List ℕ) (why : Reason) → alone before line ≡ Err why → judge d before line ≡ Err why
+alone_err d before line why e = elim (is_printable line) as (λ v. cond v (judge_told (stage_of before) (declared_of before) (posted_of before) line (phrase_at line)) (Err reason.Bytes) ≡ Err why → cond v (judge_said d before line (phrase_at line)) (Err reason.Bytes) ≡ Err why) [
   | false ↦ λ f. f
-  | true ↦ λ f. elim (phrase_at line) as (λ o. judge_told (stage_of before) (flat_map declared_by before) line o ≡ Err why → judge_said d before line o ≡ Err why) [
+  | true ↦ λ f. elim (phrase_at line) as (λ o. judge_told (stage_of before) (declared_of before) (posted_of before) line o ≡ Err why → judge_said d before line o ≡ Err why) [
     | None ↦ λ g. g
     | Some q ↦ λ g. elim (may_stand before q) as (λ v. cond v (Ok q) (Err (reason_at before line)) ≡ Err why → cond (v && is_declared d q) (Ok q) (Err (reason_at before line)) ≡ Err why) [
       | false ↦ λ h. h
@@ -68,95 +67,93 @@ alone_err d before line why e = elim (is_printable line) as (λ v. cond v (judge
 starts_in_role : (o : Op) → starts o ≡ true → role_of o ≡ role.Statement
 starts_in_role o s = elim o as (λ x. starts x ≡ true → role_of x ≡ role.Statement) [
   | op.Create ↦ λ f. refl
+  | op.CallProc ↦ λ f. refl
   | _ ↦ λ f. absurd cc
 ] s
 
-undeclared_starts : (d : List (List ℕ)) (p : Phrase) → is_declared d p ≡ false → starts p.op ≡ true
-undeclared_starts d p e = elim (starts p.op) as (λ v. cond v (contains_name d p.procedure) true ≡ false → v ≡ true) [
+undeclared_starts : (d : Declared) (p : Phrase) → is_declared d p ≡ false → starts p.op ≡ true
+undeclared_starts d p e = elim (starts p.op) as (λ v. cond v (has d (starts_any p.op) p.procedure) true ≡ false → v ≡ true) [
   | true ↦ λ f. refl
   | false ↦ λ f. absurd cc
 ] e
 
-behind_statement : (stage : Stage) (p : Phrase) → role_of p.op ≡ role.Statement → follows stage role.Statement ≡ true → reason_behind stage (Some p.op) true ≡ reason.Statement
-behind_statement stages.Start p e h = absurd cc
-behind_statement stages.Header p e h = absurd cc
-behind_statement stages.Pod p e h = absurd cc
-behind_statement stages.Limit p e h = absurd cc
-behind_statement stages.Proc p e h = rw e refl
-behind_statement stages.Calling p e h = rw e refl
-behind_statement stages.Skipping p e h = rw e refl
-behind_statement stages.Ended p e h = absurd cc
+behind_statement : (stage : Stage) → follows stage role.Statement ≡ true → reason_behind stage None (Some role.Statement) ≡ reason.Statement
+behind_statement stages.Start h = absurd cc
+behind_statement stages.Header h = absurd cc
+behind_statement stages.Pod h = absurd cc
+behind_statement stages.Clients h = absurd cc
+behind_statement stages.Natives h = absurd cc
+behind_statement stages.Proc h = refl
+behind_statement stages.Calling h = refl
+behind_statement stages.Skipping h = refl
+behind_statement stages.Ended h = absurd cc
+behind_statement stages.Posts h = absurd cc
 
 -- an undeclared procedure makes a line that stands bad as a statement
-undeclared_reason : (d : List (List ℕ)) (before : List Phrase) (line : List ℕ) (p : Phrase) → Alone before line p → is_declared d p ≡ false → reason_at before line ≡ reason.Statement
+undeclared_reason : (d : Declared) (before : List Phrase) (line : List ℕ) (p : Phrase) → Alone before line p → is_declared d p ≡ false → reason_at before line ≡ reason.Statement
 undeclared_reason d before line p a e =
-    let r : role_of p.op ≡ role.Statement = starts_in_role p.op (undeclared_starts d p e) in
-    let f : follows (stage_of before) (role_of p.op) ≡ true = (both (follows (stage_of before) (role_of p.op)) (keeps_rule (flat_map declared_by before) (role_of p.op) p) a.stands).0 in
-    rw (phrase_op line p a.said, a.said) (behind_statement (stage_of before) p r (subst (λ (x : Role). follows (stage_of before) x ≡ true) r f))
+    let s : starts p.op ≡ true = undeclared_starts d p e in
+    let r : role_of p.op ≡ role.Statement = starts_in_role p.op s in
+    let f : follows (stage_of before) (role_of p.op) ≡ true = (both (follows (stage_of before) (role_of p.op)) (keeps_rule (declared_of before) (posted_of before) (role_of p.op) p) a.stands).0 in
+    rw (starting_word line p a.said s, a.said, r) (behind_statement (stage_of before) (subst (λ (x : Role). follows (stage_of before) x ≡ true) r f))
 
 -- ---- The end.
 
 -- a reader that has found no bad line
-abbrev good : ℕ → Stage → List (List ℕ) → List Mention → Draft → Reader
+abbrev good : ℕ → Stage → Declared → List Mention → Draft → Reader
 good count stage declared mentions draft = record { count = count; stage = stage; bad = None; declared = declared; mentions = mentions; draft = draft }
 
 -- the answer in a text that declares these procedures
-abbrev settled : List (List ℕ) → Reader → List ℕ → Result Script (ℕ × Reason)
+abbrev settled : Declared → Reader → List ℕ → Result Script (ℕ × Reason)
 settled d r tail = answer_by (first_missing d r.draft.script.names.procs r.mentions) r.bad r tail
 
 -- behind a bad line only what is declared changes
-frozen : (d : List (List ℕ)) (why : Reason) (count : ℕ) (stage : Stage) (declared : List (List ℕ)) (mentions : List Mention) (draft : Draft) (lines more : List (List ℕ)) (tail : List ℕ) → settled d (noted (fold step (record { count = count; stage = stage; bad = Some why; declared = declared; mentions = mentions; draft = draft }) lines) more) tail ≡ answer_by (first_missing d draft.script.names.procs mentions) (Some why) (record { count = count; stage = stage; bad = Some why; declared = []; mentions = mentions; draft = draft }) tail
-frozen d why count stage declared mentions draft [] more tail = elim (first_missing d draft.script.names.procs mentions) as (λ o. answer_by o (Some why) (record { count = count; stage = stage; bad = Some why; declared = declared ++ more; mentions = mentions; draft = draft }) tail ≡ answer_by o (Some why) (record { count = count; stage = stage; bad = Some why; declared = []; mentions = mentions; draft = draft }) tail) [
+frozen : (d : Declared) (why : Reason) (count : ℕ) (stage : Stage) (declared : Declared) (mentions : List Mention) (draft : Draft) (lines : List (List ℕ)) (more tail : List ℕ) → settled d (knows (fold step (record { count = count; stage = stage; bad = Some why; declared = declared; mentions = mentions; draft = draft }) lines) more) tail ≡ answer_by (first_missing d draft.script.names.procs mentions) (Some why) (record { count = count; stage = stage; bad = Some why; declared = nothing; mentions = mentions; draft = draft }) tail
+frozen d why count stage declared mentions draft [] more tail = elim (first_missing d draft.script.names.procs mentions) as (λ o. answer_by o (Some why) (record { count = count; stage = stage; bad = Some why; declared = noted declared more; mentions = mentions; draft = draft }) tail ≡ answer_by o (Some why) (record { count = count; stage = stage; bad = Some why; declared = nothing; mentions = mentions; draft = draft }) tail) [
   | None ↦ refl
   | Some k ↦ refl
 ]
-frozen d why count stage declared mentions draft (l ∷ ls) more tail = frozen d why count stage (declared ++ declared_on (phrase_at l)) mentions draft ls more tail
+frozen d why count stage declared mentions draft (l ∷ ls) more tail = frozen d why count stage (noted declared l) mentions draft ls more tail
 
 -- a reader goes on as what it knows of the lines says
-goes_on : (count : ℕ) (stage : Stage) (declared : List (List ℕ)) (mentions : List Mention) (draft : Draft) (before : List Phrase) (l : List ℕ) (p : Phrase) → Tracks count stage declared mentions draft before → judge_alone stage declared l ≡ Ok p → Alone before l p × Tracks (count + 1) (stage_after stage (role_of p.op)) (declared ++ declared_on (phrase_at l)) (mentions ++ mention_of (count + 1) (added draft p).script.names.procs p) (added draft p) (before ++ p ∷ [])
+goes_on : (count : ℕ) (stage : Stage) (declared : Declared) (mentions : List Mention) (draft : Draft) (before : List Phrase) (l : List ℕ) (p : Phrase) → Tracks count stage declared mentions draft before → judge_alone stage declared draft.posted l ≡ Ok p → Alone before l p × Tracks (count + 1) (stage_after stage (role_of p.op)) (noted declared l) (mentions ++ mention_of (count + 1) (added draft p).script.names.procs p) (added draft p) (before ++ p ∷ [])
 goes_on count stage declared mentions draft before l p k e =
-    let same : judge_alone stage declared l ≡ alone before l = rw (k.stage_is, k.declared_is) refl in
+    let same : judge_alone stage declared draft.posted l ≡ alone before l = rw (k.stage_is, k.declared_is, k.draft_is) refl in
     let a = alone_ok before l p (sym same ∙ e) in
-    (a, rw a.said (tracks_more count stage declared mentions draft before p k (phrase_found l p a.said).0))
+    (a, rw (said_declares declared l p a.said) (tracks_more count stage declared mentions draft before p k (phrase_found l p a.said).0))
 
 -- a line that starts an undeclared procedure is the first bad line
-stays_missed : (d : List (List ℕ)) (n : ℕ) (count : ℕ) (stage : Stage) (declared : List (List ℕ)) (mentions : List Mention) (draft : Draft) (before : List Phrase) (lines more : List (List ℕ)) (tail : List ℕ) → Tracks count stage declared mentions draft before → first_undeclared d 1 before ≡ Some n → settled d (noted (fold step (good count stage declared mentions draft) lines) more) tail ≡ Err (n, reason.Statement)
+stays_missed : (d : Declared) (n : ℕ) (count : ℕ) (stage : Stage) (declared : Declared) (mentions : List Mention) (draft : Draft) (before : List Phrase) (lines : List (List ℕ)) (more tail : List ℕ) → Tracks count stage declared mentions draft before → first_undeclared d 1 before ≡ Some n → settled d (knows (fold step (good count stage declared mentions draft) lines) more) tail ≡ Err (n, reason.Statement)
 stays_missed d n count stage declared mentions draft before [] more tail k h = rw (k.mentions_tell d, h) refl
-stays_missed d n count stage declared mentions draft before (l ∷ ls) more tail k h = elim (judge_alone stage declared l) as (λ j. judge_alone stage declared l ≡ j → settled d (noted (fold step (noted (took (good count stage declared mentions draft) j) (declared_on (phrase_at l))) ls) more) tail ≡ Err (n, reason.Statement)) [
-  | Err why ↦ λ e. frozen d why count stage (declared ++ declared_on (phrase_at l)) mentions draft ls more tail ∙ rw (k.mentions_tell d, h) refl
+stays_missed d n count stage declared mentions draft before (l ∷ ls) more tail k h = elim (judge_alone stage declared draft.posted l) as (λ j. judge_alone stage declared draft.posted l ≡ j → settled d (knows (fold step (knows (took (good count stage declared mentions draft) j) l) ls) more) tail ≡ Err (n, reason.Statement)) [
+  | Err why ↦ λ e. frozen d why count stage (noted declared l) mentions draft ls more tail ∙ rw (k.mentions_tell d, h) refl
   | Ok p ↦ λ e.
       let g = goes_on count stage declared mentions draft before l p k e in
       let missed : first_undeclared d 1 (before ++ p ∷ []) ≡ Some n = undeclared_push d 1 before p ∙ rw h refl in
       stays_missed d n (count + 1) _ _ _ _ (before ++ p ∷ []) ls more tail g.1 missed
 ] refl
 
--- no bytes declare nothing
-nothing_declared : declared_on (phrase_at []) ≡ []
-unfolding phrase_at op_at
-nothing_declared = refl
-
 -- the answer behind good lines
-all_ended : (d : List (List ℕ)) (count : ℕ) (stage : Stage) (declared : List (List ℕ)) (mentions : List Mention) (draft : Draft) (before : List Phrase) (tail : List ℕ) → Tracks count stage declared mentions draft before → first_undeclared d 1 before ≡ None → settled d (noted (good count stage declared mentions draft) (declared_on (phrase_at tail))) tail ≡ finish (Ok before) tail
+all_ended : (d : Declared) (count : ℕ) (stage : Stage) (declared : Declared) (mentions : List Mention) (draft : Draft) (before : List Phrase) (tail : List ℕ) → Tracks count stage declared mentions draft before → first_undeclared d 1 before ≡ None → settled d (knows (good count stage declared mentions draft) tail) tail ≡ finish (Ok before) tail
 all_ended d count stage declared mentions draft before (b ∷ tail) k h =
     let line : count + 1 ≡ suc (length before) = omega (arith, k.count_is) in
     rw (k.mentions_tell d, h, line) refl
 all_ended d count stage declared mentions draft before [] k h =
     let line : count + 1 ≡ suc (length before) = omega (arith, k.count_is) in
-    let same : declared ++ declared_on (phrase_at []) ≡ flat_map declared_by before = rw (nothing_declared, append-nil declared) k.declared_is in
-    rw (k.mentions_tell d, h, same, line, k.draft_is) refl
+    rw (k.mentions_tell d, h, line, k.draft_is) refl
 
 -- the answer behind lines that are good so far
-settles : (d : List (List ℕ)) (count : ℕ) (stage : Stage) (declared : List (List ℕ)) (mentions : List Mention) (draft : Draft) (before : List Phrase) (lines : List (List ℕ)) (tail : List ℕ) → Tracks count stage declared mentions draft before → first_undeclared d 1 before ≡ None → settled d (noted (fold step (good count stage declared mentions draft) lines) (declared_on (phrase_at tail))) tail ≡ finish (read_on d before lines) tail
+settles : (d : Declared) (count : ℕ) (stage : Stage) (declared : Declared) (mentions : List Mention) (draft : Draft) (before : List Phrase) (lines : List (List ℕ)) (tail : List ℕ) → Tracks count stage declared mentions draft before → first_undeclared d 1 before ≡ None → settled d (knows (fold step (good count stage declared mentions draft) lines) tail) tail ≡ finish (read_on d before lines) tail
 settles d count stage declared mentions draft before [] tail k h = all_ended d count stage declared mentions draft before tail k h
-settles d count stage declared mentions draft before (l ∷ ls) tail k h = elim (judge_alone stage declared l) as (λ j. judge_alone stage declared l ≡ j → settled d (noted (fold step (noted (took (good count stage declared mentions draft) j) (declared_on (phrase_at l))) ls) (declared_on (phrase_at tail))) tail ≡ finish (at_line (suc (length before)) (judge d before l) (λ p. read_on d (before ++ p ∷ []) ls)) tail) [
+settles d count stage declared mentions draft before (l ∷ ls) tail k h = elim (judge_alone stage declared draft.posted l) as (λ j. judge_alone stage declared draft.posted l ≡ j → settled d (knows (fold step (knows (took (good count stage declared mentions draft) j) l) ls) tail) tail ≡ finish (at_line (suc (length before)) (judge d before l) (λ p. read_on d (before ++ p ∷ []) ls)) tail) [
   | Err why ↦ λ e.
-      let same : judge_alone stage declared l ≡ alone before l = rw (k.stage_is, k.declared_is) refl in
+      let same : judge_alone stage declared draft.posted l ≡ alone before l = rw (k.stage_is, k.declared_is, k.draft_is) refl in
       let bad : judge d before l ≡ Err why = alone_err d before l why (sym same ∙ e) in
       let line : count + 1 ≡ suc (length before) = omega (arith, k.count_is) in
-      frozen d why count stage (declared ++ declared_on (phrase_at l)) mentions draft ls (declared_on (phrase_at tail)) tail ∙ rw (k.mentions_tell d, h, bad, line) refl
+      frozen d why count stage (noted declared l) mentions draft ls tail tail ∙ rw (k.mentions_tell d, h, bad, line) refl
   | Ok p ↦ λ e.
       let g = goes_on count stage declared mentions draft before l p k e in
-      elim (is_declared d p) as (λ v. is_declared d p ≡ v → settled d (noted (fold step (noted (took (good count stage declared mentions draft) (Ok p)) (declared_on (phrase_at l))) ls) (declared_on (phrase_at tail))) tail ≡ finish (at_line (suc (length before)) (judge d before l) (λ q. read_on d (before ++ q ∷ []) ls)) tail) [
+      elim (is_declared d p) as (λ v. is_declared d p ≡ v → settled d (knows (fold step (knows (took (good count stage declared mentions draft) (Ok p)) l) ls) tail) tail ≡ finish (at_line (suc (length before)) (judge d before l) (λ q. read_on d (before ++ q ∷ []) ls)) tail) [
         | true ↦ λ y.
             let none : first_undeclared d 1 (before ++ p ∷ []) ≡ None = undeclared_push d 1 before p ∙ rw (h, y) refl in
             settles d (count + 1) _ _ _ _ (before ++ p ∷ []) ls tail g.1 none ∙ rw (g.0.printable, g.0.said, g.0.stands, y) refl
@@ -164,7 +161,7 @@ settles d count stage declared mentions draft before (l ∷ ls) tail k h = elim 
             let missed : first_undeclared d 1 (before ++ p ∷ []) ≡ Some (1 + length before) = undeclared_push d 1 before p ∙ rw (h, n) refl in
             let line : 1 + length before ≡ suc (length before) = omega arith in
             let why : reason_at before l ≡ reason.Statement = undeclared_reason d before l p g.0 n in
-            stays_missed d (1 + length before) (count + 1) _ _ _ _ (before ++ p ∷ []) ls (declared_on (phrase_at tail)) tail g.1 missed ∙ rw (g.0.printable, g.0.said, g.0.stands, n, why, line) refl
+            stays_missed d (1 + length before) (count + 1) _ _ _ _ (before ++ p ∷ []) ls tail tail g.1 missed ∙ rw (g.0.printable, g.0.said, g.0.stands, n, why, line) refl
       ] refl
 ] refl
 
@@ -175,23 +172,21 @@ took_declared r (Err why) = refl
 
 judged_declared : (b : Option Reason) (r : Reader) (l : List ℕ) → (judged b r l).declared ≡ r.declared
 judged_declared (Some why) r l = refl
-judged_declared None r l = took_declared r (judge_alone r.stage r.declared l)
+judged_declared None r l = took_declared r (judge_alone r.stage r.declared r.draft.posted l)
 
-fold_declared : (r : Reader) (lines : List (List ℕ)) → (fold step r lines).declared ≡ r.declared ++ declared_in lines
-fold_declared r [] = sym (append-nil r.declared)
-fold_declared r (l ∷ ls) = fold_declared (step r l) ls ∙ ap (λ (x : List (List ℕ)). (x ++ declared_on (phrase_at l)) ++ declared_in ls) (judged_declared r.bad r l) ∙ append_assoc r.declared (declared_on (phrase_at l)) (declared_in ls)
+fold_declared : (r : Reader) (lines : List (List ℕ)) → (fold step r lines).declared ≡ fold noted r.declared lines
+fold_declared r [] = refl
+fold_declared r (l ∷ ls) = fold_declared (step r l) ls ∙ ap (λ (x : Declared). fold noted (noted x l) ls) (judged_declared r.bad r l)
 
-starts_well : Tracks 0 stages.Start [] [] start.draft []
+starts_well : Tracks 0 stages.Start nothing [] start.draft []
 starts_well = record { count_is = refl; stage_is = refl; declared_is = refl; draft_is = refl; are_named = tt; mentions_tell = λ d. refl }
 
 -- a reader's answer is the verdict
 pub verdict_folds : (lines : List (List ℕ)) (tail : List ℕ) → answer_at (fold step start lines) tail ≡ verdict_by (lines, tail)
 verdict_folds lines tail =
     let all = declared_in (lines ++ tail ∷ []) in
-    let d : (fold step start lines).declared ++ declared_on (phrase_at tail) ≡ all =
-    ap (λ (l : List (List ℕ)). l ++ declared_on (phrase_at tail)) (fold_declared start lines)
-    ∙ sym (flat_map-append (λ (l : List ℕ). declared_on (phrase_at l)) lines (tail ∷ []) ∙ ap (λ (l : List (List ℕ)). declared_in lines ++ l) (append-nil (declared_on (phrase_at tail)))) in
-    ap (λ (x : List (List ℕ)). settled x (noted (fold step start lines) (declared_on (phrase_at tail))) tail) d ∙ settles all 0 stages.Start [] [] start.draft [] lines tail starts_well refl
+    let d : noted (fold step start lines).declared tail ≡ all = ap (λ (x : Declared). noted x tail) (fold_declared start lines) ∙ sym (fold_push noted nothing lines tail) in
+    ap (λ (x : Declared). settled x (knows (fold step start lines) tail) tail) d ∙ settles all 0 stages.Start nothing [] start.draft [] lines tail starts_well refl
 
 -- a step takes one line
 took_count : (r : Reader) (j : Result Phrase Reason) → (took r j).count ≤ r.count + 1
@@ -200,15 +195,7 @@ took_count r (Err why) = omega arith
 
 judged_count : (b : Option Reason) (r : Reader) (l : List ℕ) → (judged b r l).count ≤ r.count + 1
 judged_count (Some why) r l = omega arith
-judged_count None r l = took_count r (judge_alone r.stage r.declared l)
+judged_count None r l = took_count r (judge_alone r.stage r.declared r.draft.posted l)
 
 pub step_count : (r : Reader) (l : List ℕ) → (step r l).count ≤ r.count + 1
 step_count r l = judged_count r.bad r l
-
--- the answer of a reader that has taken all lines of a text
-pub read_gives : (r : Reader) (rest text : List ℕ) (result : Result Script ReadErr) → cut rest ≡ ([], rest) → fold step r (cut rest).0 ≡ fold step start (cut text).0 → (cut rest).1 ≡ (cut text).1 → Gives (answer_at r rest) result → Gives (verdict_by (cut text)) result
-read_gives r rest text result none lines tail h =
-    let g : r ≡ fold step start (cut text).0 = ap (λ (c : List (List ℕ) × List ℕ). fold step r c.0) (sym none) ∙ lines in
-    let t : rest ≡ (cut text).1 = ap (λ (c : List (List ℕ) × List ℕ). c.1) (sym none) ∙ tail in
-    let same : answer_at r rest ≡ verdict_by (cut text) = rw (g, t) (verdict_folds (cut text).0 (cut text).1) in
-    subst (λ (v : Result Script (ℕ × Reason)). Gives v result) same h

@@ -1,7 +1,11 @@
 pub mod WordLemmas
 pub mod PhraseLaws
-pub mod CutLaws
-pub mod ScriptLaws
+pub mod SaidLaws
+pub mod TextLaws
 pub mod TrackLaws
 pub mod FoldLaws
+pub mod JudgeLaws
+pub mod CutLaws
+pub mod ScriptLaws
 pub mod LimitLaws
+pub mod PieceLaws

@@ -1,25 +1,28 @@
 -- The verdict on a text is a script exactly where the text spells it.
-use Rattle.std.proofs.Common.{◌≡◌, ℕ, suc, ◌<◌, ◌≤◌, true, false, ◌&&◌, cond, eqb, leb, List, [], ◌∷◌, ◌++◌, length, map, Some, None, Result, Ok, Err, refl, sym, ap, subst, ◌∙◌, arith, append_assoc}
+use Rattle.std.proofs.Common.{◌≡◌, ℕ, suc, ◌<◌, ◌≤◌, true, false, ◌&&◌, cond, eqb, leb, ltb, fold, List, [], ◌∷◌, ◌++◌, length, map, Some, None, Result, Ok, Err, refl, sym, ap, subst, ◌∙◌, arith, append_assoc}
 use Rattle.std.specs.Prelude.{IsTrue, IfOk}
 use Rattle.std.specs.List.{flat_map, AllByRecursion}
-use Rattle.std.proofs.lemmas.Bool.{leb-true, le-ltb, ne_eqb, eqb-false, eqb-true}
+use Rattle.std.proofs.lemmas.Bool.{leb-true, le-ltb, ltb-false, ne_eqb, eqb-false, eqb-true}
 use Rattle.std.proofs.lemmas.List.{append-nil}
 use Rattle.lwp_types.specs.TextFields.{is_printable}
-use Rattle.script_text.specs.declared.phrase.Phrase.{Phrase}
+use Rattle.script_text.specs.Phrase.{Phrase}
+use Rattle.script_text.specs.declared.reader.Declared.{Declared}
 use Rattle.script_text.specs.declared.reason.Reason.{Reason}
 use Rattle.script_text.specs.declared.reason.Reason.TheVariants as reason
 use Rattle.script_text.specs.declared.reason.ReadErr.{ReadErr}
 use Rattle.script_text.specs.declared.reason.ReadErr.TheVariants as err
 use Rattle.script_text.specs.declared.script.Script.{Script}
-use Rattle.script_text.specs.Table.{op_at}
+use Rattle.script_text.specs.Table.{role_of}
 use Rattle.script_text.specs.Reading.{phrase_at}
 use Rattle.script_text.specs.Meaning.{script_of}
-use Rattle.script_text.specs.Grammar.{phrase_text, IsLine, declared_by, may_stand, is_declared, AllStand, ended, spelling, SpelledBy, Spells}
-use Rattle.script_text.specs.Spelling.{onto_first, cut, reason_at, judge_said, judge, at_line, read_on, declared_in, finish, verdict_by, verdict, Gives, IsReadAs}
+use Rattle.script_text.specs.Grammar.{phrase_text, IsLine, declares, declared_of, nothing, may_stand, is_declared, AllStand, ended, spelling, SpelledBy, Spells}
+use Rattle.script_text.specs.Spelling.{onto_first, cut, reason_at, judge_said, judge, at_line, read_on, noted, declared_in, whole, finish, verdict_by, verdict, Gives, IsReadAs}
 use Rattle.script_text.proofs.WordLemmas.{both}
 use Rattle.script_text.proofs.PhraseLaws.{phrase_found, phrase_again, phrase_needed}
+use Rattle.script_text.proofs.SaidLaws.{phrase_is_printable, said_declares}
+use Rattle.script_text.proofs.TrackLaws.{fold_push}
 
-abbrev AllDeclared : List (List ℕ) → List Phrase → Type 0
+abbrev AllDeclared : Declared → List Phrase → Type 0
 AllDeclared d ps = AllByRecursion (λ p. IsTrue (is_declared d p)) ps
 
 -- ---- A text that is spelt is read.
@@ -27,10 +30,10 @@ AllDeclared d ps = AllByRecursion (λ p. IsTrue (is_declared d p)) ps
 line_again : (p : Phrase) → IsLine p → phrase_at (phrase_text p) ≡ Some p
 line_again p h = phrase_again p h.0 ∙ ap (λ (q : Phrase). Some q) h.1
 
-judge_again : (d : List (List ℕ)) (before : List Phrase) (p : Phrase) → IsLine p → may_stand before p ≡ true → is_declared d p ≡ true → judge d before (phrase_text p) ≡ Ok p
-judge_again d before p h s a = rw (h.2, line_again p h, s, a) refl
+judge_again : (d : Declared) (before : List Phrase) (p : Phrase) → IsLine p → may_stand before p ≡ true → is_declared d p ≡ true → judge d before (phrase_text p) ≡ Ok p
+judge_again d before p h s a = rw (phrase_is_printable p h.0, line_again p h, s, a) refl
 
-read_again : (d : List (List ℕ)) (before ps : List Phrase) → AllByRecursion IsLine ps → AllStand before ps → AllDeclared d ps → read_on d before (map phrase_text ps) ≡ Ok (before ++ ps)
+read_again : (d : Declared) (before ps : List Phrase) → AllByRecursion IsLine ps → AllStand before ps → AllDeclared d ps → read_on d before (map phrase_text ps) ≡ Ok (before ++ ps)
 read_again d before [] h s a = rw append-nil refl
 read_again d before (p ∷ ps) h s a =
     rw (judge_again d before p h.0 s.0 a.0) (read_again d (before ++ p ∷ []) ps h.1 s.1 a.1 ∙ ap (λ (l : List Phrase). Ok l) (append_assoc before (p ∷ []) ps))
@@ -46,42 +49,52 @@ cut_line (b ∷ l) rest h =
 cut_again : (ps : List Phrase) → AllByRecursion IsLine ps → cut (spelling ps) ≡ (map phrase_text ps, [])
 cut_again [] h = refl
 cut_again (p ∷ ps) h =
-    rw (append_assoc (phrase_text p) (10 ∷ []) (spelling ps), cut_line (phrase_text p) (spelling ps) h.0.2, cut_again ps h.1) refl
+    rw (append_assoc (phrase_text p) (10 ∷ []) (spelling ps), cut_line (phrase_text p) (spelling ps) (phrase_is_printable p h.0.0), cut_again ps h.1) refl
 
 -- what the lines of a text declare is what its phrases declare
-declared_again : (ps : List Phrase) → AllByRecursion IsLine ps → declared_in (map phrase_text ps ++ [] ∷ []) ≡ flat_map declared_by ps
-unfolding phrase_at op_at
-declared_again [] h = refl
-declared_again (p ∷ ps) h = rw (line_again p h.0, declared_again ps h.1) refl
+declared_on : (d : Declared) (ps : List Phrase) → AllByRecursion IsLine ps → fold noted d (map phrase_text ps) ≡ fold (λ (x : Declared) (p : Phrase). declares (role_of p.op) x p) d ps
+declared_on d [] h = refl
+declared_on d (p ∷ ps) h = ap (λ (x : Declared). fold noted x (map phrase_text ps)) (said_declares d (phrase_text p) p (line_again p h.0)) ∙ declared_on (declares (role_of p.op) d p) ps h.1
 
-verdict_short : (text : List ℕ) → length text ≤ 16777216 → verdict text ≡ verdict_by (cut text)
+nothing_more : (d : Declared) → noted d [] ≡ d
+nothing_more d = refl
+
+declared_again : (ps : List Phrase) → AllByRecursion IsLine ps → declared_in (map phrase_text ps ++ [] ∷ []) ≡ declared_of ps
+declared_again ps h = fold_push noted nothing (map phrase_text ps) [] ∙ declared_on nothing ps h
+
+pub verdict_long : (text : List ℕ) → ltb 16777216 (length text) ≡ true → verdict text ≡ Err (0, reason.TooLarge)
+unfolding verdict
+verdict_long text h = rw h refl
+
+pub verdict_short : (text : List ℕ) → length text ≤ 16777216 → verdict text ≡ verdict_by (cut text)
+unfolding verdict
 verdict_short text h = rw (le-ltb 16777216 (length text) h) refl
 
-verdict_again : (text : List ℕ) (s : Script) (ps : List Phrase) → SpelledBy text s ps → verdict text ≡ Ok s
+pub verdict_again : (text : List ℕ) (s : Script) (ps : List Phrase) → SpelledBy text s ps → verdict text ≡ Ok s
 verdict_again text s ps h =
     let c : cut text ≡ (map phrase_text ps, []) = ap cut h.text_is ∙ cut_again ps h.are_lines in
     let d = declared_again ps h.are_lines in
-    let r : read_on (flat_map declared_by ps) [] (map phrase_text ps) ≡ Ok ps = read_again (flat_map declared_by ps) [] ps h.are_lines h.stand h.declared in
-    let any : eqb (length (flat_map declared_by ps)) 0 ≡ false = ne_eqb _ _ (λ z. let some = h.some in omega arith) in
+    let r : read_on (declared_of ps) [] (map phrase_text ps) ≡ Ok ps = read_again (declared_of ps) [] ps h.are_lines h.stand h.declared in
+    let any : eqb (length (script_of ps).procs) 0 ≡ false = ne_eqb _ _ (λ z. let some = h.some in omega arith) in
     verdict_short text h.short ∙ rw (c, d, r, any) (ap (λ (x : Script). Ok x) (sym h.script_is))
 
 -- ---- A text that is read is spelt.
 
 -- what reading on has found
-record Read (d : List (List ℕ)) (before : List Phrase) (lines : List (List ℕ)) (all more : List Phrase) : Type 0 where
+record Read (d : Declared) (before : List Phrase) (lines : List (List ℕ)) (all more : List Phrase) : Type 0 where
   all_is : all ≡ before ++ more
   texts : lines ≡ map phrase_text more
   are_lines : AllByRecursion IsLine more
   stand : AllStand before more
   declared : AllDeclared d more
 
-record Judged (d : List (List ℕ)) (before : List Phrase) (line : List ℕ) (p : Phrase) : Type 0 where
+record Judged (d : Declared) (before : List Phrase) (line : List ℕ) (p : Phrase) : Type 0 where
   is_line : IsLine p
   text_is : line ≡ phrase_text p
   stands : may_stand before p ≡ true
   declares : is_declared d p ≡ true
 
-judge_found : (d : List (List ℕ)) (before : List Phrase) (line : List ℕ) (p : Phrase) → judge d before line ≡ Ok p → Judged d before line p
+judge_found : (d : Declared) (before : List Phrase) (line : List ℕ) (p : Phrase) → judge d before line ≡ Ok p → Judged d before line p
 judge_found d before line p e = elim (is_printable line) as (λ v. is_printable line ≡ v → cond v (judge_said d before line (phrase_at line)) (Err reason.Bytes) ≡ Ok p → Judged d before line p) [
   | false ↦ λ i f. absurd cc
   | true ↦ λ i f. elim (phrase_at line) as (λ o. phrase_at line ≡ o → judge_said d before line o ≡ Ok p → Judged d before line p) [
@@ -92,12 +105,12 @@ judge_found d before line p e = elim (is_printable line) as (λ v. is_printable 
           let same : q ≡ p = cc in
           let t = phrase_found line q j in
           let u = both (may_stand before q) (is_declared d q) k in
-          subst (Judged d before line) same (record { is_line = (t.0, phrase_needed line q j, subst (λ l. is_printable l ≡ true) t.1 i); text_is = t.1; stands = u.0; declares = u.1 })
+          subst (Judged d before line) same (record { is_line = (t.0, phrase_needed line q j); text_is = t.1; stands = u.0; declares = u.1 })
     ] refl g
   ] refl f
 ] refl e
 
-read_found : (d : List (List ℕ)) (before : List Phrase) (lines : List (List ℕ)) (all : List Phrase) → read_on d before lines ≡ Ok all → (more : List Phrase) × Read d before lines all more
+read_found : (d : Declared) (before : List Phrase) (lines : List (List ℕ)) (all : List Phrase) → read_on d before lines ≡ Ok all → (more : List Phrase) × Read d before lines all more
 read_found d before [] all e = ([], record { all_is = (let same : before ≡ all = cc in sym same ∙ sym (append-nil before)); texts = refl; are_lines = tt; stand = tt; declared = tt })
 read_found d before (l ∷ ls) all e = elim (judge d before l) as (λ r. judge d before l ≡ r → at_line (suc (length before)) r (λ p. read_on d (before ++ p ∷ []) ls) ≡ Ok all → (more : List Phrase) × Read d before (l ∷ ls) all more) [
   | Err x ↦ λ i f. absurd cc
@@ -116,18 +129,18 @@ read_found d before (l ∷ ls) all e = elim (judge d before l) as (λ r. judge d
 ] refl e
 
 -- the text that was cut
-abbrev whole : List (List ℕ) × List ℕ → List ℕ
-whole c = flat_map ended c.0 ++ c.1
+abbrev joined : List (List ℕ) × List ℕ → List ℕ
+joined c = flat_map ended c.0 ++ c.1
 
-onto_first_whole : (b : ℕ) (ls : List (List ℕ)) (tail : List ℕ) → b ∷ whole (ls, tail) ≡ whole (onto_first b (ls, tail))
-onto_first_whole b [] tail = refl
-onto_first_whole b (l ∷ ls) tail = refl
+onto_first_joined : (b : ℕ) (ls : List (List ℕ)) (tail : List ℕ) → b ∷ joined (ls, tail) ≡ joined (onto_first b (ls, tail))
+onto_first_joined b [] tail = refl
+onto_first_joined b (l ∷ ls) tail = refl
 
-cut_found : (text : List ℕ) → text ≡ whole (cut text)
+cut_found : (text : List ℕ) → text ≡ joined (cut text)
 cut_found [] = refl
-cut_found (b ∷ bs) = elim (eqb b 10) as (λ v. eqb b 10 ≡ v → b ∷ bs ≡ whole (cond v ([] ∷ (cut bs).0, (cut bs).1) (onto_first b (cut bs)))) [
+cut_found (b ∷ bs) = elim (eqb b 10) as (λ v. eqb b 10 ≡ v → b ∷ bs ≡ joined (cond v ([] ∷ (cut bs).0, (cut bs).1) (onto_first b (cut bs)))) [
   | true ↦ λ t. rw (eqb-true b 10 t) (ap (λ (l : List ℕ). 10 ∷ l) (cut_found bs))
-  | false ↦ λ t. ap (λ (l : List ℕ). b ∷ l) (cut_found bs) ∙ onto_first_whole b (cut bs).0 (cut bs).1
+  | false ↦ λ t. ap (λ (l : List ℕ). b ∷ l) (cut_found bs) ∙ onto_first_joined b (cut bs).0 (cut bs).1
 ] refl
 
 spelling_is : (ps : List Phrase) → flat_map ended (map phrase_text ps) ≡ spelling ps
@@ -138,11 +151,11 @@ spelling_is (p ∷ ps) = ap (λ (l : List ℕ). ended (phrase_text p) ++ l) (spe
 record Finished (r : Result (List Phrase) (ℕ × Reason)) (tail : List ℕ) (s : Script) (ps : List Phrase) : Type 0 where
   were : r ≡ Ok ps
   no_tail : tail ≡ []
-  some : 0 < length (flat_map declared_by ps)
+  some : 0 < length (script_of ps).procs
   script_is : s ≡ script_of ps
 
-abbrev none_declared : List Phrase → Result Script (ℕ × Reason)
-none_declared ps = Err (suc (length ps), reason.Missing)
+abbrev missing : List Phrase → Result Script (ℕ × Reason)
+missing ps = Err (suc (length ps), reason.Missing)
 
 abbrev made : List Phrase → Result Script (ℕ × Reason)
 made ps = Ok (script_of ps)
@@ -150,29 +163,29 @@ made ps = Ok (script_of ps)
 finish_ok : (r : Result (List Phrase) (ℕ × Reason)) (tail : List ℕ) (s : Script) → finish r tail ≡ Ok s → (ps : List Phrase) × Finished r tail s ps
 finish_ok (Err f) tail s e = absurd cc
 finish_ok (Ok qs) (b ∷ tail) s e = absurd cc
-finish_ok (Ok qs) [] s e = elim (eqb (length (flat_map declared_by qs)) 0) as (λ v. eqb (length (flat_map declared_by qs)) 0 ≡ v → cond v (none_declared qs) (made qs) ≡ Ok s → (ps : List Phrase) × Finished (Ok qs) [] s ps) [
+finish_ok (Ok qs) [] s e = elim (eqb (length (script_of qs).procs) 0) as (λ v. eqb (length (script_of qs).procs) 0 ≡ v → cond v (missing qs) (made qs) ≡ Ok s → (ps : List Phrase) × Finished (Ok qs) [] s ps) [
   | true ↦ λ t f. absurd cc
-  | false ↦ λ t f. (qs, record { were = refl; no_tail = refl; some = (let ne = eqb-false (length (flat_map declared_by qs)) 0 t in omega arith); script_is = (let same : script_of qs ≡ s = cc in sym same) })
+  | false ↦ λ t f. (qs, record { were = refl; no_tail = refl; some = (let ne = eqb-false (length (script_of qs).procs) 0 t in omega arith); script_is = (let same : script_of qs ≡ s = cc in sym same) })
 ] refl e
 
-found_spells : (text : List ℕ) (ls : List (List ℕ)) (tail : List ℕ) (s : Script) (ps more : List Phrase) → text ≡ whole (ls, tail) → length text ≤ 16777216 → tail ≡ [] → 0 < length (flat_map declared_by ps) → s ≡ script_of ps → Read (declared_in (ls ++ tail ∷ [])) [] ls ps more → SpelledBy text s ps
+found_spells : (text : List ℕ) (ls : List (List ℕ)) (tail : List ℕ) (s : Script) (ps more : List Phrase) → text ≡ joined (ls, tail) → length text ≤ 16777216 → tail ≡ [] → 0 < length (script_of ps).procs → s ≡ script_of ps → Read (declared_in (ls ++ tail ∷ [])) [] ls ps more → SpelledBy text s ps
 found_spells text ls tail s ps more text-is short none some script-is r =
     let same : ps ≡ more = r.all_is in
     let texts : ls ≡ map phrase_text ps = r.texts ∙ ap (map phrase_text) (sym same) in
     let lines : AllByRecursion IsLine ps = subst (AllByRecursion IsLine) (sym same) r.are_lines in
-    let d-is : declared_in (ls ++ tail ∷ []) ≡ flat_map declared_by ps = rw (texts, none) (declared_again ps lines) in
+    let d-is : declared_in (ls ++ tail ∷ []) ≡ declared_of ps = rw (texts, none) (declared_again ps lines) in
     let declared : AllDeclared (declared_in (ls ++ tail ∷ [])) ps = subst (AllDeclared (declared_in (ls ++ tail ∷ []))) (sym same) r.declared in
     record {
       text_is = text-is ∙ rw (texts, none) (append-nil (flat_map ended (map phrase_text ps)) ∙ spelling_is ps);
       short = short;
       are_lines = lines;
       stand = subst (AllStand []) (sym same) r.stand;
-      declared = subst (λ (x : List (List ℕ)). AllDeclared x ps) d-is declared;
+      declared = subst (λ (x : Declared). AllDeclared x ps) d-is declared;
       some = some;
       script_is = script-is;
     }
 
-verdict_found : (text : List ℕ) (s : Script) → length text ≤ 16777216 → verdict_by (cut text) ≡ Ok s → Spells text s
+pub verdict_found : (text : List ℕ) (s : Script) → length text ≤ 16777216 → verdict_by (cut text) ≡ Ok s → Spells text s
 verdict_found text s short e =
     let ls = (cut text).0 in
     let tail = (cut text).1 in
@@ -182,13 +195,21 @@ verdict_found text s short e =
 
 -- ---- Answers.
 
--- for a short text
-pub verdict_given : (text : List ℕ) (r : Result Script ReadErr) → length text ≤ 16777216 → Gives (verdict_by (cut text)) r → Gives (verdict text) r
-verdict_given text r short g = subst (λ (v : Result Script (ℕ × Reason)). Gives v r) (sym (verdict_short text short)) g
+pub spelt_from : (text : List ℕ) (s : Script) → verdict text ≡ Ok s → Spells text s
+spelt_from text s e = elim (ltb 16777216 (length text)) as (λ v. ltb 16777216 (length text) ≡ v → Spells text s) [
+  | true ↦ λ t. absurd (let no = verdict_long text t in cc)
+  | false ↦ λ t. let short : length text ≤ 16777216 = ltb-false 16777216 (length text) t in verdict_found text s short (sym (verdict_short text short) ∙ e)
+] refl
 
-pub spelt_by : (text : List ℕ) (r : Result Script ReadErr) → length text ≤ 16777216 → Gives (verdict_by (cut text)) r → IfOk r (λ s. Spells text s)
-spelt_by text (Err e) short g = tt
-spelt_by text (Ok s) short g = verdict_found text s short g
+pub is_verdict : (text : List ℕ) (s : Script) → Spells text s → verdict text ≡ Ok s
+is_verdict text s h = verdict_again text s h.0 h.1
+
+pub one_script : (text : List ℕ) (s t : Script) → Spells text s → Spells text t → s ≡ t
+one_script text s t h k = let same : Ok s ≡ Ok t = sym (is_verdict text s h) ∙ is_verdict text t k in cc
+
+pub spelt_by : (text : List ℕ) (r : Result Script ReadErr) → Gives (verdict text) r → IfOk r (λ s. Spells text s)
+spelt_by text (Err e) g = tt
+spelt_by text (Ok s) g = spelt_from text s g
 
 -- a script that is the verdict is what is read
 is_read_as : (s : Script) (r : Result Script ReadErr) → Gives (Ok s) r → IsReadAs s r
@@ -197,4 +218,4 @@ is_read_as s (Err err.NoMemory) g = tt
 is_read_as s (Err (err.Bad line why)) g = cc
 
 pub read_as : (text : List ℕ) (s : Script) (r : Result Script ReadErr) → Gives (verdict text) r → Spells text s → IsReadAs s r
-read_as text s r g h = is_read_as s r (subst (λ (v : Result Script (ℕ × Reason)). Gives v r) (verdict_again text s h.0 h.1) g)
+read_as text s r g h = is_read_as s r (subst (λ (v : Result Script (ℕ × Reason)). Gives v r) (is_verdict text s h) g)

@@ -3,21 +3,24 @@ use Rattle.std.proofs.Common.{◌≡◌, ℕ, suc, ◌+◌, ◌<◌, ◌≤◌, 
 use Rattle.std.specs.List.{flat_map, AllByRecursion}
 use Rattle.std.specs.Str.{bytes_eq}
 use Rattle.std.proofs.lemmas.List.{append-nil, get_or_append_left}
-use Rattle.std.proofs.lemmas.Grind.{flat_map-append}
 use Rattle.std.proofs.lemmas.Slice.Eq.{bytes_eq-Decides}
 use Rattle.script_text.specs.declared.table.Op.{Op}
 use Rattle.script_text.specs.declared.table.Op.TheVariants as op
 use Rattle.script_text.specs.declared.table.Role.{Role}
 use Rattle.script_text.specs.declared.table.Role.TheVariants as role
-use Rattle.script_text.specs.declared.phrase.Phrase.{Phrase}
+use Rattle.script_text.specs.Phrase.{Phrase}
+use Rattle.script_text.specs.declared.reader.Declared.{Declared}
+use Rattle.script_text.specs.declared.draft.Places.{Places}
 use Rattle.script_text.specs.declared.stage.Stage.{Stage}
 use Rattle.script_text.specs.declared.stage.Stage.TheVariants as stages
 use Rattle.script_text.specs.declared.draft.Draft.{Draft}
 use Rattle.script_text.specs.declared.reader.Mention.{Mention}
+use Rattle.lwp_types.specs.TextFields.{is_text}
 use Rattle.script_text.specs.Words.{is_name}
-use Rattle.script_text.specs.Table.{role_of, kinds_of, starts}
-use Rattle.script_text.specs.Grammar.{SlotFits, IsPhrase, stage_after, stage_of, declared_by, is_declared}
-use Rattle.script_text.specs.Meaning.{contains_name, place, enter, added_at, added, entered, empty_draft, draft_of}
+use Rattle.script_text.proofs.WordLemmas.{name_is_text}
+use Rattle.script_text.specs.Table.{role_of, slots_of, starts, starts_any}
+use Rattle.script_text.specs.Grammar.{SlotFits, IsPhrase, stage_after, stage_of, declares, declared_of, nothing, has, is_declared}
+use Rattle.script_text.specs.Meaning.{contains_name, is_some_text, place, place_of, places_of, named, enter, added_at, added, entered, empty_draft, draft_of}
 use Rattle.script_text.specs.Track.{name_at, mention_of, first_missing}
 
 -- ---- One more of a list.
@@ -35,9 +38,19 @@ stage_push ps p = fold_push (λ (s : Stage) (q : Phrase). stage_after s (role_of
 
 -- ---- Names keep their numbers.
 
+-- a name is a text that isn't empty
+name_is_some : (w : List ℕ) → is_name w ≡ true → is_some_text w ≡ true
+name_is_some [] h = absurd cc
+name_is_some (b ∷ bs) h = name_is_text (b ∷ bs) h
+
+-- the number of a name is its place
+name_place : (names : List (List ℕ)) (w : List ℕ) → is_name w ≡ true → place_of names w ≡ place names w
+name_place names [] h = absurd cc
+name_place names (b ∷ bs) h = refl
+
 -- what is entered stands in the list
 entered_there : (names : List (List ℕ)) (w : List ℕ) → is_name w ≡ true → contains_name (enter names w) w ≡ true
-entered_there names w h = rw h (elim (contains_name names w) as (λ v. contains_name names w ≡ v → contains_name (cond (true && not v) (names ++ w ∷ []) names) w ≡ true) [
+entered_there names w h = rw (name_is_some w h) (elim (contains_name names w) as (λ v. contains_name names w ≡ v → contains_name (cond (true && not v) (names ++ w ∷ []) names) w ≡ true) [
   | true ↦ λ e. e
   | false ↦ λ e. at_end names w
 ] refl)
@@ -56,13 +69,13 @@ place_there (n ∷ ns) w h = elim (bytes_eq n w) as (λ v. bytes_eq n w ≡ v �
 
 -- a new name moves none
 name_stays : (names : List (List ℕ)) (w : List ℕ) (k : ℕ) → k < length names → name_at (enter names w) k ≡ name_at names k
-name_stays names w k lt = elim (is_name w && not (contains_name names w)) as (λ v. name_at (cond v (names ++ w ∷ []) names) k ≡ name_at names k) [
+name_stays names w k lt = elim (is_some_text w && not (contains_name names w)) as (λ v. name_at (cond v (names ++ w ∷ []) names) k ≡ name_at names k) [
   | true ↦ get_or_append_left names (w ∷ []) [] k lt
   | false ↦ refl
 ]
 
 few_names : (names : List (List ℕ)) (w : List ℕ) → length names ≤ length (enter names w)
-few_names names w = elim (is_name w && not (contains_name names w)) as (λ v. length names ≤ length (cond v (names ++ w ∷ []) names)) [
+few_names names w = elim (is_some_text w && not (contains_name names w)) as (λ v. length names ≤ length (cond v (names ++ w ∷ []) names)) [
   | true ↦ omega (arith, length-append names (w ∷ []))
   | false ↦ omega arith
 ]
@@ -77,7 +90,7 @@ named_still : (names : List (List ℕ)) (w : List ℕ) (ms : List Mention) → A
 named_still names w [] h = tt
 named_still names w (m ∷ ms) h = (omega (arith, h.0, few_names names w), named_still names w ms h.1)
 
-missing_still : (d names : List (List ℕ)) (w : List ℕ) (ms : List Mention) → AreNamed names ms → first_missing d (enter names w) ms ≡ first_missing d names ms
+missing_still : (d : Declared) (names : List (List ℕ)) (w : List ℕ) (ms : List Mention) → AreNamed names ms → first_missing d (enter names w) ms ≡ first_missing d names ms
 missing_still d names w [] h = refl
 missing_still d names w (m ∷ ms) h = rw (name_stays names w m.name h.0, missing_still d names w ms h.1) refl
 
@@ -86,19 +99,19 @@ abbrev pub or_else : Option ℕ → Option ℕ → Option ℕ
 or_else None o = o
 or_else (Some k) o = Some k
 
-missing_push : (d names : List (List ℕ)) (ms ns : List Mention) → first_missing d names (ms ++ ns) ≡ or_else (first_missing d names ms) (first_missing d names ns)
+missing_push : (d : Declared) (names : List (List ℕ)) (ms ns : List Mention) → first_missing d names (ms ++ ns) ≡ or_else (first_missing d names ms) (first_missing d names ns)
 missing_push d names [] ns = refl
-missing_push d names (m ∷ ms) ns = elim (contains_name d (name_at names m.name)) as (λ v. cond v (first_missing d names (ms ++ ns)) (Some m.line) ≡ or_else (cond v (first_missing d names ms) (Some m.line)) (first_missing d names ns)) [
+missing_push d names (m ∷ ms) ns = elim (has d m.any (name_at names m.name)) as (λ v. cond v (first_missing d names (ms ++ ns)) (Some m.line) ≡ or_else (cond v (first_missing d names ms) (Some m.line)) (first_missing d names ns)) [
   | true ↦ missing_push d names ms ns
   | false ↦ refl
 ]
 
 -- the number of the first line that starts an undeclared procedure
-abbrev pub first_undeclared : List (List ℕ) → ℕ → List Phrase → Option ℕ
+abbrev pub first_undeclared : Declared → ℕ → List Phrase → Option ℕ
 first_undeclared d k [] = None
 first_undeclared d k (p ∷ ps) = cond (is_declared d p) (first_undeclared d (suc k) ps) (Some k)
 
-pub undeclared_push : (d : List (List ℕ)) (k : ℕ) (ps : List Phrase) (q : Phrase) → first_undeclared d k (ps ++ q ∷ []) ≡ or_else (first_undeclared d k ps) (cond (is_declared d q) None (Some (k + length ps)))
+pub undeclared_push : (d : Declared) (k : ℕ) (ps : List Phrase) (q : Phrase) → first_undeclared d k (ps ++ q ∷ []) ≡ or_else (first_undeclared d k ps) (cond (is_declared d q) None (Some (k + length ps)))
 undeclared_push d k [] q = ap (λ (n : ℕ). cond (is_declared d q) None (Some n)) (omega arith)
 undeclared_push d k (p ∷ ps) q = elim (is_declared d p) as (λ v. cond v (first_undeclared d (suc k) (ps ++ q ∷ [])) (Some k) ≡ or_else (cond v (first_undeclared d (suc k) ps) (Some k)) (cond (is_declared d q) None (Some (k + suc (length ps))))) [
   | true ↦ undeclared_push d (suc k) ps q ∙ ap (λ (n : ℕ). or_else (first_undeclared d (suc k) ps) (cond (is_declared d q) None (Some n))) (omega arith)
@@ -109,46 +122,55 @@ undeclared_push d k (p ∷ ps) q = elim (is_declared d p) as (λ v. cond v (firs
 names_one : (p : Phrase) → IsPhrase p → starts p.op ≡ true → is_name p.procedure ≡ true
 names_one p h s = by_row p p.op h s
   where
-    by_row : (p : Phrase) (o : Op) → AllByRecursion (SlotFits p) (kinds_of o) → starts o ≡ true → is_name p.procedure ≡ true
-    by_row p o h s = elim o as (λ x. AllByRecursion (SlotFits p) (kinds_of x) → starts x ≡ true → is_name p.procedure ≡ true) [
+    by_row : (p : Phrase) (o : Op) → AllByRecursion (SlotFits p) (slots_of o) → starts o ≡ true → is_name p.procedure ≡ true
+    by_row p o h s = elim o as (λ x. AllByRecursion (SlotFits p) (slots_of x) → starts x ≡ true → is_name p.procedure ≡ true) [
       | op.Create ↦ λ f t. f.1.0
+      | op.CallProc ↦ λ f t. f.0
       | _ ↦ λ f t. absurd cc
     ] h s
 
 -- the mention of one line
-mention_tells : (d names : List (List ℕ)) (k : ℕ) (p : Phrase) → IsPhrase p → AreNamed (enter names p.procedure) (mention_of k (enter names p.procedure) p) × (first_missing d (enter names p.procedure) (mention_of k (enter names p.procedure) p) ≡ cond (is_declared d p) None (Some k))
-mention_tells d names k p h = elim (starts p.op) as (λ v. starts p.op ≡ v → AreNamed (enter names p.procedure) (cond v (record { line = k; name = place (enter names p.procedure) p.procedure } ∷ []) []) × (first_missing d (enter names p.procedure) (cond v (record { line = k; name = place (enter names p.procedure) p.procedure } ∷ []) []) ≡ cond (cond v (contains_name d p.procedure) true) None (Some k))) [
+mention_tells : (d : Declared) (names : List (List ℕ)) (k : ℕ) (p : Phrase) → IsPhrase p → AreNamed (enter names p.procedure) (mention_of k (enter names p.procedure) p) × (first_missing d (enter names p.procedure) (mention_of k (enter names p.procedure) p) ≡ cond (is_declared d p) None (Some k))
+mention_tells d names k p h = elim (starts p.op) as (λ v. starts p.op ≡ v → AreNamed (enter names p.procedure) (cond v (record { line = k; name = place_of (enter names p.procedure) p.procedure; any = starts_any p.op } ∷ []) []) × (first_missing d (enter names p.procedure) (cond v (record { line = k; name = place_of (enter names p.procedure) p.procedure; any = starts_any p.op } ∷ []) []) ≡ cond (cond v (has d (starts_any p.op) p.procedure) true) None (Some k))) [
   | true ↦ λ e.
-      let there = place_there (enter names p.procedure) p.procedure (entered_there names p.procedure (names_one p h e)) in
-      ((there.0, tt), rw there.1 refl)
+      let is = names_one p h e in
+      let there = place_there (enter names p.procedure) p.procedure (entered_there names p.procedure is) in
+      rw (name_place (enter names p.procedure) p.procedure is) ((there.0, tt), rw there.1 refl)
   | false ↦ λ e. (tt, refl)
 ] refl
 
 -- ---- A reader.
 
+-- one more phrase declares what it does
+pub declared_push : (ps : List Phrase) (p : Phrase) → declared_of (ps ++ p ∷ []) ≡ declares (role_of p.op) (declared_of ps) p
+declared_push ps p = fold_push (λ (d : Declared) (q : Phrase). declares (role_of q.op) d q) nothing ps p
+
 -- a reader that has found no bad line knows this of the lines
-pub record Tracks (count : ℕ) (stage : Stage) (declared : List (List ℕ)) (mentions : List Mention) (draft : Draft) (before : List Phrase) : Type 0 where
+pub record Tracks (count : ℕ) (stage : Stage) (declared : Declared) (mentions : List Mention) (draft : Draft) (before : List Phrase) : Type 0 where
   pub count_is : count ≡ length before
   pub stage_is : stage ≡ stage_of before
-  pub declared_is : declared ≡ flat_map declared_by before
+  pub declared_is : declared ≡ declared_of before
   pub draft_is : draft ≡ draft_of before
   pub are_named : AreNamed draft.script.names.procs mentions
-  pub mentions_tell : (d : List (List ℕ)) → first_missing d draft.script.names.procs mentions ≡ first_undeclared d 1 before
+  pub mentions_tell : (d : Declared) → first_missing d draft.script.names.procs mentions ≡ first_undeclared d 1 before
 
 procs_after : (d : Draft) (p : Phrase) → (added d p).script.names.procs ≡ enter d.script.names.procs p.procedure
-procs_after d p = by_role (role_of p.op) (entered d p) p
+procs_after d p = by_role (role_of p.op) (places_of (named d.script.names p) d.script.texts p) (entered d p) p
   where
-    by_role : (r : Role) (d : Draft) (p : Phrase) → (added_at r d p).script.names.procs ≡ d.script.names.procs
-    by_role role.Header d p = refl
-    by_role role.Pod d p = refl
-    by_role role.Limit d p = refl
-    by_role role.Proc d p = refl
-    by_role role.Statement d p = refl
-    by_role role.Skip d p = refl
-    by_role role.Again d p = refl
+    by_role : (r : Role) (at : Places) (d : Draft) (p : Phrase) → (added_at r at d p).script.names.procs ≡ d.script.names.procs
+    by_role role.Header at d p = refl
+    by_role role.Pod at d p = refl
+    by_role role.Limit at d p = refl
+    by_role role.Client at d p = refl
+    by_role role.Native at d p = refl
+    by_role role.Proc at d p = refl
+    by_role role.Post at d p = refl
+    by_role role.Statement at d p = refl
+    by_role role.Skip at d p = refl
+    by_role role.Again at d p = refl
 
 -- one more line
-pub tracks_more : (count : ℕ) (stage : Stage) (declared : List (List ℕ)) (mentions : List Mention) (draft : Draft) (before : List Phrase) (p : Phrase) → Tracks count stage declared mentions draft before → IsPhrase p → Tracks (count + 1) (stage_after stage (role_of p.op)) (declared ++ declared_by p) (mentions ++ mention_of (count + 1) (added draft p).script.names.procs p) (added draft p) (before ++ p ∷ [])
+pub tracks_more : (count : ℕ) (stage : Stage) (declared : Declared) (mentions : List Mention) (draft : Draft) (before : List Phrase) (p : Phrase) → Tracks count stage declared mentions draft before → IsPhrase p → Tracks (count + 1) (stage_after stage (role_of p.op)) (declares (role_of p.op) declared p) (mentions ++ mention_of (count + 1) (added draft p).script.names.procs p) (added draft p) (before ++ p ∷ [])
 tracks_more count stage declared mentions draft before p k h =
     let names = draft.script.names.procs in
     let grown = enter names p.procedure in
@@ -157,8 +179,8 @@ tracks_more count stage declared mentions draft before p k h =
     record {
       count_is = omega (arith, k.count_is, length-append before (p ∷ []));
       stage_is = ap (λ (s : Stage). stage_after s (role_of p.op)) k.stage_is ∙ sym (stage_push before p);
-      declared_is = rw (flat_map-append declared_by before (p ∷ []), append-nil (declared_by p)) (ap (λ (l : List (List ℕ)). l ++ declared_by p) k.declared_is);
+      declared_is = ap (λ (d : Declared). declares (role_of p.op) d p) k.declared_is ∙ sym (declared_push before p);
       draft_is = ap (λ (d : Draft). added d p) k.draft_is ∙ sym (fold_push added empty_draft before p);
-      are_named = rw same (all_push _ mentions (mention_of (count + 1) grown p) (named_still names p.procedure mentions k.are_named) (mention_tells [] names (count + 1) p h).0);
+      are_named = rw same (all_push _ mentions (mention_of (count + 1) grown p) (named_still names p.procedure mentions k.are_named) (mention_tells nothing names (count + 1) p h).0);
       mentions_tell = λ d. rw same (missing_push d grown mentions (mention_of (count + 1) grown p) ∙ rw (missing_still d names p.procedure mentions k.are_named, k.mentions_tell d, (mention_tells d names (count + 1) p h).1) (ap (λ (n : ℕ). or_else (first_undeclared d 1 before) (cond (is_declared d p) None (Some n))) line ∙ sym (undeclared_push d 1 before p)));
     }

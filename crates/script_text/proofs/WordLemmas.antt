@@ -11,7 +11,7 @@ use Rattle.std.specs.Prelude.{codes, IsSome, IfSome, IsTrue, ◌↔◌}
 use Rattle.std.specs.List.{list_all}
 use Rattle.std.proofs.lemmas.Bool.Decides.{nat_tests}
 use Rattle.lwp_types.specs.TextFields.{is_printable, is_text}
-use Rattle.script_text.specs.Words.{reach, is_lowercase, is_name_byte, is_reserved, is_name, is_thread_word, is_source_word, value_after, value_of, is_misshapen, number_at}
+use Rattle.script_text.specs.Words.{reach, is_lowercase, is_name_byte, is_reserved, is_name, value_after, value_of, is_misshapen, number_at}
 
 pub both : (a b : Bool) → (a && b) ≡ true → (a ≡ true) × (b ≡ true)
 both true b h = (refl, h)
@@ -117,51 +117,3 @@ name_is_text (b ∷ bs) h =
     let t = both (is_lowercase b) (list_all is_name_byte bs) v.0 in
     let short : leb (length (b ∷ bs)) 240 ≡ true = le-leb _ _ (omega (arith, ltb-true (length bs) 16 v.1)) in
     rw (short, lowercase_is_printable b t.0, name_bytes_are_printable bs t.1) refl
-
--- the text of a name is made
-pub name_text : (w : List ℕ) (o : Option (List ℕ)) → (IsSome o ↔ IsTrue (is_text w)) → IfSome o (λ t. t ≡ w) → is_name w ≡ true → o ≡ cond (is_name w) (Some w) None
-name_text w None fits same h = let some : IsSome {T = List ℕ} None = fits.1 (name_is_text w h) in absurd cc
-name_text w (Some t) fits same h = rw (h, same) refl
-
--- ---- Words for threads.
-
--- a word for a thread is a name or one of four
-pub thread_word : (P : List ℕ → Type 0) (w : List ℕ) → is_thread_word w ≡ true → (is_name w ≡ true → P w) → P (codes "self") → P (codes "first") → P (codes "sender") → P (codes "none") → P w
-thread_word P w h name self first sender none = elim (is_name w) as (λ v. is_name w ≡ v → (v || bytes_eq w (codes "self") || bytes_eq w (codes "first") || bytes_eq w (codes "sender") || bytes_eq w (codes "none")) ≡ true → P w) [
-  | true ↦ λ e f. name e
-  | false ↦ λ e f. elim (bytes_eq w (codes "self")) as (λ v. bytes_eq w (codes "self") ≡ v → (false || v || bytes_eq w (codes "first") || bytes_eq w (codes "sender") || bytes_eq w (codes "none")) ≡ true → P w) [
-    | true ↦ λ i g. subst P (sym ((bytes_eq-Decides w (codes "self")).0 i)) self
-    | false ↦ λ i g. elim (bytes_eq w (codes "first")) as (λ v. bytes_eq w (codes "first") ≡ v → (false || false || v || bytes_eq w (codes "sender") || bytes_eq w (codes "none")) ≡ true → P w) [
-      | true ↦ λ j k. subst P (sym ((bytes_eq-Decides w (codes "first")).0 j)) first
-      | false ↦ λ j k. elim (bytes_eq w (codes "sender")) as (λ v. bytes_eq w (codes "sender") ≡ v → (false || false || false || v || bytes_eq w (codes "none")) ≡ true → P w) [
-        | true ↦ λ l m. subst P (sym ((bytes_eq-Decides w (codes "sender")).0 l)) sender
-        | false ↦ λ l m. subst P (sym ((bytes_eq-Decides w (codes "none")).0 m)) none
-      ] refl k
-    ] refl g
-  ] refl f
-] refl h
-
--- a word for a thread is a text
-thread_word_is_text : (w : List ℕ) → is_thread_word w ≡ true → is_text w ≡ true
-thread_word_is_text w h = thread_word (λ v. is_text v ≡ true) w h (name_is_text w) refl refl refl refl
-
--- the text of a word for a thread is made
-pub thread_word_text : (w : List ℕ) (o : Option (List ℕ)) → (IsSome o ↔ IsTrue (is_text w)) → IfSome o (λ t. t ≡ w) → is_thread_word w ≡ true → o ≡ cond (is_thread_word w) (Some w) None
-thread_word_text w None fits same h = let some : IsSome {T = List ℕ} None = fits.1 (thread_word_is_text w h) in absurd cc
-thread_word_text w (Some t) fits same h = rw (h, same) refl
-
--- a word that says from whom to receive is one for a thread, or `any`
-pub source_word : (P : List ℕ → Type 0) (w : List ℕ) → is_source_word w ≡ true → (is_thread_word w ≡ true → P w) → P (codes "any") → P w
-source_word P w h thread any = elim (is_thread_word w) as (λ v. is_thread_word w ≡ v → (v || bytes_eq w (codes "any")) ≡ true → P w) [
-  | true ↦ λ e f. thread e
-  | false ↦ λ e f. subst P (sym ((bytes_eq-Decides w (codes "any")).0 f)) any
-] refl h
-
--- such a word is a text
-source_word_is_text : (w : List ℕ) → is_source_word w ≡ true → is_text w ≡ true
-source_word_is_text w h = source_word (λ v. is_text v ≡ true) w h (thread_word_is_text w) refl
-
--- the text of such a word is made
-pub source_word_text : (w : List ℕ) (o : Option (List ℕ)) → (IsSome o ↔ IsTrue (is_text w)) → IfSome o (λ t. t ≡ w) → is_source_word w ≡ true → o ≡ cond (is_source_word w) (Some w) None
-source_word_text w None fits same h = let some : IsSome {T = List ℕ} None = fits.1 (source_word_is_text w h) in absurd cc
-source_word_text w (Some t) fits same h = rw (h, same) refl

@@ -2,9 +2,13 @@ pub mod Script
 pub mod Lines
 pub mod Words
 pub mod Table
+pub mod Phrase
+pub mod Parts
 pub mod Meaning
 pub mod Grammar
 pub mod Limits
 pub mod Reading
 pub mod Spelling
 pub mod Track
+pub mod Pieces
+pub mod Laws

@@ -1,22 +1,29 @@
 -- The script that lines say.
-use Rattle.std.specs.Prelude.{ℕ, suc, Bool, not, codes, ◌&&◌, List, [], ◌∷◌, ◌++◌, Option, Some, None, fold, if◌then◌else◌, option_to_list}
+use Rattle.std.specs.Prelude.{ℕ, zero, suc, Bool, true, false, not, codes, ◌&&◌, ◌==◌, List, [], ◌∷◌, ◌++◌, length, Option, Some, None, fold, if◌then◌else◌, option_map, option_to_list, slice_index_or}
 use Rattle.std.specs.List.{list_any}
 use Rattle.std.specs.Str.{bytes_eq}
-use Rattle.script_text.specs.declared.table.Op.{Op}
-use Rattle.script_text.specs.declared.table.Op.TheVariants as op
-use Rattle.script_text.specs.declared.table.Role.{Role}
-use Rattle.script_text.specs.declared.table.Role.TheVariants as role
-use Rattle.script_text.specs.declared.phrase.Phrase.{Phrase}
+use Rattle.lwp_types.specs.TextFields.{is_text}
+use Rattle.script_text.specs.Phrase.{Phrase}
+use Rattle.script_text.specs.Table.{role_of, says}
 use Rattle.script_text.specs.declared.draft.Draft.{Draft}
-use Rattle.script_text.specs.declared.script.Stmt.{Stmt}
-use Rattle.script_text.specs.declared.script.Stmt.TheVariants as stmt
-use Rattle.script_text.specs.declared.script.Who.{Who}
-use Rattle.script_text.specs.declared.script.Who.TheVariants as who
-use Rattle.script_text.specs.declared.script.Proc.{Proc}
+use Rattle.script_text.specs.declared.draft.Places.{Places}
+use Rattle.script_text.specs.declared.script.ExitStmt.{ExitStmt}
 use Rattle.script_text.specs.declared.script.Names.{Names}
+use Rattle.script_text.specs.declared.script.NativeKind.{NativeKind}
+use Rattle.script_text.specs.declared.script.Proc.{Proc}
 use Rattle.script_text.specs.declared.script.Script.{Script}
-use Rattle.script_text.specs.Words.{is_name}
-use Rattle.script_text.specs.Table.{role_of}
+use Rattle.script_text.specs.declared.script.Stmt.{Stmt}
+use Rattle.script_text.specs.declared.script.Who.{Who}
+use Rattle.script_text.specs.declared.table.Op.{Op}
+use Rattle.script_text.specs.declared.table.Role.{Role}
+use Rattle.script_text.specs.declared.table.Whom.{Whom}
+use Rattle.script_text.specs.declared.script.ExitStmt.TheVariants as exit
+use Rattle.script_text.specs.declared.script.NativeKind.TheVariants as native
+use Rattle.script_text.specs.declared.script.Stmt.TheVariants as stmt
+use Rattle.script_text.specs.declared.script.Who.TheVariants as who
+use Rattle.script_text.specs.declared.table.Op.TheVariants as op
+use Rattle.script_text.specs.declared.table.Role.TheVariants as role
+use Rattle.script_text.specs.declared.table.Whom.TheVariants as whom
 
 -- ---- Names and their numbers.
 
@@ -29,72 +36,130 @@ abbrev pub place : List (List ℕ) → List ℕ → ℕ
 place [] w = 0
 place (n ∷ ns) w = if bytes_eq n w then 0 else suc (place ns w)
 
--- a name that is new goes to the end
+-- a text that isn't empty
+abbrev pub is_some_text : List ℕ → Bool
+is_some_text [] = false
+is_some_text (b ∷ bs) = is_text (b ∷ bs)
+
+-- a name that is new goes to the end; the empty word is none
 abbrev pub enter : List (List ℕ) → List ℕ → List (List ℕ)
-enter names w = if is_name w && not (contains_name names w) then names ++ w ∷ [] else names
+enter names w = if is_some_text w && not (contains_name names w) then names ++ w ∷ [] else names
+
+-- a name's number; that of the empty word is 0
+abbrev pub place_of : List (List ℕ) → List ℕ → ℕ
+place_of names [] = 0
+place_of names (b ∷ bs) = place names (b ∷ bs)
 
 -- the names, and those of one more line
 abbrev pub named : Names → Phrase → Names
-named names p = record names { procs = enter names.procs p.procedure; threads = enter names.threads p.thread; mons = enter names.mons p.monitor }
+named names p = record { procs = enter names.procs p.procedure; threads = enter names.threads p.thread; mons = enter names.mons p.monitor; conds = enter names.conds p.condition }
+
+-- the texts, and that of one more line
+abbrev pub spoken : List (List ℕ) → Phrase → List (List ℕ)
+spoken texts p = if says p.op then texts ++ p.text ∷ [] else texts
+
+-- where the names of a line stand, once they are entered, and where its text will stand behind these
+abbrev pub places_of : Names → List (List ℕ) → Phrase → Places
+places_of names texts p = record {
+  thread = place_of names.threads p.thread;
+  procedure = place_of names.procs p.procedure;
+  monitor = place_of names.mons p.monitor;
+  condition = place_of names.conds p.condition;
+  text = length texts;
+}
 
 -- ---- Statements.
 
--- whom a word means, where the threads are called so
-abbrev pub who_at : List (List ℕ) → List ℕ → Who
-who_at names w =
-    if bytes_eq w (codes "self") then who.Me
-    else if bytes_eq w (codes "first") then who.First
-    else if bytes_eq w (codes "sender") then who.Sender
-    else if bytes_eq w (codes "none") then who.Nobody
-    else who.Named (place names w)
+-- whom a word means: a name has this number
+abbrev pub who_of : Whom → ℕ → Who
+who_of whom.Named n = who.Named n
+who_of whom.Me n = who.Me
+who_of whom.First n = who.First
+who_of whom.Sender n = who.Sender
+who_of whom.Nobody n = who.Nobody
+who_of whom.Any n = who.Nobody
 
--- from whom a word says to receive, where the threads are called so; None is anybody
-abbrev pub from_at : List (List ℕ) → List ℕ → Option Who
-from_at names w = if bytes_eq w (codes "any") then None else Some (who_at names w)
+-- from whom a word says to receive; None is anybody
+abbrev pub from_of : Whom → ℕ → Option Who
+from_of whom.Named n = Some (who.Named n)
+from_of whom.Me n = Some who.Me
+from_of whom.First n = Some who.First
+from_of whom.Sender n = Some who.Sender
+from_of whom.Nobody n = Some who.Nobody
+from_of whom.Any n = None
 
--- a statement that names nothing
-abbrev pub plain_statement : Op → Phrase → Option Stmt
-plain_statement op.Resched p = Some (stmt.Resched p.number)
-plain_statement op.SetMaxPri p = Some (stmt.SetMaxPri p.number)
-plain_statement op.Me p = Some stmt.Me
-plain_statement op.SetExit p = Some (stmt.SetExit p.number)
-plain_statement op.GetExit p = Some stmt.GetExit
-plain_statement op.PodExit p = Some (stmt.PodExit p.number)
-plain_statement op.Threads p = Some stmt.Threads
-plain_statement op.Senders p = Some stmt.Senders
-plain_statement op.Receivers p = Some stmt.Receivers
-plain_statement op.Monitors p = Some stmt.Monitors
-plain_statement op.Say p = Some (stmt.Say p.text)
-plain_statement op.Return p = Some stmt.Return
-plain_statement op.Skip p = Some (stmt.Skip p.test)
-plain_statement op.Again p = Some stmt.Again
-plain_statement _ p = None
+-- what an exit procedure is to do
+abbrev pub exit_statement : Op → Places → Phrase → Option ExitStmt
+exit_statement op.ExitMonExit at p = Some (exit.MonExit at.monitor)
+exit_statement op.ExitMonBreak at p = Some (exit.MonBreak at.monitor)
+exit_statement op.ExitNotify at p = Some (exit.Notify at.condition)
+exit_statement op.ExitBroadcast at p = Some (exit.Broadcast at.condition)
+exit_statement op.ExitReply at p = Some (exit.Reply (who_of p.who at.thread) at.text)
+exit_statement op.ExitResume at p = Some (exit.Resume (who_of p.who at.thread))
+exit_statement op.ExitSetExit at p = Some (exit.SetExit p.number)
+exit_statement op.ExitNote at p = Some (exit.Note at.text)
+exit_statement _ at p = None
 
--- a statement that names a monitor, which has this number, or one that names nothing
-abbrev pub monitor_statement : Op → ℕ → Phrase → Option Stmt
-monitor_statement op.MonCreate m p = Some (stmt.MonCreate m)
-monitor_statement op.MonDestroy m p = Some (stmt.MonDestroy m)
-monitor_statement op.Enter m p = Some (stmt.Enter m)
-monitor_statement op.CondEnter m p = Some (stmt.CondEnter m)
-monitor_statement op.MonExit m p = Some (stmt.MonExit m)
-monitor_statement op.MonBreak m p = Some (stmt.MonBreak m)
-monitor_statement op.MonWaiters m p = Some (stmt.MonWaiters m)
-monitor_statement o m p = plain_statement o p
+-- a statement that names nothing, or one that sets an exit procedure
+abbrev pub plain_statement : Op → Places → Phrase → Option Stmt
+plain_statement op.Resched at p = Some (stmt.Resched p.number)
+plain_statement op.SetMaxPri at p = Some (stmt.SetMaxPri p.number)
+plain_statement op.Me at p = Some stmt.Me
+plain_statement op.SetExit at p = Some (stmt.SetExit p.number)
+plain_statement op.GetExit at p = Some stmt.GetExit
+plain_statement op.PodExit at p = Some (stmt.PodExit p.number)
+plain_statement op.Threads at p = Some stmt.Threads
+plain_statement op.Senders at p = Some stmt.Senders
+plain_statement op.Receivers at p = Some stmt.Receivers
+plain_statement op.Monitors at p = Some stmt.Monitors
+plain_statement op.Conds at p = Some stmt.Conds
+plain_statement op.Return at p = Some stmt.Return
+plain_statement op.Handle at p = Some (stmt.Handle p.pattern p.func p.number)
+plain_statement op.Unhandle at p = Some stmt.Unhandle
+plain_statement op.Raise at p = Some (stmt.Raise p.number)
+plain_statement op.ExcNotify at p = Some (stmt.ExcNotify p.number)
+plain_statement op.Bound at p = Some (stmt.Bound p.number)
+plain_statement op.UniqPatt at p = Some stmt.UniqPatt
+plain_statement op.Agents at p = Some stmt.Agents
+plain_statement op.Say at p = Some (stmt.Say at.text)
+plain_statement op.Skip at p = Some (stmt.Skip p.test)
+plain_statement op.Again at p = Some stmt.Again
+plain_statement o at p = option_map (λ x. stmt.OnExit x) (exit_statement o at p)
 
--- the statement of a line, if its row is one of a statement
-abbrev pub statement_at : Op → Names → Phrase → Option Stmt
-statement_at op.Create names p = Some (stmt.Create (place names.threads p.thread) (place names.procs p.procedure) p.number p.flags)
-statement_at op.Destroy names p = Some (stmt.Destroy (who_at names.threads p.thread))
-statement_at op.Ping names p = Some (stmt.Ping (who_at names.threads p.thread))
-statement_at op.Yield names p = Some (stmt.Yield (who_at names.threads p.thread))
-statement_at op.Suspend names p = Some (stmt.Suspend (who_at names.threads p.thread))
-statement_at op.Resume names p = Some (stmt.Resume (who_at names.threads p.thread))
-statement_at op.Join names p = Some (stmt.Join (who_at names.threads p.thread))
-statement_at op.SetPri names p = Some (stmt.SetPri (who_at names.threads p.thread) p.number)
-statement_at op.Send names p = Some (stmt.Send (who_at names.threads p.thread) p.room p.text)
-statement_at op.Recv names p = Some (stmt.Recv (from_at names.threads p.thread) p.mode)
-statement_at op.Reply names p = Some (stmt.Reply (who_at names.threads p.thread) p.text)
-statement_at o names p = monitor_statement o (place names.mons p.monitor) p
+-- the same, or a statement that names a monitor or a condition
+abbrev pub lock_statement : Op → Places → Phrase → Option Stmt
+lock_statement op.MonCreate at p = Some (stmt.MonCreate at.monitor)
+lock_statement op.CvCreate at p = Some (stmt.CvCreate at.condition at.monitor)
+lock_statement op.MonDestroy at p = Some (stmt.MonDestroy at.monitor)
+lock_statement op.Enter at p = Some (stmt.Enter at.monitor)
+lock_statement op.CondEnter at p = Some (stmt.CondEnter at.monitor)
+lock_statement op.MonExit at p = Some (stmt.MonExit at.monitor)
+lock_statement op.MonBreak at p = Some (stmt.MonBreak at.monitor)
+lock_statement op.MonWaiters at p = Some (stmt.MonWaiters at.monitor)
+lock_statement op.CvDestroy at p = Some (stmt.CvDestroy at.condition)
+lock_statement op.Wait at p = Some (stmt.Wait at.condition)
+lock_statement op.Notify at p = Some (stmt.Notify at.condition)
+lock_statement op.Broadcast at p = Some (stmt.Broadcast at.condition)
+lock_statement op.CvSend at p = Some (stmt.CvSend at.condition (who_of p.who at.thread))
+lock_statement op.CvWaiters at p = Some (stmt.CvWaiters at.condition)
+lock_statement o at p = plain_statement o at p
+
+-- the statement of a line whose names and text stand so, if its row is one of a statement
+abbrev pub statement_of : Op → Places → Phrase → Option Stmt
+statement_of op.Create at p = Some (stmt.Create at.thread at.procedure p.number p.flags)
+statement_of op.Destroy at p = Some (stmt.Destroy (who_of p.who at.thread))
+statement_of op.Ping at p = Some (stmt.Ping (who_of p.who at.thread))
+statement_of op.Yield at p = Some (stmt.Yield (who_of p.who at.thread))
+statement_of op.Suspend at p = Some (stmt.Suspend (who_of p.who at.thread))
+statement_of op.Resume at p = Some (stmt.Resume (who_of p.who at.thread))
+statement_of op.Join at p = Some (stmt.Join (who_of p.who at.thread))
+statement_of op.SetPri at p = Some (stmt.SetPri (who_of p.who at.thread) p.number)
+statement_of op.Send at p = Some (stmt.Send (who_of p.who at.thread) p.room at.text)
+statement_of op.Recv at p = Some (stmt.Recv (from_of p.who at.thread) p.mode)
+statement_of op.Reply at p = Some (stmt.Reply (who_of p.who at.thread) at.text)
+statement_of op.CallProc at p = Some (stmt.CallProc at.procedure)
+statement_of op.Agent at p = Some (stmt.Agent at.thread p.number)
+statement_of o at p = lock_statement o at p
 
 -- the procedure with one more statement
 abbrev pub grown : Option Stmt → Option Proc → Option Proc
@@ -110,33 +175,50 @@ empty_names = record { procs = []; threads = []; mons = []; conds = [] }
 
 -- the script of no lines; the limit on births is the greatest, unless a line says another
 abbrev pub empty_draft : Draft
-empty_draft = record { script = record { maxpri = 0; births = 4294967295; clients = []; natives = []; procs = []; posts = []; names = empty_names }; current = None }
+empty_draft = record {
+  script = record { maxpri = 0; births = 4294967295; clients = []; natives = []; procs = []; posts = []; names = empty_names; texts = [] };
+  current = None;
+  posted = [];
+}
 
 -- the script, with the last procedure at its end
 abbrev pub closed : Draft → Script
 closed d = record d.script { procs = d.script.procs ++ option_to_list d.current }
 
--- the names of a line are entered before it is added
+-- the names and the text of a line are entered before it is added
 abbrev pub entered : Draft → Phrase → Draft
-entered d p = record d { script = record d.script { names = named d.script.names p } }
+entered d p = record d { script = record d.script { names = named d.script.names p; texts = spoken d.script.texts p } }
 
 -- one more statement of the procedure
-abbrev pub pushed : Draft → Phrase → Draft
-pushed d p = record d { current = grown (statement_at p.op d.script.names p) d.current }
+abbrev pub pushed : Places → Draft → Phrase → Draft
+pushed at d p = record d { current = grown (statement_of p.op at p) d.current }
+
+-- what a built-in procedure is: a session has an event, and its store is the thread of this number
+abbrev pub native_kind : ℕ → ℕ → NativeKind
+native_kind event store = if event == 0 then native.Store else native.Session event store
+
+-- one line more of this client
+abbrev pub raised : ℕ → List ℕ → List ℕ
+raised c [] = []
+raised zero (n ∷ ns) = suc n ∷ ns
+raised (suc c) (n ∷ ns) = n ∷ raised c ns
 
 -- a line by the part it plays: a procedure ends where the next one begins
-abbrev pub added_at : Role → Draft → Phrase → Draft
-added_at role.Header d p = d
-added_at role.Pod d p = record d { script = record d.script { maxpri = p.number } }
-added_at role.Limit d p = record d { script = record d.script { births = p.number } }
-added_at role.Proc d p = record { script = closed d; current = Some (record { name = place d.script.names.procs p.procedure; stmts = [] }) }
-added_at role.Statement d p = pushed d p
-added_at role.Skip d p = pushed d p
-added_at role.Again d p = pushed d p
+abbrev pub added_at : Role → Places → Draft → Phrase → Draft
+added_at role.Header at d p = d
+added_at role.Pod at d p = record d { script = record d.script { maxpri = p.number } }
+added_at role.Limit at d p = record d { script = record d.script { births = p.number } }
+added_at role.Client at d p = record d { script = record d.script { clients = d.script.clients ++ p.event ∷ [] }; posted = d.posted ++ 0 ∷ [] }
+added_at role.Native at d p = record d { script = record d.script { natives = d.script.natives ++ record { name = at.procedure; kind = native_kind p.event at.thread } ∷ [] } }
+added_at role.Proc at d p = record d { script = closed d; current = Some (record { name = at.procedure; stmts = [] }) }
+added_at role.Post at d p = record d { script = record d.script { posts = d.script.posts ++ record { client = p.client; seq = slice_index_or d.posted p.client 0; text = at.text } ∷ [] }; posted = raised p.client d.posted }
+added_at role.Statement at d p = pushed at d p
+added_at role.Skip at d p = pushed at d p
+added_at role.Again at d p = pushed at d p
 
 -- one more line
 abbrev pub added : Draft → Phrase → Draft
-added d p = added_at (role_of p.op) (entered d p) p
+added d p = added_at (role_of p.op) (places_of (named d.script.names p) d.script.texts p) (entered d p) p
 
 -- what these lines have made
 abbrev pub draft_of : List Phrase → Draft

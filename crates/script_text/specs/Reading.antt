@@ -4,15 +4,21 @@ use Rattle.std.specs.Str.{bytes_eq}
 use Rattle.lwp_types.specs.TextFields.{is_text}
 use Rattle.script_text.specs.declared.table.Kind.{Kind}
 use Rattle.script_text.specs.declared.table.Kind.TheVariants as kind
-use Rattle.script_text.specs.declared.phrase.Phrase.{Phrase}
+use Rattle.script_text.specs.declared.table.Whom.{Whom}
+use Rattle.script_text.specs.declared.table.Whom.TheVariants as whom
+use Rattle.script_text.specs.Phrase.{Phrase}
 use Rattle.script_text.specs.declared.script.Test.{Test}
 use Rattle.script_text.specs.declared.script.Test.TheVariants as test
 use Rattle.lwp_types.specs.declared.call.Flags.{Flags}
 use Rattle.lwp_types.specs.declared.call.Mode.{Mode}
 use Rattle.lwp_types.specs.declared.call.Mode.TheVariants as mode
+use Rattle.lwp_types.specs.declared.call.Func.{Func}
+use Rattle.lwp_types.specs.declared.call.Func.TheVariants as func
+use Rattle.lwp_types.specs.declared.call.Pattern.{Pattern}
+use Rattle.lwp_types.specs.declared.call.Pattern.TheVariants as pattern
 use Rattle.script_text.specs.Lines.{flags_text}
-use Rattle.script_text.specs.Words.{is_name, is_thread_word, is_source_word, number_at, reach}
-use Rattle.script_text.specs.Table.{op_at, kinds_of}
+use Rattle.script_text.specs.Words.{is_name, number_at, reach}
+use Rattle.script_text.specs.Table.{op_at, slots_of, key_length}
 use Rattle.script_text.specs.Grammar.{blank}
 
 -- flags by three letters that stand or don't
@@ -59,19 +65,58 @@ room_at w = option_and_then within_room (number_at w)
 abbrev pub mode_at : List ℕ → Option Mode
 mode_at w = if bytes_eq w (codes "poll") then Some mode.Poll else if bytes_eq w (codes "wait") then Some mode.Block else None
 
+-- a client that is written so
+abbrev pub client_at : List ℕ → Option ℕ
+client_at w = option_and_then (λ n. if nat_le n 15 then Some n else None) (number_at w)
+
+-- an event that is written so
+abbrev pub event_at : List ℕ → Option ℕ
+event_at w = option_and_then (λ n. if nat_le 1 n && nat_le n 31 then Some n else None) (number_at w)
+
+-- a pattern that is written so
+abbrev pub pattern_at : List ℕ → Option Pattern
+pattern_at w = if bytes_eq w (codes "all") then Some pattern.All else option_map (λ n. pattern.Num n) (number_at w)
+
+-- the function of a handler that is written so
+abbrev pub func_at : List ℕ → Option Func
+func_at w = if bytes_eq w (codes "-") then Some func.Nothing else if bytes_eq w (codes "give") then Some func.Give else if bytes_eq w (codes "sum") then Some func.Sum else None
+
+-- what a word is that means a thread, and its bytes if it is a name
+abbrev pub who_at : List ℕ → Option (Whom × List ℕ)
+who_at w =
+    if is_name w then Some (whom.Named, w)
+    else if bytes_eq w (codes "self") then Some (whom.Me, [])
+    else if bytes_eq w (codes "first") then Some (whom.First, [])
+    else if bytes_eq w (codes "sender") then Some (whom.Sender, [])
+    else if bytes_eq w (codes "none") then Some (whom.Nobody, [])
+    else None
+
+-- the same of a word that says from whom to receive
+abbrev pub source_at : List ℕ → Option (Whom × List ℕ)
+source_at w = if bytes_eq w (codes "any") then Some (whom.Any, []) else who_at w
+
+-- the word, if it is a name
+abbrev pub name_in : List ℕ → Option (List ℕ)
+name_in w = if is_name w then Some w else None
+
 -- p with a slot of this kind filled by a word
 abbrev pub fill_word : Kind → Phrase → List ℕ → Option Phrase
-fill_word kind.Thread p w = if is_name w then Some (record p { thread = w }) else None
-fill_word kind.Who p w = if is_thread_word w then Some (record p { thread = w }) else None
-fill_word kind.Source p w = if is_source_word w then Some (record p { thread = w }) else None
-fill_word kind.Procedure p w = if is_name w then Some (record p { procedure = w }) else None
-fill_word kind.Monitor p w = if is_name w then Some (record p { monitor = w }) else None
+fill_word kind.Thread p w = option_map (λ n. record p { thread = n }) (name_in w)
+fill_word kind.Who p w = option_map (λ x. record p { who = x.0; thread = x.1 }) (who_at w)
+fill_word kind.Source p w = option_map (λ x. record p { who = x.0; thread = x.1 }) (source_at w)
+fill_word kind.Procedure p w = option_map (λ n. record p { procedure = n }) (name_in w)
+fill_word kind.Monitor p w = option_map (λ n. record p { monitor = n }) (name_in w)
+fill_word kind.Condition p w = option_map (λ n. record p { condition = n }) (name_in w)
 fill_word kind.Number p w = option_map (λ n. record p { number = n }) (number_at w)
 fill_word kind.Room p w = option_map (λ n. record p { room = n }) (room_at w)
-fill_word kind.Births p w = if bytes_eq w (codes "births") then Some p else None
+fill_word kind.Client p w = option_map (λ n. record p { client = n }) (client_at w)
+fill_word kind.Event p w = option_map (λ n. record p { event = n }) (event_at w)
 fill_word kind.Flags p w = option_map (λ f. record p { flags = f }) (flags_at w)
 fill_word kind.Mode p w = option_map (λ m. record p { mode = m }) (mode_at w)
+fill_word kind.Pattern p w = option_map (λ x. record p { pattern = x }) (pattern_at w)
+fill_word kind.Func p w = option_map (λ f. record p { func = f }) (func_at w)
 fill_word kind.Test p w = None
+fill_word kind.Built p w = None
 fill_word kind.Text p w = None
 
 -- p with its text filled by all that is left: a space and then at least one byte, or nothing
@@ -84,6 +129,24 @@ abbrev pub fill_test : Phrase → List ℕ → Option (Phrase × List ℕ)
 fill_test p [] = None
 fill_test p (b ∷ bs) = if b == 32 then option_map (λ t. (record p { test = t }, [])) (test_at bs) else None
 
+-- the name behind one space, if it is one
+abbrev pub spaced_name : List ℕ → Option (List ℕ)
+spaced_name [] = None
+spaced_name (b ∷ bs) = if b == 32 then name_in bs else None
+
+-- the event and the name of a session: two words, with one space between them
+abbrev pub session_at : List ℕ → Option (ℕ × List ℕ)
+session_at w = option_and_then (λ event. option_map (λ name. (event, name)) (spaced_name (drop (reach 32 w) w))) (event_at (take (reach 32 w) w))
+
+-- what a built-in procedure is, written so: a store has no event
+abbrev pub built_at : List ℕ → Option (ℕ × List ℕ)
+built_at w = if bytes_eq w (codes "store") then Some (0, []) else if bytes_eq (take 8 w) (codes "session ") then session_at (drop 8 w) else None
+
+-- p with what its procedure is filled by all that is left behind one space
+abbrev pub fill_built : Phrase → List ℕ → Option (Phrase × List ℕ)
+fill_built p [] = None
+fill_built p (b ∷ bs) = if b == 32 then option_map (λ x. (record p { event = x.0; thread = x.1 }, [])) (built_at bs) else None
+
 -- p with a slot filled by the word behind one space, and what is left behind the word
 abbrev pub fill_spaced : Kind → Phrase → List ℕ → Option (Phrase × List ℕ)
 fill_spaced k p [] = None
@@ -93,16 +156,21 @@ fill_spaced k p (b ∷ bs) = if b == 32 then option_map (λ q. (q, drop (reach 3
 abbrev pub slot_at : Kind → Phrase → List ℕ → Option (Phrase × List ℕ)
 slot_at kind.Text = fill_text
 slot_at kind.Test = fill_test
+slot_at kind.Built = fill_built
 slot_at kind.Thread = fill_spaced kind.Thread
 slot_at kind.Who = fill_spaced kind.Who
 slot_at kind.Source = fill_spaced kind.Source
 slot_at kind.Procedure = fill_spaced kind.Procedure
 slot_at kind.Monitor = fill_spaced kind.Monitor
+slot_at kind.Condition = fill_spaced kind.Condition
 slot_at kind.Number = fill_spaced kind.Number
 slot_at kind.Room = fill_spaced kind.Room
-slot_at kind.Births = fill_spaced kind.Births
+slot_at kind.Client = fill_spaced kind.Client
+slot_at kind.Event = fill_spaced kind.Event
 slot_at kind.Flags = fill_spaced kind.Flags
 slot_at kind.Mode = fill_spaced kind.Mode
+slot_at kind.Pattern = fill_spaced kind.Pattern
+slot_at kind.Func = fill_spaced kind.Func
 
 -- p with all these slots filled, where nothing is left
 abbrev pub fill : List Kind → Phrase → List ℕ → Option Phrase
@@ -114,6 +182,34 @@ fill (k ∷ ks) p rest = option_and_then (λ x. fill ks x.0 x.1) (slot_at k p re
 abbrev pub first_word : List ℕ → List ℕ
 first_word line = take (reach 32 line) line
 
+-- what a line says, if its key is so long
+abbrev pub said_by : ℕ → List ℕ → Option Phrase
+said_by n line = option_and_then (λ o. fill (slots_of o) (blank o) (drop n line)) (op_at (take n line))
+
 -- what a line says, if it is the text of a phrase
 unfoldable pub phrase_at : List ℕ → Option Phrase
-phrase_at line = option_and_then (λ o. fill (kinds_of o) (blank o) (drop (reach 32 line) line)) (op_at (first_word line))
+phrase_at line = said_by (key_length line) line
+
+-- ---- Lines that declare a procedure, wherever they stand, and whatever else they say.
+
+-- the bytes behind these, if it begins with them
+abbrev pub behind : List ℕ → List ℕ → List ℕ
+behind [] line = line
+behind (b ∷ bs) [] = []
+behind (b ∷ bs) (c ∷ cs) = if b == c then behind bs cs else []
+
+-- the word if it is a name, and else the empty one
+abbrev pub only_name : List ℕ → List ℕ
+only_name w = if is_name w then w else []
+
+-- the first word, if a space stands behind it
+abbrev pub spaced_word : List ℕ → List ℕ
+spaced_word w = if nat_lt (reach 32 w) (length w) then take (reach 32 w) w else []
+
+-- the procedure of statements that the line declares: all that is behind `proc `; the empty word, if it declares none
+abbrev pub proc_on : List ℕ → List ℕ
+proc_on line = only_name (behind (codes "proc ") line)
+
+-- the built-in procedure that the line declares: the word behind `native `, if a space follows
+abbrev pub native_on : List ℕ → List ℕ
+native_on line = only_name (spaced_word (behind (codes "native ") line))

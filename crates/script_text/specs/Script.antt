@@ -1,9 +1,23 @@
 -- What is read off a script.
+use Rattle.lwp_types.specs.declared.call.Line.{Line}
 use Rattle.lwp_types.specs.declared.call.PodParams.{PodParams}
+use Rattle.script_text.specs.declared.script.Post.{Post}
 use Rattle.script_text.specs.declared.script.Proc.{Proc}
 use Rattle.script_text.specs.declared.script.Script.{Script}
 use Rattle.script_text.specs.declared.script.Stmt.{Stmt}
 use Rattle.std.specs.Prelude.{List, None, Option, Some, [], if◌then◌else◌, length, map, slice_get, slice_index_or, suc, ℕ, ◌++◌, ◌==◌, ◌∷◌}
+
+-- the text at this place of a list of texts; the empty one behind the last
+abbrev pub text_at : List (List ℕ) → ℕ → List ℕ
+text_at texts n = slice_index_or texts n []
+
+-- a line that a client posts, with its text
+abbrev pub line_of : List (List ℕ) → Post → Line
+line_of texts post = record { client = post.client; seq = post.seq; text = text_at texts post.text }
+
+-- the lines that the clients post, in the order of the text
+abbrev pub lines_posted : Script → List Line
+lines_posted script = map (line_of script.texts) script.posts
 
 -- the procedures by number: first those of statements, then the built-in ones; each is its name's place
 abbrev pub proc_places : Script → List ℕ

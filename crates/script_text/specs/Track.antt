@@ -1,34 +1,35 @@
 -- A reader that takes one line after another, as a value.
-use Rattle.std.specs.Prelude.{ℕ, ◌+◌, List, [], ◌∷◌, ◌++◌, length, Option, Some, None, Result, Ok, Err, ◌==◌, if◌then◌else◌, slice_index_or}
+use Rattle.std.specs.Prelude.{ℕ, ◌+◌, List, [], ◌∷◌, ◌++◌, Option, Some, None, Result, Ok, Err, if◌then◌else◌, slice_index_or}
 use Rattle.lwp_types.specs.TextFields.{is_printable}
 use Rattle.script_text.specs.declared.stage.Stage.{Stage}
 use Rattle.script_text.specs.declared.stage.Stage.TheVariants as stage
-use Rattle.script_text.specs.declared.phrase.Phrase.{Phrase}
 use Rattle.script_text.specs.declared.reason.Reason.{Reason}
 use Rattle.script_text.specs.declared.reason.Reason.TheVariants as reason
+use Rattle.script_text.specs.declared.reader.Declared.{Declared}
 use Rattle.script_text.specs.declared.reader.Mention.{Mention}
 use Rattle.script_text.specs.declared.reader.Reader.{Reader}
 use Rattle.script_text.specs.declared.script.Script.{Script}
-use Rattle.script_text.specs.Table.{role_of, starts}
+use Rattle.script_text.specs.Phrase.{Phrase}
+use Rattle.script_text.specs.Table.{role_of, starts, starts_any}
 use Rattle.script_text.specs.Reading.{phrase_at}
-use Rattle.script_text.specs.Grammar.{stage_after, may_stand_at}
-use Rattle.script_text.specs.Meaning.{contains_name, place, added, empty_draft, closed}
-use Rattle.script_text.specs.Spelling.{reason_of, declared_on}
+use Rattle.script_text.specs.Grammar.{has, nothing, stage_after, may_stand_at}
+use Rattle.script_text.specs.Meaning.{place_of, added, empty_draft, closed}
+use Rattle.script_text.specs.Spelling.{reason_of, noted, whole}
 
 -- ---- One line.
 
 -- a line by what it says, if it says anything
-abbrev pub judge_told : Stage → List (List ℕ) → List ℕ → Option Phrase → Result Phrase Reason
-judge_told s known line None = Err (reason_of s line)
-judge_told s known line (Some p) = if may_stand_at s known p then Ok p else Err (reason_of s line)
+abbrev pub judge_told : Stage → Declared → List ℕ → List ℕ → Option Phrase → Result Phrase Reason
+judge_told s known posted line None = Err (reason_of s line)
+judge_told s known posted line (Some p) = if may_stand_at s known posted p then Ok p else Err (reason_of s line)
 
 -- what a line says, or why it is bad whatever the lines behind it declare
-abbrev pub judge_alone : Stage → List (List ℕ) → List ℕ → Result Phrase Reason
-judge_alone s known line = if is_printable line then judge_told s known line (phrase_at line) else Err reason.Bytes
+abbrev pub judge_alone : Stage → Declared → List ℕ → List ℕ → Result Phrase Reason
+judge_alone s known posted line = if is_printable line then judge_told s known posted line (phrase_at line) else Err reason.Bytes
 
 -- the mention of a procedure that a line starts
 abbrev pub mention_of : ℕ → List (List ℕ) → Phrase → List Mention
-mention_of line names p = if starts p.op then record { line = line; name = place names p.procedure } ∷ [] else []
+mention_of line names p = if starts p.op then record { line = line; name = place_of names p.procedure; any = starts_any p.op } ∷ [] else []
 
 -- a reader with one more line that may stand
 abbrev pub taken : Reader → Phrase → Reader
@@ -49,19 +50,19 @@ took r (Err why) = record r { bad = Some why }
 -- behind a bad line no more lines are judged
 abbrev pub judged : Option Reason → Reader → List ℕ → Reader
 judged (Some why) r line = r
-judged None r line = took r (judge_alone r.stage r.declared line)
+judged None r line = took r (judge_alone r.stage r.declared r.draft.posted line)
 
--- a reader that knows of more declared procedures
-abbrev pub noted : Reader → List (List ℕ) → Reader
-noted r names = record r { declared = r.declared ++ names }
+-- a reader that knows what one more line declares
+abbrev pub knows : Reader → List ℕ → Reader
+knows r line = record r { declared = noted r.declared line }
 
 -- one more line: it is judged, and what it declares is noted
 abbrev pub step : Reader → List ℕ → Reader
-step r line = noted (judged r.bad r line) (declared_on (phrase_at line))
+step r line = knows (judged r.bad r line) line
 
 -- a reader that has read nothing
 abbrev pub start : Reader
-start = record { count = 0; stage = stage.Start; bad = None; declared = []; mentions = []; draft = empty_draft }
+start = record { count = 0; stage = stage.Start; bad = None; declared = nothing; mentions = []; draft = empty_draft }
 
 -- ---- The end.
 
@@ -70,14 +71,14 @@ abbrev pub name_at : List (List ℕ) → ℕ → List ℕ
 name_at names n = slice_index_or names n []
 
 -- the line of the first mention of a procedure that isn't declared
-abbrev pub first_missing : List (List ℕ) → List (List ℕ) → List Mention → Option ℕ
+abbrev pub first_missing : Declared → List (List ℕ) → List Mention → Option ℕ
 first_missing declared names [] = None
-first_missing declared names (m ∷ ms) = if contains_name declared (name_at names m.name) then first_missing declared names ms else Some m.line
+first_missing declared names (m ∷ ms) = if has declared m.any (name_at names m.name) then first_missing declared names ms else Some m.line
 
 -- where every line that has ended is good
 abbrev pub answer_fine : Reader → List ℕ → Result Script (ℕ × Reason)
 answer_fine r (b ∷ tail) = Err (r.count + 1, reason.Unended)
-answer_fine r [] = if length r.declared == 0 then Err (r.count + 1, reason.Missing) else Ok (closed r.draft)
+answer_fine r [] = whole (r.count + 1) (closed r.draft)
 
 -- A line that starts an undeclared procedure comes first: the lines behind one that is bad by itself aren't judged.
 abbrev pub answer_by : Option ℕ → Option Reason → Reader → List ℕ → Result Script (ℕ × Reason)
@@ -91,4 +92,4 @@ answer r tail = answer_by (first_missing r.declared r.draft.script.names.procs r
 
 -- the script of these lines and what is left behind them, or why there is none
 abbrev pub answer_at : Reader → List ℕ → Result Script (ℕ × Reason)
-answer_at r tail = answer (noted r (declared_on (phrase_at tail))) tail
+answer_at r tail = answer (knows r tail) tail

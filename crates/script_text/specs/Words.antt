@@ -26,14 +26,6 @@ abbrev pub is_name : List ℕ → Bool
 is_name [] = false
 is_name (b ∷ bs) = is_lowercase b && list_all is_name_byte bs && nat_lt (length bs) 16 && not (is_reserved (b ∷ bs))
 
--- a word that means a thread: a name, the thread itself, thread 0, the sender of the letter received last, nobody
-abbrev pub is_thread_word : List ℕ → Bool
-is_thread_word w = is_name w || bytes_eq w (codes "self") || bytes_eq w (codes "first") || bytes_eq w (codes "sender") || bytes_eq w (codes "none")
-
--- a word that says from whom to receive: one that means a thread, or `any`
-abbrev pub is_source_word : List ℕ → Bool
-is_source_word w = is_thread_word w || bytes_eq w (codes "any")
-
 -- the value of digits that come behind a number
 abbrev pub value_after : ℕ → List ℕ → ℕ
 value_after n [] = n

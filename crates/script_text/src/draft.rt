@@ -1,62 +1,119 @@
 // A script that grows line by line.
 ghost use Rattle.std.specs.Prelude.{◌≡◌, ◌++◌, ◌∷◌, [], Some, IfOk, OnOk, option_to_list};
-ghost use Rattle.script_text.specs.Meaning.{named, place, who_at, from_at, plain_statement, monitor_statement, statement_at, grown};
+ghost use Rattle.script_text.specs.Meaning.{named, spoken, places_of, who_of, from_of, exit_statement, plain_statement, lock_statement, statement_of, grown, native_kind};
 
-use crate::names::{enter, number_of};
+use crate::counts::Counts;
+use crate::names::NameList;
 use crate::phrase::Phrase;
-use crate::table::{Op, Role};
-use crate::{ExitStmt, Names, Proc, Script, Stmt, Who};
-use lwp_types::{NoMemory, Sequence, Text};
+use crate::table::{Op, Role, Whom};
+use crate::texts::Texts;
+use crate::{ExitStmt, Names, Native, NativeKind, Post, Proc, Script, Stmt, Who};
+use lwp_types::{NoMemory, Sequence};
 use std::alloc::Global;
 
-/// The script of the lines so far, and the procedure to which the next statement goes.
+/// The script of the lines so far, the procedure to which the next statement goes, and how many lines each client has posted.
 #[derive(Drop)]
 pub struct Draft {
     pub script: Script,
     pub current: Option<Proc>,
+    pub posted: Counts,
+}
+
+/// Where the names of a line stand in their lists, and its text in the list of texts.
+#[derive(Clone, Copy)]
+pub struct Places {
+    pub thread: u32,
+    pub procedure: u32,
+    pub monitor: u32,
+    pub condition: u32,
+    pub text: u32,
 }
 
 // Enters the names of a line.
-fn name(names: &mut Names, phrase: &Phrase) -> Result<(), NoMemory>
+fn name(names: &mut Names, phrase: &Phrase<'_>) -> Result<(), NoMemory>
     ensures { OnOk result (names.new ≡ named names.old phrase.now) }
 {
-    enter(&mut names.procs, &phrase.procedure)?;
-    enter(&mut names.threads, &phrase.thread)?;
-    enter(&mut names.mons, &phrase.monitor)
+    names.procs.enter(phrase.procedure)?;
+    names.threads.enter(phrase.thread)?;
+    names.mons.enter(phrase.monitor)?;
+    names.conds.enter(phrase.condition)
 }
 
-// Whom a word of a line means, once its name has been entered.
-fn who_at(names: &Sequence<Text>, word: &Text) -> Result<Who, NoMemory>
-    ensures { IfOk result (λ who. who ≡ who_at names.now word.now) }
+// Where the names stand that have been entered, and where the text will stand.
+fn places_of(names: &Names, texts: &Texts, phrase: &Phrase<'_>) -> Result<Places, NoMemory>
+    ensures { IfOk result (λ at. at ≡ places_of names.now texts.now phrase.now) }
 {
-    let word = word.bytes();
-    if word == b"self".as_slice() {
-        Ok(Who::Me)
-    } else if word == b"first".as_slice() {
-        Ok(Who::First)
-    } else if word == b"sender".as_slice() {
-        Ok(Who::Sender)
-    } else if word == b"none".as_slice() {
-        Ok(Who::Nobody)
-    } else {
-        Ok(Who::Named(number_of(names.as_slice(), word)?))
+    let Ok(text) = u32::try_from(texts.len()) else {
+        return Err(NoMemory);
+    };
+    Ok(Places {
+        thread: names.threads.number(phrase.thread)?,
+        procedure: names.procs.number(phrase.procedure)?,
+        monitor: names.mons.number(phrase.monitor)?,
+        condition: names.conds.number(phrase.condition)?,
+        text,
+    })
+}
+
+// Enters the text of a line that has one.
+fn speak(texts: &mut Texts, phrase: &Phrase<'_>) -> Result<(), NoMemory>
+    ensures { OnOk result (texts.new ≡ spoken texts.old phrase.now) }
+{
+    if phrase.op.says() {
+        texts.push(phrase.text)?;
+    }
+    Ok(())
+}
+
+// Whom a word means, where a name has this number.
+fn who_of(whom: Whom, name: u32) -> Who
+    ensures { result ≡ who_of whom name }
+{
+    match whom {
+        Whom::Named => Who::Named(name),
+        Whom::Me => Who::Me,
+        Whom::First => Who::First,
+        Whom::Sender => Who::Sender,
+        Whom::Nobody | Whom::Any => Who::Nobody,
     }
 }
 
 // From whom a word says to receive.
-fn from_at(names: &Sequence<Text>, word: &Text) -> Result<Option<Who>, NoMemory>
-    ensures { IfOk result (λ from. from ≡ from_at names.now word.now) }
+fn from_of(whom: Whom, name: u32) -> Option<Who>
+    ensures { result ≡ from_of whom name }
 {
-    if word.bytes() == b"any".as_slice() {
-        Ok(None)
-    } else {
-        Ok(Some(who_at(names, word)?))
+    match whom {
+        Whom::Any => None,
+        _ => Some(who_of(whom, name)),
     }
 }
 
-// A statement that names nothing.
-fn plain_statement(phrase: &Phrase) -> Option<Stmt>
-    ensures { result ≡ plain_statement phrase.now.op phrase.now }
+// What an exit procedure is to do.
+fn exit_statement(at: Places, phrase: &Phrase<'_>) -> Option<ExitStmt>
+    ensures { result ≡ exit_statement phrase.now.op at phrase.now }
+{
+    let who = who_of(phrase.who, at.thread);
+    match phrase.op {
+        Op::ExitMonExit => Some(ExitStmt::MonExit { mon: at.monitor }),
+        Op::ExitMonBreak => Some(ExitStmt::MonBreak { mon: at.monitor }),
+        Op::ExitNotify => Some(ExitStmt::Notify { cond: at.condition }),
+        Op::ExitBroadcast => Some(ExitStmt::Broadcast { cond: at.condition }),
+        Op::ExitReply => Some(ExitStmt::Reply {
+            to: who,
+            text: at.text,
+        }),
+        Op::ExitResume => Some(ExitStmt::Resume { who }),
+        Op::ExitSetExit => Some(ExitStmt::SetExit {
+            code: phrase.number,
+        }),
+        Op::ExitNote => Some(ExitStmt::Note { text: at.text }),
+        _ => None,
+    }
+}
+
+// A statement that names nothing, or one that sets an exit procedure.
+fn plain_statement(at: Places, phrase: &Phrase<'_>) -> Option<Stmt>
+    ensures { result ≡ plain_statement phrase.now.op at phrase.now }
 {
     let number = phrase.number;
     match phrase.op {
@@ -70,74 +127,105 @@ fn plain_statement(phrase: &Phrase) -> Option<Stmt>
         Op::Senders => Some(Stmt::Senders),
         Op::Receivers => Some(Stmt::Receivers),
         Op::Monitors => Some(Stmt::Monitors),
-        Op::Say => Some(Stmt::Say { text: phrase.text }),
+        Op::Conds => Some(Stmt::Conds),
         Op::Return => Some(Stmt::Return),
+        Op::Handle => Some(Stmt::Handle {
+            pattern: phrase.pattern,
+            func: phrase.func,
+            arg: number,
+        }),
+        Op::Unhandle => Some(Stmt::Unhandle),
+        Op::Raise => Some(Stmt::Raise { pattern: number }),
+        Op::ExcNotify => Some(Stmt::ExcNotify { pattern: number }),
+        Op::Bound => Some(Stmt::Bound { pattern: number }),
+        Op::UniqPatt => Some(Stmt::UniqPatt),
+        Op::Agents => Some(Stmt::Agents),
+        Op::Say => Some(Stmt::Say { text: at.text }),
         Op::Skip => Some(Stmt::Skip { test: phrase.test }),
         Op::Again => Some(Stmt::Again),
-        _ => None,
+        _ => match exit_statement(at, phrase) {
+            Some(exit) => Some(Stmt::OnExit { exit }),
+            None => None,
+        },
     }
 }
 
-// A statement that names the monitor of this number, or nothing.
-fn monitor_statement(mon: u32, phrase: &Phrase) -> Option<Stmt>
-    ensures { result ≡ monitor_statement phrase.now.op mon phrase.now }
+// The same, or a statement that names a monitor or a condition.
+fn lock_statement(at: Places, phrase: &Phrase<'_>) -> Option<Stmt>
+    ensures { result ≡ lock_statement phrase.now.op at phrase.now }
 {
+    let mon = at.monitor;
+    let cond = at.condition;
     match phrase.op {
         Op::MonCreate => Some(Stmt::MonCreate { mon }),
+        Op::CvCreate => Some(Stmt::CvCreate { cond, mon }),
         Op::MonDestroy => Some(Stmt::MonDestroy { mon }),
         Op::Enter => Some(Stmt::Enter { mon }),
         Op::CondEnter => Some(Stmt::CondEnter { mon }),
         Op::MonExit => Some(Stmt::MonExit { mon }),
         Op::MonBreak => Some(Stmt::MonBreak { mon }),
         Op::MonWaiters => Some(Stmt::MonWaiters { mon }),
-        _ => plain_statement(phrase),
+        Op::CvDestroy => Some(Stmt::CvDestroy { cond }),
+        Op::Wait => Some(Stmt::Wait { cond }),
+        Op::Notify => Some(Stmt::Notify { cond }),
+        Op::Broadcast => Some(Stmt::Broadcast { cond }),
+        Op::CvSend => Some(Stmt::CvSend {
+            cond,
+            who: who_of(phrase.who, at.thread),
+        }),
+        Op::CvWaiters => Some(Stmt::CvWaiters { cond }),
+        _ => plain_statement(at, phrase),
     }
 }
 
-// The statement of a line whose names have been entered.
-fn statement(names: &Names, phrase: &Phrase) -> Result<Option<Stmt>, NoMemory>
-    ensures { IfOk result (λ s. s ≡ statement_at phrase.now.op names.now phrase.now) }
+// The statement of a line whose names and text stand so.
+fn statement_of(at: Places, phrase: &Phrase<'_>) -> Option<Stmt>
+    ensures { result ≡ statement_of phrase.now.op at phrase.now }
 {
-    let number = phrase.number;
-    let text = phrase.text;
-    let who = who_at(&names.threads, &phrase.thread)?;
-    let stmt = match phrase.op {
-        Op::Create => Stmt::Create {
-            name: number_of(names.threads.as_slice(), phrase.thread.bytes())?,
-            proc: number_of(names.procs.as_slice(), phrase.procedure.bytes())?,
-            prio: number,
+    let who = who_of(phrase.who, at.thread);
+    match phrase.op {
+        Op::Create => Some(Stmt::Create {
+            name: at.thread,
+            proc: at.procedure,
+            prio: phrase.number,
             flags: phrase.flags,
-        },
-        Op::Destroy => Stmt::Destroy { who },
-        Op::Ping => Stmt::Ping { who },
-        Op::Yield => Stmt::Yield { to: who },
-        Op::Suspend => Stmt::Suspend { who },
-        Op::Resume => Stmt::Resume { who },
-        Op::Join => Stmt::Join { who },
-        Op::SetPri => Stmt::SetPri { who, prio: number },
-        Op::Send => Stmt::Send {
+        }),
+        Op::Destroy => Some(Stmt::Destroy { who }),
+        Op::Ping => Some(Stmt::Ping { who }),
+        Op::Yield => Some(Stmt::Yield { to: who }),
+        Op::Suspend => Some(Stmt::Suspend { who }),
+        Op::Resume => Some(Stmt::Resume { who }),
+        Op::Join => Some(Stmt::Join { who }),
+        Op::SetPri => Some(Stmt::SetPri {
+            who,
+            prio: phrase.number,
+        }),
+        Op::Send => Some(Stmt::Send {
             to: who,
             room: phrase.room,
-            text,
-        },
-        Op::Recv => Stmt::Recv {
-            from: from_at(&names.threads, &phrase.thread)?,
+            text: at.text,
+        }),
+        Op::Recv => Some(Stmt::Recv {
+            from: from_of(phrase.who, at.thread),
             mode: phrase.mode,
-        },
-        Op::Reply => Stmt::Reply { to: who, text },
-        _ => {
-            let mon = number_of(names.mons.as_slice(), phrase.monitor.bytes())?;
-            return Ok(monitor_statement(mon, phrase));
-        }
-    };
-    Ok(Some(stmt))
+        }),
+        Op::Reply => Some(Stmt::Reply {
+            to: who,
+            text: at.text,
+        }),
+        Op::CallProc => Some(Stmt::CallProc { proc: at.procedure }),
+        Op::Agent => Some(Stmt::Agent {
+            name: at.thread,
+            event: phrase.number,
+        }),
+        _ => lock_statement(at, phrase),
+    }
 }
 
 // Puts a statement at the end of the procedure.
 fn grow(current: &mut Option<Proc>, stmt: Option<Stmt>) -> Result<(), NoMemory>
     ensures { OnOk result (current.new ≡ grown stmt current.old) }
 {
-    let _inside: Option<ExitStmt> = None;
     match (current, stmt) {
         (Some(proc), Some(stmt)) => proc.stmts.push(stmt),
         _ => Ok(()),
@@ -154,8 +242,19 @@ fn end(procs: &mut Sequence<Proc>, current: Option<Proc>) -> Result<(), NoMemory
     }
 }
 
+fn native_kind(event: u8, store: u32) -> NativeKind
+    ensures { result ≡ native_kind event store }
+{
+    if event == 0 {
+        NativeKind::Store
+    } else {
+        NativeKind::Session { event, store }
+    }
+}
+
 impl Draft {
-    ghost use Rattle.script_text.specs.Meaning.{empty_draft, pushed, added, closed};
+    ghost use Rattle.script_text.specs.Table.{role_of};
+    ghost use Rattle.script_text.specs.Meaning.{empty_draft, added_at, added, entered, closed};
 
     /// No lines.
     pub fn new(alloc: Global) -> Draft
@@ -170,42 +269,63 @@ impl Draft {
                 procs: Sequence::new(alloc),
                 posts: Sequence::new(alloc),
                 names: Names {
-                    procs: Sequence::new(alloc),
-                    threads: Sequence::new(alloc),
-                    mons: Sequence::new(alloc),
-                    conds: Sequence::new(alloc),
+                    procs: NameList::new(alloc),
+                    threads: NameList::new(alloc),
+                    mons: NameList::new(alloc),
+                    conds: NameList::new(alloc),
                 },
+                texts: Texts::new(alloc),
             },
             current: None,
+            posted: Counts::new(alloc),
         }
     }
 
-    // The next procedure.
-    fn begin(&mut self, alloc: Global, phrase: &Phrase) -> Result<(), NoMemory>
-        ensures { OnOk result (self.new ≡ record { script = closed self.old; current = Some (record { name = place self.old.script.names.procs phrase.now.procedure; stmts = [] }) }) }
+    // The next client.
+    fn open(&mut self, phrase: &Phrase<'_>, at: Places) -> Result<(), NoMemory>
+        ensures { OnOk result (self.new ≡ added_at Role.Client at self.old phrase.now) }
     {
-        let names = self.script.names.procs.as_slice();
+        self.script.clients.push(phrase.event)?;
+        self.posted.open()
+    }
+
+    // The next built-in procedure.
+    fn build(&mut self, phrase: &Phrase<'_>, at: Places) -> Result<(), NoMemory>
+        ensures { OnOk result (self.new ≡ added_at Role.Native at self.old phrase.now) }
+    {
+        self.script.natives.push(Native {
+            name: at.procedure,
+            kind: native_kind(phrase.event, at.thread),
+        })
+    }
+
+    // The next procedure.
+    fn begin(&mut self, alloc: Global, phrase: &Phrase<'_>, at: Places) -> Result<(), NoMemory>
+        ensures { OnOk result (self.new ≡ added_at Role.Proc at self.old phrase.now) }
+    {
         let next = Proc {
-            name: number_of(names, phrase.procedure.bytes())?,
+            name: at.procedure,
             stmts: Sequence::new(alloc),
         };
         end(&mut self.script.procs, self.current.replace(next))
     }
 
-    // One more statement of the procedure.
-    fn push_statement(&mut self, phrase: &Phrase) -> Result<(), NoMemory>
-        ensures { OnOk result (self.new ≡ pushed self.old phrase.now) }
+    // One more line of a client.
+    fn post(&mut self, phrase: &Phrase<'_>, at: Places) -> Result<(), NoMemory>
+        ensures { OnOk result (self.new ≡ added_at Role.Post at self.old phrase.now) }
     {
-        let _inside: Option<ExitStmt> = None;
-        let stmt = statement(&self.script.names, phrase)?;
-        grow(&mut self.current, stmt)
+        self.script.posts.push(Post {
+            client: phrase.client,
+            seq: self.posted.get(phrase.client, 0),
+            text: at.text,
+        })?;
+        self.posted.raise(phrase.client)
     }
 
-    /// One more line.
-    pub fn add(&mut self, alloc: Global, phrase: &Phrase) -> Result<(), NoMemory>
-        ensures { OnOk result (self.new ≡ added self.old phrase.now) }
+    // A line whose names and text have been entered.
+    fn add_at(&mut self, alloc: Global, phrase: &Phrase<'_>, at: Places) -> Result<(), NoMemory>
+        ensures { OnOk result (self.new ≡ added_at (role_of phrase.now.op) at self.old phrase.now) }
     {
-        name(&mut self.script.names, phrase)?;
         match phrase.op.role() {
             Role::Header => Ok(()),
             Role::Pod => {
@@ -216,9 +336,24 @@ impl Draft {
                 self.script.births = u64::from(phrase.number);
                 Ok(())
             }
-            Role::Proc => self.begin(alloc, phrase),
-            Role::Statement | Role::Skip | Role::Again => self.push_statement(phrase),
+            Role::Client => self.open(phrase, at),
+            Role::Native => self.build(phrase, at),
+            Role::Proc => self.begin(alloc, phrase, at),
+            Role::Post => self.post(phrase, at),
+            Role::Statement | Role::Skip | Role::Again => {
+                grow(&mut self.current, statement_of(at, phrase))
+            }
         }
+    }
+
+    /// One more line.
+    pub fn add(&mut self, alloc: Global, phrase: &Phrase<'_>) -> Result<(), NoMemory>
+        ensures { OnOk result (self.new ≡ added self.old phrase.now) }
+    {
+        name(&mut self.script.names, phrase)?;
+        let at = places_of(&self.script.names, &self.script.texts, phrase)?;
+        speak(&mut self.script.texts, phrase)?;
+        self.add_at(alloc, phrase, at)
     }
 
     /// The script.
@@ -228,6 +363,7 @@ impl Draft {
         let Draft {
             mut script,
             current,
+            posted: _,
         } = self;
         end(&mut script.procs, current)?;
         Ok(script)

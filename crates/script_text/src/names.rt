@@ -1,20 +1,23 @@
 // Names and their numbers.
-ghost use Rattle.std.specs.Prelude.{◌≡◌, IfOk, OnOk};
-ghost use Rattle.script_text.specs.Meaning.{contains_name, place, enter};
+ghost use Rattle.std.specs.Prelude.{◌≡◌, IfOk, IfSome, OnOk, length};
+ghost use Rattle.script_text.specs.Meaning.{contains_name, place};
 
-use crate::words::is_name;
 use lwp_types::{NoMemory, Sequence, Text};
+use std::alloc::Global;
+use std::marker::Model;
 
-/// Whether the name is one of these.
-pub fn contains_name(names: &[Text], name: &[u8]) -> bool
-    ensures { result ≡ contains_name names.now name.now }
-{
-    for n in names {
-        if n.bytes() == name {
-            return true;
-        }
-    }
-    false
+/// Names in the order in which they first appear, seen as their list.
+#[derive(Drop)]
+pub struct NameList {
+    names: Sequence<Text>,
+}
+
+impl Model for NameList {
+    ghost use Rattle.std.specs.Prelude.{ℕ, List};
+
+    ghost Value = { List (List ℕ) };
+
+    ghost view = { λ l. l.names };
 }
 
 fn place(names: &[Text], name: &[u8]) -> usize
@@ -28,19 +31,72 @@ fn place(names: &[Text], name: &[u8]) -> usize
     names.len()
 }
 
-/// The number of the name. No memory holds more names than a `u32` counts.
-pub fn number_of(names: &[Text], name: &[u8]) -> Result<u32, NoMemory>
-    ensures { IfOk result (λ n. n ≡ place names.now name.now) }
+fn contains_name(names: &[Text], name: &[u8]) -> bool
+    ensures { result ≡ contains_name names.now name.now }
 {
-    u32::try_from(place(names, name)).map_err(|_| NoMemory)
+    for n in names {
+        if n.bytes() == name {
+            return true;
+        }
+    }
+    false
 }
 
-/// Puts the name at the end, if it is a name and isn't there.
-pub fn enter(names: &mut Sequence<Text>, name: &Text) -> Result<(), NoMemory>
-    ensures { OnOk result (names.new ≡ enter names.old name.now) }
-{
-    if is_name(name.bytes()) && !contains_name(names.as_slice(), name.bytes()) {
-        names.push(*name)?;
+impl NameList {
+    ghost use Rattle.std.specs.Prelude.{◌≡◌, [], IfOk, OnOk, length};
+    ghost use Rattle.script_text.specs.Meaning.{contains_name, enter, place_of};
+
+    /// No names.
+    pub fn new(alloc: Global) -> NameList
+        ensures { result ≡ [] }
+    {
+        NameList {
+            names: Sequence::new(alloc),
+        }
     }
-    Ok(())
+
+    /// How many names there are.
+    pub fn len(&self) -> usize
+        ensures { result ≡ length self.now }
+    {
+        self.names.len()
+    }
+
+    /// All names.
+    pub fn as_slice(&self) -> &[Text]
+        ensures { result.now ≡ self.now }
+    {
+        self.names.as_slice()
+    }
+
+    /// Whether the name is one of these.
+    pub fn contains(&self, name: &[u8]) -> bool
+        ensures { result ≡ contains_name self.now name.now }
+    {
+        contains_name(self.names.as_slice(), name)
+    }
+
+    /// The name's number, or how many names there are if it is none of them; 0 for the empty word. No memory holds more names
+    /// than a `u32` counts.
+    pub fn number(&self, name: &[u8]) -> Result<u32, NoMemory>
+        ensures { IfOk result (λ n. n ≡ place_of self.now name.now) }
+    {
+        match name {
+            [] => Ok(0),
+            [_, ..] => u32::try_from(place(self.names.as_slice(), name)).map_err(|_| NoMemory),
+        }
+    }
+
+    /// Puts the name at the end, if it is new, and is a text that isn't empty.
+    pub fn enter(&mut self, name: &[u8]) -> Result<(), NoMemory>
+        ensures { OnOk result (self.new ≡ enter self.old name.now) }
+    {
+        if name.is_empty() || self.contains(name) {
+            return Ok(());
+        }
+        match Text::new(name) {
+            Some(text) => self.names.push(text),
+            None => Ok(()),
+        }
+    }
 }

@@ -1,28 +1,49 @@
 // A line, taken apart by its row of the table.
-ghost use Rattle.std.specs.Prelude.{◌≡◌, [], length, Some, None, option_map, if◌then◌else◌};
-ghost use Rattle.script_text.specs.Words.{is_name, is_thread_word, is_source_word};
+ghost use Rattle.std.specs.Prelude.{◌≡◌, ℕ, List, [], drop, take, length, Some, None, option_map, if◌then◌else◌};
+ghost use Rattle.script_text.specs.Words.{is_name};
+ghost use Rattle.script_text.specs.Table.{key_length};
 ghost use Rattle.script_text.specs.Grammar.{blank};
 ghost use Rattle.script_text.specs.Lines.{flags_text};
-ghost use Rattle.script_text.specs.Reading.{flags_by, flags_in, flags_at, room_at, mode_at, value_at, test_at, fill_word, fill_text, fill_test, slot_at, fill, phrase_at};
+ghost use Rattle.script_text.specs.Reading.{flags_by, flags_in, flags_at, room_at, client_at, event_at, mode_at, pattern_at, func_at, value_at, test_at, name_in, who_at, source_at, session_at, built_at, fill_word, fill_text, fill_test, fill_built, slot_at, fill, said_by, phrase_at};
 
 use crate::Test;
-use crate::table::{Kind, Op};
-use crate::words::{is_name, is_source_word, is_thread_word, number_at, reach};
-use lwp_types::{Flags, Mode, Text};
+use crate::table::{Kind, Op, Whom};
+use crate::words::{is_name, is_text, number_at, reach};
+use lwp_types::{Flags, Func, Mode, Pattern};
+use std::marker::Model;
 
-/// What a line says: its row, and what stands in the slots. A slot that the row doesn't have is empty.
+/// What a line says: its row, and what stands in the slots. A slot that the row doesn't have is empty. Words are bytes of the
+/// line.
 #[derive(Drop)]
-pub struct Phrase {
+pub struct Phrase<'l> {
     pub op: Op,
-    pub thread: Text,
-    pub procedure: Text,
-    pub monitor: Text,
+    pub who: Whom,
+    pub thread: &'l [u8],
+    pub procedure: &'l [u8],
+    pub monitor: &'l [u8],
+    pub condition: &'l [u8],
     pub number: u32,
     pub room: u8,
+    pub client: u8,
+    pub event: u8,
     pub flags: Flags,
     pub mode: Mode,
+    pub pattern: Pattern,
+    pub func: Func,
     pub test: Test,
-    pub text: Text,
+    pub text: &'l [u8],
+}
+
+impl<'l> Model for Phrase<'l> {
+    ghost use Rattle.std.specs.Prelude.{IsTrue};
+    ghost use Rattle.lwp_types.specs.TextFields.{is_text};
+    ghost use Rattle.script_text.specs.Phrase.{Phrase as AnyPhrase};
+
+    ghost Value = { AnyPhrase };
+
+    ghost view = { λ p. record { op = p.op; who = p.who; thread = p.thread.now; procedure = p.procedure.now; monitor = p.monitor.now; condition = p.condition.now; number = p.number; room = p.room; client = p.client; event = p.event; flags = p.flags; mode = p.mode; pattern = p.pattern; func = p.func; test = p.test; text = p.text.now } };
+
+    ghost invariant = { λ p. IsTrue (is_text p.text.now) };
 }
 
 fn flags_by(suspended: bool, nolastrites: bool, server: bool) -> Flags
@@ -35,58 +56,63 @@ fn flags_by(suspended: bool, nolastrites: bool, server: bool) -> Flags
     }
 }
 
-fn no_text() -> Text
-    ensures { result ≡ [] }
-{
-    match Text::new(&[]) {
-        Some(text) => text,
-        None => unreachable!(),
-    }
-}
-
-fn blank(op: Op) -> Phrase
+fn blank<'l>(op: Op) -> Phrase<'l>
     ensures { result ≡ blank op }
 {
     Phrase {
         op,
-        thread: no_text(),
-        procedure: no_text(),
-        monitor: no_text(),
+        who: Whom::Named,
+        thread: &[],
+        procedure: &[],
+        monitor: &[],
+        condition: &[],
         number: 0,
         room: 0,
+        client: 0,
+        event: 0,
         flags: flags_by(false, false, false),
         mode: Mode::Poll,
+        pattern: Pattern::All,
+        func: Func::Nothing,
         test: Test::Fine,
-        text: no_text(),
+        text: &[],
     }
 }
 
 // The word, if it is a name.
-fn name_at(word: &[u8]) -> Option<Text>
-    ensures { result ≡ (if is_name word.now then Some word.now else None) }
+fn name_in(word: &[u8]) -> Option<&[u8]>
+    ensures { option_map (λ w. w.now) result ≡ name_in word.now }
 {
-    if is_name(word) { Text::new(word) } else { None }
+    if is_name(word) { Some(word) } else { None }
 }
 
-// The word, if it means a thread.
-fn thread_at(word: &[u8]) -> Option<Text>
-    ensures { result ≡ (if is_thread_word word.now then Some word.now else None) }
+// What the word is, if it means a thread, and its bytes if it is a name.
+fn who_at(word: &[u8]) -> Option<(Whom, &[u8])>
+    ensures { option_map (λ x. (x.0, x.1.now)) result ≡ who_at word.now }
 {
-    if is_thread_word(word) {
-        Text::new(word)
+    if is_name(word) {
+        Some((Whom::Named, word))
+    } else if word == b"self".as_slice() {
+        Some((Whom::Me, &[]))
+    } else if word == b"first".as_slice() {
+        Some((Whom::First, &[]))
+    } else if word == b"sender".as_slice() {
+        Some((Whom::Sender, &[]))
+    } else if word == b"none".as_slice() {
+        Some((Whom::Nobody, &[]))
     } else {
         None
     }
 }
 
-// The word, if it says from whom to receive.
-fn source_at(word: &[u8]) -> Option<Text>
-    ensures { result ≡ (if is_source_word word.now then Some word.now else None) }
+// The same, if it says from whom to receive.
+fn source_at(word: &[u8]) -> Option<(Whom, &[u8])>
+    ensures { option_map (λ x. (x.0, x.1.now)) result ≡ source_at word.now }
 {
-    if is_source_word(word) {
-        Text::new(word)
+    if word == b"any".as_slice() {
+        Some((Whom::Any, &[]))
     } else {
-        None
+        who_at(word)
     }
 }
 
@@ -97,6 +123,48 @@ fn room_at(word: &[u8]) -> Option<u8>
     match number_at(word) {
         Some(room) if room <= 240 => Some(room as u8),
         _ => None,
+    }
+}
+
+fn client_at(word: &[u8]) -> Option<u8>
+    ensures { result ≡ client_at word.now }
+{
+    match number_at(word) {
+        Some(client) if client <= 15 => Some(client as u8),
+        _ => None,
+    }
+}
+
+fn event_at(word: &[u8]) -> Option<u8>
+    ensures { result ≡ event_at word.now }
+{
+    match number_at(word) {
+        Some(event) if 1 <= event && event <= 31 => Some(event as u8),
+        _ => None,
+    }
+}
+
+fn pattern_at(word: &[u8]) -> Option<Pattern>
+    ensures { result ≡ pattern_at word.now }
+{
+    if word == b"all".as_slice() {
+        Some(Pattern::All)
+    } else {
+        number_at(word).map(Pattern::Num)
+    }
+}
+
+fn func_at(word: &[u8]) -> Option<Func>
+    ensures { result ≡ func_at word.now }
+{
+    if word == b"-".as_slice() {
+        Some(Func::Nothing)
+    } else if word == b"give".as_slice() {
+        Some(Func::Give)
+    } else if word == b"sum".as_slice() {
+        Some(Func::Sum)
+    } else {
+        None
     }
 }
 
@@ -179,62 +247,98 @@ fn test_at(words: &[u8]) -> Option<Test>
     }
 }
 
-fn fill_word(kind: Kind, mut phrase: Phrase, word: &[u8]) -> Option<Phrase>
-    ensures { result ≡ fill_word kind phrase word.now }
+// The event and the name of a session.
+fn session_at(words: &[u8]) -> Option<(u8, &[u8])>
+    ensures { option_map (λ x. (x.0, x.1.now)) result ≡ session_at words.now }
 {
-    match kind {
-        Kind::Thread => phrase.thread = name_at(word)?,
-        Kind::Who => phrase.thread = thread_at(word)?,
-        Kind::Source => phrase.thread = source_at(word)?,
-        Kind::Procedure => phrase.procedure = name_at(word)?,
-        Kind::Monitor => phrase.monitor = name_at(word)?,
-        Kind::Number => phrase.number = number_at(word)?,
-        Kind::Room => phrase.room = room_at(word)?,
-        Kind::Births => {
-            if word != b"births".as_slice() {
-                return None;
-            }
-        }
-        Kind::Flags => phrase.flags = flags_at(word)?,
-        Kind::Mode => phrase.mode = mode_at(word)?,
-        Kind::Test | Kind::Text => return None,
+    let (event, rest) = words.split_at(reach(b' ', words));
+    match (event_at(event), rest) {
+        (Some(event), [b' ', name @ ..]) if is_name(name) => Some((event, name)),
+        _ => None,
     }
-    Some(phrase)
 }
 
-fn fill_text(mut phrase: Phrase, rest: &[u8]) -> Option<(Phrase, &[u8])>
-    ensures { option_map (λ x. (x.0, x.1.now)) result ≡ fill_text phrase rest.now }
+// What a built-in procedure is: a store has no event.
+fn built_at(words: &[u8]) -> Option<(u8, &[u8])>
+    ensures { option_map (λ x. (x.0, x.1.now)) result ≡ built_at words.now }
+{
+    if words == b"store".as_slice() {
+        return Some((0, &[]));
+    }
+    match words.strip_prefix(b"session ") {
+        Some(more) => session_at(more),
+        None => None,
+    }
+}
+
+// Fills a slot by a word.
+fn fill_word<'l>(kind: Kind, phrase: &mut Phrase<'l>, word: &'l [u8]) -> Option<()>
+    ensures { option_map (λ done. phrase.new) result ≡ fill_word kind phrase.old word.now }
+{
+    match kind {
+        Kind::Thread => phrase.thread = name_in(word)?,
+        Kind::Who => (phrase.who, phrase.thread) = who_at(word)?,
+        Kind::Source => (phrase.who, phrase.thread) = source_at(word)?,
+        Kind::Procedure => phrase.procedure = name_in(word)?,
+        Kind::Monitor => phrase.monitor = name_in(word)?,
+        Kind::Condition => phrase.condition = name_in(word)?,
+        Kind::Number => phrase.number = number_at(word)?,
+        Kind::Room => phrase.room = room_at(word)?,
+        Kind::Client => phrase.client = client_at(word)?,
+        Kind::Event => phrase.event = event_at(word)?,
+        Kind::Flags => phrase.flags = flags_at(word)?,
+        Kind::Mode => phrase.mode = mode_at(word)?,
+        Kind::Pattern => phrase.pattern = pattern_at(word)?,
+        Kind::Func => phrase.func = func_at(word)?,
+        Kind::Test | Kind::Built | Kind::Text => return None,
+    }
+    Some(())
+}
+
+// Fills the text by all that is left.
+fn fill_text<'l>(phrase: &mut Phrase<'l>, rest: &'l [u8]) -> Option<&'l [u8]>
+    ensures { option_map (λ more. (phrase.new, more.now)) result ≡ fill_text phrase.old rest.now }
 {
     match rest {
         [] => {
-            phrase.text = no_text();
-            Some((phrase, rest))
+            phrase.text = &[];
+            Some(&[])
         }
-        [b' ', text @ ..] => {
-            if text.is_empty() {
-                return None;
-            }
-            phrase.text = Text::new(text)?;
-            Some((phrase, &text[text.len()..]))
+        [b' ', text @ ..] if !text.is_empty() && is_text(text) => {
+            phrase.text = text;
+            Some(&[])
         }
         _ => None,
     }
 }
 
-fn fill_test(mut phrase: Phrase, rest: &[u8]) -> Option<(Phrase, &[u8])>
-    ensures { option_map (λ x. (x.0, x.1.now)) result ≡ fill_test phrase rest.now }
+fn fill_test<'l>(phrase: &mut Phrase<'l>, rest: &'l [u8]) -> Option<&'l [u8]>
+    ensures { option_map (λ more. (phrase.new, more.now)) result ≡ fill_test phrase.old rest.now }
 {
     match rest {
         [b' ', words @ ..] => {
             phrase.test = test_at(words)?;
-            Some((phrase, &words[words.len()..]))
+            Some(&[])
         }
         _ => None,
     }
 }
 
-fn slot_at(kind: Kind, phrase: Phrase, rest: &[u8]) -> Option<(Phrase, &[u8])>
-    ensures { option_map (λ x. (x.0, x.1.now)) result ≡ slot_at kind phrase rest.now }
+fn fill_built<'l>(phrase: &mut Phrase<'l>, rest: &'l [u8]) -> Option<&'l [u8]>
+    ensures { option_map (λ more. (phrase.new, more.now)) result ≡ fill_built phrase.old rest.now }
+{
+    match rest {
+        [b' ', words @ ..] => {
+            (phrase.event, phrase.thread) = built_at(words)?;
+            Some(&[])
+        }
+        _ => None,
+    }
+}
+
+// Fills the next slot, and gives what is left.
+fn slot_at<'l>(kind: Kind, phrase: &mut Phrase<'l>, rest: &'l [u8]) -> Option<&'l [u8]>
+    ensures { option_map (λ more. (phrase.new, more.now)) result ≡ slot_at kind phrase.old rest.now }
 {
     if kind == Kind::Text {
         return fill_text(phrase, rest);
@@ -242,41 +346,58 @@ fn slot_at(kind: Kind, phrase: Phrase, rest: &[u8]) -> Option<(Phrase, &[u8])>
     if kind == Kind::Test {
         return fill_test(phrase, rest);
     }
+    if kind == Kind::Built {
+        return fill_built(phrase, rest);
+    }
     match rest {
         [b' ', more @ ..] => {
             let (word, after) = more.split_at(reach(b' ', more));
             match fill_word(kind, phrase, word) {
                 None => None,
-                Some(filled) => Some((filled, after)),
+                Some(()) => Some(after),
             }
         }
         _ => None,
     }
 }
 
-fn fill(kinds: &[Kind], mut phrase: Phrase, mut rest: &[u8]) -> Option<Phrase>
-    ensures { result ≡ fill kinds.now phrase rest.entry.now }
+// Fills all slots, where nothing is left.
+fn fill<'l>(kinds: &[Kind], phrase: &mut Phrase<'l>, rest: &'l [u8]) -> Option<()>
+    ensures { option_map (λ done. phrase.new) result ≡ fill kinds.now phrase.old rest.now }
 {
+    let mut left = rest;
     for kind in kinds {
-        match slot_at(*kind, phrase, rest) {
+        match slot_at(*kind, phrase, left) {
             None => return None,
-            Some((next, after)) => {
-                phrase = next;
-                rest = after;
-            }
+            Some(more) => left = more,
         }
     }
-    if rest.is_empty() { Some(phrase) } else { None }
+    if left.is_empty() { Some(()) } else { None }
+}
+
+// How long the key of a line is.
+fn key_length(line: &[u8]) -> usize
+    ensures { result ≡ key_length line.now }
+{
+    let first = reach(b' ', line);
+    let word = &line[..first];
+    if word != b"limit".as_slice() && word != b"onexit".as_slice() {
+        return first;
+    }
+    if first == line.len() {
+        return first + 1;
+    }
+    first + 1 + reach(b' ', &line[first + 1..])
 }
 
 /// What the line says, if its row of the table has what stands in it.
 #[tactic(auto, unfolding(crate::specs::Reading::phrase_at))]
-pub fn phrase_at(line: &[u8]) -> Option<Phrase>
+pub fn phrase_at(line: &[u8]) -> Option<Phrase<'_>>
     ensures { result ≡ phrase_at line.now }
 {
-    let (word, rest) = line.split_at(reach(b' ', line));
-    match Op::at(word) {
-        None => None,
-        Some(op) => fill(op.kinds(), blank(op), rest),
-    }
+    let (key, rest) = line.split_at(key_length(line).min(line.len()));
+    let op = Op::at(key)?;
+    let mut phrase = blank(op);
+    fill(op.slots(), &mut phrase, rest)?;
+    Some(phrase)
 }

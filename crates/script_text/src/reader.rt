@@ -1,27 +1,38 @@
 // A reader that takes one line after another.
-ghost use Rattle.std.specs.Prelude.{◌≡◌, ◌<◌, ◌+◌, ◌++◌, ◌^◌, IfOk, OnOk, Some, None};
+ghost use Rattle.std.specs.Prelude.{◌≡◌, ◌++◌, OnOk, option_map, Some};
 ghost use Rattle.lwp_types.specs.TextFields.{is_printable};
-ghost use Rattle.script_text.specs.Reading.{phrase_at};
-ghost use Rattle.script_text.specs.Grammar.{keeps_rule, may_stand_at, declared_by};
-ghost use Rattle.script_text.specs.Spelling.{Gives, reason_behind, declared_on};
-ghost use Rattle.script_text.specs.Track.{judge_alone, mention_of, first_missing};
+ghost use Rattle.script_text.specs.Phrase.{Phrase as AnyPhrase};
+ghost use Rattle.script_text.specs.Table.{role_of};
+ghost use Rattle.script_text.specs.Reading.{phrase_at, only_name, spaced_word, proc_on, native_on};
+ghost use Rattle.script_text.specs.Grammar.{has, keeps_rule, may_stand_at};
+ghost use Rattle.script_text.specs.Spelling.{Gives, word_reason, reason_behind, reason_of, noted};
+ghost use Rattle.script_text.specs.Track.{mention_of, first_missing};
 
 use crate::Script;
+use crate::counts::Counts;
 use crate::draft::Draft;
-use crate::names::{contains_name, number_of};
+use crate::names::NameList;
 use crate::phrase::{Phrase, phrase_at};
 use crate::reason::{ReadErr, Reason};
 use crate::stage::Stage;
-use crate::table::{Op, Role};
-use crate::words::reach;
+use crate::table::Role;
+use crate::words::{is_name, is_printable, reach};
 use lwp_types::{NoMemory, Sequence, Text};
 use std::alloc::Global;
 
-/// A line that starts a procedure, and the number of the procedure's name.
+/// A line that starts a procedure, the number of the procedure's name, and whether a built-in one will do.
 #[derive(Clone, Copy)]
 pub struct Mention {
     pub line: u32,
     pub name: u32,
+    pub any: bool,
+}
+
+/// The names of the procedures that the lines so far declare: those of statements, and the built-in ones.
+#[derive(Drop)]
+pub struct Declared {
+    pub procs: NameList,
+    pub natives: NameList,
 }
 
 /// What is known of the lines so far. Those up to the first that is bad by itself stand in the draft; that one starts an
@@ -31,85 +42,123 @@ pub struct Reader {
     pub count: u32,
     pub stage: Stage,
     pub bad: Option<Reason>,
-    pub declared: Sequence<Text>,
+    pub declared: Declared,
     pub mentions: Sequence<Mention>,
     pub draft: Draft,
 }
 
-fn is_printable(line: &[u8]) -> bool
-    ensures { result ≡ is_printable line.now }
+// The reason that the first word alone decides.
+fn word_reason(word: &[u8]) -> Option<Reason>
+    ensures { result ≡ word_reason word.now }
 {
-    line.iter().all(|b| 32 <= *b && *b <= 126)
+    if word == b"limit".as_slice() {
+        Some(Reason::Limit)
+    } else if word == b"client".as_slice() {
+        Some(Reason::Client)
+    } else if word == b"native".as_slice() {
+        Some(Reason::Native)
+    } else if word == b"proc".as_slice() {
+        Some(Reason::Proc)
+    } else if word == b"post".as_slice() {
+        Some(Reason::Post)
+    } else {
+        None
+    }
 }
 
-fn keeps_rule(known: &[Text], role: Role, phrase: &Phrase) -> bool
-    ensures { result ≡ keeps_rule known.now role phrase.now }
+fn reason_behind(stage: Stage, word: Option<Reason>, said: Option<Role>) -> Reason
+    ensures { result ≡ reason_behind stage word said }
+{
+    match (stage, word, said) {
+        (Stage::Start, _, _) => Reason::Header,
+        (Stage::Header, _, _) => Reason::Pod,
+        (_, Some(why), _) => why,
+        (_, None, Some(role)) if stage.breaks_again(role) => Reason::Again,
+        _ => Reason::Statement,
+    }
+}
+
+// The word if it is a name, and else the empty one.
+fn only_name(word: &[u8]) -> &[u8]
+    ensures { result.now ≡ only_name word.now }
+{
+    if is_name(word) { word } else { &[] }
+}
+
+// The procedure of statements that a line declares, or the empty word.
+fn proc_on(line: &[u8]) -> &[u8]
+    ensures { result.now ≡ proc_on line.now }
+{
+    match line {
+        [b'p', b'r', b'o', b'c', b' ', name @ ..] => only_name(name),
+        _ => &[],
+    }
+}
+
+// The first word, if a space stands behind it.
+fn spaced_word(words: &[u8]) -> &[u8]
+    ensures { result.now ≡ spaced_word words.now }
+{
+    let (word, rest) = words.split_at(reach(b' ', words));
+    if rest.is_empty() { &[] } else { word }
+}
+
+// The built-in procedure that a line declares, or the empty word.
+fn native_on(line: &[u8]) -> &[u8]
+    ensures { result.now ≡ native_on line.now }
+{
+    match line {
+        [b'n', b'a', b't', b'i', b'v', b'e', b' ', words @ ..] => only_name(spaced_word(words)),
+        _ => &[],
+    }
+}
+
+impl Declared {
+    /// Whether the procedure is declared, as one of statements or, if that will do, as any.
+    pub fn has(&self, any: bool, name: &[u8]) -> bool
+        ensures { result ≡ has self.now any name.now }
+    {
+        self.procs.contains(name) || (any && self.natives.contains(name))
+    }
+
+    /// Notes what a line declares.
+    pub fn note(&mut self, line: &[u8]) -> Result<(), NoMemory>
+        ensures { OnOk result (self.new ≡ noted self.old line.now) }
+    {
+        self.procs.enter(proc_on(line))?;
+        self.natives.enter(native_on(line))
+    }
+}
+
+fn keeps_rule(declared: &Declared, posted: &Counts, role: Role, phrase: &Phrase<'_>) -> bool
+    ensures { result ≡ keeps_rule declared.now posted.now role phrase.now }
 {
     match role {
         Role::Header => phrase.number == 1,
         Role::Pod => 1 <= phrase.number && phrase.number <= 255,
         Role::Limit => 1 <= phrase.number,
-        Role::Proc => !contains_name(known, phrase.procedure.bytes()),
+        Role::Client => usize::from(phrase.client) == posted.len(),
+        Role::Native | Role::Proc => !declared.has(true, phrase.procedure),
+        Role::Post => posted.get(phrase.client, 20_000) < 20_000,
         Role::Statement | Role::Skip | Role::Again => true,
     }
 }
 
-fn may_stand_at(stage: Stage, known: &[Text], phrase: &Phrase) -> bool
-    ensures { result ≡ may_stand_at stage known.now phrase.now }
+fn may_stand_at(stage: Stage, declared: &Declared, posted: &Counts, phrase: &Phrase<'_>) -> bool
+    ensures { result ≡ may_stand_at stage declared.now posted.now phrase.now }
 {
     let role = phrase.op.role();
-    stage.allows(role) && keeps_rule(known, role, phrase)
-}
-
-// The reason of a bad line by its first word, and by whether it is the text of a phrase.
-fn reason_behind(stage: Stage, first: Option<Op>, said: bool) -> Reason
-    ensures { result ≡ reason_behind stage first said }
-{
-    match stage {
-        Stage::Start => Reason::Header,
-        Stage::Header => Reason::Pod,
-        _ => match first {
-            Some(Op::Limit) => Reason::Limit,
-            Some(Op::Proc) => Reason::Proc,
-            Some(op) if said && stage.breaks_again(op.role()) => Reason::Again,
-            _ => Reason::Statement,
-        },
-    }
-}
-
-// What the line says, or why it is bad by itself.
-fn judge_alone(stage: Stage, known: &[Text], line: &[u8]) -> Result<Phrase, Reason>
-    ensures { result ≡ judge_alone stage known.now line.now }
-{
-    if !is_printable(line) {
-        return Err(Reason::Bytes);
-    }
-    let first = Op::at(line.split_at(reach(b' ', line)).0);
-    match phrase_at(line) {
-        Some(phrase) if may_stand_at(stage, known, &phrase) => Ok(phrase),
-        Some(_) => Err(reason_behind(stage, first, true)),
-        None => Err(reason_behind(stage, first, false)),
-    }
-}
-
-// Notes the procedure that a line declares.
-fn declare(declared: &mut Sequence<Text>, line: &[u8]) -> Result<(), NoMemory>
-    ensures { OnOk result (declared.new ≡ declared.old ++ declared_on (phrase_at line.now)) }
-{
-    match phrase_at(line) {
-        Some(phrase) if phrase.op.role() == Role::Proc => declared.push(phrase.procedure),
-        _ => Ok(()),
-    }
+    stage.allows(role) && keeps_rule(declared, posted, role, phrase)
 }
 
 // The line of the first mention of a procedure that isn't declared.
-fn first_missing(declared: &[Text], names: &[Text], mentions: &[Mention]) -> Option<u32>
+fn first_missing(declared: &Declared, names: &[Text], mentions: &[Mention]) -> Option<u32>
     ensures { result ≡ first_missing declared.now names.now mentions.now }
 {
     for mention in mentions {
         let is_declared = match names.get(mention.name as usize) {
-            None => contains_name(declared, &[]),
-            Some(name) => contains_name(declared, name.bytes()),
+            None => declared.has(mention.any, &[]),
+            Some(name) => declared.has(mention.any, name.bytes()),
         };
         if !is_declared {
             return Some(mention.line);
@@ -119,6 +168,7 @@ fn first_missing(declared: &[Text], names: &[Text], mentions: &[Mention]) -> Opt
 }
 
 impl Reader {
+    ghost use Rattle.script_text.specs.Spelling.{Gives};
     ghost use Rattle.script_text.specs.Track.{start, taken, judged, step, answer, answer_at};
 
     /// Nothing read.
@@ -129,76 +179,99 @@ impl Reader {
             count: 0,
             stage: Stage::Start,
             bad: None,
-            declared: Sequence::new(alloc),
+            declared: Declared {
+                procs: NameList::new(alloc),
+                natives: NameList::new(alloc),
+            },
             mentions: Sequence::new(alloc),
             draft: Draft::new(alloc),
         }
     }
 
     // The procedure that a line starts, once its name is entered.
-    fn mention(&mut self, phrase: &Phrase) -> Result<(), NoMemory>
+    fn mention(&mut self, phrase: &Phrase<'_>) -> Result<(), NoMemory>
         ensures { OnOk result (self.new ≡ record self.old { mentions = self.old.mentions ++ mention_of self.old.count self.old.draft.script.names.procs phrase.now }) }
     {
         if phrase.op.starts() {
-            let names = self.draft.script.names.procs.as_slice();
-            let name = number_of(names, phrase.procedure.bytes())?;
-            let line = self.count;
-            self.mentions.push(Mention { line, name })?;
+            self.mentions.push(Mention {
+                line: self.count,
+                name: self.draft.script.names.procs.number(phrase.procedure)?,
+                any: phrase.op.starts_any(),
+            })?;
         }
         Ok(())
     }
 
-    // One more line that may stand.
-    fn take(&mut self, alloc: Global, phrase: &Phrase) -> Result<(), NoMemory>
-        requires { self.old.count + 1 < 2 ^ 32 }
+    // One more line that may stand. No text that isn't too large has more lines than a `u32` counts.
+    fn take(&mut self, alloc: Global, phrase: &Phrase<'_>) -> Result<(), NoMemory>
         ensures { OnOk result (self.new ≡ taken self.old phrase.now) }
     {
+        let Some(count) = self.count.checked_add(1) else {
+            return Err(NoMemory);
+        };
         self.draft.add(alloc, phrase)?;
-        self.count += 1;
+        self.count = count;
         self.stage = self.stage.after(phrase.op.role());
         self.mention(phrase)
     }
 
+    // The reason of a line that is bad here, and says this.
+    fn blame(&mut self, line: &[u8], said: Option<Role>)
+        requires { said ≡ option_map (λ (p : AnyPhrase). role_of p.op) (phrase_at line.now) }
+        ensures { self.new ≡ record self.old { bad = Some (reason_of self.old.stage line.now) } }
+    {
+        let (word, _) = line.split_at(reach(b' ', line));
+        self.bad = Some(reason_behind(self.stage, word_reason(word), said));
+    }
+
     // One more line, which is judged unless an earlier one is bad.
     fn judge(&mut self, alloc: Global, line: &[u8]) -> Result<(), NoMemory>
-        requires { self.old.count + 1 < 2 ^ 32 }
         ensures { OnOk result (self.new ≡ judged self.old.bad self.old line.now) }
     {
         if self.bad.is_some() {
             return Ok(());
         }
-        match judge_alone(self.stage, self.declared.as_slice(), line) {
-            Ok(phrase) => self.take(alloc, &phrase),
-            Err(why) => {
-                self.bad = Some(why);
-                Ok(())
+        match phrase_at(line) {
+            Some(phrase) => {
+                if may_stand_at(self.stage, &self.declared, &self.draft.posted, &phrase) {
+                    return self.take(alloc, &phrase);
+                }
+                self.blame(line, Some(phrase.op.role()));
+            }
+            None => {
+                if is_printable(line) {
+                    self.blame(line, None);
+                } else {
+                    self.bad = Some(Reason::Bytes);
+                }
             }
         }
+        Ok(())
     }
 
     /// One more line, which has ended.
     pub fn line(&mut self, alloc: Global, line: &[u8]) -> Result<(), NoMemory>
-        requires { self.old.count + 1 < 2 ^ 32 }
         ensures { OnOk result (self.new ≡ step self.old line.now) }
     {
         self.judge(alloc, line)?;
-        declare(&mut self.declared, line)
+        self.declared.note(line)
     }
 
     // What all lines answer, and what is left behind the last end.
     fn answer(self, tail: &[u8]) -> Result<Script, ReadErr>
-        requires { self.count + 1 < 2 ^ 32 }
         ensures { Gives (answer self tail.now) result }
     {
         let names = self.draft.script.names.procs.as_slice();
-        let missing = first_missing(self.declared.as_slice(), names, self.mentions.as_slice());
+        let missing = first_missing(&self.declared, names, self.mentions.as_slice());
         if let Some(line) = missing {
             return Err(ReadErr::Bad {
                 line,
                 reason: Reason::Statement,
             });
         }
-        let line = self.count + 1;
+        let Some(line) = self.count.checked_add(1) else {
+            return Err(ReadErr::NoMemory);
+        };
         if let Some(reason) = self.bad {
             return Err(ReadErr::Bad { line, reason });
         }
@@ -208,21 +281,21 @@ impl Reader {
                 reason: Reason::Unended,
             });
         }
-        if self.declared.len() == 0 {
+        let script = self.draft.close()?;
+        if script.procs.len() == 0 {
             return Err(ReadErr::Bad {
                 line,
                 reason: Reason::Missing,
             });
         }
-        Ok(self.draft.close()?)
+        Ok(script)
     }
 
     /// The script of the lines and what is left behind the last end, which declares a procedure too.
     pub fn finish(mut self, tail: &[u8]) -> Result<Script, ReadErr>
-        requires { self.count + 1 < 2 ^ 32 }
         ensures { Gives (answer_at self tail.now) result }
     {
-        declare(&mut self.declared, tail)?;
+        self.declared.note(tail)?;
         self.answer(tail)
     }
 }

@@ -18,9 +18,13 @@ pub enum Reason {
     Pod,
     /// A line that begins with `limit`, and isn't the third or doesn't say a limit of 1 to 4,294,967,295 births.
     Limit,
+    /// A line that begins with `client`, and may not stand there, or doesn't say the next client's number and an event.
     Client,
+    /// A line that begins with `native`, and may not stand there, or doesn't say a new name and what the procedure is.
     Native,
+    /// A line that begins with `proc`, and may not stand there, or doesn't say a new name.
     Proc,
+    /// A line that begins with `post`, and may not stand there, or isn't a text of a client that may post one more.
     Post,
     /// An `again` that may not end its procedure, or a statement behind one.
     Again,

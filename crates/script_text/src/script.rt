@@ -1,5 +1,7 @@
-// A script as a program sees it. A name is the place at which it stands in the list of its kind.
-use lwp_types::{Flags, Func, Line, Mode, Pattern, Sequence, Text};
+// A script as a program sees it. A name or a text is the place at which it stands in the list of its kind.
+use crate::names::NameList;
+use crate::texts::Texts;
+use lwp_types::{Flags, Func, Mode, Pattern, Sequence};
 
 /// Whom a statement speaks of: a name, the thread itself, thread 0, the sender of the letter received last, nobody.
 #[derive(Clone, Copy)]
@@ -28,10 +30,10 @@ pub enum ExitStmt {
     MonBreak { mon: u32 },
     Notify { cond: u32 },
     Broadcast { cond: u32 },
-    Reply { to: Who, text: Text },
+    Reply { to: Who, text: u32 },
     Resume { who: Who },
     SetExit { code: u32 },
-    Note { text: Text },
+    Note { text: u32 },
 }
 
 /// A statement of a procedure.
@@ -83,7 +85,7 @@ pub enum Stmt {
     Send {
         to: Who,
         room: u8,
-        text: Text,
+        text: u32,
     },
     Recv {
         from: Option<Who>,
@@ -91,7 +93,7 @@ pub enum Stmt {
     },
     Reply {
         to: Who,
-        text: Text,
+        text: u32,
     },
     Senders,
     Receivers,
@@ -170,7 +172,7 @@ pub enum Stmt {
     },
     Agents,
     Say {
-        text: Text,
+        text: u32,
     },
     Skip {
         test: Test,
@@ -202,14 +204,22 @@ pub struct Proc {
 /// The names of each kind, in the order in which they first appear.
 #[derive(Drop)]
 pub struct Names {
-    pub procs: Sequence<Text>,
-    pub threads: Sequence<Text>,
-    pub mons: Sequence<Text>,
-    pub conds: Sequence<Text>,
+    pub procs: NameList,
+    pub threads: NameList,
+    pub mons: NameList,
+    pub conds: NameList,
 }
 
-/// A script: what its pod is made with, the event of each client, its procedures, and the lines that its clients post, in the
-/// order of the text.
+/// A line that a client posts; `seq` counts the client's lines from 0.
+#[derive(Clone, Copy)]
+pub struct Post {
+    pub client: u8,
+    pub seq: u32,
+    pub text: u32,
+}
+
+/// A script: what its pod is made with, the event of each client, its procedures, the lines that its clients post, in the order
+/// of the text, and the texts of statements and lines, in that order too.
 #[derive(Drop)]
 pub struct Script {
     pub maxpri: u32,
@@ -217,8 +227,9 @@ pub struct Script {
     pub clients: Sequence<u8>,
     pub natives: Sequence<Native>,
     pub procs: Sequence<Proc>,
-    pub posts: Sequence<Line>,
+    pub posts: Sequence<Post>,
     pub names: Names,
+    pub texts: Texts,
 }
 
 /// How a session comes to its end.

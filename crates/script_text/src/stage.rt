@@ -6,7 +6,7 @@ ghost use Rattle.script_text.specs.Spelling.{breaks_again};
 use crate::table::Role;
 
 /// What the lines so far have come to.
-#[derive(Clone, Copy, Debug, PartialEq, Eq)]
+#[derive(Clone, Copy, PartialEq, Eq)]
 pub enum Stage {
     /// There are none.
     Start,
@@ -14,8 +14,10 @@ pub enum Stage {
     Header,
     /// The last is the one of the pod.
     Pod,
-    /// The last is a limit.
-    Limit,
+    /// The last is a limit or a client.
+    Clients,
+    /// The last is a built-in procedure.
+    Natives,
     /// The last begins a procedure.
     Proc,
     /// The procedure's first statement makes a call.
@@ -24,6 +26,8 @@ pub enum Stage {
     Skipping,
     /// The last is an `again`.
     Ended,
+    /// The last is a line that a client posts.
+    Posts,
 }
 
 // The stage in a procedure, by what its first statement leads to.
@@ -44,11 +48,13 @@ impl Stage {
         match role {
             Role::Header => Stage::Header,
             Role::Pod => Stage::Pod,
-            Role::Limit => Stage::Limit,
+            Role::Limit | Role::Client => Stage::Clients,
+            Role::Native => Stage::Natives,
             Role::Proc => Stage::Proc,
             Role::Statement => opened(Stage::Calling, self),
             Role::Skip => opened(Stage::Skipping, self),
             Role::Again => Stage::Ended,
+            Role::Post => Stage::Posts,
         }
     }
 
@@ -59,17 +65,19 @@ impl Stage {
         match self {
             Stage::Start => role == Role::Header,
             Stage::Header => role == Role::Pod,
-            Stage::Pod => matches!(role, Role::Limit | Role::Proc),
-            Stage::Limit | Stage::Ended => role == Role::Proc,
-            Stage::Proc | Stage::Skipping => {
-                matches!(role, Role::Proc | Role::Statement | Role::Skip)
-            }
-            Stage::Calling => {
-                matches!(
-                    role,
-                    Role::Proc | Role::Statement | Role::Skip | Role::Again
-                )
-            }
+            Stage::Pod => matches!(role, Role::Limit | Role::Client | Role::Native | Role::Proc),
+            Stage::Clients => matches!(role, Role::Client | Role::Native | Role::Proc),
+            Stage::Natives => matches!(role, Role::Native | Role::Proc),
+            Stage::Proc | Stage::Skipping => matches!(
+                role,
+                Role::Proc | Role::Statement | Role::Skip | Role::Post
+            ),
+            Stage::Calling => matches!(
+                role,
+                Role::Proc | Role::Statement | Role::Skip | Role::Again | Role::Post
+            ),
+            Stage::Ended => matches!(role, Role::Proc | Role::Post),
+            Stage::Posts => role == Role::Post,
         }
     }
 

@@ -1,9 +1,9 @@
 // The table of lines.
 ghost use Rattle.std.specs.Prelude.{◌≡◌};
-ghost use Rattle.script_text.specs.Table.{role_of, monitor_word, letter_word, word_of, kinds_of, starts, op_in, op_at};
+ghost use Rattle.script_text.specs.Table.{key_of, role_of, slots_of, says, starts, starts_any, rows_under, op_in, op_at};
 
 /// What stands in a slot of a line.
-#[derive(Clone, Copy, Debug, PartialEq, Eq)]
+#[derive(Clone, Copy, PartialEq, Eq)]
 pub enum Kind {
     /// The name of a thread.
     Thread,
@@ -15,29 +15,42 @@ pub enum Kind {
     Procedure,
     /// The name of a monitor.
     Monitor,
+    /// The name of a condition.
+    Condition,
     /// A number in decimal.
     Number,
     /// How many bytes a reply may have.
     Room,
-    /// What is limited: the births.
-    Births,
+    /// The number of a client, at most 15.
+    Client,
+    /// The number of an event, 1 to 31.
+    Event,
     /// The flags of a new thread.
     Flags,
     /// Whether to wait for a letter.
     Mode,
+    /// The pattern of a handler.
+    Pattern,
+    /// The function of a handler.
+    Func,
     /// When a `skip` passes over a statement: all that is left of the line.
     Test,
-    /// All that is left of the line.
+    /// What a built-in procedure is: all that is left of the line.
+    Built,
+    /// A text: all that is left of the line.
     Text,
 }
 
-/// A row of the table: the first word of a line.
-#[derive(Clone, Copy, Debug, PartialEq, Eq)]
+/// A row of the table: a kind of line.
+#[derive(Clone, Copy, PartialEq, Eq)]
 pub enum Op {
     Lwp,
     Pod,
     Limit,
+    Client,
+    Native,
     Proc,
+    Post,
     Create,
     Destroy,
     Ping,
@@ -59,6 +72,7 @@ pub enum Op {
     Senders,
     Receivers,
     MonCreate,
+    CvCreate,
     MonDestroy,
     Enter,
     CondEnter,
@@ -66,201 +80,291 @@ pub enum Op {
     MonBreak,
     MonWaiters,
     Monitors,
-    Say,
+    CvDestroy,
+    Wait,
+    Notify,
+    Broadcast,
+    CvSend,
+    CvWaiters,
+    Conds,
+    CallProc,
     Return,
+    Handle,
+    Unhandle,
+    Raise,
+    ExcNotify,
+    Bound,
+    UniqPatt,
+    ExitMonExit,
+    ExitMonBreak,
+    ExitNotify,
+    ExitBroadcast,
+    ExitReply,
+    ExitResume,
+    ExitSetExit,
+    ExitNote,
+    Agent,
+    Agents,
+    Say,
     Skip,
     Again,
 }
 
 /// The part that a line plays in a script. A statement is one that makes a call.
-#[derive(Clone, Copy, Debug, PartialEq, Eq)]
+#[derive(Clone, Copy, PartialEq, Eq)]
 pub enum Role {
     Header,
     Pod,
     Limit,
+    Client,
+    Native,
     Proc,
+    Post,
     Statement,
     Skip,
     Again,
 }
 
-const OPS: [Op; 36] = [
-    Op::Lwp,
-    Op::Pod,
-    Op::Limit,
-    Op::Proc,
-    Op::Create,
-    Op::Destroy,
-    Op::Ping,
-    Op::Yield,
-    Op::Suspend,
-    Op::Resume,
-    Op::Join,
-    Op::Resched,
-    Op::SetPri,
-    Op::SetMaxPri,
-    Op::Me,
-    Op::SetExit,
-    Op::GetExit,
-    Op::PodExit,
-    Op::Threads,
-    Op::Send,
-    Op::Recv,
-    Op::Reply,
-    Op::Senders,
-    Op::Receivers,
-    Op::MonCreate,
-    Op::MonDestroy,
-    Op::Enter,
-    Op::CondEnter,
-    Op::MonExit,
-    Op::MonBreak,
-    Op::MonWaiters,
-    Op::Monitors,
-    Op::Say,
-    Op::Return,
-    Op::Skip,
-    Op::Again,
-];
+// A row: how the line begins, the part that it plays, its slots.
+type Row = (&'static [u8], Role, &'static [Kind]);
 
 impl Op {
-    // The first word of a line about monitors.
-    fn monitor_word(self) -> &'static [u8]
-        ensures { result.now ≡ monitor_word self }
+    fn row(self) -> Row
+        ensures key { result.0.now ≡ key_of self }
+        ensures role { result.1 ≡ role_of self }
+        ensures slots { result.2.now ≡ slots_of self }
     {
         match self {
-            Op::MonCreate => b"moncreate",
-            Op::MonDestroy => b"mondestroy",
-            Op::Enter => b"enter",
-            Op::CondEnter => b"condenter",
-            Op::MonExit => b"monexit",
-            Op::MonBreak => b"monbreak",
-            Op::MonWaiters => b"monwaiters",
-            Op::Monitors => b"monitors",
-            _ => b"",
+            Op::Lwp => (b"lwp", Role::Header, &[Kind::Number]),
+            Op::Pod => (b"pod", Role::Pod, &[Kind::Number]),
+            Op::Limit => (b"limit births", Role::Limit, &[Kind::Number]),
+            Op::Client => (b"client", Role::Client, &[Kind::Client, Kind::Event]),
+            Op::Native => (b"native", Role::Native, &[Kind::Procedure, Kind::Built]),
+            Op::Proc => (b"proc", Role::Proc, &[Kind::Procedure]),
+            Op::Post => (b"post", Role::Post, &[Kind::Client, Kind::Text]),
+            Op::Create => (
+                b"create",
+                Role::Statement,
+                &[Kind::Thread, Kind::Procedure, Kind::Number, Kind::Flags],
+            ),
+            Op::Destroy => (b"destroy", Role::Statement, &[Kind::Who]),
+            Op::Ping => (b"ping", Role::Statement, &[Kind::Who]),
+            Op::Yield => (b"yield", Role::Statement, &[Kind::Who]),
+            Op::Suspend => (b"suspend", Role::Statement, &[Kind::Who]),
+            Op::Resume => (b"resume", Role::Statement, &[Kind::Who]),
+            Op::Join => (b"join", Role::Statement, &[Kind::Who]),
+            Op::Resched => (b"resched", Role::Statement, &[Kind::Number]),
+            Op::SetPri => (b"setpri", Role::Statement, &[Kind::Who, Kind::Number]),
+            Op::SetMaxPri => (b"setmaxpri", Role::Statement, &[Kind::Number]),
+            Op::Me => (b"self", Role::Statement, &[]),
+            Op::SetExit => (b"setexit", Role::Statement, &[Kind::Number]),
+            Op::GetExit => (b"getexit", Role::Statement, &[]),
+            Op::PodExit => (b"podexit", Role::Statement, &[Kind::Number]),
+            Op::Threads => (b"threads", Role::Statement, &[]),
+            Op::Send => (
+                b"send",
+                Role::Statement,
+                &[Kind::Who, Kind::Room, Kind::Text],
+            ),
+            Op::Recv => (b"recv", Role::Statement, &[Kind::Source, Kind::Mode]),
+            Op::Reply => (b"reply", Role::Statement, &[Kind::Who, Kind::Text]),
+            Op::Senders => (b"senders", Role::Statement, &[]),
+            Op::Receivers => (b"receivers", Role::Statement, &[]),
+            Op::MonCreate => (b"moncreate", Role::Statement, &[Kind::Monitor]),
+            Op::CvCreate => (
+                b"cvcreate",
+                Role::Statement,
+                &[Kind::Condition, Kind::Monitor],
+            ),
+            Op::MonDestroy => (b"mondestroy", Role::Statement, &[Kind::Monitor]),
+            Op::Enter => (b"enter", Role::Statement, &[Kind::Monitor]),
+            Op::CondEnter => (b"condenter", Role::Statement, &[Kind::Monitor]),
+            Op::MonExit => (b"monexit", Role::Statement, &[Kind::Monitor]),
+            Op::MonBreak => (b"monbreak", Role::Statement, &[Kind::Monitor]),
+            Op::MonWaiters => (b"monwaiters", Role::Statement, &[Kind::Monitor]),
+            Op::Monitors => (b"monitors", Role::Statement, &[]),
+            Op::CvDestroy => (b"cvdestroy", Role::Statement, &[Kind::Condition]),
+            Op::Wait => (b"wait", Role::Statement, &[Kind::Condition]),
+            Op::Notify => (b"notify", Role::Statement, &[Kind::Condition]),
+            Op::Broadcast => (b"broadcast", Role::Statement, &[Kind::Condition]),
+            Op::CvSend => (b"cvsend", Role::Statement, &[Kind::Condition, Kind::Who]),
+            Op::CvWaiters => (b"cvwaiters", Role::Statement, &[Kind::Condition]),
+            Op::Conds => (b"conditions", Role::Statement, &[]),
+            Op::CallProc => (b"call", Role::Statement, &[Kind::Procedure]),
+            Op::Return => (b"return", Role::Statement, &[]),
+            Op::Handle => (
+                b"handle",
+                Role::Statement,
+                &[Kind::Pattern, Kind::Func, Kind::Number],
+            ),
+            Op::Unhandle => (b"unhandle", Role::Statement, &[]),
+            Op::Raise => (b"raise", Role::Statement, &[Kind::Number]),
+            Op::ExcNotify => (b"excnotify", Role::Statement, &[Kind::Number]),
+            Op::Bound => (b"bound", Role::Statement, &[Kind::Number]),
+            Op::UniqPatt => (b"uniqpatt", Role::Statement, &[]),
+            Op::ExitMonExit => (b"onexit monexit", Role::Statement, &[Kind::Monitor]),
+            Op::ExitMonBreak => (b"onexit monbreak", Role::Statement, &[Kind::Monitor]),
+            Op::ExitNotify => (b"onexit notify", Role::Statement, &[Kind::Condition]),
+            Op::ExitBroadcast => (b"onexit broadcast", Role::Statement, &[Kind::Condition]),
+            Op::ExitReply => (b"onexit reply", Role::Statement, &[Kind::Who, Kind::Text]),
+            Op::ExitResume => (b"onexit resume", Role::Statement, &[Kind::Who]),
+            Op::ExitSetExit => (b"onexit setexit", Role::Statement, &[Kind::Number]),
+            Op::ExitNote => (b"onexit note", Role::Statement, &[Kind::Text]),
+            Op::Agent => (b"agent", Role::Statement, &[Kind::Thread, Kind::Number]),
+            Op::Agents => (b"agents", Role::Statement, &[]),
+            Op::Say => (b"say", Role::Statement, &[Kind::Text]),
+            Op::Skip => (b"skip", Role::Skip, &[Kind::Test]),
+            Op::Again => (b"again", Role::Again, &[]),
         }
     }
 
-    // The first word of a line about letters, or about monitors.
-    fn letter_word(self) -> &'static [u8]
-        ensures { result.now ≡ letter_word self }
+    /// How the line begins: a word, or two.
+    pub fn key(self) -> &'static [u8]
+        ensures { result.now ≡ key_of self }
     {
-        match self {
-            Op::Send => b"send",
-            Op::Recv => b"recv",
-            Op::Reply => b"reply",
-            Op::Senders => b"senders",
-            Op::Receivers => b"receivers",
-            _ => self.monitor_word(),
-        }
+        self.row().0
     }
 
-    /// The first word.
-    pub fn word(self) -> &'static [u8]
-        ensures { result.now ≡ word_of self }
-    {
-        match self {
-            Op::Lwp => b"lwp",
-            Op::Pod => b"pod",
-            Op::Limit => b"limit",
-            Op::Proc => b"proc",
-            Op::Create => b"create",
-            Op::Destroy => b"destroy",
-            Op::Ping => b"ping",
-            Op::Yield => b"yield",
-            Op::Suspend => b"suspend",
-            Op::Resume => b"resume",
-            Op::Join => b"join",
-            Op::Resched => b"resched",
-            Op::SetPri => b"setpri",
-            Op::SetMaxPri => b"setmaxpri",
-            Op::Me => b"self",
-            Op::SetExit => b"setexit",
-            Op::GetExit => b"getexit",
-            Op::PodExit => b"podexit",
-            Op::Threads => b"threads",
-            Op::Say => b"say",
-            Op::Return => b"return",
-            Op::Skip => b"skip",
-            Op::Again => b"again",
-            _ => self.letter_word(),
-        }
-    }
-
+    /// The part that the line plays.
     pub fn role(self) -> Role
         ensures { result ≡ role_of self }
     {
-        match self {
-            Op::Lwp => Role::Header,
-            Op::Pod => Role::Pod,
-            Op::Limit => Role::Limit,
-            Op::Proc => Role::Proc,
-            Op::Skip => Role::Skip,
-            Op::Again => Role::Again,
-            _ => Role::Statement,
-        }
+        self.row().1
     }
 
-    pub fn kinds(self) -> &'static [Kind]
-        ensures { result.now ≡ kinds_of self }
+    /// The slots behind the key.
+    pub fn slots(self) -> &'static [Kind]
+        ensures { result.now ≡ slots_of self }
     {
-        match self {
-            Op::Lwp | Op::Pod | Op::Resched | Op::SetMaxPri | Op::SetExit | Op::PodExit => &[
-                Kind::Number,
-            ],
-            Op::Limit => &[Kind::Births, Kind::Number],
-            Op::Proc => &[Kind::Procedure],
-            Op::Create => &[Kind::Thread, Kind::Procedure, Kind::Number, Kind::Flags],
-            Op::Destroy | Op::Ping | Op::Yield | Op::Suspend | Op::Resume | Op::Join => &[
-                Kind::Who,
-            ],
-            Op::SetPri => &[Kind::Who, Kind::Number],
-            Op::Send => &[Kind::Who, Kind::Room, Kind::Text],
-            Op::Recv => &[Kind::Source, Kind::Mode],
-            Op::Reply => &[Kind::Who, Kind::Text],
-            Op::MonCreate
-            | Op::MonDestroy
-            | Op::Enter
-            | Op::CondEnter
-            | Op::MonExit
-            | Op::MonBreak
-            | Op::MonWaiters => &[Kind::Monitor],
-            Op::Say => &[Kind::Text],
-            Op::Skip => &[Kind::Test],
-            Op::Me
-            | Op::GetExit
-            | Op::Threads
-            | Op::Senders
-            | Op::Receivers
-            | Op::Monitors
-            | Op::Return
-            | Op::Again => &[],
-        }
+        self.row().2
     }
 
-    /// Whether the line starts a procedure.
+    /// Whether the line ends with a text.
+    pub fn says(self) -> bool
+        ensures { result ≡ says self }
+    {
+        matches!(
+            self,
+            Op::Post | Op::Send | Op::Reply | Op::ExitReply | Op::ExitNote | Op::Say
+        )
+    }
+
+    /// Whether the line starts a procedure that some line must declare.
     pub fn starts(self) -> bool
         ensures { result ≡ starts self }
     {
-        matches!(self, Op::Create)
+        matches!(self, Op::Create | Op::CallProc)
     }
 
-    /// The row of a first word.
-    #[tactic(auto, unfolding(crate::specs::Table::op_at))]
-    pub fn at(word: &[u8]) -> Option<Op>
-        ensures { result ≡ op_at word.now }
+    /// Whether the procedure that it starts may be a built-in one.
+    pub fn starts_any(self) -> bool
+        ensures { result ≡ starts_any self }
     {
-        among(&OPS, word)
+        self == Op::Create
+    }
+
+    /// The row with this key.
+    #[tactic(auto, unfolding(crate::specs::Table::op_at))]
+    pub fn at(key: &[u8]) -> Option<Op>
+        ensures { result ≡ op_at key.now }
+    {
+        match key {
+            [] => None,
+            [letter, ..] => among(rows_under(*letter), key),
+        }
     }
 }
 
-fn among(ops: &[Op], word: &[u8]) -> Option<Op>
-    ensures { result ≡ op_in ops.now word.now }
+#[tactic(auto, unfolding(crate::specs::Table::rows_under))]
+fn rows_under(letter: u8) -> &'static [Op]
+    ensures { result.now ≡ rows_under letter }
+{
+    match letter {
+        b'a' => &[Op::Agent, Op::Agents, Op::Again],
+        b'b' => &[Op::Broadcast, Op::Bound],
+        b'c' => &[
+            Op::Create,
+            Op::Client,
+            Op::CvCreate,
+            Op::CondEnter,
+            Op::CvDestroy,
+            Op::CvSend,
+            Op::CvWaiters,
+            Op::Conds,
+            Op::CallProc,
+        ],
+        b'd' => &[Op::Destroy],
+        b'e' => &[Op::Enter, Op::ExcNotify],
+        b'g' => &[Op::GetExit],
+        b'h' => &[Op::Handle],
+        b'j' => &[Op::Join],
+        b'l' => &[Op::Lwp, Op::Limit],
+        b'm' => &[
+            Op::MonCreate,
+            Op::MonDestroy,
+            Op::MonExit,
+            Op::MonBreak,
+            Op::MonWaiters,
+            Op::Monitors,
+        ],
+        b'n' => &[Op::Native, Op::Notify],
+        b'o' => &[
+            Op::ExitMonExit,
+            Op::ExitMonBreak,
+            Op::ExitNotify,
+            Op::ExitBroadcast,
+            Op::ExitReply,
+            Op::ExitResume,
+            Op::ExitSetExit,
+            Op::ExitNote,
+        ],
+        b'p' => &[Op::Post, Op::Pod, Op::Proc, Op::Ping, Op::PodExit],
+        b'r' => &[
+            Op::Resume,
+            Op::Resched,
+            Op::Recv,
+            Op::Reply,
+            Op::Receivers,
+            Op::Return,
+            Op::Raise,
+        ],
+        b's' => &[
+            Op::Say,
+            Op::Send,
+            Op::Skip,
+            Op::Suspend,
+            Op::SetPri,
+            Op::SetMaxPri,
+            Op::Me,
+            Op::SetExit,
+            Op::Senders,
+        ],
+        b't' => &[Op::Threads],
+        b'u' => &[Op::Unhandle, Op::UniqPatt],
+        b'w' => &[Op::Wait],
+        b'y' => &[Op::Yield],
+        _ => &[],
+    }
+}
+
+fn among(ops: &[Op], key: &[u8]) -> Option<Op>
+    ensures { result ≡ op_in ops.now key.now }
 {
     for op in ops {
-        if op.word() == word {
+        if op.key() == key {
             return Some(*op);
         }
     }
     None
+}
+
+/// What a word that means a thread, or anybody, is: a name, or one of the words that aren't.
+#[derive(Clone, Copy, PartialEq, Eq)]
+pub enum Whom {
+    Named,
+    Me,
+    First,
+    Sender,
+    Nobody,
+    Any,
 }

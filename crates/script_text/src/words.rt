@@ -1,7 +1,8 @@
 // The words of a line.
 ghost use Rattle.std.specs.Prelude.{◌≡◌, ◌≤◌, length};
 ghost use Rattle.std.specs.List.{list_all};
-ghost use Rattle.script_text.specs.Words.{reach, is_name, is_thread_word, is_source_word, number_at, is_name_byte, is_reserved, is_misshapen, value_of};
+ghost use Rattle.lwp_types.specs.TextFields.{is_printable, is_text};
+ghost use Rattle.script_text.specs.Words.{reach, is_name, number_at, is_name_byte, is_reserved, is_misshapen, value_of};
 
 /// How many bytes come before the first that is `byte`.
 pub fn reach(byte: u8, bytes: &[u8]) -> usize
@@ -14,6 +15,20 @@ pub fn reach(byte: u8, bytes: &[u8]) -> usize
         }
     }
     bytes.len()
+}
+
+/// Whether each byte is one from a space to a tilde.
+pub fn is_printable(bytes: &[u8]) -> bool
+    ensures { result ≡ is_printable bytes.now }
+{
+    bytes.iter().all(|b| 32 <= *b && *b <= 126)
+}
+
+/// Whether the bytes may be a text.
+pub fn is_text(bytes: &[u8]) -> bool
+    ensures { result ≡ is_text bytes.now }
+{
+    bytes.len() <= 240 && is_printable(bytes)
 }
 
 fn is_name_byte(b: u8) -> bool
@@ -51,24 +66,6 @@ pub fn is_name(word: &[u8]) -> bool
                 && !is_reserved(word)
         }
     }
-}
-
-/// Whether the word means a thread.
-pub fn is_thread_word(word: &[u8]) -> bool
-    ensures { result ≡ is_thread_word word.now }
-{
-    is_name(word)
-        || word == b"self".as_slice()
-        || word == b"first".as_slice()
-        || word == b"sender".as_slice()
-        || word == b"none".as_slice()
-}
-
-/// Whether the word says from whom to receive.
-pub fn is_source_word(word: &[u8]) -> bool
-    ensures { result ≡ is_source_word word.now }
-{
-    is_thread_word(word) || word == b"any".as_slice()
 }
 
 // Whether the word has no digit, or a zero in front that could be left out.

@@ -1,7 +1,7 @@
 -- Events of the outside, as messages of agents to their owners.
 use Rattle.script_text.specs.declared.script.Halt.TheVariants.{Ended, Spent, Stuck}
 use Rattle.std.specs.Prelude.{None, Some, [], codes, ◌++◌, ◌∷◌}
-use Rattle.worked_rows.specs.Words.{Row, limited, line, longest_x, longest_y, named, plain, pod, posted, procedure, took}
+use Rattle.worked_rows.specs.Words.{Row, limited, line, longest_x, longest_y, named, plain, pod, posted, procedure, speaking, took}
 use Rattle.script_text.specs.declared.script.Who.TheVariants as who
 use Rattle.script_text.specs.declared.script.Test.TheVariants as test
 use Rattle.script_text.specs.declared.script.ExitStmt.TheVariants as exit_stmt
@@ -38,10 +38,10 @@ agent_without_reply_exact_turns = record agent_without_reply { turns = 3 }
 abbrev pub reply_and_next_event : Row
 reply_and_next_event = record {
   script = posted (5 ∷ []) (line 0 0 (codes "one") ∷ line 0 1 (codes "two") ∷ [])
-      (pod 1 (named (codes "main" ∷ []) (codes "g" ∷ []) [] [])
-      (procedure 0 (stmt.Agent 0 5 ∷ stmt.Recv (Some (who.Named 0)) mode.Block ∷ stmt.Reply (who.Named 0) (codes "ok")
-      ∷ stmt.Recv (Some (who.Named 0)) mode.Block ∷ stmt.Reply (who.Named 0) (codes "ok") ∷ [])
-      ∷ []));
+      (speaking (codes "ok" ∷ codes "ok" ∷ []) (pod 1 (named (codes "main" ∷ []) (codes "g" ∷ []) [] [])
+      (procedure 0 (stmt.Agent 0 5 ∷ stmt.Recv (Some (who.Named 0)) mode.Block ∷ stmt.Reply (who.Named 0) 0
+      ∷ stmt.Recv (Some (who.Named 0)) mode.Block ∷ stmt.Reply (who.Named 0) 1 ∷ [])
+      ∷ [])));
   turns = 100000;
   trace = codes "t0: agent 5\nt0 = t1\nevent 5 client 0 seq 0 one\nt0: recv t1 wait\nt0 = letter t1 240 one\nt0: reply t1 ok\nt0 = 0\nevent 5 client 0 seq 1 two\nt0: recv t1 wait\nt0 = letter t1 240 two\nt0: reply t1 ok\nt0 = 0\nt0: return\nt0 dies\npod ends 0\n";
   halt = Ended 0;
@@ -57,10 +57,10 @@ reply_and_next_event = record {
 abbrev pub two_clients_one_event : Row
 two_clients_one_event = record {
   script = posted (5 ∷ 5 ∷ []) (line 0 0 (codes "a") ∷ line 1 0 (codes "b") ∷ [])
-      (pod 1 (named (codes "main" ∷ []) (codes "g" ∷ []) [] [])
-      (procedure 0 (stmt.Agent 0 5 ∷ stmt.Recv (Some (who.Named 0)) mode.Block ∷ stmt.Reply (who.Named 0) (codes "ok")
-      ∷ stmt.Recv (Some (who.Named 0)) mode.Block ∷ stmt.Reply (who.Named 0) (codes "ok") ∷ [])
-      ∷ []));
+      (speaking (codes "ok" ∷ codes "ok" ∷ []) (pod 1 (named (codes "main" ∷ []) (codes "g" ∷ []) [] [])
+      (procedure 0 (stmt.Agent 0 5 ∷ stmt.Recv (Some (who.Named 0)) mode.Block ∷ stmt.Reply (who.Named 0) 0
+      ∷ stmt.Recv (Some (who.Named 0)) mode.Block ∷ stmt.Reply (who.Named 0) 1 ∷ [])
+      ∷ [])));
   turns = 100000;
   trace = codes "t0: agent 5\nt0 = t1\nevent 5 client 0 seq 0 a\nt0: recv t1 wait\nt0 = letter t1 240 a\nt0: reply t1 ok\nt0 = 0\nevent 5 client 1 seq 0 b\nt0: recv t1 wait\nt0 = letter t1 240 b\nt0: reply t1 ok\nt0 = 0\nt0: return\nt0 dies\npod ends 0\n";
   halt = Ended 0;
@@ -77,10 +77,10 @@ two_clients_one_event = record {
 abbrev pub loop_then_reply_on_plan : Row
 loop_then_reply_on_plan = record {
   script = posted (5 ∷ []) (line 0 0 (codes "one") ∷ line 0 1 (codes "two") ∷ [])
-      (pod 1 (named (codes "main" ∷ codes "loop" ∷ []) (codes "g" ∷ []) [] [])
-      (procedure 0 (stmt.Agent 0 5 ∷ stmt.CallProc 1 ∷ stmt.Reply (who.Named 0) (codes "ok") ∷ [])
+      (speaking (codes "ok" ∷ []) (pod 1 (named (codes "main" ∷ codes "loop" ∷ []) (codes "g" ∷ []) [] [])
+      (procedure 0 (stmt.Agent 0 5 ∷ stmt.CallProc 1 ∷ stmt.Reply (who.Named 0) 0 ∷ [])
       ∷ procedure 1 (stmt.Recv (Some (who.Named 0)) mode.Poll ∷ stmt.Skip test.Fine ∷ stmt.Again ∷ [])
-      ∷ []));
+      ∷ [])));
   turns = 6;
   trace = codes "t0: agent 5\nt0 = t1\nevent 5 client 0 seq 0 one\nt0: call loop\nt0 = 0\nt0: recv t1 poll\nt0 = letter t1 240 one\nt0: return\nt0 = 0\nt0: reply t1 ok\nt0 = 0\nevent 5 client 0 seq 1 two\nt0: return\nt0 dies\npod ends 0\n";
   halt = Ended 0;
@@ -106,9 +106,9 @@ loop_then_reply_one_turn_fewer = record loop_then_reply_on_plan {
 abbrev pub an_event_waits_for_its_agent : Row
 an_event_waits_for_its_agent = record {
   script = posted (5 ∷ []) (line 0 0 (codes "hi") ∷ [])
-      (pod 1 (named (codes "main" ∷ []) (codes "g" ∷ []) [] [])
-      (procedure 0 (stmt.Say (codes "early") ∷ stmt.Agent 0 5 ∷ stmt.Say (codes "late") ∷ stmt.Recv None mode.Block ∷ [])
-      ∷ []));
+      (speaking (codes "early" ∷ codes "late" ∷ []) (pod 1 (named (codes "main" ∷ []) (codes "g" ∷ []) [] [])
+      (procedure 0 (stmt.Say 0 ∷ stmt.Agent 0 5 ∷ stmt.Say 1 ∷ stmt.Recv None mode.Block ∷ [])
+      ∷ [])));
   turns = 100000;
   trace = codes "t0: say early\nt0 = 0\nt0: agent 5\nt0 = t1\nevent 5 client 0 seq 0 hi\nt0: say late\nt0 = 0\nt0: recv any wait\nt0 = letter t1 240 hi\nt0: return\nt0 dies\npod ends 0\n";
   halt = Ended 0;
@@ -161,12 +161,12 @@ left_of_each_client = record {
 abbrev pub events_in_rising_order : Row
 events_in_rising_order = record {
   script = posted (9 ∷ 4 ∷ []) (line 0 0 (codes "one") ∷ line 0 1 (codes "two") ∷ line 1 0 (codes "uno") ∷ line 1 1 (codes "due") ∷ [])
-      (pod 1 (named (codes "main" ∷ codes "p" ∷ []) (codes "g" ∷ codes "h" ∷ []) [] [])
+      (speaking (codes "a" ∷ codes "b" ∷ []) (pod 1 (named (codes "main" ∷ codes "p" ∷ []) (codes "g" ∷ codes "h" ∷ []) [] [])
       (procedure 0 (stmt.Agent 0 9 ∷ stmt.Agent 1 4 ∷ stmt.CallProc 1 ∷ stmt.Recv None mode.Block ∷ [])
       ∷ procedure 1 (stmt.Recv (Some (who.Named 0)) mode.Block ∷ stmt.Recv (Some (who.Named 1)) mode.Block
-      ∷ stmt.OnExit (exit_stmt.Reply (who.Named 0) (codes "a"))
-      ∷ stmt.OnExit (exit_stmt.Reply (who.Named 1) (codes "b")) ∷ [])
-      ∷ []));
+      ∷ stmt.OnExit (exit_stmt.Reply (who.Named 0) 0)
+      ∷ stmt.OnExit (exit_stmt.Reply (who.Named 1) 1) ∷ [])
+      ∷ [])));
   turns = 100000;
   trace = codes "t0: agent 9\nt0 = t1\nevent 9 client 0 seq 0 one\nt0: agent 4\nt0 = t2\nevent 4 client 1 seq 0 uno\nt0: call p\nt0 = 0\nt0: recv t1 wait\nt0 = letter t1 240 one\nt0: recv t2 wait\nt0 = letter t2 240 uno\nt0: onexit reply t1 a\nt0 = 0\nt0: onexit reply t2 b\nt0 = 1\nt0: return\nexit x1 reply t2 b = 0\nexit x0 reply t1 a = 0\nt0 = 0\nevent 4 client 1 seq 1 due\nevent 9 client 0 seq 1 two\nt0: recv any wait\nt0 = letter t2 240 due\nt0: return\nt0 dies\npod ends 0\n";
   halt = Ended 0;
@@ -253,11 +253,11 @@ agent_is_refused_in_order = record {
 abbrev pub a_reply_before_the_letter : Row
 a_reply_before_the_letter = record {
   script = posted (5 ∷ []) (line 0 0 (codes "hi") ∷ [])
-      (pod 1 (named (codes "main" ∷ []) (codes "g" ∷ []) [] [])
-      (procedure 0 (stmt.Agent 0 5 ∷ stmt.Reply (who.Named 0) (codes "x") ∷ stmt.Recv (Some (who.Named 0)) mode.Poll
-      ∷ stmt.Reply (who.Named 0) (codes "x") ∷ stmt.Reply (who.Named 0) (codes "x")
+      (speaking (codes "x" ∷ codes "x" ∷ codes "x" ∷ []) (pod 1 (named (codes "main" ∷ []) (codes "g" ∷ []) [] [])
+      (procedure 0 (stmt.Agent 0 5 ∷ stmt.Reply (who.Named 0) 0 ∷ stmt.Recv (Some (who.Named 0)) mode.Poll
+      ∷ stmt.Reply (who.Named 0) 1 ∷ stmt.Reply (who.Named 0) 2
       ∷ stmt.Recv (Some (who.Named 0)) mode.Poll ∷ [])
-      ∷ []));
+      ∷ [])));
   turns = 100000;
   trace = codes "t0: agent 5\nt0 = t1\nevent 5 client 0 seq 0 hi\nt0: reply t1 x\nt0 ! LE_NOWAIT\nt0: recv t1 poll\nt0 = letter t1 240 hi\nt0: reply t1 x\nt0 = 0\nt0: reply t1 x\nt0 ! LE_NOWAIT\nt0: recv t1 poll\nt0 ! LE_TIMEOUT\nt0: return\nt0 dies\npod ends 0\n";
   halt = Ended 0;
@@ -273,9 +273,9 @@ a_reply_before_the_letter = record {
 abbrev pub the_longest_reply_to_an_agent : Row
 the_longest_reply_to_an_agent = record {
   script = posted (31 ∷ []) (line 0 0 longest_x ∷ [])
-      (pod 1 (named (codes "main" ∷ []) (codes "g" ∷ []) [] [])
-      (procedure 0 (stmt.Agent 0 31 ∷ stmt.Recv (Some (who.Named 0)) mode.Block ∷ stmt.Reply (who.Named 0) longest_y ∷ [])
-      ∷ []));
+      (speaking (longest_y ∷ []) (pod 1 (named (codes "main" ∷ []) (codes "g" ∷ []) [] [])
+      (procedure 0 (stmt.Agent 0 31 ∷ stmt.Recv (Some (who.Named 0)) mode.Block ∷ stmt.Reply (who.Named 0) 0 ∷ [])
+      ∷ [])));
   turns = 100000;
   trace = codes "t0: agent 31\nt0 = t1\nevent 31 client 0 seq 0 " ++ (longest_x ++ (codes "\nt0: recv t1 wait\nt0 = letter t1 240 " ++ (longest_x ++ (codes "\nt0: reply t1 " ++ (longest_y ++ codes "\nt0 = 0\nt0: return\nt0 dies\npod ends 0\n")))));
   halt = Ended 0;
@@ -355,12 +355,12 @@ an_owner_dies_with_a_message = record {
 abbrev pub letters_of_threads_and_agents : Row
 letters_of_threads_and_agents = record {
   script = posted (5 ∷ []) (line 0 0 (codes "ho") ∷ [])
-      (pod 1 (named (codes "main" ∷ codes "s" ∷ []) (codes "a" ∷ codes "g" ∷ []) [] [])
+      (speaking (codes "one" ∷ codes "two" ∷ codes "hi" ∷ []) (pod 1 (named (codes "main" ∷ codes "s" ∷ []) (codes "a" ∷ codes "g" ∷ []) [] [])
       (procedure 0 (stmt.Create 0 1 1 plain ∷ stmt.Yield who.Me ∷ stmt.Agent 1 5 ∷ stmt.Senders ∷ stmt.Recv None mode.Block
-      ∷ stmt.Recv None mode.Block ∷ stmt.Reply (who.Named 0) (codes "one") ∷ stmt.Reply (who.Named 1) (codes "two")
+      ∷ stmt.Recv None mode.Block ∷ stmt.Reply (who.Named 0) 0 ∷ stmt.Reply (who.Named 1) 1
       ∷ [])
-      ∷ procedure 1 (stmt.Send who.First 9 (codes "hi") ∷ [])
-      ∷ []));
+      ∷ procedure 1 (stmt.Send who.First 9 2 ∷ [])
+      ∷ [])));
   turns = 100000;
   trace = codes "t0: create s 1 -\nt0 = t1\nt0: yield self\nt0 = 0\nt1: send t0 9 hi\nt0: agent 5\nt0 = t2\nevent 5 client 0 seq 0 ho\nt0: senders\nt0 = ids t1 t2\nt0: recv any wait\nt0 = letter t1 9 hi\nt0: recv any wait\nt0 = letter t2 240 ho\nt0: reply t1 one\nt1 = reply one\nt0 = 0\nt0: reply t2 two\nt0 = 0\nt0: return\nt0 dies\nt1: return\nt1 dies\npod ends 0\n";
   halt = Ended 0;

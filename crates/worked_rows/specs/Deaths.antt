@@ -1,7 +1,7 @@
 -- What a death does, step by step.
 use Rattle.script_text.specs.declared.script.Halt.TheVariants.{Ended}
 use Rattle.std.specs.Prelude.{None, Some, [], codes, ◌∷◌}
-use Rattle.worked_rows.specs.Words.{Row, named, plain, pod, procedure}
+use Rattle.worked_rows.specs.Words.{Row, named, plain, pod, procedure, speaking}
 use Rattle.script_text.specs.declared.script.Who.TheVariants as who
 use Rattle.script_text.specs.declared.script.ExitStmt.TheVariants as exit_stmt
 use Rattle.script_text.specs.declared.script.Stmt.TheVariants as stmt
@@ -33,11 +33,11 @@ destroyed_while_waiting = record {
 --   proc s / send first 9 hi
 abbrev pub its_own_letter : Row
 its_own_letter = record {
-  script = pod 1 (named (codes "main" ∷ codes "s" ∷ []) (codes "a" ∷ []) [] [])
+  script = speaking (codes "hi" ∷ []) (pod 1 (named (codes "main" ∷ codes "s" ∷ []) (codes "a" ∷ []) [] [])
       (procedure 0 (stmt.Create 0 1 1 plain ∷ stmt.Yield who.Me ∷ stmt.Senders ∷ stmt.Destroy (who.Named 0) ∷ stmt.Senders
       ∷ stmt.Recv None mode.Poll ∷ [])
-      ∷ procedure 1 (stmt.Send who.First 9 (codes "hi") ∷ [])
-      ∷ []);
+      ∷ procedure 1 (stmt.Send who.First 9 0 ∷ [])
+      ∷ []));
   turns = 100000;
   trace = codes "t0: create s 1 -\nt0 = t1\nt0: yield self\nt0 = 0\nt1: send t0 9 hi\nt0: senders\nt0 = ids t1\nt0: destroy t1\nt1 dies\nt0 = 0\nt0: senders\nt0 = ids\nt0: recv any poll\nt0 ! LE_TIMEOUT\nt0: return\nt0 dies\npod ends 0\n";
   halt = Ended 0;
@@ -51,11 +51,11 @@ its_own_letter = record {
 --   proc s / send first 9 hi
 abbrev pub its_received_letter : Row
 its_received_letter = record {
-  script = pod 1 (named (codes "main" ∷ codes "s" ∷ []) (codes "a" ∷ []) [] [])
+  script = speaking (codes "x" ∷ codes "hi" ∷ []) (pod 1 (named (codes "main" ∷ codes "s" ∷ []) (codes "a" ∷ []) [] [])
       (procedure 0 (stmt.Create 0 1 1 plain ∷ stmt.Yield who.Me ∷ stmt.Recv None mode.Block ∷ stmt.Destroy (who.Named 0)
-      ∷ stmt.Senders ∷ stmt.Reply (who.Named 0) (codes "x") ∷ [])
-      ∷ procedure 1 (stmt.Send who.First 9 (codes "hi") ∷ [])
-      ∷ []);
+      ∷ stmt.Senders ∷ stmt.Reply (who.Named 0) 0 ∷ [])
+      ∷ procedure 1 (stmt.Send who.First 9 1 ∷ [])
+      ∷ []));
   turns = 100000;
   trace = codes "t0: create s 1 -\nt0 = t1\nt0: yield self\nt0 = 0\nt1: send t0 9 hi\nt0: recv any wait\nt0 = letter t1 9 hi\nt0: destroy t1\nt1 dies\nt0 = 0\nt0: senders\nt0 = ids\nt0: reply t1 x\nt0 ! LE_NONEXIST\nt0: return\nt0 dies\npod ends 0\n";
   halt = Ended 0;
@@ -109,12 +109,12 @@ its_entry_request = record {
 --   proc w / yield self / say last
 abbrev pub its_join : Row
 its_join = record {
-  script = pod 1 (named (codes "main" ∷ codes "j" ∷ codes "w" ∷ []) (codes "a" ∷ codes "b" ∷ []) [] [])
+  script = speaking (codes "done" ∷ codes "last" ∷ []) (pod 1 (named (codes "main" ∷ codes "j" ∷ codes "w" ∷ []) (codes "a" ∷ codes "b" ∷ []) [] [])
       (procedure 0 (stmt.Create 0 1 1 plain ∷ stmt.Create 1 2 1 plain ∷ stmt.Yield who.Me ∷ stmt.Destroy (who.Named 0)
-      ∷ stmt.Say (codes "done") ∷ [])
+      ∷ stmt.Say 0 ∷ [])
       ∷ procedure 1 (stmt.Join (who.Named 1) ∷ [])
-      ∷ procedure 2 (stmt.Yield who.Me ∷ stmt.Say (codes "last") ∷ [])
-      ∷ []);
+      ∷ procedure 2 (stmt.Yield who.Me ∷ stmt.Say 1 ∷ [])
+      ∷ []));
   turns = 100000;
   trace = codes "t0: create j 1 -\nt0 = t1\nt0: create w 1 -\nt0 = t2\nt0: yield self\nt0 = 0\nt1: join t2\nt2: yield self\nt2 = 0\nt0: destroy t1\nt1 dies\nt0 = 0\nt0: say done\nt0 = 0\nt0: return\nt0 dies\nt2: say last\nt2 = 0\nt2: return\nt2 dies\npod ends 0\n";
   halt = Ended 0;
@@ -148,10 +148,10 @@ a_woken_waiter = record {
 --   proc w / recv any wait
 abbrev pub death_with_received_letter : Row
 death_with_received_letter = record {
-  script = pod 1 (named (codes "main" ∷ codes "w" ∷ []) (codes "a" ∷ []) [] [])
-      (procedure 0 (stmt.Create 0 1 1 plain ∷ stmt.Send (who.Named 0) 10 (codes "hi") ∷ [])
+  script = speaking (codes "hi" ∷ []) (pod 1 (named (codes "main" ∷ codes "w" ∷ []) (codes "a" ∷ []) [] [])
+      (procedure 0 (stmt.Create 0 1 1 plain ∷ stmt.Send (who.Named 0) 10 0 ∷ [])
       ∷ procedure 1 (stmt.Recv None mode.Block ∷ [])
-      ∷ []);
+      ∷ []));
   turns = 100000;
   trace = codes "t0: create w 1 -\nt0 = t1\nt0: send t1 10 hi\nt1: recv any wait\nt1 = letter t0 10 hi\nt1: return\nt0 ! LE_NONEXIST\nt1 dies\nt0: return\nt0 dies\npod ends 0\n";
   halt = Ended 0;
@@ -166,12 +166,12 @@ death_with_received_letter = record {
 --   proc q / onexit note b / handle all - 0 / onexit note c / yield self
 abbrev pub exits_of_all_frames : Row
 exits_of_all_frames = record {
-  script = pod 1 (named (codes "main" ∷ codes "p" ∷ codes "q" ∷ []) (codes "a" ∷ []) [] [])
+  script = speaking (codes "a" ∷ codes "b" ∷ codes "c" ∷ []) (pod 1 (named (codes "main" ∷ codes "p" ∷ codes "q" ∷ []) (codes "a" ∷ []) [] [])
       (procedure 0 (stmt.Create 0 1 1 plain ∷ stmt.Yield who.Me ∷ stmt.Destroy (who.Named 0) ∷ [])
-      ∷ procedure 1 (stmt.OnExit (exit_stmt.Note (codes "a")) ∷ stmt.CallProc 2 ∷ [])
-      ∷ procedure 2 (stmt.OnExit (exit_stmt.Note (codes "b")) ∷ stmt.Handle pattern.All func.Nothing 0
-      ∷ stmt.OnExit (exit_stmt.Note (codes "c")) ∷ stmt.Yield who.Me ∷ [])
-      ∷ []);
+      ∷ procedure 1 (stmt.OnExit (exit_stmt.Note 0) ∷ stmt.CallProc 2 ∷ [])
+      ∷ procedure 2 (stmt.OnExit (exit_stmt.Note 1) ∷ stmt.Handle pattern.All func.Nothing 0
+      ∷ stmt.OnExit (exit_stmt.Note 2) ∷ stmt.Yield who.Me ∷ [])
+      ∷ []));
   turns = 100000;
   trace = codes "t0: create p 1 -\nt0 = t1\nt0: yield self\nt0 = 0\nt1: onexit note a\nt1 = 0\nt1: call q\nt1 = 0\nt1: onexit note b\nt1 = 1\nt1: handle all - 0\nt1 = 0\nt1: onexit note c\nt1 = 2\nt1: yield self\nt1 = 0\nt0: destroy t1\nexit x2 note c = 0\nexit x1 note b = 0\nexit x0 note a = 0\nt1 dies\nt0 = 0\nt0: return\nt0 dies\npod ends 0\n";
   halt = Ended 0;
@@ -228,11 +228,11 @@ agents_in_birth_order = record {
 --   proc s / send first 9 hi
 abbrev pub senders_in_send_order : Row
 senders_in_send_order = record {
-  script = pod 1 (named (codes "main" ∷ codes "s" ∷ []) (codes "a" ∷ codes "b" ∷ codes "c" ∷ []) [] [])
+  script = speaking (codes "hi" ∷ []) (pod 1 (named (codes "main" ∷ codes "s" ∷ []) (codes "a" ∷ codes "b" ∷ codes "c" ∷ []) [] [])
       (procedure 0 (stmt.Create 0 1 1 plain ∷ stmt.Create 1 1 1 plain ∷ stmt.Create 2 1 1 plain ∷ stmt.Yield (who.Named 0)
       ∷ stmt.Yield (who.Named 2) ∷ stmt.Yield (who.Named 1) ∷ stmt.Recv (Some (who.Named 2)) mode.Block ∷ [])
-      ∷ procedure 1 (stmt.Send who.First 9 (codes "hi") ∷ [])
-      ∷ []);
+      ∷ procedure 1 (stmt.Send who.First 9 0 ∷ [])
+      ∷ []));
   turns = 100000;
   trace = codes "t0: create s 1 -\nt0 = t1\nt0: create s 1 -\nt0 = t2\nt0: create s 1 -\nt0 = t3\nt0: yield t1\nt0 = 0\nt1: send t0 9 hi\nt0: yield t3\nt0 = 0\nt3: send t0 9 hi\nt0: yield t2\nt0 = 0\nt2: send t0 9 hi\nt0: recv t3 wait\nt0 = letter t3 9 hi\nt0: return\nt1 ! LE_NONEXIST\nt3 ! LE_NONEXIST\nt2 ! LE_NONEXIST\nt0 dies\nt1: return\nt1 dies\nt3: return\nt3 dies\nt2: return\nt2 dies\npod ends 0\n";
   halt = Ended 0;
@@ -285,16 +285,16 @@ joiners_in_birth_order = record {
 --   proc j / join first
 abbrev pub all_at_once : Row
 all_at_once = record {
-  script = pod 1 (named (codes "main" ∷ codes "e" ∷ codes "r" ∷ codes "s" ∷ codes "n" ∷ codes "j" ∷ []) (codes "g" ∷ codes "a" ∷ codes "b" ∷ codes "c" ∷ codes "d" ∷ codes "f" ∷ []) (codes "m" ∷ []) [])
-      (procedure 0 (stmt.MonCreate 0 ∷ stmt.Enter 0 ∷ stmt.Agent 0 5 ∷ stmt.OnExit (exit_stmt.Note (codes "bye"))
+  script = speaking (codes "bye" ∷ codes "hi" ∷ []) (pod 1 (named (codes "main" ∷ codes "e" ∷ codes "r" ∷ codes "s" ∷ codes "n" ∷ codes "j" ∷ []) (codes "g" ∷ codes "a" ∷ codes "b" ∷ codes "c" ∷ codes "d" ∷ codes "f" ∷ []) (codes "m" ∷ []) [])
+      (procedure 0 (stmt.MonCreate 0 ∷ stmt.Enter 0 ∷ stmt.Agent 0 5 ∷ stmt.OnExit (exit_stmt.Note 0)
       ∷ stmt.Create 1 1 1 plain ∷ stmt.Create 2 2 1 plain ∷ stmt.Create 3 3 1 plain ∷ stmt.Create 4 4 1 plain
       ∷ stmt.Create 5 5 1 plain ∷ stmt.Yield who.Me ∷ [])
       ∷ procedure 1 (stmt.Enter 0 ∷ [])
       ∷ procedure 2 (stmt.Recv (Some (who.Named 0)) mode.Block ∷ [])
-      ∷ procedure 3 (stmt.Send who.First 9 (codes "hi") ∷ [])
+      ∷ procedure 3 (stmt.Send who.First 9 1 ∷ [])
       ∷ procedure 4 (stmt.Recv (Some who.First) mode.Block ∷ [])
       ∷ procedure 5 (stmt.Join who.First ∷ [])
-      ∷ []);
+      ∷ []));
   turns = 100000;
   trace = codes "t0: moncreate\nt0 = m0\nt0: enter m0\nt0 = 0\nt0: agent 5\nt0 = t1\nt0: onexit note bye\nt0 = 0\nt0: create e 1 -\nt0 = t2\nt0: create r 1 -\nt0 = t3\nt0: create s 1 -\nt0 = t4\nt0: create n 1 -\nt0 = t5\nt0: create j 1 -\nt0 = t6\nt0: yield self\nt0 = 0\nt2: enter m0\nt3: recv t1 wait\nt4: send t0 9 hi\nt5: recv t0 wait\nt6: join t0\nt0: return\nexit x0 note bye = 0\nt2 = 0\nt3 ! LE_NONEXIST\nt4 ! LE_NONEXIST\nt5 ! LE_NONEXIST\nt6 = 0\nt0 dies\nt2: return\nt2 dies\nt3: return\nt3 dies\nt4: return\nt4 dies\nt5: return\nt5 dies\nt6: return\nt6 dies\npod ends 0\n";
   halt = Ended 0;
@@ -313,15 +313,15 @@ all_at_once = record {
 --   proc j / join first
 abbrev pub the_same_in_another_order : Row
 the_same_in_another_order = record {
-  script = pod 1 (named (codes "main" ∷ codes "j" ∷ codes "n" ∷ codes "s" ∷ codes "r" ∷ codes "e" ∷ []) (codes "g" ∷ codes "f" ∷ codes "d" ∷ codes "c" ∷ codes "b" ∷ codes "a" ∷ []) (codes "m" ∷ []) [])
+  script = speaking (codes "hi" ∷ []) (pod 1 (named (codes "main" ∷ codes "j" ∷ codes "n" ∷ codes "s" ∷ codes "r" ∷ codes "e" ∷ []) (codes "g" ∷ codes "f" ∷ codes "d" ∷ codes "c" ∷ codes "b" ∷ codes "a" ∷ []) (codes "m" ∷ []) [])
       (procedure 0 (stmt.MonCreate 0 ∷ stmt.Enter 0 ∷ stmt.Agent 0 5 ∷ stmt.Create 1 1 1 plain ∷ stmt.Create 2 2 1 plain
       ∷ stmt.Create 3 3 1 plain ∷ stmt.Create 4 4 1 plain ∷ stmt.Create 5 5 1 plain ∷ stmt.Yield who.Me ∷ [])
       ∷ procedure 5 (stmt.Enter 0 ∷ [])
       ∷ procedure 4 (stmt.Recv (Some (who.Named 0)) mode.Block ∷ [])
-      ∷ procedure 3 (stmt.Send who.First 9 (codes "hi") ∷ [])
+      ∷ procedure 3 (stmt.Send who.First 9 0 ∷ [])
       ∷ procedure 2 (stmt.Recv (Some who.First) mode.Block ∷ [])
       ∷ procedure 1 (stmt.Join who.First ∷ [])
-      ∷ []);
+      ∷ []));
   turns = 100000;
   trace = codes "t0: moncreate\nt0 = m0\nt0: enter m0\nt0 = 0\nt0: agent 5\nt0 = t1\nt0: create j 1 -\nt0 = t2\nt0: create n 1 -\nt0 = t3\nt0: create s 1 -\nt0 = t4\nt0: create r 1 -\nt0 = t5\nt0: create e 1 -\nt0 = t6\nt0: yield self\nt0 = 0\nt2: join t0\nt3: recv t0 wait\nt4: send t0 9 hi\nt5: recv t1 wait\nt6: enter m0\nt0: return\nt6 = 0\nt5 ! LE_NONEXIST\nt4 ! LE_NONEXIST\nt3 ! LE_NONEXIST\nt2 = 0\nt0 dies\nt6: return\nt6 dies\nt5: return\nt5 dies\nt4: return\nt4 dies\nt3: return\nt3 dies\nt2: return\nt2 dies\npod ends 0\n";
   halt = Ended 0;

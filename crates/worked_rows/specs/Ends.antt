@@ -2,7 +2,7 @@
 use Rattle.script_text.specs.declared.script.Halt.TheVariants.{Ended, Spent, Stuck}
 use Rattle.std.specs.Prelude.{None, Some, [], codes, false, true, ◌∷◌}
 use Rattle.worked_rows.specs.Threads.{first_run}
-use Rattle.worked_rows.specs.Words.{Row, asleep, line, named, plain, pod, posted, procedure, serving, took}
+use Rattle.worked_rows.specs.Words.{Row, asleep, line, named, plain, pod, posted, procedure, serving, speaking, took}
 use Rattle.script_text.specs.declared.script.Who.TheVariants as who
 use Rattle.script_text.specs.declared.script.ExitStmt.TheVariants as exit_stmt
 use Rattle.script_text.specs.declared.script.Stmt.TheVariants as stmt
@@ -41,11 +41,11 @@ budgets_spent = record {
 --   proc main / say x / say x / say x / say x / say x / say x / say x / say x / say x
 abbrev pub budgets_nine10 : Row
 budgets_nine10 = record {
-  script = pod 1 (named (codes "main" ∷ []) [] [] [])
-      (procedure 0 (stmt.Say (codes "x") ∷ stmt.Say (codes "x") ∷ stmt.Say (codes "x") ∷ stmt.Say (codes "x")
-      ∷ stmt.Say (codes "x") ∷ stmt.Say (codes "x") ∷ stmt.Say (codes "x") ∷ stmt.Say (codes "x")
-      ∷ stmt.Say (codes "x") ∷ [])
-      ∷ []);
+  script = speaking (codes "x" ∷ codes "x" ∷ codes "x" ∷ codes "x" ∷ codes "x" ∷ codes "x" ∷ codes "x" ∷ codes "x" ∷ codes "x" ∷ []) (pod 1 (named (codes "main" ∷ []) [] [] [])
+      (procedure 0 (stmt.Say 0 ∷ stmt.Say 1 ∷ stmt.Say 2 ∷ stmt.Say 3
+      ∷ stmt.Say 4 ∷ stmt.Say 5 ∷ stmt.Say 6 ∷ stmt.Say 7
+      ∷ stmt.Say 8 ∷ [])
+      ∷ []));
   turns = 10;
   trace = codes "t0: say x\nt0 = 0\nt0: say x\nt0 = 0\nt0: say x\nt0 = 0\nt0: say x\nt0 = 0\nt0: say x\nt0 = 0\nt0: say x\nt0 = 0\nt0: say x\nt0 = 0\nt0: say x\nt0 = 0\nt0: say x\nt0 = 0\nt0: return\nt0 dies\npod ends 0\n";
   halt = Ended 0;
@@ -82,9 +82,9 @@ budgets_stuck = record {
 --   proc main / onexit note x / podexit 7
 abbrev pub pod_exit : Row
 pod_exit = record {
-  script = pod 1 (named (codes "main" ∷ []) [] [] [])
-      (procedure 0 (stmt.OnExit (exit_stmt.Note (codes "x")) ∷ stmt.PodExit 7 ∷ [])
-      ∷ []);
+  script = speaking (codes "x" ∷ []) (pod 1 (named (codes "main" ∷ []) [] [] [])
+      (procedure 0 (stmt.OnExit (exit_stmt.Note 0) ∷ stmt.PodExit 7 ∷ [])
+      ∷ []));
   turns = 100000;
   trace = codes "t0: onexit note x\nt0 = 0\nt0: podexit 7\npod ends 7\n";
   halt = Ended 7;
@@ -114,10 +114,10 @@ statuses_at_both_ends = record {
 --   proc w / say never
 abbrev pub podexit_whoever_lives : Row
 podexit_whoever_lives = record {
-  script = pod 1 (named (codes "main" ∷ codes "w" ∷ []) (codes "a" ∷ []) [] [])
+  script = speaking (codes "never" ∷ []) (pod 1 (named (codes "main" ∷ codes "w" ∷ []) (codes "a" ∷ []) [] [])
       (procedure 0 (stmt.Create 0 1 1 plain ∷ stmt.SetExit 5 ∷ stmt.PodExit 99 ∷ [])
-      ∷ procedure 1 (stmt.Say (codes "never") ∷ [])
-      ∷ []);
+      ∷ procedure 1 (stmt.Say 0 ∷ [])
+      ∷ []));
   turns = 100000;
   trace = codes "t0: create w 1 -\nt0 = t1\nt0: setexit 5\nt0 = 0\nt0: podexit 99\npod ends 99\n";
   halt = Ended 99;
@@ -146,10 +146,10 @@ podexit_with_0 = record {
 --   proc w / suspend self / say never
 abbrev pub a_server_suspends_itself : Row
 a_server_suspends_itself = record {
-  script = pod 1 (named (codes "main" ∷ codes "w" ∷ []) (codes "a" ∷ []) [] [])
+  script = speaking (codes "never" ∷ []) (pod 1 (named (codes "main" ∷ codes "w" ∷ []) (codes "a" ∷ []) [] [])
       (procedure 0 (stmt.Create 0 1 1 serving ∷ [])
-      ∷ procedure 1 (stmt.Suspend who.Me ∷ stmt.Say (codes "never") ∷ [])
-      ∷ []);
+      ∷ procedure 1 (stmt.Suspend who.Me ∷ stmt.Say 0 ∷ [])
+      ∷ []));
   turns = 100000;
   trace = codes "t0: create w 1 v\nt0 = t1\nt0: return\nt0 dies\nt1: suspend self\nt1 = 0\npod ends 0\n";
   halt = Ended 0;
@@ -183,10 +183,10 @@ servers_alone = record {
 --   proc w / say never
 abbrev pub a_suspended_server_is_not_waited_for : Row
 a_suspended_server_is_not_waited_for = record {
-  script = pod 1 (named (codes "main" ∷ codes "w" ∷ []) (codes "a" ∷ []) [] [])
+  script = speaking (codes "never" ∷ []) (pod 1 (named (codes "main" ∷ codes "w" ∷ []) (codes "a" ∷ []) [] [])
       (procedure 0 (stmt.Create 0 1 1 (record { suspended = true; nolastrites = false; server = true }) ∷ [])
-      ∷ procedure 1 (stmt.Say (codes "never") ∷ [])
-      ∷ []);
+      ∷ procedure 1 (stmt.Say 0 ∷ [])
+      ∷ []));
   turns = 100000;
   trace = codes "t0: create w 1 sv\nt0 = t1\nt0: return\nt0 dies\npod ends 0\n";
   halt = Ended 0;
@@ -200,10 +200,10 @@ a_suspended_server_is_not_waited_for = record {
 --   proc w / say on
 abbrev pub a_server_that_may_run : Row
 a_server_that_may_run = record {
-  script = pod 1 (named (codes "main" ∷ codes "w" ∷ []) (codes "a" ∷ []) [] [])
+  script = speaking (codes "on" ∷ []) (pod 1 (named (codes "main" ∷ codes "w" ∷ []) (codes "a" ∷ []) [] [])
       (procedure 0 (stmt.Create 0 1 1 serving ∷ [])
-      ∷ procedure 1 (stmt.Say (codes "on") ∷ [])
-      ∷ []);
+      ∷ procedure 1 (stmt.Say 0 ∷ [])
+      ∷ []));
   turns = 100000;
   trace = codes "t0: create w 1 v\nt0 = t1\nt0: return\nt0 dies\nt1: say on\nt1 = 0\nt1: return\nt1 dies\npod ends 0\n";
   halt = Ended 0;
@@ -217,11 +217,11 @@ a_server_that_may_run = record {
 --   proc w / say never
 abbrev pub a_suspended_thread_keeps_the_pod : Row
 a_suspended_thread_keeps_the_pod = record {
-  script = pod 1 (named (codes "main" ∷ codes "w" ∷ []) (codes "a" ∷ codes "b" ∷ []) [] [])
+  script = speaking (codes "never" ∷ []) (pod 1 (named (codes "main" ∷ codes "w" ∷ []) (codes "a" ∷ codes "b" ∷ []) [] [])
       (procedure 0 (stmt.Create 0 1 1 (record { suspended = true; nolastrites = false; server = true }) ∷ stmt.Create 1 1 1 asleep
       ∷ [])
-      ∷ procedure 1 (stmt.Say (codes "never") ∷ [])
-      ∷ []);
+      ∷ procedure 1 (stmt.Say 0 ∷ [])
+      ∷ []));
   turns = 100000;
   trace = codes "t0: create w 1 sv\nt0 = t1\nt0: create w 1 s\nt0 = t2\nt0: return\nt0 dies\nstuck\n";
   halt = Stuck;

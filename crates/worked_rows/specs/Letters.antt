@@ -1,7 +1,7 @@
 -- Messages: a sender waits for its reply.
 use Rattle.script_text.specs.declared.script.Halt.TheVariants.{Ended, Stuck}
 use Rattle.std.specs.Prelude.{None, Some, [], codes, ◌++◌, ◌∷◌}
-use Rattle.worked_rows.specs.Words.{Row, asleep, longest_x, longest_y, named, plain, pod, procedure, serving}
+use Rattle.worked_rows.specs.Words.{Row, asleep, longest_x, longest_y, named, plain, pod, procedure, serving, speaking}
 use Rattle.script_text.specs.declared.script.Who.TheVariants as who
 use Rattle.script_text.specs.declared.script.Stmt.TheVariants as stmt
 use Rattle.lwp_types.specs.declared.call.Mode.TheVariants as mode
@@ -13,13 +13,13 @@ use Rattle.lwp_types.specs.declared.call.Mode.TheVariants as mode
 --   proc w / send first 3 hi
 abbrev pub receive_by_name_and_poll : Row
 receive_by_name_and_poll = record {
-  script = pod 1 (named (codes "main" ∷ codes "w" ∷ []) (codes "a" ∷ codes "b" ∷ []) [] [])
+  script = speaking (codes "ok" ∷ codes "yes" ∷ codes "no" ∷ codes "hi" ∷ []) (pod 1 (named (codes "main" ∷ codes "w" ∷ []) (codes "a" ∷ codes "b" ∷ []) [] [])
       (procedure 0 (stmt.Create 0 1 1 plain ∷ stmt.Create 1 1 1 plain ∷ stmt.Yield who.Me
-      ∷ stmt.Recv (Some (who.Named 1)) mode.Block ∷ stmt.Reply (who.Named 1) (codes "ok") ∷ stmt.Recv None mode.Poll
-      ∷ stmt.Reply (who.Named 0) (codes "yes") ∷ stmt.Recv None mode.Poll ∷ stmt.Reply (who.Named 0) (codes "no")
+      ∷ stmt.Recv (Some (who.Named 1)) mode.Block ∷ stmt.Reply (who.Named 1) 0 ∷ stmt.Recv None mode.Poll
+      ∷ stmt.Reply (who.Named 0) 1 ∷ stmt.Recv None mode.Poll ∷ stmt.Reply (who.Named 0) 2
       ∷ [])
-      ∷ procedure 1 (stmt.Send who.First 3 (codes "hi") ∷ [])
-      ∷ []);
+      ∷ procedure 1 (stmt.Send who.First 3 3 ∷ [])
+      ∷ []));
   turns = 100000;
   trace = codes "t0: create w 1 -\nt0 = t1\nt0: create w 1 -\nt0 = t2\nt0: yield self\nt0 = 0\nt1: send t0 3 hi\nt2: send t0 3 hi\nt0: recv t2 wait\nt0 = letter t2 3 hi\nt0: reply t2 ok\nt2 = reply ok\nt0 = 0\nt0: recv any poll\nt0 = letter t1 3 hi\nt0: reply t1 yes\nt1 = reply yes\nt0 = 0\nt0: recv any poll\nt0 ! LE_TIMEOUT\nt0: reply t1 no\nt0 ! LE_NOWAIT\nt0: return\nt0 dies\nt2: return\nt2 dies\nt1: return\nt1 dies\npod ends 0\n";
   halt = Ended 0;
@@ -33,11 +33,11 @@ receive_by_name_and_poll = record {
 --   proc w / send first 3 hi
 abbrev pub reply_of_the_room : Row
 reply_of_the_room = record {
-  script = pod 1 (named (codes "main" ∷ codes "w" ∷ []) (codes "a" ∷ []) [] [])
-      (procedure 0 (stmt.Create 0 1 1 plain ∷ stmt.Recv None mode.Block ∷ stmt.Reply (who.Named 0) (codes "abcd")
-      ∷ stmt.Reply (who.Named 0) (codes "abc") ∷ [])
-      ∷ procedure 1 (stmt.Send who.First 3 (codes "hi") ∷ [])
-      ∷ []);
+  script = speaking (codes "abcd" ∷ codes "abc" ∷ codes "hi" ∷ []) (pod 1 (named (codes "main" ∷ codes "w" ∷ []) (codes "a" ∷ []) [] [])
+      (procedure 0 (stmt.Create 0 1 1 plain ∷ stmt.Recv None mode.Block ∷ stmt.Reply (who.Named 0) 0
+      ∷ stmt.Reply (who.Named 0) 1 ∷ [])
+      ∷ procedure 1 (stmt.Send who.First 3 2 ∷ [])
+      ∷ []));
   turns = 100000;
   trace = codes "t0: create w 1 -\nt0 = t1\nt0: recv any wait\nt1: send t0 3 hi\nt0 = letter t1 3 hi\nt0: reply t1 abcd\nt0 ! LE_INVALIDARG\nt0: reply t1 abc\nt1 = reply abc\nt0 = 0\nt0: return\nt0 dies\nt1: return\nt1 dies\npod ends 0\n";
   halt = Ended 0;
@@ -50,9 +50,9 @@ reply_of_the_room = record {
 --   proc main / send none 5 hi / send self 5 hi
 abbrev pub send_is_refused_in_order : Row
 send_is_refused_in_order = record {
-  script = pod 1 (named (codes "main" ∷ []) [] [] [])
-      (procedure 0 (stmt.Send who.Nobody 5 (codes "hi") ∷ stmt.Send who.Me 5 (codes "hi") ∷ [])
-      ∷ []);
+  script = speaking (codes "hi" ∷ codes "hi" ∷ []) (pod 1 (named (codes "main" ∷ []) [] [] [])
+      (procedure 0 (stmt.Send who.Nobody 5 0 ∷ stmt.Send who.Me 5 1 ∷ [])
+      ∷ []));
   turns = 100000;
   trace = codes "t0: send none 5 hi\nt0 ! LE_NONEXIST\nt0: send self 5 hi\nt0 ! LE_INVALIDARG\nt0: return\nt0 dies\npod ends 0\n";
   halt = Ended 0;
@@ -87,13 +87,13 @@ recv_is_refused_in_order = record {
 --   proc w / send first 2 hi
 abbrev pub reply_is_refused_in_order : Row
 reply_is_refused_in_order = record {
-  script = pod 1 (named (codes "main" ∷ codes "w" ∷ []) (codes "a" ∷ []) [] [])
-      (procedure 0 (stmt.Create 0 1 1 plain ∷ stmt.Reply who.Nobody (codes "x") ∷ stmt.Reply (who.Named 0) (codes "x")
-      ∷ stmt.Yield who.Me ∷ stmt.Reply (who.Named 0) (codes "x") ∷ stmt.Recv None mode.Block
-      ∷ stmt.Reply who.Me (codes "x") ∷ stmt.Reply (who.Named 0) (codes "long")
-      ∷ stmt.Reply (who.Named 0) (codes "ok") ∷ stmt.Reply (who.Named 0) (codes "ok") ∷ [])
-      ∷ procedure 1 (stmt.Send who.First 2 (codes "hi") ∷ [])
-      ∷ []);
+  script = speaking (codes "x" ∷ codes "x" ∷ codes "x" ∷ codes "x" ∷ codes "long" ∷ codes "ok" ∷ codes "ok" ∷ codes "hi" ∷ []) (pod 1 (named (codes "main" ∷ codes "w" ∷ []) (codes "a" ∷ []) [] [])
+      (procedure 0 (stmt.Create 0 1 1 plain ∷ stmt.Reply who.Nobody 0 ∷ stmt.Reply (who.Named 0) 1
+      ∷ stmt.Yield who.Me ∷ stmt.Reply (who.Named 0) 2 ∷ stmt.Recv None mode.Block
+      ∷ stmt.Reply who.Me 3 ∷ stmt.Reply (who.Named 0) 4
+      ∷ stmt.Reply (who.Named 0) 5 ∷ stmt.Reply (who.Named 0) 6 ∷ [])
+      ∷ procedure 1 (stmt.Send who.First 2 7 ∷ [])
+      ∷ []));
   turns = 100000;
   trace = codes "t0: create w 1 -\nt0 = t1\nt0: reply none x\nt0 ! LE_NONEXIST\nt0: reply t1 x\nt0 ! LE_NOWAIT\nt0: yield self\nt0 = 0\nt1: send t0 2 hi\nt0: reply t1 x\nt0 ! LE_NOWAIT\nt0: recv any wait\nt0 = letter t1 2 hi\nt0: reply self x\nt0 ! LE_NOWAIT\nt0: reply t1 long\nt0 ! LE_INVALIDARG\nt0: reply t1 ok\nt1 = reply ok\nt0 = 0\nt0: reply t1 ok\nt0 ! LE_NOWAIT\nt0: return\nt0 dies\nt1: return\nt1 dies\npod ends 0\n";
   halt = Ended 0;
@@ -107,11 +107,11 @@ reply_is_refused_in_order = record {
 --   proc w / send first 0 / say done
 abbrev pub room_for_nothing : Row
 room_for_nothing = record {
-  script = pod 1 (named (codes "main" ∷ codes "w" ∷ []) (codes "a" ∷ []) [] [])
-      (procedure 0 (stmt.Create 0 1 1 plain ∷ stmt.Recv None mode.Block ∷ stmt.Reply who.Sender (codes "x")
-      ∷ stmt.Reply who.Sender [] ∷ [])
-      ∷ procedure 1 (stmt.Send who.First 0 [] ∷ stmt.Say (codes "done") ∷ [])
-      ∷ []);
+  script = speaking (codes "x" ∷ [] ∷ [] ∷ codes "done" ∷ []) (pod 1 (named (codes "main" ∷ codes "w" ∷ []) (codes "a" ∷ []) [] [])
+      (procedure 0 (stmt.Create 0 1 1 plain ∷ stmt.Recv None mode.Block ∷ stmt.Reply who.Sender 0
+      ∷ stmt.Reply who.Sender 1 ∷ [])
+      ∷ procedure 1 (stmt.Send who.First 0 2 ∷ stmt.Say 3 ∷ [])
+      ∷ []));
   turns = 100000;
   trace = codes "t0: create w 1 -\nt0 = t1\nt0: recv any wait\nt1: send t0 0\nt0 = letter t1 0\nt0: reply t1 x\nt0 ! LE_INVALIDARG\nt0: reply t1\nt1 = reply\nt0 = 0\nt0: return\nt0 dies\nt1: say done\nt1 = 0\nt1: return\nt1 dies\npod ends 0\n";
   halt = Ended 0;
@@ -125,10 +125,10 @@ room_for_nothing = record {
 --   proc w / send first 240 xx..x
 abbrev pub room_for_the_longest : Row
 room_for_the_longest = record {
-  script = pod 1 (named (codes "main" ∷ codes "w" ∷ []) (codes "a" ∷ []) [] [])
-      (procedure 0 (stmt.Create 0 1 1 plain ∷ stmt.Recv None mode.Block ∷ stmt.Reply (who.Named 0) longest_y ∷ [])
-      ∷ procedure 1 (stmt.Send who.First 240 longest_x ∷ [])
-      ∷ []);
+  script = speaking (longest_y ∷ longest_x ∷ []) (pod 1 (named (codes "main" ∷ codes "w" ∷ []) (codes "a" ∷ []) [] [])
+      (procedure 0 (stmt.Create 0 1 1 plain ∷ stmt.Recv None mode.Block ∷ stmt.Reply (who.Named 0) 0 ∷ [])
+      ∷ procedure 1 (stmt.Send who.First 240 1 ∷ [])
+      ∷ []));
   turns = 100000;
   trace = codes "t0: create w 1 -\nt0 = t1\nt0: recv any wait\nt1: send t0 240 " ++ (longest_x ++ (codes "\nt0 = letter t1 240 " ++ (longest_x ++ (codes "\nt0: reply t1 " ++ (longest_y ++ (codes "\nt1 = reply " ++ (longest_y ++ codes "\nt0 = 0\nt0: return\nt0 dies\nt1: return\nt1 dies\npod ends 0\n")))))));
   halt = Ended 0;
@@ -142,12 +142,12 @@ room_for_the_longest = record {
 --   proc w / send first 9 hi
 abbrev pub a_letter_of_another_waits : Row
 a_letter_of_another_waits = record {
-  script = pod 1 (named (codes "main" ∷ codes "w" ∷ []) (codes "a" ∷ codes "b" ∷ []) [] [])
+  script = speaking (codes "one" ∷ codes "two" ∷ codes "hi" ∷ []) (pod 1 (named (codes "main" ∷ codes "w" ∷ []) (codes "a" ∷ codes "b" ∷ []) [] [])
       (procedure 0 (stmt.Create 0 1 1 plain ∷ stmt.Create 1 1 1 plain ∷ stmt.Recv (Some (who.Named 1)) mode.Block
-      ∷ stmt.Recv None mode.Block ∷ stmt.Reply (who.Named 0) (codes "one") ∷ stmt.Reply (who.Named 1) (codes "two")
+      ∷ stmt.Recv None mode.Block ∷ stmt.Reply (who.Named 0) 0 ∷ stmt.Reply (who.Named 1) 1
       ∷ [])
-      ∷ procedure 1 (stmt.Send who.First 9 (codes "hi") ∷ [])
-      ∷ []);
+      ∷ procedure 1 (stmt.Send who.First 9 2 ∷ [])
+      ∷ []));
   turns = 100000;
   trace = codes "t0: create w 1 -\nt0 = t1\nt0: create w 1 -\nt0 = t2\nt0: recv t2 wait\nt1: send t0 9 hi\nt2: send t0 9 hi\nt0 = letter t2 9 hi\nt0: recv any wait\nt0 = letter t1 9 hi\nt0: reply t1 one\nt1 = reply one\nt0 = 0\nt0: reply t2 two\nt2 = reply two\nt0 = 0\nt0: return\nt0 dies\nt1: return\nt1 dies\nt2: return\nt2 dies\npod ends 0\n";
   halt = Ended 0;
@@ -162,12 +162,12 @@ a_letter_of_another_waits = record {
 --   proc w / send first 9 hi
 abbrev pub letters_in_send_order : Row
 letters_in_send_order = record {
-  script = pod 1 (named (codes "main" ∷ codes "w" ∷ []) (codes "a" ∷ codes "b" ∷ codes "c" ∷ []) [] [])
+  script = speaking ([] ∷ codes "hi" ∷ []) (pod 1 (named (codes "main" ∷ codes "w" ∷ []) (codes "a" ∷ codes "b" ∷ codes "c" ∷ []) [] [])
       (procedure 0 (stmt.Create 0 1 1 plain ∷ stmt.Create 1 1 1 plain ∷ stmt.Create 2 1 1 plain ∷ stmt.Yield who.Me ∷ stmt.Senders
       ∷ stmt.Recv None mode.Block ∷ stmt.Recv (Some (who.Named 2)) mode.Block ∷ stmt.Senders
-      ∷ stmt.Recv None mode.Block ∷ stmt.Recv None mode.Poll ∷ stmt.Reply (who.Named 1) [] ∷ stmt.Senders ∷ [])
-      ∷ procedure 1 (stmt.Send who.First 9 (codes "hi") ∷ [])
-      ∷ []);
+      ∷ stmt.Recv None mode.Block ∷ stmt.Recv None mode.Poll ∷ stmt.Reply (who.Named 1) 0 ∷ stmt.Senders ∷ [])
+      ∷ procedure 1 (stmt.Send who.First 9 1 ∷ [])
+      ∷ []));
   turns = 100000;
   trace = codes "t0: create w 1 -\nt0 = t1\nt0: create w 1 -\nt0 = t2\nt0: create w 1 -\nt0 = t3\nt0: yield self\nt0 = 0\nt1: send t0 9 hi\nt2: send t0 9 hi\nt3: send t0 9 hi\nt0: senders\nt0 = ids t1 t2 t3\nt0: recv any wait\nt0 = letter t1 9 hi\nt0: recv t3 wait\nt0 = letter t3 9 hi\nt0: senders\nt0 = ids t1 t2 t3\nt0: recv any wait\nt0 = letter t2 9 hi\nt0: recv any poll\nt0 ! LE_TIMEOUT\nt0: reply t2\nt2 = reply\nt0 = 0\nt0: senders\nt0 = ids t1 t3\nt0: return\nt1 ! LE_NONEXIST\nt3 ! LE_NONEXIST\nt0 dies\nt2: return\nt2 dies\nt1: return\nt1 dies\nt3: return\nt3 dies\npod ends 0\n";
   halt = Ended 0;
@@ -201,11 +201,11 @@ receivers_name_the_caller = record {
 --   proc r / recv any wait / reply sender ok
 abbrev pub a_suspended_receiver : Row
 a_suspended_receiver = record {
-  script = pod 1 (named (codes "main" ∷ codes "r" ∷ []) (codes "a" ∷ []) [] [])
+  script = speaking (codes "hi" ∷ codes "ok" ∷ []) (pod 1 (named (codes "main" ∷ codes "r" ∷ []) (codes "a" ∷ []) [] [])
       (procedure 0 (stmt.Create 0 1 1 plain ∷ stmt.Yield who.Me ∷ stmt.Suspend (who.Named 0)
-      ∷ stmt.Send (who.Named 0) 9 (codes "hi") ∷ [])
-      ∷ procedure 1 (stmt.Recv None mode.Block ∷ stmt.Reply who.Sender (codes "ok") ∷ [])
-      ∷ []);
+      ∷ stmt.Send (who.Named 0) 9 0 ∷ [])
+      ∷ procedure 1 (stmt.Recv None mode.Block ∷ stmt.Reply who.Sender 1 ∷ [])
+      ∷ []));
   turns = 100000;
   trace = codes "t0: create r 1 -\nt0 = t1\nt0: yield self\nt0 = 0\nt1: recv any wait\nt0: suspend t1\nt0 = 0\nt0: send t1 9 hi\nt1 = letter t0 9 hi\nstuck\n";
   halt = Stuck;
@@ -220,12 +220,12 @@ a_suspended_receiver = record {
 --   proc r / recv any wait / reply sender got / again
 abbrev pub a_request_and_its_reply : Row
 a_request_and_its_reply = record {
-  script = pod 1 (named (codes "main" ∷ codes "r" ∷ codes "w" ∷ []) (codes "s" ∷ codes "a" ∷ []) [] [])
-      (procedure 0 (stmt.Create 0 1 1 serving ∷ stmt.Create 1 2 1 plain ∷ stmt.Send (who.Named 0) 9 (codes "one")
-      ∷ stmt.Say (codes "done") ∷ [])
-      ∷ procedure 2 (stmt.Send (who.Named 0) 9 (codes "two") ∷ [])
-      ∷ procedure 1 (stmt.Recv None mode.Block ∷ stmt.Reply who.Sender (codes "got") ∷ stmt.Again ∷ [])
-      ∷ []);
+  script = speaking (codes "one" ∷ codes "done" ∷ codes "two" ∷ codes "got" ∷ []) (pod 1 (named (codes "main" ∷ codes "r" ∷ codes "w" ∷ []) (codes "s" ∷ codes "a" ∷ []) [] [])
+      (procedure 0 (stmt.Create 0 1 1 serving ∷ stmt.Create 1 2 1 plain ∷ stmt.Send (who.Named 0) 9 0
+      ∷ stmt.Say 1 ∷ [])
+      ∷ procedure 2 (stmt.Send (who.Named 0) 9 2 ∷ [])
+      ∷ procedure 1 (stmt.Recv None mode.Block ∷ stmt.Reply who.Sender 3 ∷ stmt.Again ∷ [])
+      ∷ []));
   turns = 100000;
   trace = codes "t0: create r 1 v\nt0 = t1\nt0: create w 1 -\nt0 = t2\nt0: send t1 9 one\nt1: recv any wait\nt1 = letter t0 9 one\nt1: reply t0 got\nt0 = reply got\nt1 = 0\nt1: recv any wait\nt2: send t1 9 two\nt1 = letter t2 9 two\nt0: say done\nt0 = 0\nt0: return\nt0 dies\nt1: reply t2 got\nt2 = reply got\nt1 = 0\nt1: recv any wait\nt2: return\nt2 dies\npod ends 0\n";
   halt = Ended 0;

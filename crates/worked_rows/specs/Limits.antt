@@ -10,7 +10,7 @@ use Rattle.script_text.specs.declared.script.Halt.TheVariants.{Ended, Spent}
 use Rattle.std.specs.Fmt.{decimal}
 use Rattle.std.specs.List.{flat_map}
 use Rattle.std.specs.Prelude.{List, [], codes, map, pos, replicate, ℕ, ◌++◌, ◌+◌, ◌-◌, ◌≡◌, ◌∷◌}
-use Rattle.worked_rows.specs.Words.{Row, asleep, named, pod, procedure}
+use Rattle.worked_rows.specs.Words.{Row, asleep, named, pod, procedure, speaking}
 use Rattle.lwp_types.specs.declared.call.Answer.TheVariants as answer
 use Rattle.lwp_types.specs.declared.call.Effect.TheVariants as effect
 use Rattle.lwp_types.specs.declared.call.Func.TheVariants as func
@@ -54,8 +54,8 @@ sixty_four_frames_one_turn_fewer = record sixty_four_frames {
 --   proc main / onexit note x / again
 abbrev pub two_hundred_and_fifty_six_marks : Row
 two_hundred_and_fifty_six_marks = record {
-  script = pod 1 (named (codes "main" ∷ []) [] [] [])
-      (procedure 0 (stmt.OnExit (exit_stmt.Note (codes "x")) ∷ stmt.Again ∷ []) ∷ []);
+  script = speaking (codes "x" ∷ []) (pod 1 (named (codes "main" ∷ []) [] [] [])
+      (procedure 0 (stmt.OnExit (exit_stmt.Note 0) ∷ stmt.Again ∷ []) ∷ []));
   turns = 256;
   trace = pieces 255 (λ k. codes "t0: onexit note x\nt0 = " ++ (decimal k ++ codes "\n")) ++ codes "t0: onexit note x\nt0 ! LE_NOROOM\nspent 256\n";
   halt = Spent;

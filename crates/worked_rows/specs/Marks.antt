@@ -1,7 +1,7 @@
 -- Procedures, handlers and exceptions.
 use Rattle.script_text.specs.declared.script.Halt.TheVariants.{Ended}
 use Rattle.std.specs.Prelude.{[], codes, ◌∷◌}
-use Rattle.worked_rows.specs.Words.{Row, named, plain, pod, procedure}
+use Rattle.worked_rows.specs.Words.{Row, named, plain, pod, procedure, speaking}
 use Rattle.script_text.specs.declared.script.Who.TheVariants as who
 use Rattle.script_text.specs.declared.script.Test.TheVariants as test
 use Rattle.script_text.specs.declared.script.ExitStmt.TheVariants as exit_stmt
@@ -104,11 +104,11 @@ the_last_that_matches = record {
 --   proc p / unhandle
 abbrev pub unhandle_is_refused : Row
 unhandle_is_refused = record {
-  script = pod 1 (named (codes "main" ∷ codes "p" ∷ []) [] [] [])
-      (procedure 0 (stmt.Unhandle ∷ stmt.Handle pattern.All func.Nothing 0 ∷ stmt.OnExit (exit_stmt.Note (codes "x"))
+  script = speaking (codes "x" ∷ []) (pod 1 (named (codes "main" ∷ codes "p" ∷ []) [] [] [])
+      (procedure 0 (stmt.Unhandle ∷ stmt.Handle pattern.All func.Nothing 0 ∷ stmt.OnExit (exit_stmt.Note 0)
       ∷ stmt.Unhandle ∷ stmt.CallProc 1 ∷ [])
       ∷ procedure 1 (stmt.Unhandle ∷ [])
-      ∷ []);
+      ∷ []));
   turns = 100000;
   trace = codes "t0: unhandle\nt0 ! LE_NONEXIST\nt0: handle all - 0\nt0 = 0\nt0: onexit note x\nt0 = 0\nt0: unhandle\nt0 ! LE_INVALIDARG\nt0: call p\nt0 = 0\nt0: unhandle\nt0 ! LE_NONEXIST\nt0: return\nt0 = 0\nt0: return\nexit x0 note x = 0\nt0 dies\npod ends 0\n";
   halt = Ended 0;
@@ -156,10 +156,10 @@ handlers_of_another_thread = record {
 --   proc p / say in / return / say never
 abbrev pub called_and_returned : Row
 called_and_returned = record {
-  script = pod 1 (named (codes "main" ∷ codes "p" ∷ []) [] [] [])
-      (procedure 0 (stmt.CallProc 1 ∷ stmt.Say (codes "back") ∷ stmt.CallProc 1 ∷ [])
-      ∷ procedure 1 (stmt.Say (codes "in") ∷ stmt.Return ∷ stmt.Say (codes "never") ∷ [])
-      ∷ []);
+  script = speaking (codes "back" ∷ codes "in" ∷ codes "never" ∷ []) (pod 1 (named (codes "main" ∷ codes "p" ∷ []) [] [] [])
+      (procedure 0 (stmt.CallProc 1 ∷ stmt.Say 0 ∷ stmt.CallProc 1 ∷ [])
+      ∷ procedure 1 (stmt.Say 1 ∷ stmt.Return ∷ stmt.Say 2 ∷ [])
+      ∷ []));
   turns = 100000;
   trace = codes "t0: call p\nt0 = 0\nt0: say in\nt0 = 0\nt0: return\nt0 = 0\nt0: say back\nt0 = 0\nt0: call p\nt0 = 0\nt0: say in\nt0 = 0\nt0: return\nt0 = 0\nt0: return\nt0 dies\npod ends 0\n";
   halt = Ended 0;
@@ -172,9 +172,9 @@ called_and_returned = record {
 --   proc main / call nowhere / say on
 abbrev pub no_such_procedure : Row
 no_such_procedure = record {
-  script = pod 1 (named (codes "main" ∷ codes "nowhere" ∷ []) [] [] [])
-      (procedure 0 (stmt.CallProc 1 ∷ stmt.Say (codes "on") ∷ [])
-      ∷ []);
+  script = speaking (codes "on" ∷ []) (pod 1 (named (codes "main" ∷ codes "nowhere" ∷ []) [] [] [])
+      (procedure 0 (stmt.CallProc 1 ∷ stmt.Say 0 ∷ [])
+      ∷ []));
   turns = 100000;
   trace = codes "t0: call none\nt0 ! LE_INVALIDARG\nt0: say on\nt0 = 0\nt0: return\nt0 dies\npod ends 0\n";
   halt = Ended 0;
@@ -188,11 +188,11 @@ no_such_procedure = record {
 --   proc p / handle 8 - 0 / raise 7
 abbrev pub caught_in_the_frame_below : Row
 caught_in_the_frame_below = record {
-  script = pod 1 (named (codes "main" ∷ codes "p" ∷ []) [] [] [])
+  script = speaking (codes "after" ∷ []) (pod 1 (named (codes "main" ∷ codes "p" ∷ []) [] [] [])
       (procedure 0 (stmt.Handle (pattern.Num 7) func.Nothing 0 ∷ stmt.Skip test.Caught ∷ stmt.CallProc 1
-      ∷ stmt.Say (codes "after") ∷ stmt.Bound 8 ∷ stmt.Bound 7 ∷ [])
+      ∷ stmt.Say 0 ∷ stmt.Bound 8 ∷ stmt.Bound 7 ∷ [])
       ∷ procedure 1 (stmt.Handle (pattern.Num 8) func.Nothing 0 ∷ stmt.Raise 7 ∷ [])
-      ∷ []);
+      ∷ []));
   turns = 100000;
   trace = codes "t0: handle 7 - 0\nt0 = 0\nt0: call p\nt0 = 0\nt0: handle 8 - 0\nt0 = 0\nt0: raise 7\nt0 caught 7\nt0: say after\nt0 = 0\nt0: bound 8\nt0 ! LE_NONEXIST\nt0: bound 7\nt0 ! LE_NONEXIST\nt0: return\nt0 dies\npod ends 0\n";
   halt = Ended 0;
@@ -208,13 +208,13 @@ caught_in_the_frame_below = record {
 --   proc r / raise 4
 abbrev pub caught_in_the_middle : Row
 caught_in_the_middle = record {
-  script = pod 1 (named (codes "main" ∷ codes "p" ∷ codes "q" ∷ codes "r" ∷ []) [] [] [])
-      (procedure 0 (stmt.CallProc 1 ∷ stmt.Say (codes "last") ∷ [])
-      ∷ procedure 1 (stmt.Handle (pattern.Num 4) func.Nothing 0 ∷ stmt.Skip test.Caught ∷ stmt.CallProc 2 ∷ stmt.Say (codes "here")
+  script = speaking (codes "last" ∷ codes "here" ∷ codes "never" ∷ []) (pod 1 (named (codes "main" ∷ codes "p" ∷ codes "q" ∷ codes "r" ∷ []) [] [] [])
+      (procedure 0 (stmt.CallProc 1 ∷ stmt.Say 0 ∷ [])
+      ∷ procedure 1 (stmt.Handle (pattern.Num 4) func.Nothing 0 ∷ stmt.Skip test.Caught ∷ stmt.CallProc 2 ∷ stmt.Say 1
       ∷ [])
-      ∷ procedure 2 (stmt.CallProc 3 ∷ stmt.Say (codes "never") ∷ [])
+      ∷ procedure 2 (stmt.CallProc 3 ∷ stmt.Say 2 ∷ [])
       ∷ procedure 3 (stmt.Raise 4 ∷ [])
-      ∷ []);
+      ∷ []));
   turns = 100000;
   trace = codes "t0: call p\nt0 = 0\nt0: handle 4 - 0\nt0 = 0\nt0: call q\nt0 = 0\nt0: call r\nt0 = 0\nt0: raise 4\nt0 caught 4\nt0: say here\nt0 = 0\nt0: return\nt0 = 0\nt0: say last\nt0 = 0\nt0: return\nt0 dies\npod ends 0\n";
   halt = Ended 0;
@@ -247,13 +247,13 @@ earlier_handlers_stay = record {
 --   proc p / raise 3
 abbrev pub caught_by_the_third_of_a_frame : Row
 caught_by_the_third_of_a_frame = record {
-  script = pod 1 (named (codes "main" ∷ codes "p" ∷ []) [] [] [])
+  script = speaking (codes "end" ∷ []) (pod 1 (named (codes "main" ∷ codes "p" ∷ []) [] [] [])
       (procedure 0 (stmt.Handle (pattern.Num 1) func.Nothing 0 ∷ stmt.Skip test.Caught
       ∷ stmt.Handle (pattern.Num 2) func.Nothing 0 ∷ stmt.Skip test.Caught
       ∷ stmt.Handle (pattern.Num 3) func.Nothing 0 ∷ stmt.Skip test.Caught ∷ stmt.CallProc 1
-      ∷ stmt.Say (codes "end") ∷ [])
+      ∷ stmt.Say 0 ∷ [])
       ∷ procedure 1 (stmt.Raise 3 ∷ [])
-      ∷ []);
+      ∷ []));
   turns = 100000;
   trace = codes "t0: handle 1 - 0\nt0 = 0\nt0: handle 2 - 0\nt0 = 0\nt0: handle 3 - 0\nt0 = 0\nt0: call p\nt0 = 0\nt0: raise 3\nt0 caught 3\nt0: say end\nt0 = 0\nt0: return\nt0 dies\npod ends 0\n";
   halt = Ended 0;

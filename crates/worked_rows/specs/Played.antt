@@ -7,7 +7,7 @@ use Rattle.pod_runner.specs.declared.session.Took.{Took}
 use Rattle.script_text.specs.Script.{proc_names}
 use Rattle.script_text.specs.declared.script.Script.{Script}
 use Rattle.std.specs.Prelude.{List, None, Some, [], codes, ℕ, ◌≡◌, ◌∷◌}
-use Rattle.worked_rows.specs.Words.{line, named, plain, pod, posted, procedure, took}
+use Rattle.worked_rows.specs.Words.{line, named, plain, pod, posted, procedure, speaking, took}
 use Rattle.lwp_types.specs.declared.call.Mode.TheVariants as mode
 use Rattle.script_text.specs.declared.script.Stmt.TheVariants as stmt
 use Rattle.script_text.specs.declared.script.Who.TheVariants as who
@@ -51,7 +51,7 @@ two turn = took turn 5 (line 0 1 (codes "two"))
 --   post 0 one
 abbrev pub another_awaited : Script
 another_awaited = posted (5 ∷ []) (line 0 0 (codes "one") ∷ [])
-    (pod 1 (named (codes "main" ∷ codes "w" ∷ []) (codes "a" ∷ codes "g" ∷ []) [] [])
+    (speaking (codes "up" ∷ codes "hi" ∷ []) (pod 1 (named (codes "main" ∷ codes "w" ∷ []) (codes "a" ∷ codes "g" ∷ []) [] [])
     (procedure 0 (stmt.Create 0 1 1 plain ∷ stmt.Agent 1 5 ∷ stmt.Recv (Some (who.Named 0)) mode.Block ∷ stmt.Recv None mode.Block ∷ [])
-    ∷ procedure 1 (stmt.Say (codes "up") ∷ stmt.Send who.First 9 (codes "hi") ∷ [])
-    ∷ []))
+    ∷ procedure 1 (stmt.Say 0 ∷ stmt.Send who.First 9 1 ∷ [])
+    ∷ [])))

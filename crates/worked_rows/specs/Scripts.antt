@@ -1,7 +1,7 @@
 -- What the statements of a procedure mean that make no call, what names stand for, and how texts are printed.
 use Rattle.script_text.specs.declared.script.Halt.TheVariants.{Ended}
 use Rattle.std.specs.Prelude.{None, Some, [], codes, ◌++◌, ◌∷◌}
-use Rattle.worked_rows.specs.Words.{Row, limited, longest_x, named, plain, pod, procedure}
+use Rattle.worked_rows.specs.Words.{Row, limited, longest_x, named, plain, pod, procedure, speaking}
 use Rattle.script_text.specs.declared.script.Who.TheVariants as who
 use Rattle.script_text.specs.declared.script.Test.TheVariants as test
 use Rattle.script_text.specs.declared.script.ExitStmt.TheVariants as exit_stmt
@@ -17,13 +17,13 @@ use Rattle.lwp_types.specs.declared.call.Func.TheVariants as func
 --     say yes
 abbrev pub skip_by_the_last_answer : Row
 skip_by_the_last_answer = record {
-  script = pod 1 (named (codes "main" ∷ []) [] [] [])
-      (procedure 0 (stmt.GetExit ∷ stmt.Skip (test.Value 0) ∷ stmt.Say (codes "never") ∷ stmt.SetExit 100 ∷ stmt.Skip test.Fine
-      ∷ stmt.Skip (test.Value 0) ∷ stmt.Skip test.Refused ∷ stmt.Say (codes "never") ∷ stmt.SetExit 7
-      ∷ stmt.Skip test.Caught ∷ stmt.Skip test.Fine ∷ stmt.Say (codes "never") ∷ stmt.GetExit
-      ∷ stmt.Skip (test.Value 7) ∷ stmt.Say (codes "never") ∷ stmt.Skip (test.Value 8) ∷ stmt.Skip test.Refused
-      ∷ stmt.Say (codes "yes") ∷ [])
-      ∷ []);
+  script = speaking (codes "never" ∷ codes "never" ∷ codes "never" ∷ codes "never" ∷ codes "yes" ∷ []) (pod 1 (named (codes "main" ∷ []) [] [] [])
+      (procedure 0 (stmt.GetExit ∷ stmt.Skip (test.Value 0) ∷ stmt.Say 0 ∷ stmt.SetExit 100 ∷ stmt.Skip test.Fine
+      ∷ stmt.Skip (test.Value 0) ∷ stmt.Skip test.Refused ∷ stmt.Say 1 ∷ stmt.SetExit 7
+      ∷ stmt.Skip test.Caught ∷ stmt.Skip test.Fine ∷ stmt.Say 2 ∷ stmt.GetExit
+      ∷ stmt.Skip (test.Value 7) ∷ stmt.Say 3 ∷ stmt.Skip (test.Value 8) ∷ stmt.Skip test.Refused
+      ∷ stmt.Say 4 ∷ [])
+      ∷ []));
   turns = 100000;
   trace = codes "t0: getexit\nt0 = 0\nt0: setexit 100\nt0 ! LE_INVALIDARG\nt0: setexit 7\nt0 = 0\nt0: getexit\nt0 = 7\nt0: say yes\nt0 = 0\nt0: return\nt0 dies\npod ends 7\n";
   halt = Ended 7;
@@ -36,9 +36,9 @@ skip_by_the_last_answer = record {
 --   proc main / say a / skip ok / skip ok / say b
 abbrev pub a_skip_over_a_skip : Row
 a_skip_over_a_skip = record {
-  script = pod 1 (named (codes "main" ∷ []) [] [] [])
-      (procedure 0 (stmt.Say (codes "a") ∷ stmt.Skip test.Fine ∷ stmt.Skip test.Fine ∷ stmt.Say (codes "b") ∷ [])
-      ∷ []);
+  script = speaking (codes "a" ∷ codes "b" ∷ []) (pod 1 (named (codes "main" ∷ []) [] [] [])
+      (procedure 0 (stmt.Say 0 ∷ stmt.Skip test.Fine ∷ stmt.Skip test.Fine ∷ stmt.Say 1 ∷ [])
+      ∷ []));
   turns = 100000;
   trace = codes "t0: say a\nt0 = 0\nt0: say b\nt0 = 0\nt0: return\nt0 dies\npod ends 0\n";
   halt = Ended 0;
@@ -52,10 +52,10 @@ a_skip_over_a_skip = record {
 --   proc p / skip is 1 / skip is 0 / say never / say in
 abbrev pub a_skip_at_the_start : Row
 a_skip_at_the_start = record {
-  script = pod 1 (named (codes "main" ∷ codes "p" ∷ []) [] [] [])
-      (procedure 0 (stmt.Skip (test.Value 0) ∷ stmt.Say (codes "never") ∷ stmt.Say (codes "yes") ∷ stmt.CallProc 1 ∷ [])
-      ∷ procedure 1 (stmt.Skip (test.Value 1) ∷ stmt.Skip (test.Value 0) ∷ stmt.Say (codes "never") ∷ stmt.Say (codes "in") ∷ [])
-      ∷ []);
+  script = speaking (codes "never" ∷ codes "yes" ∷ codes "never" ∷ codes "in" ∷ []) (pod 1 (named (codes "main" ∷ codes "p" ∷ []) [] [] [])
+      (procedure 0 (stmt.Skip (test.Value 0) ∷ stmt.Say 0 ∷ stmt.Say 1 ∷ stmt.CallProc 1 ∷ [])
+      ∷ procedure 1 (stmt.Skip (test.Value 1) ∷ stmt.Skip (test.Value 0) ∷ stmt.Say 2 ∷ stmt.Say 3 ∷ [])
+      ∷ []));
   turns = 100000;
   trace = codes "t0: say yes\nt0 = 0\nt0: call p\nt0 = 0\nt0: say in\nt0 = 0\nt0: return\nt0 = 0\nt0: return\nt0 dies\npod ends 0\n";
   halt = Ended 0;
@@ -68,9 +68,9 @@ a_skip_at_the_start = record {
 --   proc main / say a / skip ok / say never
 abbrev pub a_skip_past_the_end : Row
 a_skip_past_the_end = record {
-  script = pod 1 (named (codes "main" ∷ []) [] [] [])
-      (procedure 0 (stmt.Say (codes "a") ∷ stmt.Skip test.Fine ∷ stmt.Say (codes "never") ∷ [])
-      ∷ []);
+  script = speaking (codes "a" ∷ codes "never" ∷ []) (pod 1 (named (codes "main" ∷ []) [] [] [])
+      (procedure 0 (stmt.Say 0 ∷ stmt.Skip test.Fine ∷ stmt.Say 1 ∷ [])
+      ∷ []));
   turns = 100000;
   trace = codes "t0: say a\nt0 = 0\nt0: return\nt0 dies\npod ends 0\n";
   halt = Ended 0;
@@ -83,10 +83,10 @@ a_skip_past_the_end = record {
 --   proc main / self / skip is 0 / skip ok / say never / say yes
 abbrev pub an_id_is_no_value : Row
 an_id_is_no_value = record {
-  script = pod 1 (named (codes "main" ∷ []) [] [] [])
-      (procedure 0 (stmt.Me ∷ stmt.Skip (test.Value 0) ∷ stmt.Skip test.Fine ∷ stmt.Say (codes "never") ∷ stmt.Say (codes "yes")
+  script = speaking (codes "never" ∷ codes "yes" ∷ []) (pod 1 (named (codes "main" ∷ []) [] [] [])
+      (procedure 0 (stmt.Me ∷ stmt.Skip (test.Value 0) ∷ stmt.Skip test.Fine ∷ stmt.Say 0 ∷ stmt.Say 1
       ∷ [])
-      ∷ []);
+      ∷ []));
   turns = 100000;
   trace = codes "t0: self\nt0 = t0\nt0: say yes\nt0 = 0\nt0: return\nt0 dies\npod ends 0\n";
   halt = Ended 0;
@@ -116,10 +116,10 @@ again_until_skipped = record {
 --   proc main / handle 0 - 0 / handle 5 - 0 / skip caught / raise 5 / say end
 abbrev pub a_refused_handle_has_no_place : Row
 a_refused_handle_has_no_place = record {
-  script = pod 1 (named (codes "main" ∷ []) [] [] [])
+  script = speaking (codes "end" ∷ []) (pod 1 (named (codes "main" ∷ []) [] [] [])
       (procedure 0 (stmt.Handle (pattern.Num 0) func.Nothing 0 ∷ stmt.Handle (pattern.Num 5) func.Nothing 0
-      ∷ stmt.Skip test.Caught ∷ stmt.Raise 5 ∷ stmt.Say (codes "end") ∷ [])
-      ∷ []);
+      ∷ stmt.Skip test.Caught ∷ stmt.Raise 5 ∷ stmt.Say 0 ∷ [])
+      ∷ []));
   turns = 100000;
   trace = codes "t0: handle 0 - 0\nt0 ! LE_INVALIDARG\nt0: handle 5 - 0\nt0 = 0\nt0: raise 5\nt0 caught 5\nt0: say end\nt0 = 0\nt0: return\nt0 dies\npod ends 0\n";
   halt = Ended 0;
@@ -132,11 +132,11 @@ a_refused_handle_has_no_place = record {
 --   proc main / handle 1 - 0 / skip caught / handle 2 - 0 / skip caught / unhandle / skip caught / raise 1 / say end
 abbrev pub a_removed_handler_has_no_place : Row
 a_removed_handler_has_no_place = record {
-  script = pod 1 (named (codes "main" ∷ []) [] [] [])
+  script = speaking (codes "end" ∷ []) (pod 1 (named (codes "main" ∷ []) [] [] [])
       (procedure 0 (stmt.Handle (pattern.Num 1) func.Nothing 0 ∷ stmt.Skip test.Caught
       ∷ stmt.Handle (pattern.Num 2) func.Nothing 0 ∷ stmt.Skip test.Caught ∷ stmt.Unhandle ∷ stmt.Skip test.Caught
-      ∷ stmt.Raise 1 ∷ stmt.Say (codes "end") ∷ [])
-      ∷ []);
+      ∷ stmt.Raise 1 ∷ stmt.Say 0 ∷ [])
+      ∷ []));
   turns = 100000;
   trace = codes "t0: handle 1 - 0\nt0 = 0\nt0: handle 2 - 0\nt0 = 0\nt0: unhandle\nt0 = 0\nt0: raise 1\nt0 caught 1\nt0: say end\nt0 = 0\nt0: return\nt0 dies\npod ends 0\n";
   halt = Ended 0;
@@ -217,12 +217,12 @@ names_of_three_kinds = record {
 --   proc r / recv any wait / ping sender / reply sender ok / ping sender / recv any poll / ping sender
 abbrev pub each_thread_has_its_sender : Row
 each_thread_has_its_sender = record {
-  script = pod 1 (named (codes "main" ∷ codes "r" ∷ []) (codes "a" ∷ []) [] [])
-      (procedure 0 (stmt.Create 0 1 1 plain ∷ stmt.Ping who.Sender ∷ stmt.Send (who.Named 0) 9 (codes "hi") ∷ stmt.Ping who.Sender
+  script = speaking (codes "hi" ∷ codes "ok" ∷ []) (pod 1 (named (codes "main" ∷ codes "r" ∷ []) (codes "a" ∷ []) [] [])
+      (procedure 0 (stmt.Create 0 1 1 plain ∷ stmt.Ping who.Sender ∷ stmt.Send (who.Named 0) 9 0 ∷ stmt.Ping who.Sender
       ∷ [])
-      ∷ procedure 1 (stmt.Recv None mode.Block ∷ stmt.Ping who.Sender ∷ stmt.Reply who.Sender (codes "ok") ∷ stmt.Ping who.Sender
+      ∷ procedure 1 (stmt.Recv None mode.Block ∷ stmt.Ping who.Sender ∷ stmt.Reply who.Sender 1 ∷ stmt.Ping who.Sender
       ∷ stmt.Recv None mode.Poll ∷ stmt.Ping who.Sender ∷ [])
-      ∷ []);
+      ∷ []));
   turns = 100000;
   trace = codes "t0: create r 1 -\nt0 = t1\nt0: ping none\nt0 ! LE_NONEXIST\nt0: send t1 9 hi\nt1: recv any wait\nt1 = letter t0 9 hi\nt1: ping t0\nt1 = 0\nt1: reply t0 ok\nt0 = reply ok\nt1 = 0\nt1: ping t0\nt1 = 0\nt1: recv any poll\nt1 ! LE_TIMEOUT\nt1: ping t0\nt1 = 0\nt1: return\nt1 dies\nt0: ping none\nt0 ! LE_NONEXIST\nt0: return\nt0 dies\npod ends 0\n";
   halt = Ended 0;
@@ -253,9 +253,9 @@ the_caller_prints_as_self = record {
 --   proc main / say / say  two / say a  b / say xx..x
 abbrev pub texts : Row
 texts = record {
-  script = pod 1 (named (codes "main" ∷ []) [] [] [])
-      (procedure 0 (stmt.Say [] ∷ stmt.Say (codes " two") ∷ stmt.Say (codes "a  b") ∷ stmt.Say longest_x ∷ [])
-      ∷ []);
+  script = speaking ([] ∷ codes " two" ∷ codes "a  b" ∷ longest_x ∷ []) (pod 1 (named (codes "main" ∷ []) [] [] [])
+      (procedure 0 (stmt.Say 0 ∷ stmt.Say 1 ∷ stmt.Say 2 ∷ stmt.Say 3 ∷ [])
+      ∷ []));
   turns = 100000;
   trace = codes "t0: say\nt0 = 0\nt0: say  two\nt0 = 0\nt0: say a  b\nt0 = 0\nt0: say " ++ (longest_x ++ codes "\nt0 = 0\nt0: return\nt0 dies\npod ends 0\n");
   halt = Ended 0;

@@ -1,7 +1,7 @@
 -- The line server: sessions, which serve a client each, and the store.
 use Rattle.script_text.specs.declared.script.Halt.TheVariants.{Ended}
 use Rattle.std.specs.Prelude.{None, [], codes, ◌∷◌}
-use Rattle.worked_rows.specs.Words.{Row, built_in, line, named, plain, pod, posted, procedure, serving, took, with_natives}
+use Rattle.worked_rows.specs.Words.{Row, built_in, line, named, plain, pod, posted, procedure, serving, speaking, took, with_natives}
 use Rattle.script_text.specs.declared.script.Who.TheVariants as who
 use Rattle.script_text.specs.declared.script.Stmt.TheVariants as stmt
 use Rattle.script_text.specs.declared.script.NativeKind.TheVariants as native
@@ -137,15 +137,15 @@ a_session_without_an_agent = record {
 abbrev pub commands_of_the_store : Row
 commands_of_the_store = record {
   script = with_natives (built_in 0 native.Store ∷ [])
-      (pod 1 (named (codes "st" ∷ codes "main" ∷ []) (codes "db" ∷ []) [] [])
-      (procedure 1 (stmt.Create 0 0 1 serving ∷ stmt.Send (who.Named 0) 240 (codes "get k")
-      ∷ stmt.Send (who.Named 0) 240 (codes "put k v w") ∷ stmt.Send (who.Named 0) 240 (codes "get k")
-      ∷ stmt.Send (who.Named 0) 240 (codes "put k") ∷ stmt.Send (who.Named 0) 240 (codes "get k")
-      ∷ stmt.Send (who.Named 0) 240 (codes "put k  x") ∷ stmt.Send (who.Named 0) 240 (codes "get k")
-      ∷ stmt.Send (who.Named 0) 240 (codes "del k") ∷ stmt.Send (who.Named 0) 240 (codes "del k")
-      ∷ stmt.Send (who.Named 0) 240 (codes "get k") ∷ stmt.Send (who.Named 0) 240 (codes "put k ")
-      ∷ stmt.Send (who.Named 0) 240 (codes "quit") ∷ [])
-      ∷ []));
+      (speaking (codes "get k" ∷ codes "put k v w" ∷ codes "get k" ∷ codes "put k" ∷ codes "get k" ∷ codes "put k  x" ∷ codes "get k" ∷ codes "del k" ∷ codes "del k" ∷ codes "get k" ∷ codes "put k " ∷ codes "quit" ∷ []) (pod 1 (named (codes "st" ∷ codes "main" ∷ []) (codes "db" ∷ []) [] [])
+      (procedure 1 (stmt.Create 0 0 1 serving ∷ stmt.Send (who.Named 0) 240 0
+      ∷ stmt.Send (who.Named 0) 240 1 ∷ stmt.Send (who.Named 0) 240 2
+      ∷ stmt.Send (who.Named 0) 240 3 ∷ stmt.Send (who.Named 0) 240 4
+      ∷ stmt.Send (who.Named 0) 240 5 ∷ stmt.Send (who.Named 0) 240 6
+      ∷ stmt.Send (who.Named 0) 240 7 ∷ stmt.Send (who.Named 0) 240 8
+      ∷ stmt.Send (who.Named 0) 240 9 ∷ stmt.Send (who.Named 0) 240 10
+      ∷ stmt.Send (who.Named 0) 240 11 ∷ [])
+      ∷ [])));
   turns = 100000;
   trace = codes "t0: create st 1 v\nt0 = t1\nt0: send t1 240 get k\nt1: recv any wait\nt1 = letter t0 240 get k\nt1: reply t0 none\nt0 = reply none\nt1 = 0\nt1: recv any wait\nt0: send t1 240 put k v w\nt1 = letter t0 240 put k v w\nt1: reply t0 ok\nt0 = reply ok\nt1 = 0\nt1: recv any wait\nt0: send t1 240 get k\nt1 = letter t0 240 get k\nt1: reply t0 is v w\nt0 = reply is v w\nt1 = 0\nt1: recv any wait\nt0: send t1 240 put k\nt1 = letter t0 240 put k\nt1: reply t0 ok\nt0 = reply ok\nt1 = 0\nt1: recv any wait\nt0: send t1 240 get k\nt1 = letter t0 240 get k\nt1: reply t0 is\nt0 = reply is\nt1 = 0\nt1: recv any wait\nt0: send t1 240 put k  x\nt1 = letter t0 240 put k  x\nt1: reply t0 ok\nt0 = reply ok\nt1 = 0\nt1: recv any wait\nt0: send t1 240 get k\nt1 = letter t0 240 get k\nt1: reply t0 is  x\nt0 = reply is  x\nt1 = 0\nt1: recv any wait\nt0: send t1 240 del k\nt1 = letter t0 240 del k\nt1: reply t0 ok\nt0 = reply ok\nt1 = 0\nt1: recv any wait\nt0: send t1 240 del k\nt1 = letter t0 240 del k\nt1: reply t0 none\nt0 = reply none\nt1 = 0\nt1: recv any wait\nt0: send t1 240 get k\nt1 = letter t0 240 get k\nt1: reply t0 none\nt0 = reply none\nt1 = 0\nt1: recv any wait\nt0: send t1 240 put k \nt1 = letter t0 240 put k \nt1: reply t0 bad\nt0 = reply bad\nt1 = 0\nt1: recv any wait\nt0: send t1 240 quit\nt1 = letter t0 240 quit\nt1: reply t0 bad\nt0 = reply bad\nt1 = 0\nt1: recv any wait\nt0: return\nt0 dies\npod ends 0\n";
   halt = Ended 0;
@@ -161,11 +161,11 @@ commands_of_the_store = record {
 abbrev pub a_table_for_each_sender : Row
 a_table_for_each_sender = record {
   script = with_natives (built_in 0 native.Store ∷ [])
-      (pod 1 (named (codes "st" ∷ codes "main" ∷ codes "w" ∷ []) (codes "db" ∷ codes "x" ∷ []) [] [])
-      (procedure 1 (stmt.Create 0 0 1 serving ∷ stmt.Send (who.Named 0) 240 (codes "put k a") ∷ stmt.Create 1 2 1 plain
-      ∷ stmt.Join (who.Named 1) ∷ stmt.Send (who.Named 0) 240 (codes "get k") ∷ [])
-      ∷ procedure 2 (stmt.Send (who.Named 0) 240 (codes "get k") ∷ stmt.Send (who.Named 0) 240 (codes "put k b") ∷ [])
-      ∷ []));
+      (speaking (codes "put k a" ∷ codes "get k" ∷ codes "get k" ∷ codes "put k b" ∷ []) (pod 1 (named (codes "st" ∷ codes "main" ∷ codes "w" ∷ []) (codes "db" ∷ codes "x" ∷ []) [] [])
+      (procedure 1 (stmt.Create 0 0 1 serving ∷ stmt.Send (who.Named 0) 240 0 ∷ stmt.Create 1 2 1 plain
+      ∷ stmt.Join (who.Named 1) ∷ stmt.Send (who.Named 0) 240 1 ∷ [])
+      ∷ procedure 2 (stmt.Send (who.Named 0) 240 2 ∷ stmt.Send (who.Named 0) 240 3 ∷ [])
+      ∷ [])));
   turns = 100000;
   trace = codes "t0: create st 1 v\nt0 = t1\nt0: send t1 240 put k a\nt1: recv any wait\nt1 = letter t0 240 put k a\nt1: reply t0 ok\nt0 = reply ok\nt1 = 0\nt1: recv any wait\nt0: create w 1 -\nt0 = t2\nt0: join t2\nt2: send t1 240 get k\nt1 = letter t2 240 get k\nt1: reply t2 none\nt2 = reply none\nt1 = 0\nt1: recv any wait\nt2: send t1 240 put k b\nt1 = letter t2 240 put k b\nt1: reply t2 ok\nt2 = reply ok\nt1 = 0\nt1: recv any wait\nt2: return\nt0 = 0\nt2 dies\nt0: send t1 240 get k\nt1 = letter t0 240 get k\nt1: reply t0 is a\nt0 = reply is a\nt1 = 0\nt1: recv any wait\nt0: return\nt0 dies\npod ends 0\n";
   halt = Ended 0;
@@ -180,10 +180,10 @@ a_table_for_each_sender = record {
 abbrev pub a_reply_without_room : Row
 a_reply_without_room = record {
   script = with_natives (built_in 0 native.Store ∷ [])
-      (pod 1 (named (codes "st" ∷ codes "main" ∷ []) (codes "db" ∷ []) [] [])
-      (procedure 1 (stmt.Create 0 0 1 serving ∷ stmt.Send (who.Named 0) 1 (codes "put k v")
-      ∷ stmt.Send (who.Named 0) 4 (codes "get k") ∷ [])
-      ∷ []));
+      (speaking (codes "put k v" ∷ codes "get k" ∷ []) (pod 1 (named (codes "st" ∷ codes "main" ∷ []) (codes "db" ∷ []) [] [])
+      (procedure 1 (stmt.Create 0 0 1 serving ∷ stmt.Send (who.Named 0) 1 0
+      ∷ stmt.Send (who.Named 0) 4 1 ∷ [])
+      ∷ [])));
   turns = 100000;
   trace = codes "t0: create st 1 v\nt0 = t1\nt0: send t1 1 put k v\nt1: recv any wait\nt1 = letter t0 1 put k v\nt1: reply t0 ok\nt1 ! LE_INVALIDARG\nt1: reply t0\nt0 = reply\nt1 = 0\nt1: recv any wait\nt0: send t1 4 get k\nt1 = letter t0 4 get k\nt1: reply t0 is v\nt0 = reply is v\nt1 = 0\nt1: recv any wait\nt0: return\nt0 dies\npod ends 0\n";
   halt = Ended 0;

@@ -1,7 +1,7 @@
 -- Threads: how they are created, told apart, ordered, suspended and joined.
 use Rattle.script_text.specs.declared.script.Halt.TheVariants.{Ended, Stuck}
 use Rattle.std.specs.Prelude.{Some, [], codes, false, true, ◌∷◌}
-use Rattle.worked_rows.specs.Words.{Row, asleep, limited, named, plain, pod, procedure}
+use Rattle.worked_rows.specs.Words.{Row, asleep, limited, named, plain, pod, procedure, speaking}
 use Rattle.script_text.specs.declared.script.Who.TheVariants as who
 use Rattle.script_text.specs.declared.script.Test.TheVariants as test
 use Rattle.script_text.specs.declared.script.Stmt.TheVariants as stmt
@@ -13,10 +13,10 @@ use Rattle.lwp_types.specs.declared.call.Mode.TheVariants as mode
 --   proc worker / say hi
 abbrev pub first_run : Row
 first_run = record {
-  script = pod 1 (named (codes "main" ∷ codes "worker" ∷ []) (codes "a" ∷ []) [] [])
+  script = speaking (codes "hi" ∷ []) (pod 1 (named (codes "main" ∷ codes "worker" ∷ []) (codes "a" ∷ []) [] [])
       (procedure 0 (stmt.Create 0 1 1 plain ∷ stmt.Yield who.Me ∷ [])
-      ∷ procedure 1 (stmt.Say (codes "hi") ∷ [])
-      ∷ []);
+      ∷ procedure 1 (stmt.Say 0 ∷ [])
+      ∷ []));
   turns = 100000;
   trace = codes "t0: create worker 1 -\nt0 = t1\nt0: yield self\nt0 = 0\nt1: say hi\nt1 = 0\nt1: return\nt1 dies\nt0: return\nt0 dies\npod ends 0\n";
   halt = Ended 0;
@@ -80,11 +80,11 @@ priorities_at_both_ends = record {
 --   proc x / say last
 abbrev pub preemption_keeps_place : Row
 preemption_keeps_place = record {
-  script = pod 2 (named (codes "main" ∷ codes "w" ∷ codes "x" ∷ []) (codes "a" ∷ codes "b" ∷ []) [] [])
-      (procedure 0 (stmt.Create 0 1 1 plain ∷ stmt.Create 1 2 1 plain ∷ stmt.SetPri who.Me 1 ∷ stmt.Say (codes "back") ∷ [])
-      ∷ procedure 1 (stmt.SetPri who.First 2 ∷ stmt.Say (codes "mid") ∷ [])
-      ∷ procedure 2 (stmt.Say (codes "last") ∷ [])
-      ∷ []);
+  script = speaking (codes "back" ∷ codes "mid" ∷ codes "last" ∷ []) (pod 2 (named (codes "main" ∷ codes "w" ∷ codes "x" ∷ []) (codes "a" ∷ codes "b" ∷ []) [] [])
+      (procedure 0 (stmt.Create 0 1 1 plain ∷ stmt.Create 1 2 1 plain ∷ stmt.SetPri who.Me 1 ∷ stmt.Say 0 ∷ [])
+      ∷ procedure 1 (stmt.SetPri who.First 2 ∷ stmt.Say 1 ∷ [])
+      ∷ procedure 2 (stmt.Say 2 ∷ [])
+      ∷ []));
   turns = 100000;
   trace = codes "t0: create w 1 -\nt0 = t1\nt0: create x 1 -\nt0 = t2\nt0: setpri self 1\nt0 = 2\nt1: setpri t0 2\nt1 = 1\nt0: say back\nt0 = 0\nt0: return\nt0 dies\nt1: say mid\nt1 = 0\nt1: return\nt1 dies\nt2: say last\nt2 = 0\nt2: return\nt2 dies\npod ends 0\n";
   halt = Ended 0;
@@ -98,10 +98,10 @@ preemption_keeps_place = record {
 --   proc w / say run
 abbrev pub yield_to_one : Row
 yield_to_one = record {
-  script = pod 1 (named (codes "main" ∷ codes "w" ∷ []) (codes "a" ∷ codes "b" ∷ []) [] [])
-      (procedure 0 (stmt.Create 0 1 1 plain ∷ stmt.Create 1 1 1 plain ∷ stmt.Yield (who.Named 1) ∷ stmt.Say (codes "two") ∷ [])
-      ∷ procedure 1 (stmt.Say (codes "run") ∷ [])
-      ∷ []);
+  script = speaking (codes "two" ∷ codes "run" ∷ []) (pod 1 (named (codes "main" ∷ codes "w" ∷ []) (codes "a" ∷ codes "b" ∷ []) [] [])
+      (procedure 0 (stmt.Create 0 1 1 plain ∷ stmt.Create 1 1 1 plain ∷ stmt.Yield (who.Named 1) ∷ stmt.Say 0 ∷ [])
+      ∷ procedure 1 (stmt.Say 1 ∷ [])
+      ∷ []));
   turns = 100000;
   trace = codes "t0: create w 1 -\nt0 = t1\nt0: create w 1 -\nt0 = t2\nt0: yield t2\nt0 = 0\nt2: say run\nt2 = 0\nt2: return\nt2 dies\nt0: say two\nt0 = 0\nt0: return\nt0 dies\nt1: say run\nt1 = 0\nt1: return\nt1 dies\npod ends 0\n";
   halt = Ended 0;
@@ -116,12 +116,12 @@ yield_to_one = record {
 --   proc j / join a / say up
 abbrev pub two_joiners : Row
 two_joiners = record {
-  script = pod 1 (named (codes "main" ∷ codes "w" ∷ codes "j" ∷ []) (codes "a" ∷ codes "b" ∷ codes "c" ∷ []) [] [])
+  script = speaking (codes "up" ∷ []) (pod 1 (named (codes "main" ∷ codes "w" ∷ codes "j" ∷ []) (codes "a" ∷ codes "b" ∷ codes "c" ∷ []) [] [])
       (procedure 0 (stmt.Create 0 1 1 plain ∷ stmt.Create 1 2 1 plain ∷ stmt.Create 2 2 1 plain ∷ stmt.Yield who.Me
       ∷ stmt.Suspend (who.Named 2) ∷ stmt.Yield who.Me ∷ stmt.Resume (who.Named 2) ∷ [])
       ∷ procedure 1 (stmt.Yield who.Me ∷ [])
-      ∷ procedure 2 (stmt.Join (who.Named 0) ∷ stmt.Say (codes "up") ∷ [])
-      ∷ []);
+      ∷ procedure 2 (stmt.Join (who.Named 0) ∷ stmt.Say 0 ∷ [])
+      ∷ []));
   turns = 100000;
   trace = codes "t0: create w 1 -\nt0 = t1\nt0: create j 1 -\nt0 = t2\nt0: create j 1 -\nt0 = t3\nt0: yield self\nt0 = 0\nt1: yield self\nt1 = 0\nt2: join t1\nt3: join t1\nt0: suspend t3\nt0 = 0\nt0: yield self\nt0 = 0\nt1: return\nt2 = 0\nt3 = 0\nt1 dies\nt0: resume t3\nt0 = 0\nt0: return\nt0 dies\nt2: say up\nt2 = 0\nt2: return\nt2 dies\nt3: say up\nt3 = 0\nt3: return\nt3 dies\npod ends 0\n";
   halt = Ended 0;
@@ -222,11 +222,11 @@ an_agent_is_a_birth = record {
 --   proc w / say hi
 abbrev pub created_suspended : Row
 created_suspended = record {
-  script = pod 1 (named (codes "main" ∷ codes "w" ∷ []) (codes "a" ∷ []) [] [])
-      (procedure 0 (stmt.Create 0 1 1 asleep ∷ stmt.Yield who.Me ∷ stmt.Say (codes "one") ∷ stmt.Resume (who.Named 0)
-      ∷ stmt.Yield who.Me ∷ stmt.Say (codes "two") ∷ [])
-      ∷ procedure 1 (stmt.Say (codes "hi") ∷ [])
-      ∷ []);
+  script = speaking (codes "one" ∷ codes "two" ∷ codes "hi" ∷ []) (pod 1 (named (codes "main" ∷ codes "w" ∷ []) (codes "a" ∷ []) [] [])
+      (procedure 0 (stmt.Create 0 1 1 asleep ∷ stmt.Yield who.Me ∷ stmt.Say 0 ∷ stmt.Resume (who.Named 0)
+      ∷ stmt.Yield who.Me ∷ stmt.Say 1 ∷ [])
+      ∷ procedure 1 (stmt.Say 2 ∷ [])
+      ∷ []));
   turns = 100000;
   trace = codes "t0: create w 1 s\nt0 = t1\nt0: yield self\nt0 = 0\nt0: say one\nt0 = 0\nt0: resume t1\nt0 = 0\nt0: yield self\nt0 = 0\nt1: say hi\nt1 = 0\nt1: return\nt1 dies\nt0: say two\nt0 = 0\nt0: return\nt0 dies\npod ends 0\n";
   halt = Ended 0;
@@ -282,10 +282,10 @@ ping_finds_threads_and_agents = record {
 --   proc w / destroy self / say never
 abbrev pub destroying_itself : Row
 destroying_itself = record {
-  script = pod 1 (named (codes "main" ∷ codes "w" ∷ []) (codes "a" ∷ []) [] [])
-      (procedure 0 (stmt.Destroy who.Nobody ∷ stmt.Create 0 1 1 plain ∷ stmt.Yield who.Me ∷ stmt.Say (codes "left") ∷ [])
-      ∷ procedure 1 (stmt.Destroy who.Me ∷ stmt.Say (codes "never") ∷ [])
-      ∷ []);
+  script = speaking (codes "left" ∷ codes "never" ∷ []) (pod 1 (named (codes "main" ∷ codes "w" ∷ []) (codes "a" ∷ []) [] [])
+      (procedure 0 (stmt.Destroy who.Nobody ∷ stmt.Create 0 1 1 plain ∷ stmt.Yield who.Me ∷ stmt.Say 0 ∷ [])
+      ∷ procedure 1 (stmt.Destroy who.Me ∷ stmt.Say 1 ∷ [])
+      ∷ []));
   turns = 100000;
   trace = codes "t0: destroy none\nt0 ! LE_NONEXIST\nt0: create w 1 -\nt0 = t1\nt0: yield self\nt0 = 0\nt1: destroy self\nt1 dies\nt0: say left\nt0 = 0\nt0: return\nt0 dies\npod ends 0\n";
   halt = Ended 0;
@@ -299,10 +299,10 @@ destroying_itself = record {
 --   proc w / self / destroy first / say on
 abbrev pub the_first_thread_may_die_first : Row
 the_first_thread_may_die_first = record {
-  script = pod 1 (named (codes "main" ∷ codes "w" ∷ []) (codes "a" ∷ []) [] [])
-      (procedure 0 (stmt.Me ∷ stmt.Create 0 1 1 plain ∷ stmt.Yield who.Me ∷ stmt.Say (codes "never") ∷ [])
-      ∷ procedure 1 (stmt.Me ∷ stmt.Destroy who.First ∷ stmt.Say (codes "on") ∷ [])
-      ∷ []);
+  script = speaking (codes "never" ∷ codes "on" ∷ []) (pod 1 (named (codes "main" ∷ codes "w" ∷ []) (codes "a" ∷ []) [] [])
+      (procedure 0 (stmt.Me ∷ stmt.Create 0 1 1 plain ∷ stmt.Yield who.Me ∷ stmt.Say 0 ∷ [])
+      ∷ procedure 1 (stmt.Me ∷ stmt.Destroy who.First ∷ stmt.Say 1 ∷ [])
+      ∷ []));
   turns = 100000;
   trace = codes "t0: self\nt0 = t0\nt0: create w 1 -\nt0 = t1\nt0: yield self\nt0 = 0\nt1: self\nt1 = t1\nt1: destroy t0\nt0 dies\nt1 = 0\nt1: say on\nt1 = 0\nt1: return\nt1 dies\npod ends 0\n";
   halt = Ended 0;
@@ -335,13 +335,13 @@ threads_in_birth_order = record {
 --   proc w
 abbrev pub calls_that_name_the_dead : Row
 calls_that_name_the_dead = record {
-  script = pod 1 (named (codes "main" ∷ codes "w" ∷ []) (codes "a" ∷ []) [] [])
+  script = speaking (codes "x" ∷ codes "x" ∷ []) (pod 1 (named (codes "main" ∷ codes "w" ∷ []) (codes "a" ∷ []) [] [])
       (procedure 0 (stmt.Create 0 1 1 plain ∷ stmt.Destroy (who.Named 0) ∷ stmt.Destroy (who.Named 0) ∷ stmt.Ping (who.Named 0)
       ∷ stmt.Yield (who.Named 0) ∷ stmt.SetPri (who.Named 0) 1 ∷ stmt.Suspend (who.Named 0)
-      ∷ stmt.Resume (who.Named 0) ∷ stmt.Join (who.Named 0) ∷ stmt.Send (who.Named 0) 1 (codes "x")
-      ∷ stmt.Recv (Some (who.Named 0)) mode.Block ∷ stmt.Reply (who.Named 0) (codes "x") ∷ [])
+      ∷ stmt.Resume (who.Named 0) ∷ stmt.Join (who.Named 0) ∷ stmt.Send (who.Named 0) 1 0
+      ∷ stmt.Recv (Some (who.Named 0)) mode.Block ∷ stmt.Reply (who.Named 0) 1 ∷ [])
       ∷ procedure 1 []
-      ∷ []);
+      ∷ []));
   turns = 100000;
   trace = codes "t0: create w 1 -\nt0 = t1\nt0: destroy t1\nt1 dies\nt0 = 0\nt0: destroy t1\nt0 ! LE_NONEXIST\nt0: ping t1\nt0 ! LE_NONEXIST\nt0: yield t1\nt0 ! LE_NONEXIST\nt0: setpri t1 1\nt0 ! LE_NONEXIST\nt0: suspend t1\nt0 ! LE_NONEXIST\nt0: resume t1\nt0 ! LE_NONEXIST\nt0: join t1\nt0 ! LE_NONEXIST\nt0: send t1 1 x\nt0 ! LE_NONEXIST\nt0: recv t1 wait\nt0 ! LE_NONEXIST\nt0: reply t1 x\nt0 ! LE_NONEXIST\nt0: return\nt0 dies\npod ends 0\n";
   halt = Ended 0;
@@ -354,11 +354,11 @@ calls_that_name_the_dead = record {
 --   proc main / agent g 1 / yield g / setpri g 1 / suspend g / resume g / join g / send g 1 x / ping g
 abbrev pub calls_that_take_no_agent : Row
 calls_that_take_no_agent = record {
-  script = pod 1 (named (codes "main" ∷ []) (codes "g" ∷ []) [] [])
+  script = speaking (codes "x" ∷ []) (pod 1 (named (codes "main" ∷ []) (codes "g" ∷ []) [] [])
       (procedure 0 (stmt.Agent 0 1 ∷ stmt.Yield (who.Named 0) ∷ stmt.SetPri (who.Named 0) 1 ∷ stmt.Suspend (who.Named 0)
-      ∷ stmt.Resume (who.Named 0) ∷ stmt.Join (who.Named 0) ∷ stmt.Send (who.Named 0) 1 (codes "x")
+      ∷ stmt.Resume (who.Named 0) ∷ stmt.Join (who.Named 0) ∷ stmt.Send (who.Named 0) 1 0
       ∷ stmt.Ping (who.Named 0) ∷ [])
-      ∷ []);
+      ∷ []));
   turns = 100000;
   trace = codes "t0: agent 1\nt0 = t1\nt0: yield t1\nt0 ! LE_NONEXIST\nt0: setpri t1 1\nt0 ! LE_NONEXIST\nt0: suspend t1\nt0 ! LE_NONEXIST\nt0: resume t1\nt0 ! LE_NONEXIST\nt0: join t1\nt0 ! LE_NONEXIST\nt0: send t1 1 x\nt0 ! LE_NONEXIST\nt0: ping t1\nt0 = 0\nt0: return\nt0 dies\npod ends 0\n";
   halt = Ended 0;
@@ -411,10 +411,10 @@ resched_moves_the_first = record {
 --   proc w / say early
 abbrev pub resched_lets_an_equal_run : Row
 resched_lets_an_equal_run = record {
-  script = pod 1 (named (codes "main" ∷ codes "w" ∷ []) (codes "a" ∷ []) [] [])
-      (procedure 0 (stmt.Create 0 1 1 plain ∷ stmt.Resched 1 ∷ stmt.Say (codes "late") ∷ [])
-      ∷ procedure 1 (stmt.Say (codes "early") ∷ [])
-      ∷ []);
+  script = speaking (codes "late" ∷ codes "early" ∷ []) (pod 1 (named (codes "main" ∷ codes "w" ∷ []) (codes "a" ∷ []) [] [])
+      (procedure 0 (stmt.Create 0 1 1 plain ∷ stmt.Resched 1 ∷ stmt.Say 0 ∷ [])
+      ∷ procedure 1 (stmt.Say 1 ∷ [])
+      ∷ []));
   turns = 100000;
   trace = codes "t0: create w 1 -\nt0 = t1\nt0: resched 1\nt0 = 0\nt1: say early\nt1 = 0\nt1: return\nt1 dies\nt0: say late\nt0 = 0\nt0: return\nt0 dies\npod ends 0\n";
   halt = Ended 0;
@@ -459,10 +459,10 @@ setpri_is_refused_in_order = record {
 --   proc w
 abbrev pub setpri_to_the_same : Row
 setpri_to_the_same = record {
-  script = pod 1 (named (codes "main" ∷ codes "w" ∷ []) (codes "a" ∷ []) [] [])
-      (procedure 0 (stmt.Create 0 1 1 plain ∷ stmt.SetPri who.Me 1 ∷ stmt.Say (codes "still") ∷ [])
+  script = speaking (codes "still" ∷ []) (pod 1 (named (codes "main" ∷ codes "w" ∷ []) (codes "a" ∷ []) [] [])
+      (procedure 0 (stmt.Create 0 1 1 plain ∷ stmt.SetPri who.Me 1 ∷ stmt.Say 0 ∷ [])
       ∷ procedure 1 []
-      ∷ []);
+      ∷ []));
   turns = 100000;
   trace = codes "t0: create w 1 -\nt0 = t1\nt0: setpri self 1\nt0 = 1\nt0: say still\nt0 = 0\nt0: return\nt0 dies\nt1: return\nt1 dies\npod ends 0\n";
   halt = Ended 0;
@@ -493,11 +493,11 @@ setpri_goes_last = record {
 --   proc w / say up
 abbrev pub setpri_of_a_suspended_thread : Row
 setpri_of_a_suspended_thread = record {
-  script = pod 2 (named (codes "main" ∷ codes "w" ∷ []) (codes "a" ∷ []) [] [])
+  script = speaking (codes "on" ∷ codes "up" ∷ []) (pod 2 (named (codes "main" ∷ codes "w" ∷ []) (codes "a" ∷ []) [] [])
       (procedure 0 (stmt.Create 0 1 1 asleep ∷ stmt.SetPri (who.Named 0) 2 ∷ stmt.Yield who.Me ∷ stmt.Resume (who.Named 0)
-      ∷ stmt.Say (codes "on") ∷ stmt.Yield who.Me ∷ [])
-      ∷ procedure 1 (stmt.Say (codes "up") ∷ [])
-      ∷ []);
+      ∷ stmt.Say 0 ∷ stmt.Yield who.Me ∷ [])
+      ∷ procedure 1 (stmt.Say 1 ∷ [])
+      ∷ []));
   turns = 100000;
   trace = codes "t0: create w 1 s\nt0 = t1\nt0: setpri t1 2\nt0 = 1\nt0: yield self\nt0 = 0\nt0: resume t1\nt0 = 0\nt0: say on\nt0 = 0\nt0: yield self\nt0 = 0\nt1: say up\nt1 = 0\nt1: return\nt1 dies\nt0: return\nt0 dies\npod ends 0\n";
   halt = Ended 0;
@@ -512,11 +512,11 @@ setpri_of_a_suspended_thread = record {
 --   proc w / say high
 abbrev pub the_greatest_priority_only_grows : Row
 the_greatest_priority_only_grows = record {
-  script = pod 3 (named (codes "main" ∷ codes "w" ∷ []) (codes "a" ∷ codes "b" ∷ []) [] [])
+  script = speaking (codes "high" ∷ []) (pod 3 (named (codes "main" ∷ codes "w" ∷ []) (codes "a" ∷ codes "b" ∷ []) [] [])
       (procedure 0 (stmt.SetMaxPri 2 ∷ stmt.SetMaxPri 3 ∷ stmt.Create 0 1 4 plain ∷ stmt.SetMaxPri 255 ∷ stmt.SetMaxPri 256
       ∷ stmt.SetMaxPri 254 ∷ stmt.Create 1 1 255 plain ∷ stmt.SetPri who.Me 4 ∷ [])
-      ∷ procedure 1 (stmt.Say (codes "high") ∷ [])
-      ∷ []);
+      ∷ procedure 1 (stmt.Say 0 ∷ [])
+      ∷ []));
   turns = 100000;
   trace = codes "t0: setmaxpri 2\nt0 ! LE_ILLPRIO\nt0: setmaxpri 3\nt0 = 0\nt0: create w 4 -\nt0 ! LE_ILLPRIO\nt0: setmaxpri 255\nt0 = 0\nt0: setmaxpri 256\nt0 ! LE_ILLPRIO\nt0: setmaxpri 254\nt0 ! LE_ILLPRIO\nt0: create w 255 -\nt0 = t1\nt1: say high\nt1 = 0\nt1: return\nt1 dies\nt0: setpri self 4\nt0 = 3\nt0: return\nt0 dies\npod ends 0\n";
   halt = Ended 0;
@@ -545,11 +545,11 @@ suspend_resume_and_join_of_nobody = record {
 --   proc w / resume first / say then
 abbrev pub suspending_itself : Row
 suspending_itself = record {
-  script = pod 1 (named (codes "main" ∷ codes "w" ∷ []) (codes "a" ∷ []) [] [])
-      (procedure 0 (stmt.Create 0 1 1 plain ∷ stmt.Suspend who.Me ∷ stmt.Skip (test.Value 0) ∷ stmt.Say (codes "never")
-      ∷ stmt.Say (codes "again") ∷ [])
-      ∷ procedure 1 (stmt.Resume who.First ∷ stmt.Say (codes "then") ∷ [])
-      ∷ []);
+  script = speaking (codes "never" ∷ codes "again" ∷ codes "then" ∷ []) (pod 1 (named (codes "main" ∷ codes "w" ∷ []) (codes "a" ∷ []) [] [])
+      (procedure 0 (stmt.Create 0 1 1 plain ∷ stmt.Suspend who.Me ∷ stmt.Skip (test.Value 0) ∷ stmt.Say 0
+      ∷ stmt.Say 1 ∷ [])
+      ∷ procedure 1 (stmt.Resume who.First ∷ stmt.Say 2 ∷ [])
+      ∷ []));
   turns = 100000;
   trace = codes "t0: create w 1 -\nt0 = t1\nt0: suspend self\nt0 = 0\nt1: resume t0\nt1 = 0\nt1: say then\nt1 = 0\nt1: return\nt1 dies\nt0: say again\nt0 = 0\nt0: return\nt0 dies\npod ends 0\n";
   halt = Ended 0;
@@ -563,11 +563,11 @@ suspending_itself = record {
 --   proc w / say on
 abbrev pub suspended_twice_resumed_once : Row
 suspended_twice_resumed_once = record {
-  script = pod 1 (named (codes "main" ∷ codes "w" ∷ []) (codes "a" ∷ []) [] [])
+  script = speaking (codes "on" ∷ []) (pod 1 (named (codes "main" ∷ codes "w" ∷ []) (codes "a" ∷ []) [] [])
       (procedure 0 (stmt.Create 0 1 1 plain ∷ stmt.Suspend (who.Named 0) ∷ stmt.Suspend (who.Named 0) ∷ stmt.Resume (who.Named 0)
       ∷ stmt.Yield who.Me ∷ [])
-      ∷ procedure 1 (stmt.Say (codes "on") ∷ [])
-      ∷ []);
+      ∷ procedure 1 (stmt.Say 0 ∷ [])
+      ∷ []));
   turns = 100000;
   trace = codes "t0: create w 1 -\nt0 = t1\nt0: suspend t1\nt0 = 0\nt0: suspend t1\nt0 = 0\nt0: resume t1\nt0 = 0\nt0: yield self\nt0 = 0\nt1: say on\nt1 = 0\nt1: return\nt1 dies\nt0: return\nt0 dies\npod ends 0\n";
   halt = Ended 0;
@@ -599,11 +599,11 @@ resuming_who_runs = record {
 --   proc j / join first / say free
 abbrev pub resumed_while_blocked : Row
 resumed_while_blocked = record {
-  script = pod 1 (named (codes "main" ∷ codes "j" ∷ []) (codes "a" ∷ []) [] [])
+  script = speaking (codes "alone" ∷ codes "free" ∷ []) (pod 1 (named (codes "main" ∷ codes "j" ∷ []) (codes "a" ∷ []) [] [])
       (procedure 0 (stmt.Create 0 1 1 plain ∷ stmt.Yield who.Me ∷ stmt.Suspend (who.Named 0) ∷ stmt.Resume (who.Named 0)
-      ∷ stmt.Yield who.Me ∷ stmt.Say (codes "alone") ∷ [])
-      ∷ procedure 1 (stmt.Join who.First ∷ stmt.Say (codes "free") ∷ [])
-      ∷ []);
+      ∷ stmt.Yield who.Me ∷ stmt.Say 0 ∷ [])
+      ∷ procedure 1 (stmt.Join who.First ∷ stmt.Say 1 ∷ [])
+      ∷ []));
   turns = 100000;
   trace = codes "t0: create j 1 -\nt0 = t1\nt0: yield self\nt0 = 0\nt1: join t0\nt0: suspend t1\nt0 = 0\nt0: resume t1\nt0 = 0\nt0: yield self\nt0 = 0\nt0: say alone\nt0 = 0\nt0: return\nt1 = 0\nt0 dies\nt1: say free\nt1 = 0\nt1: return\nt1 dies\npod ends 0\n";
   halt = Ended 0;

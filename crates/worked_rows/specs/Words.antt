@@ -7,10 +7,11 @@ use Rattle.script_text.specs.declared.script.Halt.{Halt}
 use Rattle.script_text.specs.declared.script.Names.{Names}
 use Rattle.script_text.specs.declared.script.Native.{Native}
 use Rattle.script_text.specs.declared.script.NativeKind.{NativeKind}
+use Rattle.script_text.specs.declared.script.Post.{Post}
 use Rattle.script_text.specs.declared.script.Proc.{Proc}
 use Rattle.script_text.specs.declared.script.Script.{Script}
 use Rattle.script_text.specs.declared.script.Stmt.{Stmt}
-use Rattle.std.specs.Prelude.{List, Some, [], false, replicate, true, ℕ, ◌≡◌}
+use Rattle.std.specs.Prelude.{List, Some, [], false, length, map, replicate, true, ℕ, ◌++◌, ◌+◌, ◌∷◌, ◌≡◌}
 
 -- a script, the turns that it is given, and what is to come of it: the whole trace, the end, the number of calls, the lines taken
 pub record Row : Type 0 where
@@ -50,7 +51,12 @@ pod maxpri names procs = record {
   procs = procs;
   posts = [];
   names = names;
+  texts = [];
 }
+
+-- the same, with these texts; elsewhere each is its place among them, counted from 0
+abbrev pub speaking : List (List ℕ) → Script → Script
+speaking texts script = record script { texts = texts }
 
 -- the same, with fewer births allowed
 abbrev pub limited : ℕ → Script → Script
@@ -60,9 +66,14 @@ limited births script = record script { births = births }
 abbrev pub with_natives : List Native → Script → Script
 with_natives natives script = record script { natives = natives }
 
+-- these lines as posts, whose texts stand from a place on
+abbrev pub posts_from : ℕ → List Line → List Post
+posts_from n [] = []
+posts_from n (l ∷ ls) = record { client = l.client; seq = l.seq; text = n } ∷ posts_from (n + 1) ls
+
 -- the same, with the event of each client, and the lines that they post
 abbrev pub posted : List ℕ → List Line → Script → Script
-posted clients lines script = record script { clients = clients; posts = lines }
+posted clients lines script = record script { clients = clients; posts = posts_from (length script.texts) lines; texts = script.texts ++ map (λ l. l.text) lines }
 
 -- no flag
 abbrev pub plain : Flags

@@ -1,13 +1,14 @@
-use Rattle.std.proofs.Common.{◌≡◌, ◌≤◌, ◌-◌, vec_len}
+use Rattle.std.proofs.Common.{◌≡◌, ◌≤◌, ◌-◌, ℕ, List, length}
 use Rattle.lwp_serve.specs.Reading.{ReadSoFar}
+use Rattle.script_text.specs.Pieces.{HasRead as IsFed}
 use Rattle.lwp_serve.proofs.source.read_all.Given as goal
 
-abbrev pub invariant-loop-buffer : goal.invariant-loop-buffer
-invariant-loop-buffer g l = record {
-  read : ReadSoFar (g.S.Source.left l.initial.source) (g.S.Source.left l.source) l.bytes.items;
+abbrev pub invariant-loop-total : goal.invariant-loop-total
+invariant-loop-total g l = record {
+  read : (bytes : List ℕ) × ReadSoFar (g.S.Source.left l.initial.source) (g.S.Source.left l.source) bytes × IsFed l.reader bytes × (l.total ≡ length bytes);
   same : g.S.Source.faults l.source ≡ g.S.Source.faults l.initial.source;
-  within : vec_len l.bytes ≤ 16777217;
+  within : l.total ≤ 16777217;
 }
 
-abbrev pub decreases-loop-buffer : goal.decreases-loop-buffer
-decreases-loop-buffer g l = 16777217 - vec_len l.bytes
+abbrev pub decreases-loop-total : goal.decreases-loop-total
+decreases-loop-total g l = 16777217 - l.total

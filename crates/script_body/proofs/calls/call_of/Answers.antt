@@ -9,5 +9,5 @@ returns-in_default c =
     elim c.args.stmt.now as (λ s. c.args.stmt.now ≡ s → c.thread_call.result ≡ call_of c.args.script.now c.args.sender c.args.env.now s) [
       | stmt.Create x y z w ↦ λ e. absurd (other.not-Create x y z w e)
       | stmt.CallProc x ↦ λ e. absurd (other.not-CallProc x e)
-      | _ ↦ λ e. c.thread_call.ensures ∙ ap (thread_call c.args.sender c.args.env.now) e
+      | _ ↦ λ e. c.thread_call.ensures ∙ ap (thread_call c.args.script.now.texts c.args.sender c.args.env.now) e
     ] refl

@@ -1,0 +1,145 @@
+// A script that comes in pieces.
+ghost use Rattle.std.specs.Prelude.{◌≡◌, ◌≤◌, ◌<◌, ◌+◌, ◌∷◌, [], length, IfSome, IfNone};
+ghost use Rattle.script_text.specs.Spelling.{cut};
+
+use crate::Script;
+use crate::reader::Reader;
+use crate::reason::{ReadErr, Reason};
+use lwp_types::NoMemory;
+use memchr::memchr;
+use std::alloc::Global;
+
+/// The most bytes that a script has.
+const MOST: usize = 16_777_216;
+
+/// Reads a script in pieces, whatever they are.
+#[derive(Drop)]
+pub struct ScriptReader {
+    pub alloc: Global,
+    pub reader: Reader,
+    // What stands behind the last newline.
+    pub tail: Vec<u8>,
+    pub total: usize,
+    pub is_large: bool,
+    pub failed: bool,
+}
+
+// The first line and what stands behind its end.
+fn first_line(text: &[u8]) -> Option<(&[u8], &[u8])>
+    ensures some { IfSome result (λ x. cut text.now ≡ (x.0.now ∷ (cut x.1.now).0, (cut x.1.now).1)) }
+    ensures shorter { IfSome result (λ x. length x.0.now + (length x.1.now + 1) ≡ length text.now) }
+    ensures none { IfNone result (cut text.now ≡ ([], text.now)) }
+{
+    match memchr(b'\n', text) {
+        None => None,
+        Some(end) => Some((&text[..end], &text[end + 1..])),
+    }
+}
+
+impl ScriptReader {
+    ghost use Rattle.std.specs.Prelude.{◌≡◌, ◌++◌, ◌<◌, ◌+◌, ◌^◌, ℕ, List, [], fold, length, OnOk, OnErr, IfOk, IsErr, Err};
+    ghost use Rattle.script_text.specs.Grammar.{Spells};
+    ghost use Rattle.script_text.specs.Limits.{IsWithinLimits};
+    ghost use Rattle.script_text.specs.Pieces.{HasRead, HasFailed, IsTail};
+    ghost use Rattle.script_text.specs.Spelling.{cut, verdict, Gives, IsReadAs};
+    ghost use Rattle.script_text.specs.Track.{step};
+    ghost use Rattle.script_text.specs.declared.reason.ReadErr.TheVariants as read_err;
+
+    /// Nothing read.
+    pub fn new(alloc: Global) -> ScriptReader
+        ensures { HasRead result [] }
+    {
+        ScriptReader {
+            alloc,
+            reader: Reader::new(alloc),
+            tail: Vec::new(alloc),
+            total: 0,
+            is_large: false,
+            failed: false,
+        }
+    }
+
+    // One more line, which has ended; what stands behind the last newline is its first part.
+    fn line(&mut self, line: &[u8]) -> Result<(), NoMemory>
+        ensures reader { OnOk result (self.new.reader ≡ step self.old.reader (self.old.tail.items ++ line.now)) }
+        ensures rest { OnOk result (self.new ≡ record self.old { reader = self.new.reader; tail = self.new.tail }) }
+        ensures tail { OnOk result (self.new.tail.items ≡ []) }
+        ensures failed { self.new.failed ≡ self.old.failed }
+    {
+        if self.tail.is_empty() {
+            return self.reader.line(self.alloc, line);
+        }
+        self.tail.extend_from_slice(line)?;
+        self.reader.line(self.alloc, &self.tail)?;
+        self.tail.clear();
+        Ok(())
+    }
+
+    // The lines of a piece, and what stands behind the last of them.
+    fn lines(&mut self, piece: &[u8]) -> Result<(), NoMemory>
+        ensures reader { OnOk result (IsTail self.old.tail.items → self.new.reader ≡ fold step self.old.reader (cut (self.old.tail.items ++ piece.now)).0) }
+        ensures tail { OnOk result (IsTail self.old.tail.items → self.new.tail.items ≡ (cut (self.old.tail.items ++ piece.now)).1) }
+        ensures rest { OnOk result (self.new ≡ record self.old { reader = self.new.reader; tail = self.new.tail }) }
+        ensures failed { self.new.failed ≡ self.old.failed }
+    {
+        let mut rest = piece;
+        while let Some((line, after)) = first_line(rest) {
+            self.line(line)?;
+            rest = after;
+        }
+        self.tail.extend_from_slice(rest)?;
+        Ok(())
+    }
+
+    /// The text so far grows by the piece. After `NoMemory` every later `feed` and `finish` answers `NoMemory`.
+    pub fn feed(&mut self, piece: &[u8]) -> Result<(), NoMemory>
+        ensures ok { OnOk result ((text : List ℕ) → HasRead self.old text → HasRead self.new (text ++ piece.now)) }
+        ensures err { OnErr result (HasFailed self.new) }
+        ensures failed { HasFailed self.old → IsErr result }
+    {
+        if self.failed {
+            return Err(NoMemory);
+        }
+        if self.is_large || piece.len() > MOST.saturating_sub(self.total) {
+            self.is_large = true;
+            return Ok(());
+        }
+        self.failed = true;
+        self.lines(piece)?;
+        self.total += piece.len();
+        self.failed = false;
+        Ok(())
+    }
+
+    /// The script that the text so far spells, if it spells one, and else its first bad line.
+    pub fn finish(self) -> Result<Script, ReadErr>
+        // The first line that is bad, and the first reason that fits.
+        ensures exact { (text : List ℕ) → HasRead self text → Gives (verdict text) result }
+        // A script is read only where the text spells it.
+        ensures spelt { (text : List ℕ) → HasRead self text → IfOk result (λ s. Spells text s) }
+        // A script that is spelt is read, and no other.
+        ensures only { (text : List ℕ) → HasRead self text → (s : Script) → Spells text s → IsReadAs s result }
+        // A pod can be made for each script that is read.
+        ensures within { (text : List ℕ) → HasRead self text → IfOk result IsWithinLimits }
+        ensures failed { HasFailed self → result ≡ Err read_err.NoMemory }
+    {
+        let ScriptReader {
+            alloc: _,
+            reader,
+            tail,
+            total: _,
+            is_large,
+            failed,
+        } = self;
+        if failed {
+            return Err(ReadErr::NoMemory);
+        }
+        if is_large {
+            return Err(ReadErr::Bad {
+                line: 0,
+                reason: Reason::TooLarge,
+            });
+        }
+        reader.finish(&tail)
+    }
+}

@@ -1,0 +1,92 @@
+// Texts, one behind the other.
+ghost use Rattle.std.specs.Prelude.{◌≡◌, ◌≤◌, ◌+◌, length};
+ghost use Rattle.script_text.specs.Parts.{text_in};
+
+use lwp_types::{NoMemory, Text};
+use std::alloc::Global;
+use std::marker::Model;
+
+/// Where a text lies.
+#[derive(Clone, Copy)]
+pub struct Span {
+    pub start: u32,
+    pub len: u32,
+}
+
+/// Texts in order, seen as their list. They lie in one piece of memory.
+#[derive(Drop)]
+pub struct Texts {
+    bytes: Vec<u8>,
+    spans: Vec<Span>,
+}
+
+impl Model for Texts {
+    ghost use Rattle.std.specs.Prelude.{ℕ, List, length, IsTrue};
+    ghost use Rattle.std.specs.List.{AllByRecursion};
+    ghost use Rattle.lwp_types.specs.TextFields.{is_text};
+    ghost use Rattle.script_text.specs.Parts.{texts_in, AreWithin};
+
+    ghost Value = { List (List ℕ) };
+
+    ghost view = { λ t. texts_in t.bytes.items t.spans.items };
+
+    ghost invariant = { λ t. AreWithin (length t.bytes.items) t.spans.items × AllByRecursion (λ x. IsTrue (is_text x)) (texts_in t.bytes.items t.spans.items) };
+}
+
+fn text_in(bytes: &[u8], span: Span) -> &[u8]
+    requires { span.start + span.len ≤ length bytes.now }
+    ensures { result.now ≡ text_in bytes.now span }
+{
+    let start = span.start as usize;
+    &bytes[start..start + span.len as usize]
+}
+
+impl Texts {
+    ghost use Rattle.std.specs.Prelude.{◌≡◌, [], ◌∷◌, ◌++◌, length, IsTrue, OnOk};
+    ghost use Rattle.lwp_types.specs.TextFields.{is_text};
+    ghost use Rattle.script_text.specs.Script.{text_at};
+
+    /// No texts.
+    pub fn new(alloc: Global) -> Texts
+        ensures { result ≡ [] }
+    {
+        Texts {
+            bytes: Vec::new(alloc),
+            spans: Vec::new(alloc),
+        }
+    }
+
+    /// How many texts there are.
+    pub fn len(&self) -> usize
+        ensures { result ≡ length self.now }
+    {
+        self.spans.len()
+    }
+
+    /// The text at place `i`, counted from 0; the empty one behind the last.
+    pub fn get(&self, i: usize) -> Text
+        ensures { result ≡ text_at self.now i }
+    {
+        let Some(span) = self.spans.get(i) else {
+            return Text::empty();
+        };
+        match Text::new(text_in(&self.bytes, *span)) {
+            Some(text) => text,
+            None => Text::empty(),
+        }
+    }
+
+    /// One text more, at the end.
+    pub fn push(&mut self, text: &[u8]) -> Result<(), NoMemory>
+        requires { IsTrue (is_text text.now) }
+        ensures { OnOk result (self.new ≡ self.old ++ text.now ∷ []) }
+    {
+        let Ok(start) = u32::try_from(self.bytes.len()) else {
+            return Err(NoMemory);
+        };
+        let len = text.len() as u32;
+        self.bytes.extend_from_slice(text)?;
+        self.spans.push(Span { start, len })?;
+        Ok(())
+    }
+}
