@@ -16,7 +16,7 @@ use Rattle.lwp_types.specs.ListLaws.{All-weaker}
 use Rattle.lwp_types.specs.State.{ThreadRow, is_number, passes, priority_in, still}
 use Rattle.monitors.specs.declared.requests.EntryRequest.{EntryRequest}
 use Rattle.stale_ids.specs.Register.{inserted}
-use Rattle.std.proofs.Common.{Bool, List, None, Option, Some, [], ap, arith, length, length-append, not, refl, sym, ℕ, ◌&&◌, ◌+◌, ◌++◌, ◌∙◌, ◌∷◌, ◌≡◌}
+use Rattle.std.proofs.Common.{Bool, None, Option, Some, [], ap, arith, length, length-append, not, refl, sym, ℕ, ◌&&◌, ◌∙◌, ◌∷◌, ◌≡◌}
 use Rattle.std.specs.List.{find}
 use Rattle.std.specs.Prelude.{is_some, option_map, unwrap_or}
 

@@ -1,11 +1,11 @@
 -- Where nobody is dying, the scheduler and the machine's state agree on every thread.
 use Rattle.death_cleanup.proofs.Looks.{shows, waits}
 use Rattle.death_cleanup.specs.Ties.{IsTied}
-use Rattle.death_cleanup.specs.View.{known_of, state_of}
+use Rattle.death_cleanup.specs.View.{state_of}
 use Rattle.death_cleanup.specs.declared.parts.Parts.{Parts}
-use Rattle.lwp_types.specs.Choice.{best_by, better_by, choice, is_eligible, is_eligible_in}
+use Rattle.lwp_types.specs.Choice.{better_by, choice, is_eligible, is_eligible_in}
 use Rattle.lwp_types.specs.Lawful.{is_same_option}
-use Rattle.lwp_types.specs.State.{ThreadRow, is_blocked_in, is_not_blocked, is_thread, passes, priority_in, thread_of}
+use Rattle.lwp_types.specs.State.{ThreadRow, is_not_blocked, is_thread, passes, priority_in, thread_of}
 use Rattle.pod_sched.specs.Schedule as sched
 use Rattle.pod_sched.specs.Schedule.{newcomer}
 use Rattle.pod_sched.specs.declared.rows.Known.{Known}

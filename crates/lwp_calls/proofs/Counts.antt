@@ -4,7 +4,7 @@ use Rattle.death_cleanup.specs.View.{state_of}
 use Rattle.death_cleanup.specs.declared.parts.Parts.{Parts}
 use Rattle.lwp_calls.proofs.Agree.{known-same}
 use Rattle.lwp_types.specs.CountLaws.{count-cons, count-failed, count-filter, count_agree, count_found, count_not_found, length-failed, one}
-use Rattle.lwp_types.specs.State.{ThreadRow, is_number, is_thread, numbers, thread_of, times_in, without}
+use Rattle.lwp_types.specs.State.{ThreadRow, is_number, numbers, times_in, without}
 use Rattle.pod_laws.proofs.Numbers.{once_rising}
 use Rattle.pod_sched.specs.Schedule as sched
 use Rattle.pod_sched.specs.declared.rows.Known.{Known}

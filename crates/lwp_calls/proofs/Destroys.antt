@@ -1,16 +1,15 @@
 -- Who is destroyed: an agent, or a thread.
 use Rattle.lwp_types.specs.Agents.{end_agent}
 use Rattle.lwp_types.specs.Case.{refused, unanswered, unless, with_zero}
-use Rattle.lwp_types.specs.CountLaws.{one}
 use Rattle.lwp_types.specs.Death.{death, destroy}
 use Rattle.lwp_types.specs.Lawful.{NineParts}
 use Rattle.lwp_types.specs.Letters.{awaits, receivers_of}
-use Rattle.lwp_types.specs.State.{Outcome, State, ThreadRow, and_then, for_each, is_agent, is_thread, numbers, still}
+use Rattle.lwp_types.specs.State.{State, ThreadRow, and_then, for_each, is_agent, is_thread, numbers}
 use Rattle.lwp_types.specs.Unblock.{nonexist, unblock}
 use Rattle.lwp_types.specs.declared.call.Answer.{Answer}
 use Rattle.lwp_types.specs.declared.call.Effect.{Effect}
 use Rattle.lwp_types.specs.declared.call.LwpErr.TheVariants as error
-use Rattle.std.proofs.Common.{Bool, List, None, [], ap, append-nil, arith, cond, eqb, false, length, length-append, map, not, refl, suc, sym, true, ℕ, ◌+◌, ◌++◌, ◌∙◌, ◌∷◌, ◌≡◌, ◌≤◌, ◌||◌}
+use Rattle.std.proofs.Common.{Bool, List, None, [], arith, cond, eqb, false, length, length-append, refl, suc, true, ℕ, ◌∷◌, ◌≡◌, ◌≤◌, ◌||◌}
 use Rattle.std.specs.List.{filter}
 
 or_true : (b : Bool) → (b || true) ≡ true

@@ -1,17 +1,16 @@
 -- Who enters a monitor, and who waits for one.
 use Rattle.death_cleanup.proofs.Asking.{goal_of, is_to_enter, requests_stand}
 use Rattle.death_cleanup.proofs.Crowds.{Stand, a_place, none_there, nowhere}
-use Rattle.death_cleanup.specs.Ties.{InStep, LawfulParts}
+use Rattle.death_cleanup.specs.Ties.{LawfulParts}
 use Rattle.death_cleanup.specs.View.{state_of}
 use Rattle.death_cleanup.specs.declared.parts.Parts.{Parts}
 use Rattle.lwp_types.specs.Case.{refused, unanswered, unless, valued}
 use Rattle.lwp_types.specs.Choice.{is_eligible, is_eligible_in}
 use Rattle.lwp_types.specs.CountLaws.{count-cons}
-use Rattle.lwp_types.specs.Counts.{is_depth, is_requested_well}
-use Rattle.lwp_types.specs.Lawful.{NineParts}
+use Rattle.lwp_types.specs.Counts.{is_depth}
 use Rattle.lwp_types.specs.Locks.{cond_enter, depth_in, enter, entered, has_waits, is_deepest, is_owned_by_other, monitor_destroy, monitor_destroyed, requested}
 use Rattle.lwp_types.specs.Release.{is_owned_by, lock_of}
-use Rattle.lwp_types.specs.State.{State, ThreadRow, is_not_blocked, is_number, member, passes, still, thread_of}
+use Rattle.lwp_types.specs.State.{State, ThreadRow, is_not_blocked, member, passes, still, thread_of}
 use Rattle.lwp_types.specs.declared.call.LwpErr.TheVariants as error
 use Rattle.lwp_types.specs.declared.rows.Block.{Block}
 use Rattle.lwp_types.specs.declared.rows.Block.TheVariants as block
@@ -19,11 +18,10 @@ use Rattle.lwp_types.specs.declared.rows.Lock.{Lock}
 use Rattle.lwp_types.specs.declared.rows.Request.{Request}
 use Rattle.monitors.specs.MonitorTable as mon
 use Rattle.monitors.specs.declared.requests.EntryRequest.{EntryRequest}
-use Rattle.pod_laws.proofs.Elements.{all_found}
-use Rattle.std.proofs.Common.{Bool, List, None, Option, Some, [], ap, arith, cond, count_by, eqb, false, length, map, not, refl, sym, true, ℕ, ◌&&◌, ◌<◌, ◌∙◌, ◌∷◌, ◌≡◌, ◌≤◌, ◌||◌}
+use Rattle.std.proofs.Common.{Bool, List, None, Option, Some, [], ap, arith, count_by, eqb, false, length, map, not, refl, sym, true, ℕ, ◌&&◌, ◌<◌, ◌∙◌, ◌∷◌, ◌≡◌, ◌||◌}
 use Rattle.std.proofs.lemmas.Bool.{and_parts, eqb-true}
 use Rattle.std.proofs.lemmas.List.{length-map}
-use Rattle.std.specs.List.{find, list_all, list_any}
+use Rattle.std.specs.List.{list_all, list_any}
 use Rattle.std.specs.Prelude.{is_some, nat_le, option_map, unwrap_or}
 
 -- the row of one that may run

@@ -9,7 +9,7 @@ use Rattle.lwp_types.specs.State.{Outcome, State}
 use Rattle.lwp_types.specs.Lawful.{NineParts}
 use Rattle.lwp_types.specs.declared.call.Answer.{Answer}
 use Rattle.lwp_types.specs.declared.call.Effect.{Effect}
-use Rattle.std.proofs.Common.{List, None, Option, Some, [], ap, append-nil, refl, subst, sym, ℕ, ◌++◌, ◌∙◌, ◌≡◌}
+use Rattle.std.proofs.Common.{List, Option, Some, [], ap, append-nil, subst, sym, ℕ, ◌++◌, ◌∙◌, ◌≡◌}
 
 module _ {old new : Parts} {made : Case} where
   pub ComesTo-is : {own : Option Answer} → made ≡ record { after = state_of new; others = []; own = own } → InStep new → new.dying ≡ old.dying → ComesTo old new [] [] made own

@@ -2,7 +2,7 @@
 use Rattle.death_cleanup.proofs.Crowds.{none_there}
 use Rattle.death_cleanup.proofs.Looks.{row_under, rows-under, waits}
 use Rattle.death_cleanup.specs.Comes.{CameTo}
-use Rattle.death_cleanup.specs.View.{rows_of, state_of}
+use Rattle.death_cleanup.specs.View.{state_of}
 use Rattle.death_cleanup.specs.declared.parts.Parts.{Parts}
 use Rattle.death_cleanup.specs.declared.rows.Kind.{Kind}
 use Rattle.lwp_calls.proofs.Counts.{as_long, length-keys, times-keys}
@@ -10,7 +10,7 @@ use Rattle.lwp_calls.specs.Asks.{first_refusal}
 use Rattle.lwp_calls.specs.Comes.{ComesTo}
 use Rattle.lwp_types.specs.Case.{Case, Check, refused, unanswered, unless, with_zero}
 use Rattle.lwp_types.specs.Choice.{is_eligible}
-use Rattle.lwp_types.specs.CountLaws.{count-append, count-cons, count-filter, count_agree, count_and-le, count_found_and, count_not_found, one}
+use Rattle.lwp_types.specs.CountLaws.{count-append, count-filter, count_agree, count_and-le, count_found_and, count_not_found, one}
 use Rattle.lwp_types.specs.Counts.{is_sending, sendings_of}
 use Rattle.lwp_types.specs.Lawful.{NineParts}
 use Rattle.lwp_types.specs.Letters.{as_answer, as_received, is_letter_of, marked_received, post, receive_by, received_from, reply, send, takes_from, unreceived, with_holding, without_letter}
@@ -29,9 +29,9 @@ use Rattle.lwp_types.specs.declared.call.Answer.TheVariants as answer
 use Rattle.lwp_types.specs.declared.call.Mode.TheVariants as mode
 use Rattle.rendezvous.specs.Mailbag.{Mailbag, has_letter_of, marked, taken}
 use Rattle.stale_ids.specs.Register.{AreRising, value_of}
-use Rattle.std.proofs.Common.{Bool, List, None, Option, Some, [], ap, arith, cond, count_by, eqb, false, length, length-append, map, not, refl, subst, sym, true, ℕ, ◌&&◌, ◌+◌, ◌++◌, ◌<◌, ◌∙◌, ◌∷◌, ◌≡◌, ◌≤◌}
+use Rattle.std.proofs.Common.{Bool, List, None, Option, Some, [], ap, arith, cond, eqb, false, length, length-append, map, not, refl, subst, sym, true, ℕ, ◌&&◌, ◌+◌, ◌++◌, ◌<◌, ◌∙◌, ◌∷◌, ◌≡◌, ◌≤◌}
 use Rattle.std.specs.List.{filter, find}
-use Rattle.std.specs.Prelude.{is_none, is_some, nat_lt, option_map}
+use Rattle.std.specs.Prelude.{is_none, nat_lt, option_map}
 
 -- a call that is refused by the first of its checks that strikes, or isn't refused
 pub unless_struck : (s : State) (checks : List Check) (otherwise : Case) (e : LwpErr) → first_refusal checks ≡ Some e → unless s checks otherwise ≡ refused s e

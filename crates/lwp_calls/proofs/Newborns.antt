@@ -15,7 +15,7 @@ use Rattle.lwp_types.specs.declared.call.LwpErr.TheVariants as error
 use Rattle.monitors.proofs.Machine.{births_agree}
 use Rattle.monitors.specs.Machine.{born}
 use Rattle.monitors.specs.MonitorTable as mon
-use Rattle.std.proofs.Common.{Bool, None, Option, Some, [], ap, cond, false, length, refl, sym, true, ℕ, ◌++◌, ◌+◌, ◌∙◌, ◌∷◌, ◌≡◌, ◌||◌}
+use Rattle.std.proofs.Common.{Bool, None, Some, [], ap, cond, false, length, refl, sym, true, ℕ, ◌++◌, ◌+◌, ◌∙◌, ◌∷◌, ◌≡◌, ◌||◌}
 use Rattle.std.specs.Prelude.{nat_le}
 
 module _ (parts : Parts) (step : InStep parts) where

@@ -3,7 +3,7 @@ use Rattle.conditions.specs.ConditionTable as cv
 use Rattle.conditions.specs.declared.waits.WaitRec.{WaitRec}
 use Rattle.death_cleanup.proofs.Looks.{waits}
 use Rattle.death_cleanup.specs.Comes.{CameTo}
-use Rattle.death_cleanup.specs.Ties.{InStep, IsRanked, LawfulParts}
+use Rattle.death_cleanup.specs.Ties.{InStep, LawfulParts}
 use Rattle.death_cleanup.specs.View.{known_of, row_of, row_onto, rows_of, state_of}
 use Rattle.death_cleanup.specs.declared.parts.Parts.{Parts}
 use Rattle.death_cleanup.specs.declared.rows.Kind.{Kind}
@@ -15,7 +15,7 @@ use Rattle.lwp_calls.proofs.Places.{nine}
 use Rattle.lwp_calls.specs.Asks.{HasPlaces}
 use Rattle.lwp_types.specs.CountLaws.{count-cons, one}
 use Rattle.lwp_types.specs.Lawful.{is_same_option}
-use Rattle.lwp_types.specs.State.{State, ThreadRow, is_blocked_in, is_id, is_number, is_thread, passes, priority_in, still, thread_of}
+use Rattle.lwp_types.specs.State.{ThreadRow, is_id, is_number, is_thread, passes, priority_in, still}
 use Rattle.lwp_types.specs.Threads.{born, created}
 use Rattle.lwp_types.specs.declared.call.Flags.{Flags}
 use Rattle.lwp_types.specs.declared.rows.Block.TheVariants as block
@@ -28,8 +28,8 @@ use Rattle.pod_sched.specs.Schedule as sched
 use Rattle.pod_sched.specs.Schedule.{newcomer}
 use Rattle.pod_sched.specs.declared.rows.Known.{Known}
 use Rattle.stale_ids.specs.Register.{AreBorn, inserted}
-use Rattle.std.proofs.Common.{Bool, List, None, Option, Some, [], ap, arith, cond, count_by, eqb, false, inl, inr, length, length-append, map, not, refl, sym, true, ℕ, ◌&&◌, ◌+◌, ◌++◌, ◌<◌, ◌∙◌, ◌∷◌, ◌≡◌, ◌≢◌, ◌≤◌, ◌||◌}
-use Rattle.std.proofs.lemmas.Bool.{cases_eq, eq-eqb, ne_eqb}
+use Rattle.std.proofs.Common.{Bool, List, None, Option, Some, [], ap, arith, cond, count_by, eqb, false, length, length-append, map, not, refl, sym, true, ℕ, ◌&&◌, ◌+◌, ◌++◌, ◌<◌, ◌∙◌, ◌∷◌, ◌≡◌, ◌≢◌, ◌||◌}
+use Rattle.std.proofs.lemmas.Bool.{eq-eqb, ne_eqb}
 use Rattle.std.specs.List.{AllByRecursion, find}
 use Rattle.std.specs.Prelude.{is_some, option_map, unwrap_or}
 

@@ -12,7 +12,7 @@ use Rattle.lwp_types.specs.ListLaws.{All-weaker}
 use Rattle.lwp_types.specs.State.{State, still}
 use Rattle.lwp_types.specs.declared.rows.AgentRow.{AgentRow}
 use Rattle.stale_ids.specs.Register.{AreBorn, AreRising}
-use Rattle.std.proofs.Common.{Bool, List, None, Option, Some, [], ap, arith, cond, count_by, eqb, false, inl, inr, length, not, refl, subst, suc, sym, true, zero, ℕ, ◌&&◌, ◌+◌, ◌<◌, ◌∙◌, ◌∷◌, ◌≡◌, ◌≢◌, ◌≤◌}
+use Rattle.std.proofs.Common.{List, None, Option, Some, [], ap, arith, count_by, eqb, false, inl, inr, length, not, refl, subst, suc, true, zero, ℕ, ◌+◌, ◌<◌, ◌∷◌, ◌≡◌, ◌≤◌}
 use Rattle.std.proofs.lemmas.Bool.{and_from, and_parts, cases_eq, eq-eqb, leb-true, le-leb, ne_eqb}
 use Rattle.std.specs.List.{AllByRecursion, filter, list_all}
 use Rattle.std.specs.Prelude.{is_some, nat_le}

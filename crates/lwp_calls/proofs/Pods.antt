@@ -5,18 +5,17 @@ use Rattle.death_cleanup.specs.View.{state_of}
 use Rattle.death_cleanup.specs.declared.parts.Parts.{Parts}
 use Rattle.lwp_calls.specs.Pod.{current_of, is_refusal, refuses}
 use Rattle.lwp_types.specs.Agents.{armed, deliver, deliver_to, event_agent, is_for}
-use Rattle.lwp_types.specs.Choice.{choice, is_eligible, is_eligible_in}
+use Rattle.lwp_types.specs.Choice.{choice, is_eligible_in}
 use Rattle.lwp_types.specs.CountLaws.{count-cons, count_found, one}
 use Rattle.lwp_types.specs.Lawful.{Lawful, NineParts}
 use Rattle.lwp_types.specs.Letters.{post, with_holding}
-use Rattle.lwp_types.specs.State.{Outcome, State, ThreadRow, agent_numbers, agent_of, and_then, is_agent_row, passes, thread_of}
+use Rattle.lwp_types.specs.State.{Outcome, State, agent_numbers, agent_of, and_then, is_agent_row, passes}
 use Rattle.lwp_types.specs.Step.{case_of, end_effects, ends, finished, own_effects, step, step_by}
 use Rattle.lwp_types.specs.declared.call.Answer.{Answer}
 use Rattle.lwp_types.specs.declared.call.Answer.TheVariants as answer
 use Rattle.lwp_types.specs.declared.call.Call.{Call}
 use Rattle.lwp_types.specs.declared.call.Effect.{Effect}
 use Rattle.lwp_types.specs.declared.call.Effect.TheVariants as effect
-use Rattle.lwp_types.specs.declared.call.LwpErr.{LwpErr}
 use Rattle.lwp_types.specs.declared.rows.AgentRow.{AgentRow}
 use Rattle.lwp_types.specs.declared.rows.Letter.{Letter}
 use Rattle.lwp_calls.proofs.Counts.{times-keys}
@@ -25,7 +24,7 @@ use Rattle.pod_laws.proofs.Elements.{find_passes}
 use Rattle.pod_laws.proofs.EveryStep.{Lawful-step}
 use Rattle.pod_laws.proofs.Numbers.{once_rising}
 use Rattle.pod_laws.proofs.Refusals.{refused_step}
-use Rattle.std.proofs.Common.{Bool, List, None, Option, Some, [], ap, append_assoc, arith, cond, count_by, eqb, false, not, refl, subst, sym, true, ℕ, ◌&&◌, ◌++◌, ◌∙◌, ◌∷◌, ◌≡◌, ◌≤◌}
+use Rattle.std.proofs.Common.{Bool, List, None, Option, Some, [], ap, append_assoc, arith, cond, count_by, false, not, refl, subst, sym, true, ℕ, ◌&&◌, ◌++◌, ◌∙◌, ◌∷◌, ◌≡◌, ◌≤◌}
 use Rattle.std.proofs.lemmas.Bool.{and_parts, eq-eqb, eqb-true}
 use Rattle.std.specs.List.{find}
 use Rattle.std.specs.Prelude.{IfSome, IsTrue, is_some, option_map}

@@ -1,5 +1,5 @@
 -- What a result tells.
-use Rattle.std.proofs.Common.{Err, OnOk, Ok, Result, refl, ℕ}
+use Rattle.std.proofs.Common.{Err, OnOk, Ok, Result, refl}
 use Rattle.std.specs.Prelude.{IsErr}
 
 -- where it is no Err, it is Ok

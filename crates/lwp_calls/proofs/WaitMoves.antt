@@ -28,7 +28,7 @@ use Rattle.lwp_types.specs.declared.rows.CondRow.{CondRow}
 use Rattle.lwp_types.specs.declared.rows.Lock.{Lock}
 use Rattle.lwp_types.specs.declared.rows.Request.{Request}
 use Rattle.lwp_types.specs.declared.rows.WaitRow.{WaitRow}
-use Rattle.pod_laws.proofs.Elements.{all_found, find_passes}
+use Rattle.pod_laws.proofs.Elements.{all_found}
 use Rattle.pod_laws.proofs.LetterMoves.{not_apart}
 use Rattle.pod_laws.proofs.LockMoves.{next, requester_enters, waiter_waits}
 use Rattle.pod_laws.proofs.Rows.{find_rowed}

@@ -1,7 +1,7 @@
 -- A thread begins to wait.
-use Rattle.death_cleanup.proofs.Looks.{find-row, rows-block, waits}
+use Rattle.death_cleanup.proofs.Looks.{rows-block, waits}
 use Rattle.death_cleanup.specs.Moves.{block_set}
-use Rattle.death_cleanup.specs.Ties.{InStep, IsTied}
+use Rattle.death_cleanup.specs.Ties.{InStep}
 use Rattle.death_cleanup.specs.View.{state_of}
 use Rattle.death_cleanup.specs.declared.parts.Parts.{Parts}
 use Rattle.lwp_calls.proofs.Agree.{known-same}
@@ -19,7 +19,7 @@ use Rattle.pod_sched.specs.Schedule as sched
 use Rattle.pod_sched.specs.declared.rows.Known.{Known}
 use Rattle.std.proofs.Common.{Bool, List, None, Option, Some, [], ap, arith, cond, eqb, false, length, map, not, refl, sym, true, ℕ, ◌&&◌, ◌∙◌, ◌∷◌, ◌≡◌}
 use Rattle.std.specs.List.{find}
-use Rattle.std.specs.Prelude.{IsTrue, is_some, option_map, unwrap_or}
+use Rattle.std.specs.Prelude.{is_some, option_map}
 
 -- who may run is there
 pub lives : (s : machine.State) (t : ℕ) → is_eligible_in s t ≡ true → is_thread s t ≡ true

@@ -1,13 +1,12 @@
-use Rattle.death_cleanup.specs.View.{state_of}
 use Rattle.lwp_calls.proofs.Agency.{event-asked}
 use Rattle.lwp_calls.proofs.Compare.{a_priority, le-false, le-true, no_priority, zero_priority}
-use Rattle.lwp_calls.proofs.Made.{Answers-is, came_after, lawful_after}
+use Rattle.lwp_calls.proofs.Made.{Answers-is, came_after}
 use Rattle.lwp_calls.proofs.agent_calls.create.Goals as goal
 use Rattle.lwp_calls.proofs.agent_calls.create.Goals.{then-event-eq0-via-else-event-eq0+then-event-gt-MOST_EVENT, then-event-eq0-via-then-event-eq0}
 use Rattle.lwp_types.specs.Agents.{agent_born, event_agent}
 use Rattle.lwp_types.specs.Case.{unless}
 use Rattle.lwp_types.specs.State.{still}
-use Rattle.std.proofs.Common.{arith, refl, sym, ◌∙◌}
+use Rattle.std.proofs.Common.{arith, refl, sym}
 
 pub returns-then-event-eq0-clause-ok : goal.returns-then-event-eq0-clause-ok
 unfolding unless

@@ -1,7 +1,7 @@
 use Rattle.death_cleanup.specs.View.{state_of}
 use Rattle.lwp_calls.proofs.Lists.{serve-not, serve-on}
 use Rattle.lwp_calls.proofs.asks.all_serve.Goals as goal
-use Rattle.std.proofs.Common.{sym, ◌∙◌}
+use Rattle.std.proofs.Common.{sym}
 use Rattle.std.specs.List.{list_all}
 
 pub returns-then-not-serves : goal.returns-then-not-serves

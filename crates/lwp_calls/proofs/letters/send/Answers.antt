@@ -7,7 +7,6 @@ use Rattle.lwp_calls.proofs.Waiting.{as_many, running}
 use Rattle.lwp_calls.proofs.letters.send.Goals as goal
 use Rattle.lwp_types.specs.Letters.{post}
 use Rattle.lwp_types.specs.State.{State}
-use Rattle.lwp_types.specs.Unblock.{blocked}
 use Rattle.lwp_types.specs.declared.call.LwpErr.TheVariants as error
 use Rattle.lwp_types.specs.declared.rows.Block.TheVariants as block
 use Rattle.lwp_types.specs.declared.rows.Letter.{Letter}

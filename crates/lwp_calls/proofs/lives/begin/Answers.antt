@@ -1,11 +1,10 @@
 use Rattle.death_cleanup.specs.declared.rows.Kind.TheVariants as kind
-use Rattle.exc_stack.specs.Stack.{one_frame}
 use Rattle.lwp_calls.proofs.Newcomers.{came_begun, unknown}
 use Rattle.lwp_calls.proofs.Results.{on_ok}
 use Rattle.lwp_calls.proofs.lives.begin.Goals as goal
 use Rattle.lwp_types.specs.declared.rows.Block.TheVariants as block
 use Rattle.stale_ids.specs.Register.{inserted}
-use Rattle.std.proofs.Common.{arith, sym, ◌∙◌, ◌≡◌}
+use Rattle.std.proofs.Common.{arith, ◌≡◌}
 
 pub admit-requires-clause-new : goal.admit-requires-clause-new
 admit-requires-clause-new c = rw c.births-number.ensures.value (unknown c.args.parts.now c.requires.lawful c.requires.alone)

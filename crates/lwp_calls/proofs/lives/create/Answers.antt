@@ -1,13 +1,12 @@
 use Rattle.death_cleanup.specs.View.{state_of}
 use Rattle.lwp_calls.proofs.Compare.{a_priority, le-false, le-true, no_priority, zero_priority}
 use Rattle.lwp_calls.proofs.Made.{Answers-is, came_after, lawful_after}
-use Rattle.lwp_calls.proofs.Places.{nine}
 use Rattle.lwp_calls.proofs.lives.create.Goals as goal
 use Rattle.lwp_calls.proofs.lives.create.Goals.{then-prio-eq0-via-else-prio-eq0+then-prio-maxpri, then-prio-eq0-via-then-prio-eq0, then-thread_count-ge-MOST_THREADS-via-else-thread_count-ge-MOST_THREADS+then-births-limit, then-thread_count-ge-MOST_THREADS-via-then-thread_count-ge-MOST_THREADS}
 use Rattle.lwp_types.specs.Case.{unless}
 use Rattle.lwp_types.specs.State.{still}
 use Rattle.lwp_types.specs.Threads.{created}
-use Rattle.std.proofs.Common.{arith, length, refl, sym, ◌∙◌}
+use Rattle.std.proofs.Common.{arith, length, refl}
 
 pub returns-then-number-parts-clause-ok : goal.returns-then-number-parts-clause-ok
 unfolding unless

@@ -7,7 +7,7 @@ use Rattle.lwp_calls.proofs.lives.destroy.Goals as goal
 use Rattle.lwp_types.specs.Agents.{end_agent}
 use Rattle.lwp_types.specs.Death.{death}
 use Rattle.lwp_types.specs.declared.call.LwpErr.TheVariants as error
-use Rattle.std.proofs.Common.{ap, arith, length, length-append, refl, sym, ◌∙◌}
+use Rattle.std.proofs.Common.{ap, arith, length, length-append, refl, sym}
 
 pub end_agent-requires-clause-room : goal.end_agent-requires-clause-room
 end_agent-requires-clause-room c = omega (arith, c.requires.room, few_told (state_of c.args.parts.now) (nine c.args.parts.now c.requires.lawful c.requires.alone) c.args.tid)

@@ -9,7 +9,7 @@ use Rattle.lwp_types.specs.State.{State, still}
 use Rattle.lwp_types.specs.Unblock.{blocked}
 use Rattle.lwp_types.specs.declared.rows.Block.TheVariants as block
 use Rattle.monitors.proofs.Machine.{waits_agree}
-use Rattle.std.proofs.Common.{[], ap, refl, sym, ◌∙◌, ◌≡◌}
+use Rattle.std.proofs.Common.{ap, refl, sym, ◌∙◌, ◌≡◌}
 
 pub returns-then-not-is_live : goal.returns-then-not-is_live
 returns-then-not-is_live c = ComesTo-is (enter-absent (state_of c.args.parts.now) c.args.caller c.args.mon (sym c.if-not-is_live.ensures)) c.requires.lawful.step refl

@@ -7,7 +7,7 @@ use Rattle.lwp_types.specs.Agents.{event_agent}
 use Rattle.lwp_types.specs.State.{agent_of}
 use Rattle.lwp_types.specs.declared.rows.AgentRow.{AgentRow}
 use Rattle.rendezvous.specs.Mailbag.{has_letter_of}
-use Rattle.std.proofs.Common.{Some, ap, arith, sym, ◌∙◌, ◌≡◌}
+use Rattle.std.proofs.Common.{ap, arith, sym, ◌∙◌, ◌≡◌}
 
 pub returns-in_default-owner_of : goal.returns-in_default-owner_of
 returns-in_default-owner_of c =

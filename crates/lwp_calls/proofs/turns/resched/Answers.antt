@@ -1,4 +1,3 @@
-use Rattle.death_cleanup.specs.View.{state_of}
 use Rattle.lwp_calls.proofs.Agree.{first-same}
 use Rattle.lwp_calls.proofs.Compare.{a_priority, lt-false, lt-true, no_priority, zero_priority}
 use Rattle.lwp_calls.proofs.Levels.{InStep-levels}

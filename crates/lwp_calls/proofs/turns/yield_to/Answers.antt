@@ -1,4 +1,3 @@
-use Rattle.death_cleanup.specs.View.{state_of}
 use Rattle.lwp_calls.proofs.Agree.{eligible-same, priority-same}
 use Rattle.lwp_calls.proofs.Compare.{differ}
 use Rattle.lwp_calls.proofs.Levels.{InStep-levels}
