@@ -8,11 +8,11 @@
 #![tactic(auto)]
 
 mod body;
+mod closed;
 mod command;
 mod plan;
 mod program;
 mod session;
-mod closed;
 mod source;
 mod texts;
 

@@ -6,9 +6,9 @@ ghost use Rattle.script_text.specs.Limits.{IsWithinLimits};
 ghost use Rattle.lwp_serve.specs.Plan.{IsBroken, IsPart, IsPlan, IsPlayed, IsStopped, IsWhole, opening_run};
 
 use crate::body::ThreadBody;
+use crate::closed::is_closed;
 use crate::program::ScriptProgram;
 use crate::session::{Session, SessionEnd, end_of};
-use crate::closed::is_closed;
 use crate::source::{ReadFailure, read_all};
 use lwp_types::{Env, NoMemory, PodParams, Sink, Source};
 use pod_runner::{Run, RunErr, run, write_all};

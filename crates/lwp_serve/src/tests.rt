@@ -116,7 +116,11 @@ const NOT_RUN: [(&[u8], u32, Reason); 5] = [
     (b"lwp 1\npod 1\nproc main\nnonsense\n", 4, Reason::Statement),
     (b"lwp 1\npod 1\nproc main\nproc main\n", 4, Reason::Proc),
     (b"lwp 1\npod 1\nproc main\nsay h", 4, Reason::Unended),
-    (b"lwp 1\npod 1\nclient 0 5\nproc main\nagents\n", 0, Reason::Unbuilt),
+    (
+        b"lwp 1\npod 1\nclient 0 5\nproc main\nagents\n",
+        0,
+        Reason::Unbuilt,
+    ),
 ];
 
 #[test]
