@@ -6,13 +6,13 @@
 //! The crate stands on the definitions of the crates below it, and on none of their code.
 #![tactic(auto)]
 
-pub mod agents;
+pub mod agent_rows;
 pub mod deaths;
 pub mod ends;
 pub mod exits;
 pub mod letters;
 pub mod limits;
-pub mod line_server;
+pub mod line_rows;
 pub mod locks;
 pub mod marks;
 pub mod next_calls;

@@ -10,7 +10,7 @@ use Rattle.pod_runner.specs.Session.{called, move, taken}
 use Rattle.script_body.specs.ScriptBody.{script_next}
 use Rattle.std.proofs.Common.{refl}
 use Rattle.std.specs.Fmt.{digits}
-use Rattle.worked_rows.proofs.line_server.three_clients.Goals as goal
+use Rattle.worked_rows.proofs.line_rows.three_clients.Goals as goal
 
 pub returns-clause-whole : goal.returns-clause-whole
 unfolding trace_of halt_of calls_of takes_of plan_whole move called taken script_next session_next store_next step step_by deliver unless and_then in_order for_each digits
