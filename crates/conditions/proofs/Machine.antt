@@ -1,5 +1,5 @@
 -- The conditions are the machine's.
-use Rattle.conditions.proofs.Ranks.{All-filter, best-map, map-filter}
+use Rattle.lwp_types.proofs.Ranks.{All-filter, best-map, map-filter}
 use Rattle.conditions.specs.ConditionTable as table
 use Rattle.conditions.specs.ConditionTable.{ConditionTable, is_on, is_wait_of, machine_row}
 use Rattle.conditions.specs.Machine.{AllAreWoken, AreRanked, FirstIsWoken, ForgettingAgrees, HasWaitsAgrees, IsWaitedOnce, NextAgrees, NoneIsWoken, RanksLast, RequeuesAgree, WaitOfAgrees, WaitedAgrees, WaitersAgree, WaitingAgrees, WaitsAgree, WakingAgrees, first_and, with_conditions, woken_by}

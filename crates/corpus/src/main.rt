@@ -15,9 +15,6 @@
 //! A row is added by its files, its line in `data/rows`, and its line in `stdout`: `sed 's/ .*/: same/' data/rows > stdout`. Its
 //! text is worked out by hand, and never taken from the program.
 //!
-//! Two more tables of the same form aren't read yet. Their rows are put behind those of `data/rows` once the program can run
-//! them: `rows.lines`, when a run takes the lines of clients; `rows.line_server`, when there are bodies other than procedures.
-//!
 //! The crate stands on `lwp_serve`, and on the streams of `lwp_types`.
 #![tactic(auto)]
 

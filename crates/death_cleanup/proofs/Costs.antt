@@ -33,7 +33,7 @@ use Rattle.pod_laws.proofs.Balances.{put_sum}
 use Rattle.pod_laws.proofs.Checks.{Passed}
 use Rattle.pod_laws.proofs.Chosen.{living}
 use Rattle.pod_laws.proofs.DeathLoops.{Lonely, Unowning, end_first, first_sender, owned, refuse_first, refused_all, release_first}
-use Rattle.pod_laws.proofs.Deaths.{dying_living, lonely, nine_unwound, nine_withdrawn, unmarked_nine, unowning}
+use Rattle.pod_laws.proofs.Deaths.{dying_living, joins_alone, lonely, nine_unwound, nine_withdrawn, unmarked_nine, unowning}
 use Rattle.pod_laws.proofs.Drains.{first_waiter, wake_all, wake_first, waiters_by}
 use Rattle.pod_laws.proofs.Elements.{all_found, true_of}
 use Rattle.pod_laws.proofs.ExitCalls.{run_exit_keeps}
@@ -193,14 +193,6 @@ awaits_blocks t block.Sending e = refl
 awaits_blocks t (block.Receiving from) e = refl
 awaits_blocks t (block.Entering m) e = refl
 awaits_blocks t (block.Waiting c) e = refl
-
-joins_alone : (t : ℕ) (b : Block) → joins t b ≡ true → is_alone b ≡ true
-joins_alone t block.Not e = absurd (cc)
-joins_alone t (block.Joining u) e = refl
-joins_alone t block.Sending e = absurd (cc)
-joins_alone t (block.Receiving from) e = absurd (cc)
-joins_alone t (block.Entering m) e = absurd (cc)
-joins_alone t (block.Waiting c) e = absurd (cc)
 
 joins_blocks : (t : ℕ) (b : Block) → joins t b ≡ true → is_not_blocked b ≡ false
 joins_blocks t block.Not e = absurd (let no : false ≡ true = e in cc)

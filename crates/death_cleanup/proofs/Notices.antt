@@ -1,6 +1,6 @@
 -- Signals of conditions: who is woken, and what the machine makes of it.
 use Rattle.conditions.proofs.Machine as conds
-use Rattle.conditions.proofs.Ranks.{All-filter}
+use Rattle.lwp_types.proofs.Ranks.{All-filter}
 use Rattle.conditions.specs.ConditionTable as cond
 use Rattle.conditions.specs.ConditionTable.{is_on, is_wait_of}
 use Rattle.conditions.specs.declared.waits.WaitRec.{WaitRec}

@@ -35,4 +35,4 @@ pub use locks::{monitor_break, monitor_exit, release};
 pub use parts::{Parts, is_agent, is_id, is_thread, set_block, wake};
 pub use rows::{Awaited, Kind, ThreadRec};
 pub use signals::{ask_again, broadcast, cond_send, is_last, notify};
-pub use waiters::end_agent;
+pub use waiters::{end_agent, nth_of};

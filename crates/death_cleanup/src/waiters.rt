@@ -17,8 +17,8 @@ use crate::rows::{Awaited, Kind};
 use lwp_types::{Answer, Effects, LwpErr, Tid};
 use stale_ids::Registry;
 
-// The `i`-th of the living, counted from the oldest.
-fn nth_of(ids: &Registry<Kind>, i: usize) -> (Tid, &Kind)
+/// The `i`-th of the living, counted from the oldest.
+pub fn nth_of(ids: &Registry<Kind>, i: usize) -> (Tid, &Kind)
     requires { i < length ids.now.live }
     ensures { slice_get ids.now.live i ≡ Some (result.0, result.1.now) }
 {

@@ -11,13 +11,13 @@ use Rattle.lwp_calls.proofs.Entering.{free_row}
 use Rattle.lwp_calls.proofs.Tables.{InStep-conditions}
 use Rattle.lwp_calls.specs.Comes.{ComesTo}
 use Rattle.lwp_types.specs.Case.{unanswered, unless}
-use Rattle.lwp_types.specs.Choice.{best_by, is_eligible, is_eligible_in}
+use Rattle.lwp_types.specs.Choice.{is_eligible, is_eligible_in}
 use Rattle.lwp_types.specs.CountLaws.{count-cons, count-reverse, count_and-le, count_found_and, count_found_by, count_not_found, one}
 use Rattle.lwp_types.specs.Counts.{is_waiting, requests_by}
 use Rattle.lwp_types.specs.Lawful.{NineParts}
 use Rattle.lwp_types.specs.Locks.{depth_in}
-use Rattle.lwp_types.specs.Release.{grant, is_lock, is_owned_by, last_lock, lock_of, locks_on, next_owner, release, requests_of, without_lock, without_request}
-use Rattle.lwp_types.specs.State.{Outcome, State, ThreadRow, block_set, is_not_blocked, is_number, is_suspended_in, member, passes, priority_in, still, thread_of, with_block, without}
+use Rattle.lwp_types.specs.Release.{grant, is_lock, is_owned_by, last_lock, lock_of, locks_on, next_owner, release, without_lock}
+use Rattle.lwp_types.specs.State.{Outcome, State, ThreadRow, block_set, is_not_blocked, is_number, member, passes, priority_in, still, thread_of, with_block}
 use Rattle.lwp_types.specs.Unblock.{blocked, zero_answer}
 use Rattle.lwp_types.specs.Waits.{condition_of, is_condition, wait, waited}
 use Rattle.lwp_types.specs.declared.call.Effect.{Effect}
@@ -32,46 +32,12 @@ use Rattle.pod_laws.proofs.Elements.{all_found}
 use Rattle.pod_laws.proofs.LetterMoves.{not_apart}
 use Rattle.pod_laws.proofs.LockMoves.{next, requester_enters, waiter_waits}
 use Rattle.pod_laws.proofs.Rows.{find_rowed}
+use Rattle.pod_laws.proofs.WaitMove.{grant_still, next_still, priority_still, waits_now}
 use Rattle.std.proofs.Common.{Bool, List, None, Option, Some, [], ap, arith, cond, count_by, eqb, false, length, map, not, refl, reverse, sym, true, ℕ, ◌&&◌, ◌++◌, ◌<◌, ◌∙◌, ◌∷◌, ◌≡◌, ◌≢◌, ◌≤◌}
-use Rattle.std.proofs.lemmas.Bool.{and_from, and_parts, eq-eqb, eqb-true, ne_eqb}
+use Rattle.std.proofs.lemmas.Bool.{and_from, and_parts, eq-eqb, eqb-true}
 use Rattle.std.proofs.lemmas.List.{length-map, map-append}
 use Rattle.std.specs.List.{find}
 use Rattle.std.specs.Prelude.{is_none, is_some, option_map, unwrap_or}
-use mathlib.Core.Path.{fun_ext}
-
--- two changes of different rows, in either order
-swapped : (u v : ℕ) (b b' : Block) → u ≢ v → (rows : List ThreadRow) → with_block u b (with_block v b' rows) ≡ with_block v b' (with_block u b rows)
-swapped u v b b' differs [] = refl
-swapped u v b b' differs (row ∷ rows) = ap (λ rest. block_set u b (block_set v b' row) ∷ rest) (swapped u v b b' differs rows) ∙ ap (λ first. first ∷ with_block v b' (with_block u b rows)) (by_number (is_number u row) refl (is_number v row) refl)
-  where
-    by_number : (p : Bool) → is_number u row ≡ p → (q : Bool) → is_number v row ≡ q → block_set u b (block_set v b' row) ≡ block_set v b' (block_set u b row)
-    by_number true e true f = absurd (differs (sym (eqb-true row.number u e) ∙ eqb-true row.number v f))
-    by_number true e false f = rw (e, f) refl
-    by_number false e true f = rw (e, f) refl
-    by_number false e false f = rw (e, f) refl
-
-without_push : (t u : ℕ) → t ≢ u → (ns : List ℕ) → without t (ns ++ u ∷ []) ≡ without t ns ++ u ∷ []
-without_push t u differs [] = rw (ne_eqb u t (λ e. differs (sym e))) refl
-without_push t u differs (n ∷ ns) = by_test (eqb n t) (without_push t u differs ns)
-  where
-    by_test : (b : Bool) → without t (ns ++ u ∷ []) ≡ without t ns ++ u ∷ [] → cond (not b) (n ∷ without t (ns ++ u ∷ [])) (without t (ns ++ u ∷ [])) ≡ cond (not b) (n ∷ without t ns) (without t ns) ++ u ∷ []
-    by_test true e = e
-    by_test false e = ap (λ ms. n ∷ ms) e
-
--- a block doesn't show in priorities and suspensions
-priority_still : (s : State) (t : ℕ) (b : Block) (v : ℕ) → priority_in (record s { threads = with_block t b s.threads }) v ≡ priority_in s v
-priority_still s t b v = ap (λ o. unwrap_or (option_map (λ (row : ThreadRow). row.priority) o) 0) (find_rowed (block_set t b) (λ row. refl) s.threads v) ∙ same (thread_of s v)
-  where
-    same : (o : Option ThreadRow) → unwrap_or (option_map (λ (row : ThreadRow). row.priority) (option_map (block_set t b) o)) 0 ≡ unwrap_or (option_map (λ (row : ThreadRow). row.priority) o) 0
-    same None = refl
-    same (Some row) = refl
-
-suspension_still : (s : State) (t : ℕ) (b : Block) (v : ℕ) → is_suspended_in (record s { threads = with_block t b s.threads }) v ≡ is_suspended_in s v
-suspension_still s t b v = ap (passes (λ (row : ThreadRow). row.suspended)) (find_rowed (block_set t b) (λ row. refl) s.threads v) ∙ same (thread_of s v)
-  where
-    same : (o : Option ThreadRow) → passes (λ (row : ThreadRow). row.suspended) (option_map (block_set t b) o) ≡ passes (λ (row : ThreadRow). row.suspended) o
-    same None = refl
-    same (Some row) = refl
 
 -- who may run still may where somebody goes on
 eligible_still : (s : State) (u v : ℕ) → is_eligible_in s v ≡ true → passes is_eligible (find (is_number v) (with_block u block.Not s.threads)) ≡ true
@@ -85,37 +51,12 @@ eligible_still s u v may = ap (passes is_eligible) (find_rowed (block_set u bloc
         by_test true = and_from _ _ (and_parts (not row.suspended) (is_not_blocked row.block) h).0 refl
         by_test false = h
 
--- the caller waits
-abbrev pub waits_now : WaitRow → State → State
-waits_now w s = blocked (record s { waits = s.waits ++ w ∷ [] }) w.tid (block.Waiting w.cond)
-
--- the monitor goes on to the same owner
-next_still : (w : WaitRow) (s : State) (m : ℕ) → next_owner (waits_now w s) m ≡ next_owner s m
-next_still w s m = ap (λ weight. best_by weight (requests_of s.requests m)) (fun_ext (λ (r : Request). priority_still s w.tid (block.Waiting w.cond) r.tid))
-
--- where another goes on, it doesn't matter which of the two is first
-grant_still : (w : WaitRow) (s : State) (r : Request) → w.tid ≢ r.tid → (grant (Some r) (waits_now w s)).after ≡ waits_now w (grant (Some r) s).after
-grant_still w s r differs =
-    ap (λ rows. record (waits_now w s) { threads = rows; requests = requests'; locks = locks'; order = cond (is_suspended_in (waits_now w s) r.tid) (without w.tid s.order) (without w.tid s.order ++ r.tid ∷ []) }) (swapped r.tid w.tid block.Not (block.Waiting w.cond) (λ e. differs (sym e)) s.threads)
-    ∙ ap (λ b. record (waits_now w s) { threads = with_block w.tid (block.Waiting w.cond) (with_block r.tid block.Not s.threads); requests = requests'; locks = locks'; order = cond b (without w.tid s.order) (without w.tid s.order ++ r.tid ∷ []) }) (suspension_still s w.tid (block.Waiting w.cond) r.tid)
-    ∙ ap (λ ns. record (waits_now w s) { threads = with_block w.tid (block.Waiting w.cond) (with_block r.tid block.Not s.threads); requests = requests'; locks = locks'; order = ns }) (by_test (is_suspended_in s r.tid))
-  where
-    requests' : List Request
-    requests' = without_request r.tid s.requests
-
-    locks' : List Lock
-    locks' = s.locks ++ record { mon = r.mon; owner = r.tid; depth = r.depth } ∷ []
-
-    by_test : (b : Bool) → cond b (without w.tid s.order) (without w.tid s.order ++ r.tid ∷ []) ≡ without w.tid (cond b s.order (s.order ++ r.tid ∷ []))
-    by_test true = refl
-    by_test false = sym (without_push w.tid r.tid differs s.order)
-
 -- a release, and then the caller waits
 abbrev pub released_waits : ℕ → WaitRow → State → Outcome
-released_waits m w s = record { after = waits_now w (release m s).after; effects = (release m s).effects }
+released_waits m w s = record { after = waits_now w.cond w (release m s).after; effects = (release m s).effects }
 
-later : (w : WaitRow) (s : State) (m : ℕ) → ((r : Request) → next_owner s m ≡ Some r → w.tid ≢ r.tid) → release m (waits_now w s) ≡ released_waits m w s
-later w s m differs = ap (λ o. grant o (waits_now w dropped)) (next_still w s m) ∙ by_next (next_owner s m) refl
+later : (w : WaitRow) (s : State) (m : ℕ) → ((r : Request) → next_owner s m ≡ Some r → w.tid ≢ r.tid) → release m (waits_now w.cond w s) ≡ released_waits m w s
+later w s m differs = ap (λ o. grant o (waits_now w.cond w dropped)) (next_still w.cond w s m) ∙ by_next (next_owner s m) refl
   where
     dropped : State
     dropped = record s { locks = without_lock m s.locks }
@@ -123,9 +64,9 @@ later w s m differs = ap (λ o. grant o (waits_now w dropped)) (next_still w s m
     told : ℕ → State → Outcome
     told u after = record { after = after; effects = effect.Answered u zero_answer ∷ [] }
 
-    by_next : (o : Option Request) → next_owner s m ≡ o → grant o (waits_now w dropped) ≡ record { after = waits_now w (grant o dropped).after; effects = (grant o dropped).effects }
+    by_next : (o : Option Request) → next_owner s m ≡ o → grant o (waits_now w.cond w dropped) ≡ record { after = waits_now w.cond w (grant o dropped).after; effects = (grant o dropped).effects }
     by_next None e = refl
-    by_next (Some r) e = ap (told r.tid) (grant_still w dropped r (differs r e))
+    by_next (Some r) e = ap (told r.tid) (grant_still w.cond w dropped r (differs r e))
 
 -- what a release leaves
 module _ (s : State) (m : ℕ) where
@@ -287,8 +228,8 @@ module _ (parts mid : Parts) (before told : List Effect) (lawful : LawfulParts p
           let h = held (last_lock parts.mons.locks t) m last in
           made
           ∙ ap (λ o. unanswered (waited t c o (state_of parts))) h.is
-          ∙ ap (λ k. unanswered (release k (waits_now (record { cond = c; tid = t; depth = h.lock.depth }) (state_of parts)))) h.here
-          ∙ ap (λ d. unanswered (release m (waits_now (record { cond = c; tid = t; depth = d }) (state_of parts)))) (sym (deep ∙ depth-last parts.mons.locks t m h.lock (lawful.nine.locks.0 m) h.is h.here))
+          ∙ ap (λ k. unanswered (release k (waits_now c (record { cond = c; tid = t; depth = h.lock.depth }) (state_of parts)))) h.here
+          ∙ ap (λ d. unanswered (release m (waits_now c (record { cond = c; tid = t; depth = d }) (state_of parts)))) (sym (deep ∙ depth-last parts.mons.locks t m h.lock (lawful.nine.locks.0 m) h.is h.here))
           ∙ ap unanswered (later its (state_of parts) m differs)
 
       state-then : state_of then_waits ≡ record (release m (state_of parts)).after { waits = (release m (state_of parts)).after.waits ++ its ∷ [] }

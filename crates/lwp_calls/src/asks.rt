@@ -1,6 +1,6 @@
 // What several calls ask of the parts, and how a caller begins to wait.
 ghost use Rattle.std.specs.Prelude.{◌≡◌, ◌<◌, ◌+◌, false, length, IfOk, IsTrue, Some, None, []};
-ghost use Rattle.std.specs.List.{list_all, slice_get};
+ghost use Rattle.std.specs.List.{list_all};
 ghost use Rattle.death_cleanup.specs.Comes.{CameTo};
 ghost use Rattle.death_cleanup.specs.Ties.{InStep, LawfulParts};
 ghost use Rattle.death_cleanup.specs.View.{state_of};
@@ -10,7 +10,7 @@ ghost use Rattle.lwp_types.specs.State.{is_not_blocked, is_thread, numbers, prio
 ghost use Rattle.lwp_types.specs.Unblock.{blocked};
 ghost use Rattle.lwp_calls.specs.Asks.{serves};
 
-use death_cleanup::{Awaited, Kind, Parts, set_block};
+use death_cleanup::{Awaited, Kind, Parts, nth_of, set_block};
 use lwp_types::{Block, IdList, NoMemory, Tid};
 use stale_ids::Registry;
 use std::alloc::Global;
@@ -44,16 +44,6 @@ pub fn block(parts: &mut Parts, tid: Tid, why: Block)
 {
     parts.sched.block(tid);
     set_block(&mut parts.ids, tid, why);
-}
-
-// The `i`-th of the living, counted from the oldest.
-fn nth_of(ids: &Registry<Kind>, i: usize) -> (Tid, &Kind)
-    requires { i < length ids.now.live }
-    ensures { slice_get ids.now.live i ≡ Some (result.0, result.1.now) }
-{
-    let number = ids.nth(i);
-    let kind = ids.get(number).unwrap();
-    (Tid { number }, kind)
 }
 
 /// The live threads, in the order of birth.

@@ -1,3 +1,6 @@
 pub mod SourceLemmas
 pub mod ProgramLaws
+pub mod PostLaws
+pub mod HistoryLaws
+pub mod LineLaws
 pub mod PlanLaws

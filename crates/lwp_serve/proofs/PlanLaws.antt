@@ -1,42 +1,50 @@
 -- From the clauses of a run to those of a session of `plan`.
-use Rattle.lwp_serve.specs.Bodies.{Body, bodies_of, body_next}
+use Rattle.event_gate.specs.History.{IsClientHistory, lines_of}
+use Rattle.event_gate.specs.Shelves.{Shelf}
+use Rattle.lwp_serve.proofs.HistoryLaws.{counts_left, part_history, whole_history}
+use Rattle.lwp_serve.specs.Bodies.{bodies_of, body_next}
+use Rattle.lwp_serve.specs.declared.body.ThreadBody.{ThreadBody}
+use Rattle.lwp_serve.specs.History.{lines_left, pairs_of}
 use Rattle.lwp_serve.specs.Outcome.{HasRead}
-use Rattle.lwp_serve.specs.Plan.{AreDue, EndSays, IsBroken, IsFaultless, IsPart, IsStopped, IsUnbuilt, IsWhole, Refuses, RunSays, Says, SourceSays, Stream, ReadSays, lines_after, opening_names, opening_run, session_at, tail_after}
+use Rattle.lwp_serve.specs.Plan.{AreDue, EndSays, IsBroken, IsFaultless, IsPart, IsStopped, IsWhole, ReadSays, Refuses, RunSays, Says, Stream, lines_after, lines_before, opening_names, opening_run, session_at}
+use Rattle.lwp_serve.specs.Posted.{IsPosted}
 use Rattle.lwp_serve.specs.Reading.{IsReadOut, IsReadPart, IsReadUp}
-use Rattle.lwp_serve.specs.Planned.{calls_of, halt_of, plan_of, planned_of, setting_of, takes_of, trace_of}
+use Rattle.lwp_serve.specs.Planned.{calls_of, halt_of, plan_of, planned_of, setting_of, stock_of, takes_of, trace_of}
 use Rattle.lwp_serve.specs.declared.session.Session.{Session}
 use Rattle.lwp_serve.specs.declared.session.SessionEnd.{SessionEnd}
 use Rattle.lwp_serve.specs.declared.session.SessionEnd.TheVariants as end
 use Rattle.lwp_types.specs.Names.{Names}
+use Rattle.lwp_types.specs.State.{State}
+use Rattle.lwp_types.specs.Choice.{choice}
 use Rattle.lwp_types.specs.Streams.{AppendsPrefix, appended}
 use Rattle.lwp_types.specs.declared.call.PodParams.{PodParams}
 use Rattle.pod_runner.specs.Due.{IsDefined}
-use Rattle.pod_runner.specs.Eager.{ComesTo, Plan, Planned, plan_over, plan_whole}
-use Rattle.pod_runner.specs.Play.{calls_made, play}
+use Rattle.pod_runner.specs.Eager.{IsFirstPart, Plan, plan_over, plan_whole}
+use Rattle.pod_runner.specs.Over.{halt_if, is_wanted, over}
+use Rattle.pod_runner.specs.Play.{play}
 use Rattle.pod_runner.specs.Run as run
-use Rattle.pod_runner.specs.Run.{AppendsCut, GoesOn, IsBegun, IsPlanned, Played, Writes, WritesPart}
-use Rattle.pod_runner.specs.Session.{Made, Setting}
+use Rattle.pod_runner.specs.Run.{AppendsCut, EndsAt, GoesOn, IsNew, Played, but_last}
+use Rattle.pod_runner.specs.Session.{Setting}
+use Rattle.pod_runner.specs.Session as Sessions
 use Rattle.pod_runner.specs.Trace.{left_from, lines, made_lines, tail, tail_by, trace}
+use Rattle.pod_runner.specs.declared.session.Took.{Took}
 use Rattle.script_text.specs.Grammar.{Spells}
-use Rattle.lwp_serve.specs.Closed.{IsClosed, is_closed}
 use Rattle.script_text.specs.Lines.{end_text}
 use Rattle.script_text.specs.Spelling.{Gives, verdict}
 use Rattle.script_text.specs.declared.reason.ReadErr.{ReadErr}
 use Rattle.script_text.specs.declared.reason.ReadErr.TheVariants as err
 use Rattle.script_text.proofs.ScriptLaws.{one_script, verdict_long}
 use Rattle.script_text.specs.declared.reason.Reason.{Reason}
-use Rattle.script_text.specs.declared.reason.Reason.TheVariants as reasons
-use Rattle.script_text.specs.Script.{line_of, lines_posted, params_of, proc_names}
+use Rattle.script_text.specs.Script.{lines_posted, params_of, proc_names}
 use Rattle.script_text.specs.declared.script.Halt.{Halt}
+use Rattle.script_text.specs.declared.script.Halt.TheVariants as halts
 use Rattle.script_text.specs.declared.script.Script.{Script}
-use Rattle.std.specs.List.{list_all}
-use Rattle.std.proofs.lemmas.Bool.{cases_lt, eqb-true, lt-ltb}
-use Rattle.std.proofs.Common.{Bool, Err, eqb, false, inl, map, subst, true, ◌&&◌, List, None, Ok, OnErr, Option, Result, Some, [], ap, append-nil, append_assoc, arith, length, length-append, length-take, refl, suc, sym, take, take_all, inr, zero, ℕ, ◌++◌, ◌+◌, ◌-◌, ◌≤◌, ◌∙◌, ◌∷◌, ◌≡◌}
+use Rattle.std.specs.Prelude.{if◌then◌else◌, nat_le}
+use Rattle.std.proofs.lemmas.Bool.{cases_lt, lt-ltb}
+use Rattle.std.proofs.Common.{Bool, Err, false, inl, subst, true, List, None, Ok, OnErr, Option, Result, Some, [], ap, append-nil, append_assoc, arith, length, length-append, length-take, refl, suc, sym, take, take_all, inr, zero, ℕ, ◌++◌, ◌+◌, ◌≤◌, ◌∙◌, ◌∷◌, ◌≡◌}
 use Rattle.std.proofs.Math.Seq.{take-append-add, take-length}
-use Rattle.std.proofs.lemmas.List.{drop_all, take-append-le}
+use Rattle.std.proofs.lemmas.List.{drop_all}
 use Rattle.std.proofs.lemmas.List.Concat.{flat_map-append}
-use Rattle.lwp_types.specs.declared.call.Line.{Line}
-use Rattle.pod_runner.specs.Session as Sessions
 
 -- ---- what is told
 
@@ -75,30 +83,19 @@ on_err (Err e) P h = h
 
 -- ---- a run of a script
 
--- it plays this script, with so many turns allowed, and takes no line
+-- it plays this script, with so many turns allowed
 pub record Plays (script : Script) (turns : ℕ) (r : Played Script) : Type 0 where
   pub program : r.program ≡ script
   pub params : r.params ≡ params_of script
   pub names : r.names ≡ opening_names script
   pub turns_same : r.turns ≡ turns
-  pub takes : r.takes ≡ []
 
-pub plays-opening : (r : Played Script) (turns : ℕ) → r ≡ opening_run r.program turns → Plays r.program turns r
-plays-opening r turns h = record {
-  program = refl;
-  params = ap (λ (x : Played Script). x.params) h;
-  names = ap (λ (x : Played Script). x.names) h;
-  turns_same = ap (λ (x : Played Script). x.turns) h;
-  takes = ap (λ (x : Played Script). x.takes) h;
-}
-
-pub plays-on : (script : Script) (turns : ℕ) (old new : Played Script) → Plays script turns old → GoesOn old new → new.takes ≡ old.takes → Plays script turns new
-plays-on script turns old new h g takes = record {
-  program = g.program ∙ h.program;
-  params = g.params ∙ h.params;
-  names = g.names ∙ h.names;
-  turns_same = g.turns ∙ h.turns_same;
-  takes = takes ∙ h.takes;
+plays : (script : Script) (turns : ℕ) (o r : Played Script) → o ≡ opening_run script turns → GoesOn o r → Plays script turns r
+plays script turns o r h g = record {
+  program = g.program ∙ ap (λ (x : Played Script). x.program) h;
+  params = g.params ∙ ap (λ (x : Played Script). x.params) h;
+  names = g.names ∙ ap (λ (x : Played Script). x.names) h;
+  turns_same = g.turns ∙ ap (λ (x : Played Script). x.turns) h;
 }
 
 setting-is : (script : Script) (turns : ℕ) (r : Played Script) → Plays script turns r → run.setting_of body_next bodies_of r ≡ setting_of script
@@ -107,187 +104,196 @@ setting-is script turns r h =
     ∙ ap (λ (p : PodParams). the_setting script p r.names) h.params
     ∙ ap (λ (n : Names). the_setting script (params_of script) n) h.names
   where
-    the_setting : Script → PodParams → Names → Setting Body
+    the_setting : Script → PodParams → Names → Setting ThreadBody
     the_setting p params names = record { next = body_next; bodies = bodies_of p; params = params; names = names }
 
-planned-is : (script : Script) (turns : ℕ) (r : Played Script) → Plays script turns r → run.planned_of body_next bodies_of script.clients r ≡ planned_of script turns
-planned-is script turns r h =
-    ap (λ (s : Setting Body). the_planned s r.turns) (setting-is script turns r h) ∙ ap (λ t. the_planned (setting_of script) t) h.turns_same
-  where
-    the_planned : Setting Body → ℕ → Planned Body
-    the_planned s t = record { setting = s; clients = script.clients; turns = t }
+session-is : (script : Script) (turns : ℕ) (r : Played Script) → Plays script turns r → run.session_of body_next bodies_of r ≡ session_at script r.takes r.calls
+session-is script turns r h = ap (λ (s : Setting ThreadBody). play s r.takes r.calls) (setting-is script turns r h)
 
-defined-none : (s : Setting Body) → IsDefined s [] 0
-unfolding IsDefined
-defined-none s = tt
+lines-is : (script : Script) (turns : ℕ) (r : Played Script) → Plays script turns r → run.trace_of body_next bodies_of proc_names r ≡ lines_after script r.takes r.calls
+unfolding lines_after
+lines-is script turns r h =
+    ap (λ p. lines (proc_names p) (run.session_of body_next bodies_of r).steps) h.program
+    ∙ ap (λ (s : Sessions.Session ThreadBody). lines (proc_names script) s.steps) (session-is script turns r h)
 
-pub defined-of : (s : Setting Body) (r : Played Script) → r.takes ≡ [] → r.calls ≡ 0 → IsDefined s r.takes r.calls
-defined-of s r takes calls = rw (takes, calls) (defined-none s)
+before-is : (script : Script) (turns : ℕ) (r : Played Script) → Plays script turns r → run.trace_before body_next bodies_of proc_names r ≡ lines_before script r.takes r.calls
+unfolding lines_before
+before-is script turns r h =
+    ap (λ p. lines (proc_names p) (but_last (run.session_of body_next bodies_of r).steps)) h.program
+    ∙ ap (λ (s : Sessions.Session ThreadBody). lines (proc_names script) (but_last s.steps)) (session-is script turns r h)
 
-no-lines : (procs : List (List ℕ)) (s : Setting Body) → lines procs (play s [] 0).steps ≡ []
+-- ---- where it began
+
+no-lines : (procs : List (List ℕ)) (s : Setting ThreadBody) → lines procs (play s [] 0).steps ≡ []
 unfolding play
 no-lines procs s = refl
 
-pub opening-trace : (r : Played Script) → r.takes ≡ [] → r.calls ≡ 0 → run.trace_of body_next bodies_of proc_names r ≡ []
-opening-trace r takes calls = rw (takes, calls) (no-lines (proc_names r.program) (run.setting_of body_next bodies_of r))
-
 -- what is told stands behind nothing of the trace
-pub told-before : (r : Played Script) (old : Option (List ℕ)) → r.takes ≡ [] → r.calls ≡ 0 → old ≡ appended old (run.trace_of body_next bodies_of proc_names r)
-told-before r old takes calls = sym (ap (appended old) (opening-trace r takes calls) ∙ appended-nil old)
+pub told-before : (script : Script) (turns : ℕ) (o : Played Script) (old : Option (List ℕ)) → o ≡ opening_run script turns → old ≡ appended old (run.trace_of body_next bodies_of proc_names o)
+told-before script turns o old h =
+    sym (ap (λ x. appended old (run.trace_of body_next bodies_of proc_names x)) h ∙ ap (appended old) (no-lines (proc_names script) (setting_of script)) ∙ appended-nil old)
 
--- ---- the lines of its first calls
+pub is-new : (script : Script) (turns : ℕ) (o : Played Script) → o ≡ opening_run script turns → IsNew o
+is-new script turns o h = (ap (λ (x : Played Script). x.calls) h, ap (λ (x : Played Script). x.takes) h)
 
-play-is : (script : Script) (turns : ℕ) (r : Played Script) → Plays script turns r → (n : ℕ) → play (run.setting_of body_next bodies_of r) r.takes n ≡ session_at script n
-play-is script turns r h n = ap (λ takes. play (run.setting_of body_next bodies_of r) takes n) h.takes ∙ ap (λ setting. play setting [] n) (setting-is script turns r h)
+-- the session planned for it is the script's
+whole-is : (script : Script) (turns : ℕ) (o : Played Script) (s : List Shelf) → o ≡ opening_run script turns → s ≡ stock_of script → plan_whole (run.planned_of body_next bodies_of o) s ≡ plan_of script turns
+whole-is script turns o s h t = ap (λ x. plan_whole (run.planned_of body_next bodies_of x) s) h ∙ ap (plan_whole (planned_of script turns)) t
 
-lines-is : (script : Script) (turns : ℕ) (r : Played Script) → Plays script turns r → (n : ℕ) → run.trace_at body_next bodies_of proc_names r n ≡ lines_after script n
-unfolding lines_after
-lines-is script turns r h n =
-    ap (λ p. lines (proc_names p) (play (run.setting_of body_next bodies_of r) r.takes n).steps) h.program
-    ∙ ap (λ (s : Sessions.Session Body). lines (proc_names script) s.steps) (play-is script turns r h n)
+-- ---- as far as it came
 
--- the lines of a call more are more
-steps-grow : (procs : List (List ℕ)) (steps more : List Made) → length (lines procs steps) ≤ length (lines procs (steps ++ more))
-steps-grow procs steps more = rw (flat_map-append (made_lines procs) steps more, length-append (lines procs steps) (lines procs more)) (omega arith)
+-- a run of this script over its lines, of which these are left, as far as it came
+pub record Came (script : Script) (turns : ℕ) (r : Played Script) (stock : List Shelf) : Type 0 where
+  pub plays_it : Plays script turns r
+  pub first : IsFirstPart (run.plan_now body_next bodies_of r stock) (plan_of script turns)
+  pub due : IsDefined (run.setting_of body_next bodies_of r) r.takes r.calls
 
-lines-grow : (script : Script) (n : ℕ) → length (lines_after script (n - 1)) ≤ length (lines_after script n)
-unfolding lines_after play
-lines-grow script zero = omega arith
-lines-grow script (suc n) = let back : suc n - 1 ≡ n = omega arith in rw back (steps-grow (proc_names script) (calls_made (setting_of script) n).steps _)
-
-due-of : (script : Script) (turns : ℕ) (r : Played Script) → Plays script turns r → IsDefined (run.setting_of body_next bodies_of r) r.takes r.calls → AreDue script r.calls
-due-of script turns r h due = rw (h.takes, setting-is script turns r h) at due
-
--- memory was wanting
-pub stopped-of : (script : Script) (turns : ℕ) (r : Played Script) (old new : Option (List ℕ)) → Plays script turns r
-    → new ≡ appended old (run.trace_of body_next bodies_of proc_names r) → IsStopped script old new r.calls
-stopped-of script turns r old new h p = p ∙ ap (appended old) (lines-is script turns r h r.calls)
-
--- a write of lines failed
-cut-more : (old new : Option (List ℕ)) (least bytes rest : List ℕ) → AppendsCut old new least bytes → AppendsCut old new least (bytes ++ rest)
-cut-more old new least bytes rest h = record {
-  kept = h.kept;
-  told = h.told ∙ ap (appended old) (sym (take-append-le h.kept bytes rest (omega (arith, h.not_all))));
-  some = h.some;
-  not_all = omega (arith, h.not_all, length-append bytes rest);
+pub came : (script : Script) (turns : ℕ) (o r : Played Script) (s stock : List Shelf) → o ≡ opening_run script turns → s ≡ stock_of script → GoesOn o r
+    → (IsNew o → IsFirstPart (run.plan_now body_next bodies_of r stock) (plan_whole (run.planned_of body_next bodies_of o) s))
+    → IsDefined (run.setting_of body_next bodies_of r) r.takes r.calls → Came script turns r stock
+came script turns o r s stock h t g begun due = record {
+  plays_it = plays script turns o r h g;
+  first = subst (λ (w : Plan ThreadBody). IsFirstPart (run.plan_now body_next bodies_of r stock) w) (whole-is script turns o s h t) (begun (is-new script turns o h));
+  due = due;
 }
 
-pub broken-of : (script : Script) (turns : ℕ) (r : Played Script) (old new : Option (List ℕ)) → Plays script turns r
-    → AppendsCut old new (run.trace_before body_next bodies_of proc_names r) (run.trace_of body_next bodies_of proc_names r) → IsBroken turns script old new r.calls
-broken-of script turns r old new h p = cut-more old new (lines_after script (r.calls - 1)) (lines_after script r.calls) (tail_after script turns r.calls)
-    (rw (← lines-is script turns r h (r.calls - 1), ← lines-is script turns r h r.calls) p)
+due-of : (script : Script) (turns : ℕ) (r : Played Script) (stock : List Shelf) → Came script turns r stock → AreDue script r.takes r.calls
+due-of script turns r stock h = subst (λ (s : Setting ThreadBody). IsDefined s r.takes r.calls) (setting-is script turns r h.plays_it) h.due
 
--- ---- the first part of the session
-
-plan-is : (script : Script) (turns : ℕ) → lines_posted script ≡ [] → plan_of script turns ≡ plan_whole (planned_of script turns) []
-plan-is script turns none = ap (λ posts. plan_whole (planned_of script turns) posts) none
-
-trace-is : (script : Script) (turns : ℕ) → lines_posted script ≡ [] → trace_of script turns ≡ trace (proc_names script) (planned_of script turns) (plan_whole (planned_of script turns) [])
+-- its lines are the first of the script's trace
+rest-of : (script : Script) (turns : ℕ) (r : Played Script) (stock : List Shelf) → Came script turns r stock → (rest : List ℕ) × (trace_of script turns ≡ run.trace_of body_next bodies_of proc_names r ++ rest)
 unfolding trace_of
-trace-is script turns none = ap (trace (proc_names script) (planned_of script turns)) (plan-is script turns none)
+rest-of script turns r stock h =
+    let procs = proc_names script in
+    let now = (run.session_of body_next bodies_of r).steps in
+    let behind = tail script.clients (planned_of script turns) (plan_of script turns) in (
+      lines procs h.first.rest ++ behind,
+      ap (λ steps. lines procs steps ++ behind) h.first.steps
+          ∙ ap (λ ls. ls ++ behind) (flat_map-append (made_lines procs) now h.first.rest)
+          ∙ append_assoc (lines procs now) (lines procs h.first.rest) behind
+          ∙ ap (λ p. lines (proc_names p) now ++ (lines procs h.first.rest ++ behind)) (sym h.plays_it.program),
+    )
 
-calls-is : (script : Script) (turns : ℕ) → lines_posted script ≡ [] → calls_of script turns ≡ (plan_whole (planned_of script turns) []).calls
-unfolding calls_of
-calls-is script turns none = ap (λ (plan : Plan Body). plan.calls) (plan-is script turns none)
+part-by : (script : Script) (turns : ℕ) (r : Played Script) (stock : List Shelf) (old new : Option (List ℕ)) → Came script turns r stock → IsPosted script
+    → AppendsPrefix old new (trace_of script turns) → IsPart turns script old new r.takes r.calls
+unfolding calls_of takes_of
+part-by script turns r stock old new h posted p = record {
+  trace = p;
+  made = h.first.calls_up;
+  later = h.first.later;
+  taken = h.first.takes;
+  due = due-of script turns r stock h;
+  left = lines_of (pairs_of h.first.later) ++ lines_left (plan_of script turns).left;
+  history = part_history script.clients (lines_posted script) r.takes h.first.later (lines_left (plan_of script turns).left)
+      (subst (λ (takes : List Took). IsClientHistory script.clients (lines_posted script) (pairs_of takes) (lines_left (plan_of script turns).left)) h.first.takes (whole_history script turns posted));
+}
 
--- the run's trace is the first part of the script's
-pub rest-of : (script : Script) (turns : ℕ) (r : Played Script) → Plays script turns r → IsClosed script → IsBegun body_next bodies_of proc_names r
-    → (rest : List ℕ) × (trace_of script turns ≡ run.trace_of body_next bodies_of proc_names r ++ rest) × (r.calls ≤ calls_of script turns)
-rest-of script turns r h closed begun = let b = begun script.clients in (
-  b.rest,
-  trace-is script turns closed.no_posts
-      ∙ ap (λ procs. trace procs (planned_of script turns) (plan_whole (planned_of script turns) [])) (ap proc_names (sym h.program))
-      ∙ ap (λ (p : Planned Body). trace (proc_names r.program) p (plan_whole p [])) (sym (planned-is script turns r h))
-      ∙ b.writes,
-  rw (calls-is script turns closed.no_posts, sym (planned-is script turns r h)) b.calls_up,
-)
+pub part-of : (script : Script) (turns : ℕ) (r : Played Script) (stock : List Shelf) (old new : Option (List ℕ)) → Came script turns r stock → IsPosted script
+    → AppendsPrefix old new (run.trace_of body_next bodies_of proc_names r) → IsPart turns script old new r.takes r.calls
+part-of script turns r stock old new h posted p = let found = rest-of script turns r stock h in
+    part-by script turns r stock old new h posted (prefix-more old new (run.trace_of body_next bodies_of proc_names r) found.0 (trace_of script turns) found.1 p)
 
-pub part-of : (script : Script) (turns : ℕ) (r : Played Script) (old new : Option (List ℕ)) → Plays script turns r → IsClosed script → IsBegun body_next bodies_of proc_names r
-    → IsDefined (run.setting_of body_next bodies_of r) r.takes r.calls → AppendsPrefix old new (run.trace_of body_next bodies_of proc_names r) → IsPart turns script old new r.calls
-part-of script turns r old new h closed begun due p = let found = rest-of script turns r h closed begun in
-    record { trace = prefix-more old new (run.trace_of body_next bodies_of proc_names r) found.0 (trace_of script turns) found.1 p; made = found.2; due = due-of script turns r h due }
+pub part-all : (script : Script) (turns : ℕ) (r : Played Script) (stock : List Shelf) (old new : Option (List ℕ)) → Came script turns r stock → IsPosted script
+    → new ≡ appended old (run.trace_of body_next bodies_of proc_names r) → IsPart turns script old new r.takes r.calls
+part-all script turns r stock old new h posted p = part-of script turns r stock old new h posted (prefix-all old new (run.trace_of body_next bodies_of proc_names r) p)
 
-pub part-all : (script : Script) (turns : ℕ) (r : Played Script) (old new : Option (List ℕ)) → Plays script turns r → IsClosed script → IsBegun body_next bodies_of proc_names r
-    → IsDefined (run.setting_of body_next bodies_of r) r.takes r.calls → new ≡ appended old (run.trace_of body_next bodies_of proc_names r) → IsPart turns script old new r.calls
-part-all script turns r old new h closed begun due p =
-    part-of script turns r old new h closed begun due (prefix-all old new (run.trace_of body_next bodies_of proc_names r) p)
+-- memory was wanting
+pub stopped-of : (script : Script) (turns : ℕ) (r : Played Script) (stock : List Shelf) (old new : Option (List ℕ)) → Came script turns r stock
+    → new ≡ appended old (run.trace_of body_next bodies_of proc_names r) → IsStopped script old new r.takes r.calls
+stopped-of script turns r stock old new h p = p ∙ ap (appended old) (lines-is script turns r h.plays_it)
 
--- ---- the session to its end
+-- a write of lines failed
+pub broken-of : (script : Script) (turns : ℕ) (r : Played Script) (stock : List Shelf) (old new : Option (List ℕ)) → Came script turns r stock
+    → AppendsCut old new (run.trace_before body_next bodies_of proc_names r) (run.trace_of body_next bodies_of proc_names r) → IsBroken turns script old new r.takes r.calls
+broken-of script turns r stock old new h p = inl (subst (λ (bytes : List ℕ). AppendsCut old new (lines_before script r.takes r.calls) bytes) (lines-is script turns r h.plays_it)
+    (subst (λ (least : List ℕ). AppendsCut old new least (run.trace_of body_next bodies_of proc_names r)) (before-is script turns r h.plays_it) p))
 
-whole-trace : (procs : List (List ℕ)) (planned : Planned Body) (plan : Plan Body) (halt : Halt) → planned.clients ≡ [] → ComesTo planned [] plan halt
-    → trace procs planned (plan_whole planned []) ≡ lines procs plan.session.steps ++ end_text planned.turns [] halt
-whole-trace procs planned plan halt none h =
-    ap (trace procs planned) h.whole
-    ∙ ap (λ o. lines procs plan.session.steps ++ tail_by planned.turns planned.clients plan.left o) h.halted
-    ∙ ap (λ clients. lines procs plan.session.steps ++ end_text planned.turns (left_from 0 clients plan.left) halt) none
+-- ---- to its end
 
--- the session of the script comes to where the run is
-comes-of : (script : Script) (turns : ℕ) (r : Played Script) (halt : Halt) → Plays script turns r → IsPlanned body_next bodies_of r halt
-    → ComesTo (planned_of script turns) [] (run.plan_now body_next bodies_of r) halt
-comes-of script turns r halt h planned = rw (sym (planned-is script turns r h)) (planned script.clients)
+not-spent : (b : Bool) → (if b then Some halts.Spent else None) ≡ Some halts.Stuck → ⊥
+not-spent true h = cc h
+not-spent false h = cc h
 
-pub end-trace : (script : Script) (turns : ℕ) (r : Played Script) (halt : Halt) → Plays script turns r → IsClosed script → IsPlanned body_next bodies_of r halt
-    → trace_of script turns ≡ run.trace_of body_next bodies_of proc_names r ++ end_text turns [] halt
-end-trace script turns r halt h closed planned =
-    trace-is script turns closed.no_posts
-    ∙ whole-trace (proc_names script) (planned_of script turns) (run.plan_now body_next bodies_of r) halt closed.no_clients (comes-of script turns r halt h planned)
-    ∙ ap (λ p. lines (proc_names p) (run.session_of body_next bodies_of r).steps ++ end_text turns [] halt) (sym h.program)
+-- a session is stuck only where no line can be taken
+stuck-wants : (turns : ℕ) (s : State) (calls : ℕ) (left : List Shelf) → over turns s calls left ≡ Some halts.Stuck → is_wanted s left ≡ false
+stuck-wants turns s calls left = by s.ended (is_wanted s left) (choice s)
+  where
+    by : (b wanted : Bool) (c : Option ℕ) → (if b then Some (halts.Ended s.status) else halt_if turns calls wanted c) ≡ Some halts.Stuck → wanted ≡ false
+    by true wanted c h = absurd (cc h)
+    by false false None h = refl
+    by false true None h = absurd (cc h)
+    by false wanted (Some t) h = absurd (not-spent (nat_le turns calls) h)
 
-pub whole-of : (script : Script) (turns : ℕ) (r : Played Script) (halt : Halt) (old mid new : Option (List ℕ)) (last : List ℕ) → Plays script turns r → IsClosed script → IsPlanned body_next bodies_of r halt
-    → IsDefined (run.setting_of body_next bodies_of r) r.takes r.calls → mid ≡ appended old (run.trace_of body_next bodies_of proc_names r) → last ≡ end_text turns [] halt → new ≡ appended mid last → IsWhole turns script old new r.calls halt
+-- the run came to the end of the script's session, and ended so
+pub record Finished (script : Script) (turns : ℕ) (r : Played Script) (stock : List Shelf) (halt : Halt) : Type 0 where
+  pub came_so : Came script turns r stock
+  pub whole : plan_of script turns ≡ run.plan_now body_next bodies_of r stock
+  pub ends : EndsAt body_next bodies_of r stock halt
+
+pub finished : (script : Script) (turns : ℕ) (o r : Played Script) (s stock : List Shelf) (halt : Halt) → Came script turns r stock → o ≡ opening_run script turns → s ≡ stock_of script
+    → (IsNew o → run.plan_now body_next bodies_of r stock ≡ plan_whole (run.planned_of body_next bodies_of o) s) → EndsAt body_next bodies_of r stock halt → Finished script turns r stock halt
+finished script turns o r s stock halt h opening stocked eager ends =
+    record { came_so = h; whole = sym (eager (is-new script turns o opening) ∙ whole-is script turns o s opening stocked); ends = ends }
+
+over-is : (script : Script) (turns : ℕ) (r : Played Script) (stock : List Shelf) (halt : Halt) → Finished script turns r stock halt → plan_over (planned_of script turns) (run.plan_now body_next bodies_of r stock) ≡ Some halt
+over-is script turns r stock halt h = ap (λ t. over t (run.session_of body_next bodies_of r).live.state r.calls stock) (sym h.came_so.plays_it.turns_same) ∙ h.ends
+
+end-trace : (script : Script) (turns : ℕ) (r : Played Script) (stock : List Shelf) (halt : Halt) → Finished script turns r stock halt
+    → trace_of script turns ≡ run.trace_of body_next bodies_of proc_names r ++ end_text turns (left_from 0 script.clients stock) halt
+unfolding trace_of
+end-trace script turns r stock halt h =
+    ap (trace (proc_names script) script.clients (planned_of script turns)) h.whole
+    ∙ ap (λ o. lines (proc_names script) (run.session_of body_next bodies_of r).steps ++ tail_by turns script.clients stock o) (over-is script turns r stock halt h)
+    ∙ ap (λ p. lines (proc_names p) (run.session_of body_next bodies_of r).steps ++ end_text turns (left_from 0 script.clients stock) halt) (sym h.came_so.plays_it.program)
+
+pub whole-of : (script : Script) (turns : ℕ) (r : Played Script) (stock : List Shelf) (halt : Halt) (old mid new : Option (List ℕ)) (last : List ℕ) → Finished script turns r stock halt → IsPosted script
+    → mid ≡ appended old (run.trace_of body_next bodies_of proc_names r) → last ≡ end_text turns (left_from 0 script.clients stock) halt → new ≡ appended mid last
+    → IsWhole turns script old new r.takes r.calls halt
 unfolding halt_of calls_of takes_of
-whole-of script turns r halt old mid new last h closed planned due g e n =
-    let comes = comes-of script turns r halt h planned in
-    let plan : plan_of script turns ≡ run.plan_now body_next bodies_of r = plan-is script turns closed.no_posts ∙ comes.whole in
+whole-of script turns r stock halt old mid new last h posted g e n =
+    let all = run.trace_of body_next bodies_of proc_names r in
+    let halted : plan_over (planned_of script turns) (plan_of script turns) ≡ Some halt = ap (plan_over (planned_of script turns)) h.whole ∙ over-is script turns r stock halt h in
     record {
-      trace = n ∙ ap (λ w. appended w last) g ∙ appended-append old (run.trace_of body_next bodies_of proc_names r) last
-          ∙ ap (appended old) (ap (λ xs. run.trace_of body_next bodies_of proc_names r ++ xs) e ∙ sym (end-trace script turns r halt h closed planned));
-      halted = ap (plan_over (planned_of script turns)) plan ∙ comes.halted;
-      made = sym (ap (λ (p : Plan Body). p.calls) plan);
-      due = due-of script turns r h due;
-      takes = ap (λ (p : Plan Body). p.takes) plan;
+      trace = n ∙ ap (λ w. appended w last) g ∙ appended-append old all last
+          ∙ ap (appended old) (ap (λ xs. all ++ xs) e ∙ sym (end-trace script turns r stock halt h));
+      halted = halted;
+      made = sym (ap (λ (p : Plan ThreadBody). p.calls) h.whole);
+      taken = sym (ap (λ (p : Plan ThreadBody). p.takes) h.whole);
+      due = due-of script turns r stock h.came_so;
+      left = lines_left stock;
+      history = subst (λ (p : Plan ThreadBody). IsClientHistory script.clients (lines_posted script) (pairs_of p.takes) (lines_left p.left)) h.whole (whole_history script turns posted);
+      printed = end-trace script turns r stock halt h
+          ∙ ap (λ ls. ls ++ end_text turns (left_from 0 script.clients stock) halt) (lines-is script turns r h.came_so.plays_it)
+          ∙ ap (λ ns. lines_after script r.takes r.calls ++ end_text turns ns halt) (counts_left 0 script.clients stock);
+      stuck = λ is. let plan = plan_of script turns in stuck-wants turns plan.session.live.state plan.calls plan.left (halted ∙ ap Some is);
     }
 
 -- the last write failed
-pub part-last : (script : Script) (turns : ℕ) (r : Played Script) (halt : Halt) (old mid new : Option (List ℕ)) (last : List ℕ) → Plays script turns r → IsClosed script
-    → IsBegun body_next bodies_of proc_names r → IsPlanned body_next bodies_of r halt → IsDefined (run.setting_of body_next bodies_of r) r.takes r.calls
-    → mid ≡ appended old (run.trace_of body_next bodies_of proc_names r) → last ≡ end_text turns [] halt → AppendsCut mid new [] last → IsPart turns script old new r.calls
-part-last script turns r halt old mid new last h closed begun planned due g e p = record {
-  trace = prefix-then old mid new (run.trace_of body_next bodies_of proc_names r) last (trace_of script turns)
-      (end-trace script turns r halt h closed planned ∙ ap (λ xs. run.trace_of body_next bodies_of proc_names r ++ xs) (sym e)) g (p.kept, p.told);
-  made = (rest-of script turns r h closed begun).2;
-  due = due-of script turns r h due;
-}
+pub part-last : (script : Script) (turns : ℕ) (r : Played Script) (stock : List Shelf) (halt : Halt) (old mid new : Option (List ℕ)) (last : List ℕ) → Finished script turns r stock halt → IsPosted script
+    → mid ≡ appended old (run.trace_of body_next bodies_of proc_names r) → last ≡ end_text turns (left_from 0 script.clients stock) halt → AppendsCut mid new [] last
+    → IsPart turns script old new r.takes r.calls
+part-last script turns r stock halt old mid new last h posted g e p = let all = run.trace_of body_next bodies_of proc_names r in
+    part-by script turns r stock old new h.came_so posted
+    (prefix-then old mid new all last (trace_of script turns) (end-trace script turns r stock halt h ∙ ap (λ xs. all ++ xs) (sym e)) g (p.kept, p.told))
 
--- where the run is, the session of the script is after as many calls
-now-is : (script : Script) (turns : ℕ) (r : Played Script) → Plays script turns r → IsClosed script
-    → run.plan_now body_next bodies_of r ≡ record { session = session_at script r.calls; calls = r.calls; left = lines_posted script; takes = [] }
-now-is script turns r h closed =
-    ap (λ session. the_plan session []) (play-is script turns r h r.calls) ∙ ap (λ posts. the_plan (session_at script r.calls) posts) (sym closed.no_posts)
-  where
-    the_plan : Sessions.Session Body → List Line → Plan Body
-    the_plan session posts = record { session = session; calls = r.calls; left = posts; takes = [] }
-
--- it broke off behind the lines of its last call
-cut-then : (old mid new : Option (List ℕ)) (least bytes rest : List ℕ) → length least ≤ length bytes → mid ≡ appended old bytes → AppendsCut mid new [] rest → AppendsCut old new least (bytes ++ rest)
-cut-then old mid new least bytes rest h g p = record {
-  kept = length bytes + p.kept;
-  told = p.told ∙ ap (λ w. appended w (take p.kept rest)) g ∙ appended-append old bytes (take p.kept rest) ∙ ap (appended old) (sym (take-append-add bytes rest p.kept));
-  some = omega (arith, h);
-  not_all = omega (arith, p.not_all, length-append bytes rest);
-}
-
-pub broken-last : (script : Script) (turns : ℕ) (r : Played Script) (halt : Halt) (old mid new : Option (List ℕ)) (last : List ℕ) → Plays script turns r → IsClosed script
-    → IsPlanned body_next bodies_of r halt
-    → mid ≡ appended old (run.trace_of body_next bodies_of proc_names r) → last ≡ end_text turns [] halt → AppendsCut mid new [] last → IsBroken turns script old new r.calls
-unfolding tail_after
-broken-last script turns r halt old mid new last h closed planned g e p =
-    let tailed : tail_after script turns r.calls ≡ last =
-    ap (tail (planned_of script turns)) (sym (now-is script turns r h closed))
-    ∙ ap (tail_by turns script.clients []) (comes-of script turns r halt h planned).halted
-    ∙ ap (λ clients. end_text turns (left_from 0 clients []) halt) closed.no_clients
-    ∙ sym e in
-    rw tailed (cut-then old mid new (lines_after script (r.calls - 1)) (lines_after script r.calls) last (lines-grow script r.calls) (rw (← lines-is script turns r h r.calls) g) p)
+pub broken-last : (script : Script) (turns : ℕ) (r : Played Script) (stock : List Shelf) (halt : Halt) (old mid new : Option (List ℕ)) (last : List ℕ) → Finished script turns r stock halt
+    → mid ≡ appended old (run.trace_of body_next bodies_of proc_names r) → last ≡ end_text turns (left_from 0 script.clients stock) halt → AppendsCut mid new [] last
+    → IsBroken turns script old new r.takes r.calls
+unfolding calls_of takes_of
+broken-last script turns r stock halt old mid new last h g e p =
+    let all = run.trace_of body_next bodies_of proc_names r in
+    let whole : trace_of script turns ≡ all ++ last = end-trace script turns r stock halt h ∙ ap (λ xs. all ++ xs) (sym e) in
+    inr (record {
+      cut = record {
+        kept = length all + p.kept;
+        told = p.told ∙ ap (λ w. appended w (take p.kept last)) g ∙ appended-append old all (take p.kept last)
+            ∙ ap (appended old) (sym (take-append-add all last p.kept) ∙ ap (take (length all + p.kept)) (sym whole));
+        some = omega (arith, ap length (lines-is script turns r h.came_so.plays_it));
+        not_all = omega (arith, p.not_all, ap length whole, length-append all last);
+      };
+      made = sym (ap (λ (p : Plan ThreadBody). p.calls) h.whole);
+      taken = sym (ap (λ (p : Plan ThreadBody). p.takes) h.whole);
+    })
 
 -- ---- what was read
 
@@ -318,34 +324,10 @@ says-all (Some told) script says h s = ((script, h), λ other spells. subst says
 
 pub refuses-of : (left : Option (List ℕ)) (bytes : List ℕ) (line : ℕ) (why : Reason) → HasRead left bytes → verdict bytes ≡ Err (line, why) → Refuses left line why
 refuses-of None bytes line why read v = tt
-refuses-of (Some told) bytes line why read v = inl (sym (same-verdict told) ∙ ap verdict (sym read) ∙ v)
+refuses-of (Some told) bytes line why read v = sym (same-verdict told) ∙ ap verdict (sym read) ∙ v
 
 pub gives-bad : (bytes : List ℕ) (r : Result Script ReadErr) (line : ℕ) (why : Reason) → r ≡ Err (err.Bad line why) → Gives (verdict bytes) r → verdict bytes ≡ Err (line, why)
 gives-bad bytes r line why is g = subst (λ (x : Result Script ReadErr). Gives (verdict bytes) x) is g
-
-pub unbuilt-of : (left : Option (List ℕ)) (script : Script) → Holds left script → is_closed script ≡ false → Refuses left 0 reasons.Unbuilt
-unbuilt-of None script h other = tt
-unbuilt-of (Some told) script h other = inr (refl, refl, (script, h), λ s spells. subst (λ (x : Script). is_closed x ≡ false) (one_script told script s h spells) other)
-
--- a closed script has nothing of the outside
-pub closed-of : (script : Script) → is_closed script ≡ true → IsClosed script
-unfolding is_closed
-closed-of script h =
-    let b = both (eqb (length script.clients) 0 && eqb (length script.natives) 0) (eqb (length script.posts) 0) h in
-    let d = both (eqb (length script.clients) 0) (eqb (length script.natives) 0) b.0 in
-    record {
-      no_clients = none-of script.clients d.0;
-      no_natives = none-of script.natives d.1;
-      no_posts = ap (map (line_of script.texts)) (none-of script.posts b.1);
-    }
-  where
-    both : (a b : Bool) → (a && b) ≡ true → (a ≡ true) × (b ≡ true)
-    both true b h = (refl, h)
-    both false b h = absurd cc
-
-    none-of : {A : Type 0} (xs : List A) → eqb (length xs) 0 ≡ true → xs ≡ []
-    none-of [] h = refl
-    none-of (x ∷ xs) h = absurd (let z : length (x ∷ xs) ≡ 0 = eqb-true (length (x ∷ xs)) 0 h in omega (arith, z))
 
 -- what is a script was read to its end
 out-of : (source : Stream) (script : Script) → Holds source.old script → IsReadUp source.old source.new → IsReadOut source.old source.new
@@ -371,13 +353,13 @@ read-of turns source sink session script (end.Script line reason) h up s = absur
 
 -- ---- what the end says
 
-pub says-of : (turns : ℕ) (source sink : Stream) (session : Session) (script : Script) (e : SessionEnd) → Holds source.old script → is_closed script ≡ true → IsFaultless source
+pub says-of : (turns : ℕ) (source sink : Stream) (session : Session) (script : Script) (e : SessionEnd) → Holds source.old script → IsFaultless source
     → RunSays turns script sink session e → EndSays turns source sink session e
-says-of turns source sink session script (end.Ended status) h o f s = (f, says-all source.old script (λ (x : Script). (is_closed x ≡ true) × RunSays turns x sink session (end.Ended status)) h (o, s))
-says-of turns source sink session script end.Stuck h o f s = (f, says-all source.old script (λ (x : Script). (is_closed x ≡ true) × RunSays turns x sink session end.Stuck) h (o, s))
-says-of turns source sink session script end.Spent h o f s = (f, says-all source.old script (λ (x : Script). (is_closed x ≡ true) × RunSays turns x sink session end.Spent) h (o, s))
-says-of turns source sink session script end.WriteFault h o f s = (f, says-all source.old script (λ (x : Script). (is_closed x ≡ true) × RunSays turns x sink session end.WriteFault) h (o, s))
-says-of turns source sink session script end.NoMemory h o f s = inr (f, says-all source.old script (λ (x : Script). (is_closed x ≡ true) × RunSays turns x sink session end.NoMemory) h (o, s))
-says-of turns source sink session script end.Usage h o f s = s
-says-of turns source sink session script end.ReadFault h o f s = absurd s
-says-of turns source sink session script (end.Script line reason) h o f s = absurd s
+says-of turns source sink session script (end.Ended status) h f s = (f, says-all source.old script (λ (x : Script). RunSays turns x sink session (end.Ended status)) h s)
+says-of turns source sink session script end.Stuck h f s = (f, says-all source.old script (λ (x : Script). RunSays turns x sink session end.Stuck) h s)
+says-of turns source sink session script end.Spent h f s = (f, says-all source.old script (λ (x : Script). RunSays turns x sink session end.Spent) h s)
+says-of turns source sink session script end.WriteFault h f s = (f, says-all source.old script (λ (x : Script). RunSays turns x sink session end.WriteFault) h s)
+says-of turns source sink session script end.NoMemory h f s = inr (f, says-all source.old script (λ (x : Script). RunSays turns x sink session end.NoMemory) h s)
+says-of turns source sink session script end.Usage h f s = s
+says-of turns source sink session script end.ReadFault h f s = absurd s
+says-of turns source sink session script (end.Script line reason) h f s = absurd s

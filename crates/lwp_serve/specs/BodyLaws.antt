@@ -1,5 +1,7 @@
 -- The names keep their lengths, whatever a thread runs.
-use Rattle.lwp_serve.specs.Bodies.{Body, Scripted, Serving, Storing, bodies_of, body_next, native_body, proc_bodies}
+use Rattle.lwp_serve.specs.Bodies.{bodies_of, body_next, native_body, proc_bodies}
+use Rattle.lwp_serve.specs.declared.body.ThreadBody.{ThreadBody}
+use Rattle.lwp_serve.specs.declared.body.ThreadBody.TheVariants.{Scripted, Serving, Storing}
 use Rattle.line_server.specs.Sessions.{session_next-keeps_lengths}
 use Rattle.line_server.specs.Stores.{store_next-keeps_lengths}
 use Rattle.lwp_types.specs.Names.{KeepsLengths, Names}
@@ -12,7 +14,7 @@ use Rattle.script_text.specs.Script.{proc_names, proc_places}
 use Rattle.script_text.specs.declared.script.Proc.{Proc}
 use Rattle.script_text.specs.declared.script.Script.{Script}
 
-pub body_next-keeps_lengths : (body : Body) (names : Names) (a : Answer) → KeepsLengths names (body_next body names a).2
+pub body_next-keeps_lengths : (body : ThreadBody) (names : Names) (a : Answer) → KeepsLengths names (body_next body names a).2
 body_next-keeps_lengths (Scripted body) names a = script_next-keeps_lengths body names a
 body_next-keeps_lengths (Serving body) names a = session_next-keeps_lengths body names a
 body_next-keeps_lengths (Storing body) names a = store_next-keeps_lengths body names a

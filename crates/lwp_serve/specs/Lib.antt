@@ -1,5 +1,6 @@
 pub mod Bodies
-pub mod Closed
+pub mod Posted
+pub mod History
 pub mod Planned
 pub mod Outcome
 pub mod Reading

@@ -1,10 +1,12 @@
 -- What the program's calls say of a session.
+use Rattle.lwp_serve.specs.History.{taken_as}
 use Rattle.lwp_serve.specs.declared.session.Session.{Session}
 use Rattle.lwp_serve.specs.declared.session.SessionEnd.{SessionEnd}
 use Rattle.lwp_serve.specs.declared.session.SessionEnd.TheVariants as end
+use Rattle.pod_runner.specs.declared.session.Took.{Took}
 use Rattle.script_text.specs.declared.script.Halt.{Halt}
 use Rattle.script_text.specs.declared.script.Halt.TheVariants as halt
-use Rattle.std.specs.Prelude.{List, Option, None, Some, [], take, ℕ, ◌≡◌}
+use Rattle.std.specs.Prelude.{List, Option, None, Some, map, take, ℕ, ◌≡◌}
 
 -- the exit status of the program, by the end
 abbrev pub status_of : SessionEnd → ℕ
@@ -17,9 +19,9 @@ status_of end.Stuck = 104
 status_of end.Spent = 105
 status_of end.NoMemory = 106
 
--- a session of this end and so many calls, with no lines taken
-abbrev pub outcome_of : SessionEnd → ℕ → Session
-outcome_of e turns = record { status = status_of e; end = e; taken = []; turns = turns }
+-- a session of this end, with these lines taken and so many calls made
+abbrev pub outcome_of : SessionEnd → List Took → ℕ → Session
+outcome_of e takes turns = record { status = status_of e; end = e; taken = map taken_as takes; turns = turns }
 
 -- the end of a session that has come to its end
 abbrev pub end_of : Halt → SessionEnd

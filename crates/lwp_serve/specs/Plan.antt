@@ -1,27 +1,32 @@
 -- What `plan` comes to, with all that it meets outside.
 use Rattle.lwp_serve.specs.Outcome.{end_of, status_of}
-use Rattle.lwp_serve.specs.Planned.{calls_of, halt_of, planned_of, setting_of, takes_of, trace_of}
+use Rattle.lwp_serve.specs.History.{counts_from, pairs_of, taken_as}
+use Rattle.lwp_serve.specs.Planned.{calls_of, halt_of, plan_of, setting_of, takes_of, trace_of}
 use Rattle.lwp_serve.specs.Reading.{IsReadOut, IsReadPart, IsReadUp}
 use Rattle.lwp_serve.specs.declared.session.Session.{Session}
 use Rattle.lwp_serve.specs.declared.session.SessionEnd.{SessionEnd}
 use Rattle.lwp_serve.specs.declared.session.SessionEnd.TheVariants as end
 use Rattle.lwp_types.specs.Streams.{AppendsPrefix, Rose, appended}
-use Rattle.lwp_serve.specs.Closed.{is_closed}
 use Rattle.script_text.specs.Grammar.{Spells}
 use Rattle.script_text.specs.Spelling.{verdict}
 use Rattle.script_text.specs.declared.reason.Reason.{Reason}
-use Rattle.script_text.specs.declared.reason.Reason.TheVariants as reasons
+use Rattle.script_text.specs.Lines.{end_text}
 use Rattle.script_text.specs.declared.script.Halt.{Halt}
+use Rattle.script_text.specs.declared.script.Halt.TheVariants as halts
 use Rattle.script_text.specs.declared.script.Script.{Script}
+use Rattle.event_gate.specs.History.{IsClientHistory}
+use Rattle.lwp_types.specs.declared.call.Line.{Line}
 use Rattle.lwp_types.specs.Names.{Names, null_names}
-use Rattle.lwp_serve.specs.Bodies.{Body}
+use Rattle.lwp_serve.specs.declared.body.ThreadBody.{ThreadBody}
 use Rattle.pod_runner.specs.Due.{IsDefined}
 use Rattle.pod_runner.specs.Play.{play}
-use Rattle.pod_runner.specs.Run.{AppendsCut, Played}
+use Rattle.pod_runner.specs.Over.{is_wanted}
+use Rattle.pod_runner.specs.Run.{AppendsCut, Played, but_last}
 use Rattle.pod_runner.specs.Session as Sessions
-use Rattle.pod_runner.specs.Trace.{lines, tail}
+use Rattle.pod_runner.specs.Trace.{lines}
+use Rattle.pod_runner.specs.declared.session.Took.{Took}
 use Rattle.script_text.specs.Script.{lines_posted, params_of, proc_names}
-use Rattle.std.specs.Prelude.{List, Option, None, Some, Err, [], false, true, length, ℕ, ◌++◌, ◌-◌, ◌≡◌, ◌≤◌, ◌⊎◌}
+use Rattle.std.specs.Prelude.{List, Option, None, Some, Err, [], false, length, map, ℕ, ◌++◌, ◌≡◌, ◌≤◌, ◌⊎◌}
 
 -- a source or a sink before and after: what it tells, and its count of faults
 pub record Stream : Type 0 where
@@ -47,73 +52,104 @@ abbrev pub Says : Option (List ℕ) → (Script → Type 0) → Type 0
 Says None says = (script : Script) × says script
 Says (Some told) says = ((script : Script) × Spells told script) × ((script : Script) → Spells told script → says script)
 
--- it spells a script of which not all is carried out yet: that is told as line 0
-abbrev pub IsUnbuilt : List ℕ → ℕ → Reason → Type 0
-IsUnbuilt told line why = (line ≡ 0) × (why ≡ reasons.Unbuilt) × ((script : Script) × Spells told script) × ((script : Script) → Spells told script → is_closed script ≡ false)
-
--- it spells no script, and these are its first bad line and the first reason that fits; or it spells one that is told so
+-- it spells no script, and these are its first bad line and the first reason that fits
 abbrev pub Refuses : Option (List ℕ) → ℕ → Reason → Type 0
 Refuses None line why = Unit {0}
-Refuses (Some told) line why = (verdict told ≡ Err (line, why)) ⊎ IsUnbuilt told line why
+Refuses (Some told) line why = verdict told ≡ Err (line, why)
 
--- the session of a script after its first calls, with no line taken
-abbrev pub session_at : Script → ℕ → Sessions.Session Body
-session_at script n = play (setting_of script) [] n
+-- ---- a session so far
 
--- each of these calls was due: somebody's turn had come, and the pod had not ended
-abbrev pub AreDue : Script → ℕ → Type 0
-AreDue script n = IsDefined (setting_of script) [] n
+-- the session of a script with these takes, after its first calls
+abbrev pub session_at : Script → List Took → ℕ → Sessions.Session ThreadBody
+session_at script takes n = play (setting_of script) takes n
 
--- the lines of the first calls
-unfoldable pub lines_after : Script → ℕ → List ℕ
-lines_after script n = lines (proc_names script) (session_at script n).steps
+-- there is such a session: at each call somebody's turn had come and the pod had not ended, at each take the event could be delivered
+abbrev pub AreDue : Script → List Took → ℕ → Type 0
+AreDue script takes n = IsDefined (setting_of script) takes n
 
--- what stands behind these lines, if the session is over by then; else nothing
-unfoldable pub tail_after : Script → ℕ → ℕ → List ℕ
-tail_after script turns n = tail (planned_of script turns) (record { session = session_at script n; calls = n; left = lines_posted script; takes = [] })
+-- the lines of its steps
+unfoldable pub lines_after : Script → List Took → ℕ → List ℕ
+lines_after script takes n = lines (proc_names script) (session_at script takes n).steps
 
--- what was told before and is told now: the session of a script, to its end; its whole trace was written, so many calls were made,
--- each of them was due, and no line was there to be taken
-pub record IsWhole (turns : ℕ) (script : Script) (old new : Option (List ℕ)) (calls : ℕ) (halt : Halt) : Type 0 where
+-- the same without those of its last step
+unfoldable pub lines_before : Script → List Took → ℕ → List ℕ
+lines_before script takes n = lines (proc_names script) (but_last (session_at script takes n).steps)
+
+-- of each client, the lines taken are its first, in order, and then come those left
+abbrev pub IsHistory : Script → List Took → List Line → Type 0
+IsHistory script takes left = IsClientHistory script.clients (lines_posted script) (pairs_of takes) left
+
+-- no event that can be delivered has a line left
+abbrev pub WantsNothing : Script → ℕ → Type 0
+WantsNothing script turns = let plan = plan_of script turns in is_wanted plan.session.live.state plan.left ≡ false
+
+-- What was told before and is told now: the session of a script, to its end. Its whole trace was written; so many calls were made,
+-- and these lines were taken, as soon as they could be, each when it was due. The trace is that of a session with these takes and
+-- calls, with its end and how many lines of each client are left.
+pub record IsWhole (turns : ℕ) (script : Script) (old new : Option (List ℕ)) (takes : List Took) (calls : ℕ) (halt : Halt) : Type 0 where
   pub trace : new ≡ appended old (trace_of script turns)
   pub halted : halt_of script turns ≡ Some halt
   pub made : calls ≡ calls_of script turns
-  pub due : AreDue script calls
-  pub takes : takes_of script turns ≡ []
+  pub taken : takes ≡ takes_of script turns
+  pub due : AreDue script takes calls
+  pub left : List Line
+  pub history : IsHistory script takes left
+  pub printed : trace_of script turns ≡ lines_after script takes calls ++ end_text turns (counts_from 0 script.clients left) halt
+  pub stuck : halt ≡ halts.Stuck → WantsNothing script turns
 
--- the first part of it: the first bytes of its trace were written, no more calls were made than it makes, and each was due
-pub record IsPart (turns : ℕ) (script : Script) (old new : Option (List ℕ)) (calls : ℕ) : Type 0 where
+-- the first part of it: the first bytes of its trace were written, its first lines were taken, no more calls were made than it makes,
+-- and each was due
+pub record IsPart (turns : ℕ) (script : Script) (old new : Option (List ℕ)) (takes : List Took) (calls : ℕ) : Type 0 where
   pub trace : AppendsPrefix old new (trace_of script turns)
   pub made : calls ≤ calls_of script turns
-  pub due : AreDue script calls
+  pub later : List Took
+  pub taken : takes_of script turns ≡ takes ++ later
+  pub due : AreDue script takes calls
+  pub left : List Line
+  pub history : IsHistory script takes left
 
--- it stopped between two calls: what was written are the lines of the calls made
-abbrev pub IsStopped : Script → Option (List ℕ) → Option (List ℕ) → ℕ → Type 0
-IsStopped script old new calls = new ≡ appended old (lines_after script calls)
+-- it stopped between two steps: what was written are the lines of the takes and calls made
+abbrev pub IsStopped : Script → Option (List ℕ) → Option (List ℕ) → List Took → ℕ → Type 0
+IsStopped script old new takes calls = new ≡ appended old (lines_after script takes calls)
 
--- it broke off in a write: the lines of all calls but the last were written, and not all that the last call brought: its lines and,
--- where the session is over by then, the tail
-abbrev pub IsBroken : ℕ → Script → Option (List ℕ) → Option (List ℕ) → ℕ → Type 0
-IsBroken turns script old new calls = AppendsCut old new (lines_after script (calls - 1)) (lines_after script calls ++ tail_after script turns calls)
+-- it broke off behind all its steps, and not all of the trace was written
+pub record IsBrokenLast (turns : ℕ) (script : Script) (old new : Option (List ℕ)) (takes : List Took) (calls : ℕ) : Type 0 where
+  pub cut : AppendsCut old new (lines_after script takes calls) (trace_of script turns)
+  pub made : calls ≡ calls_of script turns
+  pub taken : takes ≡ takes_of script turns
+
+-- it broke off in a write: the lines of all steps but the last were written, and not all of the last one's; or it broke off behind them
+abbrev pub IsBroken : ℕ → Script → Option (List ℕ) → Option (List ℕ) → List Took → ℕ → Type 0
+IsBroken turns script old new takes calls =
+    AppendsCut old new (lines_before script takes calls) (lines_after script takes calls) ⊎ IsBrokenLast turns script old new takes calls
+
+-- ---- what a session says
+
+-- a session tells of these lines that they were taken
+abbrev pub Tells : Session → List Took → Type 0
+Tells session takes = session.taken ≡ map taken_as takes
 
 -- it ended before a script was read
 pub record IsUnread (sink : Stream) (session : Session) : Type 0 where
   pub quiet : IsQuiet sink
+  pub taken : session.taken ≡ []
   pub calls : session.turns ≡ 0
 
 -- a session to its end
 abbrev pub IsRun : ℕ → Script → Stream → Session → Type 0
 IsRun turns script sink session =
-    IsFaultless sink × ((halt : Halt) × (session.end ≡ end_of halt) × IsWhole turns script sink.old sink.new session.turns halt)
+    IsFaultless sink
+    × ((halt : Halt) × (takes : List Took) × (session.end ≡ end_of halt) × Tells session takes × IsWhole turns script sink.old sink.new takes session.turns halt)
 
 -- a session as far as it came, where a write failed
 abbrev pub IsRunBroken : ℕ → Script → Stream → Session → Type 0
-IsRunBroken turns script sink session =
-    IsPart turns script sink.old sink.new session.turns × IsBroken turns script sink.old sink.new session.turns
+IsRunBroken turns script sink session = (takes : List Took) × Tells session takes × IsPart turns script sink.old sink.new takes session.turns
+    × IsBroken turns script sink.old sink.new takes session.turns
 
 -- a session as far as it came, where memory was wanting
 abbrev pub IsRunStopped : ℕ → Script → Stream → Session → Type 0
-IsRunStopped turns script sink session = IsPart turns script sink.old sink.new session.turns × IsStopped script sink.old sink.new session.turns
+IsRunStopped turns script sink session = (takes : List Took) × Tells session takes × IsPart turns script sink.old sink.new takes session.turns
+    × IsStopped script sink.old sink.new takes session.turns
 
 -- what each end says of the session of a script that was read
 abbrev pub RunSays : ℕ → Script → Stream → Session → SessionEnd → Type 0
@@ -124,9 +160,9 @@ RunSays turns script sink session end.WriteFault = IsFaulty sink × IsRunBroken 
 RunSays turns script sink session end.NoMemory = IsFaultless sink × (IsUnread sink session ⊎ IsRunStopped turns script sink session)
 RunSays turns script sink session _ = ⊥
 
--- the same of the script that the source held, all of which is carried out
+-- the same of the script that the source held
 abbrev pub SourceSays : Stream → (Script → Type 0) → Type 0
-SourceSays source says = IsFaultless source × Says source.old (λ script. (is_closed script ≡ true) × says script)
+SourceSays source says = IsFaultless source × Says source.old says
 
 -- what each end says: a script was read, and run as far as this; or else nothing was written, and there is a cause
 abbrev pub EndSays : ℕ → Stream → Stream → Session → SessionEnd → Type 0
@@ -149,13 +185,11 @@ ReadSays source e = IsReadOut source.old source.new
 -- what a session says of a script that was read
 pub record IsPlayed (turns : ℕ) (script : Script) (sink : Stream) (session : Session) : Type 0 where
   pub status : session.status ≡ status_of session.end
-  pub taken : session.taken ≡ []
   pub says : RunSays turns script sink session session.end
 
 -- what a session of `plan` says, with so many turns allowed
 pub record IsPlan (turns : ℕ) (source sink : Stream) (session : Session) : Type 0 where
   pub status : session.status ≡ status_of session.end
-  pub taken : session.taken ≡ []
   pub read : ReadSays source session.end
   pub says : EndSays turns source sink session session.end
 

@@ -1,5 +1,7 @@
 -- What `plan` makes of a script and a number of turns: a session in which all lines are there from the start.
-use Rattle.lwp_serve.specs.Bodies.{Body, bodies_of, body_next}
+use Rattle.event_gate.specs.Shelves.{Shelf, stocked}
+use Rattle.lwp_serve.specs.Bodies.{bodies_of, body_next}
+use Rattle.lwp_serve.specs.declared.body.ThreadBody.{ThreadBody}
 use Rattle.lwp_types.specs.Names.{null_names}
 use Rattle.pod_runner.specs.Eager.{Plan, Planned, plan_over, plan_whole}
 use Rattle.pod_runner.specs.Session.{Setting}
@@ -11,7 +13,7 @@ use Rattle.script_text.specs.declared.script.Script.{Script}
 use Rattle.std.specs.Prelude.{List, Option, length, ℕ}
 
 -- a script as a program of bodies
-abbrev pub setting_of : Script → Setting Body
+abbrev pub setting_of : Script → Setting ThreadBody
 setting_of script = record {
   next = body_next;
   bodies = bodies_of script;
@@ -20,16 +22,20 @@ setting_of script = record {
 }
 
 -- the same, with the turns allowed
-abbrev pub planned_of : Script → ℕ → Planned Body
-planned_of script turns = record { setting = setting_of script; clients = script.clients; turns = turns }
+abbrev pub planned_of : Script → ℕ → Planned ThreadBody
+planned_of script turns = record { setting = setting_of script; turns = turns }
+
+-- the lines of its clients, in place
+abbrev pub stock_of : Script → List Shelf
+stock_of script = stocked script.clients (lines_posted script)
 
 -- its session
-abbrev pub plan_of : Script → ℕ → Plan Body
-plan_of script turns = plan_whole (planned_of script turns) (lines_posted script)
+abbrev pub plan_of : Script → ℕ → Plan ThreadBody
+plan_of script turns = plan_whole (planned_of script turns) (stock_of script)
 
 -- the bytes that are written
 unfoldable pub trace_of : Script → ℕ → List ℕ
-trace_of script turns = trace (proc_names script) (planned_of script turns) (plan_of script turns)
+trace_of script turns = trace (proc_names script) script.clients (planned_of script turns) (plan_of script turns)
 
 -- how it ends
 unfoldable pub halt_of : Script → ℕ → Option Halt

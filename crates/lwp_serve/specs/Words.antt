@@ -36,5 +36,5 @@ command_of (word ∷ turns ∷ other ∷ words) = None
 
 -- what a session of these words says: a plan's, or else that they are no command, and then nothing was read or written
 abbrev pub TopSays : Option ℕ → Stream → Stream → Session → Type 0
-TopSays None source sink session = (session ≡ outcome_of end.Usage 0) × IsQuiet source × IsQuiet sink
+TopSays None source sink session = (session ≡ outcome_of end.Usage [] 0) × IsQuiet source × IsQuiet sink
 TopSays (Some turns) source sink session = IsPlan turns source sink session

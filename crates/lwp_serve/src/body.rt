@@ -1,32 +1,14 @@
 // What a thread of a script runs.
+use line_server::{SessionBody, StoreBody};
 use lwp_types::{Answer, Body, Call, Env, NoMemory};
 use script_body::ScriptBody;
-use std::marker::Model;
 
-/// A thread's body; of the kinds that there are, procedures of statements so far.
+/// A thread's body: a procedure of statements, or one of the two that are built in.
 #[derive(Drop)]
-pub struct ThreadBody<'s> {
-    script: ScriptBody<'s>,
-}
-
-impl<'s> Model for ThreadBody<'s> {
-    ghost use Rattle.lwp_serve.specs.Bodies.{Body as AnyBody, Scripted};
-
-    ghost Value = { AnyBody };
-
-    ghost view = { λ b. Scripted b.script };
-}
-
-impl<'s> ThreadBody<'s> {
-    ghost use Rattle.std.specs.Prelude.{◌≡◌};
-    ghost use Rattle.lwp_serve.specs.Bodies.{Scripted};
-
-    /// The thread runs this.
-    pub fn scripted(script: ScriptBody<'s>) -> ThreadBody<'s>
-        ensures { result ≡ Scripted script.entry }
-    {
-        ThreadBody { script }
-    }
+pub enum ThreadBody<'s> {
+    Scripted(ScriptBody<'s>),
+    Serving(SessionBody),
+    Storing(StoreBody),
 }
 
 impl<'s> Body for ThreadBody<'s> {
@@ -36,7 +18,11 @@ impl<'s> Body for ThreadBody<'s> {
     ghost next = { body_next };
 
     fn poll(&mut self, env: &mut Env, got: Answer) -> Result<Call, NoMemory> {
-        self.script.poll(env, got)
+        match self {
+            ThreadBody::Scripted(body) => body.poll(env, got),
+            ThreadBody::Serving(body) => body.poll(env, got),
+            ThreadBody::Storing(body) => body.poll(env, got),
+        }
     }
 
     ghost keeps_lengths = { body_next-keeps_lengths };

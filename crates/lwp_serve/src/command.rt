@@ -58,6 +58,6 @@ pub fn top<S: Source, K: Sink>(
 {
     match command_of(words) {
         Some(turns) => plan_main(alloc, turns, source, sink),
-        None => Session::new(alloc, SessionEnd::Usage, 0),
+        None => Session::unread(alloc, SessionEnd::Usage),
     }
 }

@@ -2,14 +2,16 @@
 //!
 //! `top` takes the words, a source and a sink. Its contract says: where the words are a command, the source is read, and where
 //! it held a script, the sink is told exactly the trace of that script's session, which the machine of `lwp_types` defines; or
-//! the session's end names what was in the way, and what was written is then the first part of that trace.
+//! the session's end names what was in the way, and what was written is then the first part of that trace. The lines that the
+//! session says were taken are, of each client, its first lines in order, and the trace counts the rest.
 //!
-//! The crate stands on the reader of `script_text`, the bodies of `script_body` and the runs of `pod_runner`.
+//! The crate stands on the reader of `script_text`, the bodies of `script_body` and `line_server`, the gates of `event_gate` and
+//! the runs of `pod_runner`.
 #![tactic(auto)]
 
 mod body;
-mod closed;
 mod command;
+mod lines;
 mod plan;
 mod program;
 mod session;
@@ -20,7 +22,7 @@ pub use body::ThreadBody;
 pub use command::top;
 pub use plan::plan_main;
 pub use program::ScriptProgram;
-pub use session::{Session, SessionEnd, Taken};
+pub use session::{Session, SessionEnd, Taken, TakenLines};
 pub use source::SCRIPT_MAX;
 pub use texts::fault_text;
 

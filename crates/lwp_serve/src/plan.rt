@@ -1,18 +1,21 @@
 // A script is read, and run with all lines in place.
 ghost use Rattle.std.specs.Prelude.{◌≡◌, ◌≤◌, IfOk, OnOk, OnErr, IsErrOf};
 ghost use Rattle.lwp_types.specs.Streams.{Rose};
-ghost use Rattle.lwp_serve.specs.Closed.{IsClosed};
+ghost use Rattle.lwp_serve.specs.Outcome.{outcome_of};
+ghost use Rattle.lwp_serve.specs.Planned.{stock_of};
+ghost use Rattle.lwp_serve.specs.Posted.{IsPosted};
 ghost use Rattle.script_text.specs.Limits.{IsWithinLimits};
 ghost use Rattle.lwp_serve.specs.Plan.{IsBroken, IsPart, IsPlan, IsPlayed, IsStopped, IsWhole, opening_run};
 
 use crate::body::ThreadBody;
-use crate::closed::is_closed;
+use crate::lines::{counts_left, stock};
 use crate::program::ScriptProgram;
 use crate::session::{Session, SessionEnd, end_of};
 use crate::source::{ReadFailure, read_all};
+use event_gate::ListGate;
 use lwp_types::{Env, NoMemory, PodParams, Sink, Source};
 use pod_runner::{Run, RunErr, run, write_all};
-use script_text::{Halt, ReadErr, Reason, Script, ScriptReader, end_lines};
+use script_text::{Halt, ReadErr, Script, ScriptReader, end_lines};
 use std::alloc::Global;
 
 // A run of a script, before its first call.
@@ -21,11 +24,10 @@ fn start<'s>(
     script: &'s Script,
     turns: u64,
 ) -> Result<Run<ThreadBody<'s>, ScriptProgram<'s>>, NoMemory>
-    requires within { IsWithinLimits script.now }
-    requires closed { IsClosed script.now }
+    requires { IsWithinLimits script.now }
     ensures { IfOk result (λ run. run ≡ opening_run script.now turns) }
 {
-    let procs = script.procs.len() as u32;
+    let procs = (script.procs.len() + script.natives.len()) as u32;
     let params = PodParams {
         maxpri: script.maxpri,
         births: script.births,
@@ -38,45 +40,59 @@ fn start<'s>(
     Run::new(alloc, params, ScriptProgram::new(alloc, script), env, turns)
 }
 
-// A run goes on to its end, and then what stands behind its lines is written.
+// A run over a gate goes on to its end, and then what stands behind its lines is written.
 fn run_out<'s, K: Sink>(
     alloc: Global,
     turns: u64,
+    script: &Script,
     played: &mut Run<ThreadBody<'s>, ScriptProgram<'s>>,
+    gate: &mut ListGate,
     sink: &mut K,
 ) -> Result<Halt, RunErr>
-    requires opening { played.old ≡ opening_run played.old.program turns }
-    requires closed { IsClosed played.old.program }
-    ensures whole { IfOk result (λ halt. IsWhole turns played.old.program (K.written sink.old) (K.written sink.new) played.new.calls halt) }
-    ensures part { OnErr result (IsPart turns played.old.program (K.written sink.old) (K.written sink.new) played.new.calls) }
-    ensures stopped { IsErrOf result RunErr.NoMemory → IsStopped played.old.program (K.written sink.old) (K.written sink.new) played.new.calls }
-    ensures broken { IsErrOf result RunErr.WriteFault → IsBroken turns played.old.program (K.written sink.old) (K.written sink.new) played.new.calls }
+    requires posted { IsPosted script.now }
+    requires opening { played.old ≡ opening_run script.now turns }
+    requires stocked { gate.old ≡ stock_of script.now }
+    ensures whole { IfOk result (λ halt. IsWhole turns script.now (K.written sink.old) (K.written sink.new) played.new.takes played.new.calls halt) }
+    ensures part { OnErr result (IsPart turns script.now (K.written sink.old) (K.written sink.new) played.new.takes played.new.calls) }
+    ensures stopped { IsErrOf result RunErr.NoMemory → IsStopped script.now (K.written sink.old) (K.written sink.new) played.new.takes played.new.calls }
+    ensures broken { IsErrOf result RunErr.WriteFault → IsBroken turns script.now (K.written sink.old) (K.written sink.new) played.new.takes played.new.calls }
     ensures faults { OnOk result (K.faults sink.new ≡ K.faults sink.old) }
     ensures cause { IsErrOf result RunErr.WriteFault → Rose (K.faults sink.old) (K.faults sink.new) }
     ensures memory { IsErrOf result RunErr.NoMemory → K.faults sink.new ≡ K.faults sink.old }
 {
-    let halt = run(played, sink)?;
-    let tail = end_lines(alloc, &halt, turns, &[])?;
+    let halt = run(played, gate, sink)?;
+    let left = counts_left(alloc, script.clients.as_slice(), gate)?;
+    let tail = end_lines(alloc, &halt, turns, &left)?;
     match write_all(sink, &tail) {
         Ok(()) => Ok(halt),
         Err(_) => Err(RunErr::WriteFault),
     }
 }
 
+// The session of a run that has ended so.
+fn session_of<'s>(end: SessionEnd, played: Run<ThreadBody<'s>, ScriptProgram<'s>>) -> Session
+    ensures { result ≡ outcome_of end played.entry.takes played.entry.calls }
+{
+    let calls = played.calls();
+    Session::new(end, played.into_takes(), calls)
+}
+
 // The session of a script.
 fn play_script<K: Sink>(alloc: Global, turns: u64, script: &Script, sink: &mut K) -> Session
     requires within { IsWithinLimits script.now }
-    requires closed { IsClosed script.now }
+    requires posted { IsPosted script.now }
     ensures { IsPlayed turns script.now (record { old = K.written sink.old; new = K.written sink.new; faults_old = K.faults sink.old; faults_new = K.faults sink.new }) result }
 {
-    let mut played = match start(alloc, script, turns) {
-        Ok(played) => played,
-        Err(_) => return Session::new(alloc, SessionEnd::NoMemory, 0),
+    let Ok(mut played) = start(alloc, script, turns) else {
+        return Session::unread(alloc, SessionEnd::NoMemory);
     };
-    match run_out(alloc, turns, &mut played, sink) {
-        Ok(halt) => Session::new(alloc, end_of(halt), played.calls()),
-        Err(RunErr::WriteFault) => Session::new(alloc, SessionEnd::WriteFault, played.calls()),
-        Err(RunErr::NoMemory) => Session::new(alloc, SessionEnd::NoMemory, played.calls()),
+    let Ok(mut gate) = stock(alloc, script) else {
+        return Session::unread(alloc, SessionEnd::NoMemory);
+    };
+    match run_out(alloc, turns, script, &mut played, &mut gate, sink) {
+        Ok(halt) => session_of(end_of(halt), played),
+        Err(RunErr::WriteFault) => session_of(SessionEnd::WriteFault, played),
+        Err(RunErr::NoMemory) => session_of(SessionEnd::NoMemory, played),
     }
 }
 
@@ -96,22 +112,14 @@ pub fn plan_main<S: Source, K: Sink>(
     let mut reader = ScriptReader::new(alloc);
     match read_all(&mut reader, source) {
         Ok(()) => {}
-        Err(ReadFailure::Fault) => return Session::new(alloc, SessionEnd::ReadFault, 0),
-        Err(ReadFailure::NoMemory) => return Session::new(alloc, SessionEnd::NoMemory, 0),
+        Err(ReadFailure::Fault) => return Session::unread(alloc, SessionEnd::ReadFault),
+        Err(ReadFailure::NoMemory) => return Session::unread(alloc, SessionEnd::NoMemory),
     }
-    let script = match reader.finish() {
-        Ok(script) => script,
-        Err(ReadErr::NoMemory) => return Session::new(alloc, SessionEnd::NoMemory, 0),
+    match reader.finish() {
+        Ok(script) => play_script(alloc, turns, &script, sink),
+        Err(ReadErr::NoMemory) => Session::unread(alloc, SessionEnd::NoMemory),
         Err(ReadErr::Bad { line, reason }) => {
-            return Session::new(alloc, SessionEnd::Script { line, reason }, 0);
+            Session::unread(alloc, SessionEnd::Script { line, reason })
         }
-    };
-    if is_closed(&script) {
-        return play_script(alloc, turns, &script, sink);
     }
-    let end = SessionEnd::Script {
-        line: 0,
-        reason: Reason::Unbuilt,
-    };
-    Session::new(alloc, end, 0)
 }

@@ -1,12 +1,17 @@
 // The procedures of a script as a program.
+ghost use Rattle.lwp_serve.specs.Bodies.{native_body};
+ghost use Rattle.std.specs.Prelude.{◌≡◌, ◌<◌, ◌^◌, ◌+◌, length, slice_index};
+ghost use Rattle.script_text.specs.Script.{proc_places};
+
 use crate::body::ThreadBody;
+use line_server::{SessionBody, StoreBody};
 use lwp_types::{NoMemory, Program, Text};
 use script_body::ScriptBody;
-use script_text::Script;
+use script_text::{NativeKind, Script};
 use std::alloc::Global;
 use std::marker::Model;
 
-/// The procedures of a script that has none built in.
+/// The procedures of a script: first those of statements, then those that are built in.
 #[derive(Drop)]
 pub struct ScriptProgram<'s> {
     alloc: Global,
@@ -14,23 +19,41 @@ pub struct ScriptProgram<'s> {
 }
 
 impl<'s> Model for ScriptProgram<'s> {
-    ghost use Rattle.std.specs.Prelude.{◌≡◌, ◌<◌, ◌^◌, [], length};
+    ghost use Rattle.std.specs.Prelude.{◌<◌, ◌^◌, ◌+◌, length};
     ghost use Rattle.script_text.specs.declared.script.Script.{Script as AnyScript};
 
     ghost Value = { AnyScript };
 
     ghost view = { λ p. p.script.now };
 
-    ghost invariant = { λ p. (p.script.now.natives ≡ []) × (length p.script.now.procs < 2 ^ 32) };
+    ghost invariant = { λ p. length p.script.now.procs + length p.script.now.natives < 2 ^ 32 };
+}
+
+// A built-in procedure at its start.
+fn native_body<'s>(alloc: Global, kind: NativeKind) -> ThreadBody<'s>
+    ensures { result ≡ native_body kind }
+{
+    match kind {
+        NativeKind::Store => ThreadBody::Storing(StoreBody::new(alloc)),
+        NativeKind::Session { event, store } => ThreadBody::Serving(SessionBody::new(event, store)),
+    }
+}
+
+// The place of a procedure's name.
+fn name_place(script: &Script, proc: usize) -> usize
+    requires { proc < length (proc_places script.now) }
+    ensures { result ≡ slice_index (proc_places script.now) proc }
+{
+    match script.procs.as_slice().get(proc) {
+        Some(found) => found.name as usize,
+        None => script.natives.as_slice()[proc - script.procs.len()].name as usize,
+    }
 }
 
 impl<'s> ScriptProgram<'s> {
-    ghost use Rattle.std.specs.Prelude.{◌≡◌, ◌<◌, ◌^◌, [], length};
-
     /// The program of a script.
     pub fn new(alloc: Global, script: &'s Script) -> ScriptProgram<'s>
-        requires natives { script.now.natives ≡ [] }
-        requires few { length script.now.procs < 2 ^ 32 }
+        requires few { length script.now.procs + length script.now.natives < 2 ^ 32 }
         ensures { result ≡ script.now }
     {
         ScriptProgram { alloc, script }
@@ -47,11 +70,11 @@ impl<'s> Program<ThreadBody<'s>> for ScriptProgram<'s> {
     ghost proc_names = { names_of_procs };
 
     fn procs(&self) -> u32 {
-        self.script.procs.len() as u32
+        (self.script.procs.len() + self.script.natives.len()) as u32
     }
 
     fn proc_name(&self, proc: u32) -> Text {
-        let place = self.script.procs.as_slice()[proc as usize].name as usize;
+        let place = name_place(self.script, proc as usize);
         match self.script.names.procs.as_slice().get(place) {
             Some(name) => *name,
             None => Text::empty(),
@@ -59,8 +82,14 @@ impl<'s> Program<ThreadBody<'s>> for ScriptProgram<'s> {
     }
 
     fn body_of(&self, proc: u32) -> Result<ThreadBody<'s>, NoMemory> {
-        let script = ScriptBody::new(self.alloc, self.script, proc)?;
-        Ok(ThreadBody::scripted(script))
+        let number = proc as usize;
+        let scripted = self.script.procs.len();
+        if number < scripted {
+            let body = ScriptBody::new(self.alloc, self.script, proc)?;
+            return Ok(ThreadBody::Scripted(body));
+        }
+        let native = self.script.natives.as_slice()[number - scripted];
+        Ok(native_body(self.alloc, native.kind))
     }
 
     ghost as_many = { as_many-of };

@@ -2,9 +2,11 @@
 ghost use Rattle.std.specs.Prelude.{◌≡◌, []};
 ghost use Rattle.lwp_serve.specs.Outcome.{end_of, status_of};
 
-use lwp_types::{Sequence, Text};
+use lwp_types::Text;
+use pod_runner::Took;
 use script_text::{Halt, Reason};
 use std::alloc::Global;
+use std::marker::Model;
 
 /// A line that was taken: how many calls had been made by then, its event, and whose line it was.
 #[derive(Clone, Copy)]
@@ -14,6 +16,56 @@ pub struct Taken {
     pub client: u8,
     pub seq: u32,
     pub text: Text,
+}
+
+/// The lines that were taken, the oldest first, as a run keeps them.
+#[derive(Drop)]
+pub struct TakenLines {
+    takes: Vec<Took>,
+}
+
+impl Model for TakenLines {
+    ghost use Rattle.std.specs.Prelude.{List, map};
+    ghost use Rattle.lwp_serve.specs.History.{taken_as};
+    ghost use Rattle.lwp_serve.specs.declared.session.Taken.{Taken as OneTaken};
+
+    ghost Value = { List OneTaken };
+
+    ghost view = { λ lines. map taken_as lines.takes.items };
+}
+
+impl TakenLines {
+    ghost use Rattle.std.specs.Prelude.{◌≡◌, ◌<◌, length, map, slice_index_or};
+    ghost use Rattle.lwp_serve.specs.History.{taken_as};
+
+    /// The lines of these takes.
+    pub fn new(takes: Vec<Took>) -> TakenLines
+        ensures { result ≡ map taken_as takes.items }
+    {
+        TakenLines { takes }
+    }
+
+    /// How many lines there are.
+    pub fn len(&self) -> usize
+        ensures { result ≡ length self.now }
+    {
+        self.takes.len()
+    }
+
+    /// The line at place `i`, counted from 0.
+    pub fn get(&self, i: usize) -> Taken
+        requires { i < length self.now }
+        ensures { result ≡ slice_index_or self.now i result }
+    {
+        let took = &self.takes[i];
+        Taken {
+            turn: took.turn,
+            event: took.event,
+            client: took.line.client,
+            seq: took.line.seq,
+            text: took.line.text,
+        }
+    }
 }
 
 /// How a session ends.
@@ -39,7 +91,7 @@ pub enum SessionEnd {
 pub struct Session {
     pub status: u8,
     pub end: SessionEnd,
-    pub taken: Sequence<Taken>,
+    pub taken: TakenLines,
     pub turns: u64,
 }
 
@@ -73,15 +125,22 @@ pub fn end_of(halt: Halt) -> SessionEnd
 impl Session {
     ghost use Rattle.lwp_serve.specs.Outcome.{outcome_of};
 
-    /// A session with no lines taken.
-    pub fn new(alloc: Global, end: SessionEnd, turns: u64) -> Session
-        ensures { result ≡ outcome_of end turns }
+    /// A session with these lines taken.
+    pub fn new(end: SessionEnd, takes: Vec<Took>, turns: u64) -> Session
+        ensures { result ≡ outcome_of end takes.items turns }
     {
         Session {
             status: status_of(end),
             end,
-            taken: Sequence::new(alloc),
+            taken: TakenLines::new(takes),
             turns,
         }
+    }
+
+    /// A session that ended before its first call.
+    pub fn unread(alloc: Global, end: SessionEnd) -> Session
+        ensures { result ≡ outcome_of end [] 0 }
+    {
+        Session::new(end, Vec::new(alloc), 0)
     }
 }

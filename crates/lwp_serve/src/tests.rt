@@ -111,16 +111,11 @@ fn a_write_that_fails_leaves_a_first_part(rt: HostRuntime) -> Result<(), Fail> {
 }
 
 // Scripts that aren't run, and how their sessions end.
-const NOT_RUN: [(&[u8], u32, Reason); 5] = [
+const NOT_RUN: [(&[u8], u32, Reason); 4] = [
     (b"", 1, Reason::Missing),
     (b"lwp 1\npod 1\nproc main\nnonsense\n", 4, Reason::Statement),
     (b"lwp 1\npod 1\nproc main\nproc main\n", 4, Reason::Proc),
     (b"lwp 1\npod 1\nproc main\nsay h", 4, Reason::Unended),
-    (
-        b"lwp 1\npod 1\nclient 0 5\nproc main\nagents\n",
-        0,
-        Reason::Unbuilt,
-    ),
 ];
 
 #[test]
@@ -136,6 +131,26 @@ fn names_the_first_bad_line(rt: HostRuntime) -> Result<(), Fail> {
         );
         assert!(rt; sink.bytes().is_empty());
     }
+    Ok(())
+}
+
+// A client posts two lines, and its agent's owner receives the first and doesn't reply.
+const POSTED: &[u8] =
+    b"lwp 1\npod 1\nclient 0 5\nproc main\nagent g 5\nrecv g wait\nrecv g wait\npost 0 one\npost 0 two\n";
+
+#[test]
+fn the_lines_taken_are_told(rt: HostRuntime) -> Result<(), Fail> {
+    let alloc = rt.alloc();
+    let mut source = MemSource::new(POSTED.to_vec(alloc)?, Vec::new(alloc));
+    let mut sink = MemSink::new(alloc, 4096, 4096, Vec::new(alloc))?;
+    let session = plan_main(alloc, 100, &mut source, &mut sink);
+    if session.taken.len() != 1 {
+        return Err("one line is taken".into());
+    }
+    let taken = session.taken.get(0);
+    assert!(rt; taken.turn == 1 && taken.event == 5 && taken.client == 0 && taken.seq == 0);
+    assert!(rt; taken.text.bytes() == b"one".as_slice());
+    assert!(rt; sink.bytes().ends_with(b"stuck\nleft client 0 1\n"));
     Ok(())
 }
 
@@ -167,8 +182,8 @@ fn the_words_are_plan_and_how_many_calls(rt: HostRuntime) -> Result<(), Fail> {
 fn a_fault_is_told_on_a_line(rt: HostRuntime) -> Result<(), Fail> {
     let alloc = rt.alloc();
     let bad = SessionEnd::Script {
-        line: 0,
-        reason: Reason::Unbuilt,
+        line: 2,
+        reason: Reason::Missing,
     };
     let usage = b"lwpserve: usage: run [TURNS] | plan [TURNS] | make SEED THREADS LINES\n";
     for (end, text) in [
@@ -179,7 +194,7 @@ fn a_fault_is_told_on_a_line(rt: HostRuntime) -> Result<(), Fail> {
         (SessionEnd::ReadFault, b"lwpserve: read fault\n"),
         (SessionEnd::WriteFault, b"lwpserve: write fault\n"),
         (SessionEnd::NoMemory, b"lwpserve: no memory\n"),
-        (bad, b"lwpserve: script line 0: Unbuilt\n"),
+        (bad, b"lwpserve: script line 2: Missing\n"),
     ] {
         assert!(rt; fault_text(alloc, &end)?.as_slice() == text);
     }

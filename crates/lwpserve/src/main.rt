@@ -1,12 +1,17 @@
 //! The program: its words say what to do, standard input holds the script, and standard output takes the trace.
 //!
-//! All that it does is `lwp_serve::top`, on the standard streams; no contract can say what those hold. What went wrong is
-//! said on standard error, and the exit status is the session's.
+//! All that it does is `lwp_serve::top`, on the standard streams; no contract can say what those hold. The trace is gathered and
+//! written 64 KiB at a time. What went wrong is said on standard error, and the exit status is the session's.
 #![tactic(auto)]
 
 mod streams;
 
+ghost use Rattle.std.specs.Prelude.{◌≡◌, ◌≢◌};
+ghost use Rattle.std.specs.IoError.{error_kind};
+ghost use Rattle.lwp_serve.specs.declared.session.SessionEnd.TheVariants.{NoMemory, Usage, WriteFault};
+
 use lwp_serve::{Session, SessionEnd, fault_text, top};
+use lwp_types::Failed;
 use std::io::{ErrorKind, Write};
 use std::process::ExitCode;
 use std::{env, io};
@@ -14,18 +19,37 @@ use streams::{StdSink, StdSource};
 
 fn main(rt: HostRuntime) -> ExitCode {
     let session = match words(&rt) {
-        Ok(words) => top(
-            rt.alloc(),
-            &words,
-            &mut StdSource::new(rt.stdin()),
-            &mut StdSink::new(rt.stdout()),
-        ),
-        Err(error) => Session::new(rt.alloc(), end_without_words(&error), 0),
+        Ok(words) => session_of(&rt, &words),
+        Err(error) => Session::unread(rt.alloc(), end_without_words(&error)),
     };
     if let Ok(text) = fault_text(rt.alloc(), &session.end) {
         let _ = rt.stderr().write_all(text.as_slice());
     }
     ExitCode::from(session.status)
+}
+
+// The session of these words, on the standard streams.
+fn session_of(rt: &HostRuntime, words: &Vec<String>) -> Session {
+    let Ok(mut sink) = StdSink::new(rt.alloc(), rt.stdout()) else {
+        return Session::unread(rt.alloc(), SessionEnd::NoMemory);
+    };
+    let mut source = StdSource::new(rt.stdin());
+    let session = top(rt.alloc(), words, &mut source, &mut sink);
+    match sink.finish() {
+        Ok(()) => session,
+        Err(Failed) => broken(session),
+    }
+}
+
+// The same session, whose last bytes could not be written.
+fn broken(session: Session) -> Session
+    ensures { result ≡ record session { status = 102; end = WriteFault } }
+{
+    Session {
+        status: 102,
+        end: SessionEnd::WriteFault,
+        ..session
+    }
 }
 
 // The program's arguments, without its name.
@@ -35,7 +59,10 @@ fn words(rt: &HostRuntime) -> io::Result<Vec<String>> {
 }
 
 // Arguments that are no text are no command.
-fn end_without_words(error: &io::Error) -> SessionEnd {
+fn end_without_words(error: &io::Error) -> SessionEnd
+    ensures memory { error_kind error.now ≡ ErrorKind.OutOfMemory → result ≡ NoMemory }
+    ensures usage { error_kind error.now ≢ ErrorKind.OutOfMemory → result ≡ Usage }
+{
     match error.kind() {
         ErrorKind::OutOfMemory => SessionEnd::NoMemory,
         _ => SessionEnd::Usage,

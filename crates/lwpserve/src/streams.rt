@@ -1,9 +1,15 @@
 // The standard streams of the process, as a source and a sink.
-ghost use Rattle.std.specs.Prelude.{◌<◌, ◌≤◌, IfOk, length};
+ghost use Rattle.std.specs.Prelude.{◌≡◌, ◌<◌, ◌≤◌, [], IfOk, OnOk, length};
+ghost use Rattle.std.specs.Io.Buffered.{writer_buffer, writer_contents};
+ghost use Rattle.std.specs.Io.KnownBytes.{Keeps, ReadConsumes, WriteAppends};
 
 use lwp_types::{Failed, Sink, Source};
+use std::alloc::Global;
 use std::io;
-use std::io::{ErrorKind, Read, Stdin, Stdout, Write};
+use std::io::{BufWriter, ErrorKind, Read, Stdin, Stdout, Write};
+
+// So many bytes are gathered before they are written.
+const GATHERED: usize = 65_536;
 
 /// Standard input. It tells nothing of its bytes, and counts the reads that failed.
 #[derive(Drop)]
@@ -12,10 +18,11 @@ pub struct StdSource {
     faults: u64,
 }
 
-/// Standard output. It tells nothing of its bytes, and counts the writes that failed.
+/// Standard output, to which bytes are written 64 KiB at a time; `finish` writes the rest. It tells nothing of its bytes, and
+/// counts the writes that failed.
 #[derive(Drop)]
 pub struct StdSink {
-    stdout: Stdout,
+    stdout: BufWriter<Stdout>,
     faults: u64,
 }
 
@@ -26,14 +33,33 @@ impl StdSource {
 }
 
 impl StdSink {
-    pub fn new(stdout: Stdout) -> StdSink {
-        StdSink { stdout, faults: 0 }
+    ghost use Rattle.lwp_types.specs.Streams.{HasCause};
+
+    /// Takes the memory for all that it will ever gather.
+    pub fn new(alloc: Global, stdout: Stdout) -> io::Result<StdSink> {
+        let stdout = BufWriter::with_capacity(alloc, GATHERED, stdout)?;
+        Ok(StdSink { stdout, faults: 0 })
+    }
+
+    /// Writes what is gathered.
+    pub fn finish(&mut self) -> Result<(), Failed>
+        ensures cause { HasCause self.old.faults self.new.faults result }
+        ensures rest { OnOk result (writer_buffer self.new.stdout ≡ []) }
+    {
+        match flush_past_signals(&mut self.stdout) {
+            Ok(()) => Ok(()),
+            Err(_) => {
+                self.faults = self.faults.saturating_add(1);
+                Err(Failed)
+            }
+        }
     }
 }
 
 // Reads once, and again as long as a signal comes in between.
 fn read_past_signals<R: Read>(reader: &mut R, buf: &mut [u8]) -> io::Result<usize>
-    ensures { IfOk result (λ n. n ≤ length buf.new) }
+    ensures bound { IfOk result (λ n. n ≤ length buf.new) }
+    ensures bytes { ReadConsumes (R.remaining reader.old) (R.remaining reader.new) result buf.new }
 {
     for _ in 0..u64::MAX {
         match reader.read(buf) {
@@ -48,11 +74,26 @@ fn read_past_signals<R: Read>(reader: &mut R, buf: &mut [u8]) -> io::Result<usiz
 fn write_past_signals<W: Write>(writer: &mut W, bytes: &[u8]) -> io::Result<usize>
     ensures bound { IfOk result (λ n. n ≤ length bytes.now) }
     ensures some { IfOk result (λ n. 0 < length bytes.now → 0 < n) }
+    ensures bytes { WriteAppends (W.contents writer.old) (W.contents writer.new) result bytes.now }
 {
     for _ in 0..u64::MAX {
         match writer.write(bytes) {
             Err(error) if error.kind() == ErrorKind::Interrupted => {}
             Ok(0) if !bytes.is_empty() => return Err(ErrorKind::WriteZero.into()),
+            answer => return answer,
+        }
+    }
+    Err(ErrorKind::Interrupted.into())
+}
+
+// Writes all that is gathered, and again as long as a signal comes in between.
+fn flush_past_signals<W: Write + Drop>(writer: &mut BufWriter<W>) -> io::Result<()>
+    ensures bytes { Keeps (writer_contents W.contents writer.old) (writer_contents W.contents writer.new) }
+    ensures rest { OnOk result (writer_buffer writer.new ≡ []) }
+{
+    for _ in 0..u64::MAX {
+        match writer.flush() {
+            Err(error) if error.kind() == ErrorKind::Interrupted => {}
             answer => return answer,
         }
     }
@@ -139,6 +180,7 @@ mod tests {
         let mut buf = [0u8; 4];
         let cases = [
             (Some(3), Some(3), Some(3)),
+            (Some(1), Some(1), Some(1)),
             (Some(0), Some(0), None),
             (None, None, None),
         ];
@@ -156,7 +198,9 @@ mod tests {
         let mut buf = [0u8; 4];
         // A test is given nothing to read.
         assert_eq!(rt; StdSource::new(rt.stdin()).read(&mut buf), Ok(0));
-        assert_eq!(rt; StdSink::new(rt.stdout()).write(b""), Ok(0));
+        let mut sink = StdSink::new(rt.alloc(), rt.stdout())?;
+        assert_eq!(rt; sink.write(b""), Ok(0));
+        assert_eq!(rt; sink.finish(), Ok(()));
         Ok(())
     }
 }

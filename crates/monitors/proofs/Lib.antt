@@ -1,4 +1,3 @@
 pub mod KeptLemmas
 pub mod Room
-pub mod Ranks
 pub mod Machine

@@ -8,7 +8,7 @@ use Rattle.lwp_types.specs.Release.{grant, next_owner, release}
 use Rattle.lwp_types.specs.State.{State, priority_in, still}
 use Rattle.lwp_types.specs.Unblock.{blocked, unblock, zero_answer}
 use Rattle.lwp_types.specs.declared.rows.Request.{Request}
-use Rattle.monitors.proofs.Ranks.{All-filter, best-map, map-filter}
+use Rattle.lwp_types.proofs.Ranks.{All-filter, best-map, map-filter}
 use Rattle.monitors.specs.Machine.{AreRanked, BirthsAgree, EntriesAgree, ForgettingAgrees, LeavesAgree, NextAgrees, RanksLast, ReleasesAgree, RequestsAgree, RequeuesAgree, WaitersAgree, WaitsAgree, born, with_monitors, with_owner}
 use Rattle.monitors.specs.MonitorTable as table
 use Rattle.monitors.specs.MonitorTable.{MonitorTable, machine_row}

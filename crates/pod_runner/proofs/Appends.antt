@@ -5,10 +5,6 @@ use Rattle.pod_runner.specs.Run.{AppendsCut, Writes, WritesCut, WritesPart}
 use Rattle.std.specs.Prelude.{Option, Result, OnErr, Ok, Err}
 use Rattle.lwp_types.specs.Streams.{appended, AppendsPrefix}
 
-pub appended-nil : (w : Option (List ℕ)) → appended w [] ≡ w
-appended-nil None = refl
-appended-nil (Some told) = ap (λ x. Some x) (append-nil told)
-
 pub appended-append : (w : Option (List ℕ)) (a b : List ℕ) → appended (appended w a) b ≡ appended w (a ++ b)
 appended-append None a b = refl
 appended-append (Some told) a b = ap (λ x. Some x) (append_assoc told a b)
@@ -26,20 +22,8 @@ told_on w old new n k bytes h e =
 pub part_same : (w : Option (List ℕ)) (t : List ℕ) → WritesPart w w t t
 part_same w t base h = (length t, rw take-length h)
 
-pub part_same_err : {X E : Type 0} (r : Result X E) (w : Option (List ℕ)) (t u : List ℕ) → t ≡ u → OnErr r (WritesPart w w t u)
-part_same_err (Ok x) w t u e = tt
-part_same_err (Err x) w t u e = rw (← e) (part_same w t)
-
 pub writes_on : (old new : Option (List ℕ)) (before out after : List ℕ) → after ≡ before ++ out → new ≡ appended old out → Writes old new before after
 writes_on old new before out after e h base g = h ∙ rw (g, e) (appended-append base before out)
-
-pub part_on : (old new : Option (List ℕ)) (before out after : List ℕ) → after ≡ before ++ out → AppendsPrefix old new out → WritesPart old new before after
-part_on old new before out after e h base g =
-    (length before + h.0, h.1 ∙ rw (g, e, take-append-add before out h.0) (appended-append base before (take h.0 out)))
-
--- some bytes are missing: what was written is the first part all the same
-pub prefix_cut : (old new : Option (List ℕ)) (least bytes : List ℕ) → AppendsCut old new least bytes → AppendsPrefix old new bytes
-prefix_cut old new least bytes h = (h.kept, h.told)
 
 -- the same behind what stood there before
 pub cut_on : (old new : Option (List ℕ)) (before out after : List ℕ) → after ≡ before ++ out → AppendsCut old new [] out → WritesCut old new before before after
@@ -52,12 +36,6 @@ cut_on old new before out after e h base g = record {
 
 pub writes_same : (w : Option (List ℕ)) (t : List ℕ) → Writes w w t t
 writes_same w t base h = h
-
-pub writes_then : (a b c : Option (List ℕ)) (t u v : List ℕ) → Writes a b t u → Writes b c u v → Writes a c t v
-writes_then a b c t u v p q base h = q base (p base h)
-
-pub part_then : (a b c : Option (List ℕ)) (t u v : List ℕ) → Writes a b t u → WritesPart b c u v → WritesPart a c t v
-part_then a b c t u v p q base h = q base (p base h)
 
 -- a fact of an error holds where there is one
 pub on_err : {X E : Type 0} (r : Result X E) (P : Type 0) → P → OnErr r P

@@ -3,4 +3,8 @@ pub mod Appends
 pub mod Plays
 pub mod Moves
 pub mod Turns
-pub mod EagerLaws
+pub mod Eagers
+pub mod Kept
+pub mod Ends
+pub mod Rounds
+pub mod Lawfuls

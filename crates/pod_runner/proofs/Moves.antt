@@ -3,6 +3,7 @@ use Rattle.std.proofs.Common.{◌≡◌, ℕ, ◌<◌, ◌≤◌, List, [], leng
 use Rattle.std.specs.Prelude.{Option, slice_get, IsTrue, if◌then◌else◌}
 use Rattle.std.proofs.lemmas.Option.{slice_get_past, slice_get_cases}
 use Rattle.lwp_calls.specs.Pod.{current_of}
+use Rattle.lwp_types.specs.Agents.{deliver}
 use Rattle.lwp_types.specs.Choice.{choice}
 use Rattle.lwp_types.specs.Names.{Names, polled_as}
 use Rattle.lwp_types.specs.Poll.{Next}
@@ -13,7 +14,8 @@ use Rattle.lwp_types.specs.declared.call.Effect.{Effect}
 use Rattle.pod_runner.specs.Parts.{Moves}
 use Rattle.script_text.specs.Lines.{step_lines}
 use Rattle.pod_runner.specs.Polls.{Polls, place_of}
-use Rattle.pod_runner.specs.Session.{Live, called, move, polled, proc_of, row_of, settled, unmoved}
+use Rattle.pod_runner.specs.Session.{Live, called, move, polled, proc_of, row_of, settled, taken, unmoved}
+use Rattle.pod_runner.specs.declared.session.Took.{Took}
 use Rattle.pod_runner.specs.declared.session.Row.{Row}
 use Rattle.pod_runner.proofs.RowLemmas.{row_of-place, with_row-place}
 
@@ -57,7 +59,7 @@ pub moves_at : {B : Type 0} (next : Next B) (bodies : List B) (procs : List (Lis
     → ((row : Row B) → slice_get live.rows i ≡ Some row → Polls next row known call i live.rows mid names)
     → after ≡ (step live.state call).after → effects ≡ (step live.state call).effects
     → born ≡ proc_of call → rows ≡ settled bodies born effects mid → out ≡ step_lines procs None effects
-    → Moves next bodies procs live (record { state = after; rows = rows; names = names }) out
+    → Moves procs None (move next bodies live) (record { state = after; rows = rows; names = names }) out
 moves_at next bodies procs live t i known call after effects mid rows names out born h at there k polls a e b r o =
     let found = slice_get_present live.rows i there in
     let is : slice_get live.rows (place_of t live.rows) ≡ Some found.0 = ap (slice_get live.rows) (sym at) ∙ found.1 in
@@ -66,5 +68,16 @@ moves_at next bodies procs live t i known call after effects mid rows names out 
     record { live = rw m refl; lines = o ∙ rw m refl }
 
 -- with no row, nothing happens
-pub moves_none : {B : Type 0} (next : Next B) (bodies : List B) (procs : List (List ℕ)) (live : Live B) (t : ℕ) (out : List ℕ) → choice live.state ≡ Some t → length live.rows ≤ place_of t live.rows → out ≡ [] → Moves next bodies procs live live out
+pub moves_none : {B : Type 0} (next : Next B) (bodies : List B) (procs : List (List ℕ)) (live : Live B) (t : ℕ) (out : List ℕ) → choice live.state ≡ Some t → length live.rows ≤ place_of t live.rows → out ≡ [] → Moves procs None (move next bodies live) live out
 moves_none next bodies procs live t out h past none = let m = move_no_row next bodies live t h past in record { live = rw m refl; lines = none ∙ rw m refl }
+
+-- a line was taken
+pub taken_moves : {B : Type 0} (bodies : List B) (procs : List (List ℕ)) (live : Live B) (took : Took) (after : State) (effects : List Effect) (rows : List (Row B)) (out : List ℕ)
+    → after ≡ (deliver live.state took.event took.line.text).after → effects ≡ (deliver live.state took.event took.line.text).effects
+    → rows ≡ settled bodies None effects live.rows → out ≡ step_lines procs (Some took.line) effects
+    → Moves procs (Some took.line) (taken bodies took live) (record { state = after; rows = rows; names = live.names }) out
+unfolding taken
+taken_moves bodies procs live took after effects rows out a e r o = record {
+  live = (λ t. record { state = a t; rows = (r ∙ ap (λ effects. settled bodies None effects live.rows) e) t; names = live.names });
+  lines = o ∙ ap (step_lines procs (Some took.line)) e;
+}

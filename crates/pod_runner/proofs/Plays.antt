@@ -1,12 +1,13 @@
 -- A session one step on.
-use Rattle.std.proofs.Common.{◌≡◌, ◌≤◌, ℕ, suc, ◌+◌, List, [], ◌∷◌, ◌++◌, ap, ◌∙◌, sym, refl, append_assoc, append-nil, add-one, arith}
-use Rattle.std.specs.Prelude.{Option, reverse, option_map, IsTrue}
-use Rattle.std.proofs.lemmas.Bool.{ne_eqb}
+use Rattle.std.proofs.Common.{◌≡◌, ◌≤◌, ℕ, zero, suc, Bool, true, false, subst, ◌+◌, List, [], ◌∷◌, ◌++◌, ap, ◌∙◌, sym, refl, append_assoc, append-nil, add-one, arith}
+use Rattle.std.specs.Prelude.{Option, reverse, option_map, IsTrue, MatchBool, ◌==◌}
+use Rattle.std.proofs.lemmas.List.{reverse-append}
+use Rattle.std.proofs.lemmas.Bool.{eq-eqb, eqb-true, ne_eqb}
 use Rattle.lwp_types.specs.declared.call.Effect.{Effect}
 use Rattle.script_text.specs.Lines.{step_lines}
-use Rattle.pod_runner.specs.Due.{AllDue, IsDefined, is_call_due}
-use Rattle.pod_runner.specs.Play.{LastBy, play, played}
-use Rattle.pod_runner.specs.Session.{Made, Setting, call_step, opening_session}
+use Rattle.pod_runner.specs.Due.{AllDue, IsDefined, TakeDue, is_call_due, is_take_due}
+use Rattle.pod_runner.specs.Play.{LastBy, play, played, with_take}
+use Rattle.pod_runner.specs.Session.{Made, Session, Setting, call_step, opening_session, take_step}
 use Rattle.pod_runner.specs.Trace.{lines, made_lines}
 use Rattle.pod_runner.specs.declared.session.Took.{Took}
 
@@ -14,10 +15,6 @@ use Rattle.pod_runner.specs.declared.session.Took.{Took}
 pub played-call : {B : Type 0} (setting : Setting B) (takes : List Took) (n : ℕ) → LastBy takes n → played setting takes (n + 1) ≡ call_step setting (played setting takes n)
 played-call setting [] n h = rw add-one refl
 played-call setting (t ∷ takes) n h = rw (add-one, ne_eqb t.turn (suc n) (λ e. omega arith)) refl
-
-pub LastBy-later : (takes : List Took) (n m : ℕ) → n ≤ m → LastBy takes n → LastBy takes m
-LastBy-later [] n m h l = tt
-LastBy-later (t ∷ takes) n m h l = omega arith
 
 pub play-zero : {B : Type 0} (setting : Setting B) → play setting [] 0 ≡ opening_session setting
 unfolding play
@@ -27,7 +24,46 @@ pub play-call : {B : Type 0} (setting : Setting B) (takes : List Took) (n : ℕ)
 unfolding play
 play-call setting takes n h = played-call setting (reverse takes) n h
 
+-- where a take is the newest of this turn, it is the last step
+played-take : {B : Type 0} (setting : Setting B) (took : Took) (takes : List Took) (n : ℕ) → took.turn ≡ n → played setting (took ∷ takes) n ≡ take_step setting took (played setting takes n)
+played-take setting took takes zero h = refl
+played-take setting took takes (suc n) h = rw (eq-eqb took.turn (suc n) h) refl
+
+newest : {A : Type 0} (xs : List A) (x : A) → reverse (xs ++ x ∷ []) ≡ x ∷ reverse xs
+newest xs x = reverse-append xs (x ∷ [])
+
+pub play-take : {B : Type 0} (setting : Setting B) (took : Took) (takes : List Took) (n : ℕ) → took.turn ≡ n → play setting (takes ++ took ∷ []) n ≡ take_step setting took (play setting takes n)
+unfolding play
+play-take setting took takes n h = ap (λ newest. played setting newest n) (newest takes took) ∙ played-take setting took (reverse takes) n h
+
 -- ---- defined sessions
+
+-- no take of a session comes after its last call
+last-due : {B : Type 0} (setting : Setting B) (took : Took) (before : ℕ → Session B) (Before : ℕ → Type 0) (n : ℕ) → TakeDue setting took before Before n → took.turn ≤ n
+last-due setting took before Before zero h = omega (arith, h.0)
+last-due setting took before Before (suc n) h = by_turn (took.turn == suc n) refl (λ rest. last-due setting took before Before n rest) h
+  where
+    by_turn : (b : Bool) → (took.turn == suc n) ≡ b → (TakeDue setting took before Before n → took.turn ≤ n)
+        → MatchBool b (Before (suc n) × IsTrue (is_take_due took (before (suc n)))) (TakeDue setting took before Before n × IsTrue (is_call_due (with_take setting took before n)))
+        → took.turn ≤ suc n
+    by_turn true is earlier h = omega (arith, eqb-true took.turn (suc n) is)
+    by_turn false is earlier h = let e = earlier h.0 in omega (arith, e)
+
+last-all : {B : Type 0} (setting : Setting B) (takes : List Took) (n : ℕ) → AllDue setting takes n → LastBy takes n
+last-all setting [] n h = tt
+last-all setting (took ∷ takes) n h = last-due setting took (played setting takes) (AllDue setting takes) n h
+
+pub LastBy-of : {B : Type 0} (setting : Setting B) (takes : List Took) (n : ℕ) → IsDefined setting takes n → LastBy (reverse takes) n
+unfolding IsDefined
+LastBy-of setting takes n h = last-all setting (reverse takes) n h
+
+due-take : {B : Type 0} (setting : Setting B) (took : Took) (takes : List Took) (n : ℕ) → took.turn ≡ n → AllDue setting takes n → IsTrue (is_take_due took (played setting takes n)) → AllDue setting (took ∷ takes) n
+due-take setting took takes zero h all due = (h, all, due)
+due-take setting took takes (suc n) h all due = rw (eq-eqb took.turn (suc n) h) (all, due)
+
+pub IsDefined-take : {B : Type 0} (setting : Setting B) (took : Took) (takes : List Took) (n : ℕ) → took.turn ≡ n → IsDefined setting takes n → IsTrue (is_take_due took (play setting takes n)) → IsDefined setting (takes ++ took ∷ []) n
+unfolding IsDefined play
+IsDefined-take setting took takes n h all due = subst (λ newest. AllDue setting newest n) (sym (newest takes took)) (due-take setting took (reverse takes) n h all due)
 
 pub IsDefined-zero : {B : Type 0} (setting : Setting B) → IsDefined setting [] 0
 unfolding IsDefined

@@ -1,35 +1,62 @@
--- A run, one call on.
-use Rattle.std.proofs.Common.{◌≡◌, ◌≤◌, ℕ, ◌+◌, List, ◌++◌, Bool, true, false, cond, None, Some, ap, ◌∙◌, sym, refl, arith}
-use Rattle.std.specs.Prelude.{Option, reverse, IsTrue, is_some, not, ◌&&◌, nat_lt}
+-- A run, one step on.
+use Rattle.std.proofs.Common.{◌≡◌, ◌≤◌, ℕ, ◌+◌, List, [], ◌∷◌, ◌++◌, Bool, true, false, cond, None, Some, ap, ◌∙◌, sym, refl, arith}
+use Rattle.std.specs.Prelude.{Option, Ok, IsTrue, is_some, not, option_map, ◌&&◌, nat_lt}
 use Rattle.std.proofs.lemmas.Bool.Decides.{nat_tests}
 use Rattle.lwp_calls.specs.Pod.{current_of}
 use Rattle.lwp_types.specs.Choice.{choice}
 use Rattle.lwp_types.specs.State.{State}
-use Rattle.pod_runner.specs.Due.{is_call_due}
-use Rattle.pod_runner.specs.Keeps.{IsSession}
+use Rattle.lwp_types.specs.declared.call.Line.{Line}
+use Rattle.pod_runner.specs.Due.{IsDefined, is_call_due}
 use Rattle.pod_runner.specs.Parts.{Moves}
 use Rattle.pod_runner.specs.Phase.{phase_by, phase_of}
 use Rattle.pod_runner.specs.Play.{play}
-use Rattle.pod_runner.specs.Session.{Live, Session, Setting, move}
+use Rattle.pod_runner.specs.Session.{Live, Move, Session, Setting, extended, move, taken}
+use Rattle.pod_runner.specs.Keeps.{Keeps}
+use Rattle.pod_runner.specs.Run.{AppendsCut, Broke, Tells}
 use Rattle.pod_runner.specs.Trace.{lines}
+use Rattle.lwp_types.specs.Agents.{armed}
+use Rattle.lwp_types.specs.Streams.{Rose, appended}
+use Rattle.script_text.specs.Lines.{step_lines}
+use Rattle.pod_runner.proofs.Appends.{cut_on, writes_on}
 use Rattle.pod_runner.specs.declared.phase.Phase.TheVariants as phase
 use Rattle.pod_runner.specs.declared.session.Took.{Took}
-use Rattle.pod_runner.proofs.Plays.{LastBy-later, lines-step, play-call}
+use Rattle.pod_runner.proofs.Plays.{IsDefined-call, IsDefined-take, LastBy-of, lines-step, play-call, play-take}
 
-module _ {B : Type 0} (setting : Setting B) (procs : List (List ℕ)) (takes : List Took) (n : ℕ) (old new : Live B) (out : List ℕ) (was : IsSession setting old takes n) (moves : Moves setting.next setting.bodies procs old new out) where
-  -- the parts stand as the longer session does
-  pub IsSession-call : IsSession setting new takes (n + 1)
-  IsSession-call = record {
-    now = moves.live ∙ ap (λ (live : Live B). (move setting.next setting.bodies live).live) was.now ∙ sym (ap (λ (s : Session B). s.live) (play-call setting takes n was.last));
-    last = LastBy-later (reverse takes) n (n + 1) (omega arith) was.last;
-  }
+-- a step was made: the parts stand as the longer session does, and its lines are longer by those of the step
+pub record Stepped {B : Type 0} (procs : List (List ℕ)) (old : Session B) (new : Session B) (live : Live B) (out : List ℕ) : Type 0 where
+  pub now : live ≡ new.live
+  pub lines : lines procs new.steps ≡ lines procs old.steps ++ out
 
-  -- its lines are longer by those of the call
-  pub lines-call : lines procs (play setting takes (n + 1)).steps ≡ lines procs (play setting takes n).steps ++ out
-  lines-call =
-      ap (λ (s : Session B). lines procs s.steps) (play-call setting takes n was.last)
-      ∙ lines-step procs (play setting takes n).steps None (move setting.next setting.bodies (play setting takes n).live).effects
-      ∙ ap (λ l. lines procs (play setting takes n).steps ++ l) (sym (moves.lines ∙ rw was.now refl))
+stepped-by : {B : Type 0} (procs : List (List ℕ)) (old new : Session B) (take : Option Took) (m : Move B) (live : Live B) (out : List ℕ)
+    → new ≡ extended old take m → Moves procs (option_map (λ (took : Took). took.line) take) m live out → Stepped procs old new live out
+stepped-by procs old new take m live out is moves = record {
+  now = moves.live ∙ sym (ap (λ (s : Session _). s.live) is);
+  lines = ap (λ (s : Session _). lines procs s.steps) is
+      ∙ lines-step procs old.steps take m.effects
+      ∙ ap (λ l. lines procs old.steps ++ l) (sym moves.lines);
+}
+
+module _ {B : Type 0} (setting : Setting B) (procs : List (List ℕ)) (takes : List Took) (n : ℕ) (old new : Live B) (out : List ℕ) (made : IsDefined setting takes n) (was : old ≡ (play setting takes n).live) where
+  pub stepped-call : Moves procs None (move setting.next setting.bodies old) new out → Stepped procs (play setting takes n) (play setting takes (n + 1)) new out
+  stepped-call moves = stepped-by procs (play setting takes n) (play setting takes (n + 1)) None (move setting.next setting.bodies (play setting takes n).live) new out
+      (play-call setting takes n (LastBy-of setting takes n made)) (rw (← was) moves)
+
+  pub stepped-take : (took : Took) → took.turn ≡ n → Moves procs (Some took.line) (taken setting.bodies took old) new out → Stepped procs (play setting takes n) (play setting (takes ++ took ∷ []) n) new out
+  stepped-take took h moves = stepped-by procs (play setting takes n) (play setting (takes ++ took ∷ []) n) (Some took) (taken setting.bodies took (play setting takes n).live) new out
+      (play-take setting took takes n h) (rw (← was) moves)
+
+-- ---- what a call and a take leave
+
+module _ {B : Type 0} (setting : Setting B) (names procs : List (List ℕ)) (takes : List Took) (n turns : ℕ) (old new : Live B) (out bytes : List ℕ)
+    (named : procs ≡ names) (same : bytes ≡ out) (made : IsDefined setting takes n) (was : old ≡ (play setting takes n).live) where
+  pub called-step : Moves procs None (move setting.next setting.bodies old) new out → Stepped names (play setting takes n) (play setting takes (n + 1)) new bytes
+  called-step moves = stepped-call setting names takes n old new bytes made was
+      (record { live = moves.live; lines = same ∙ moves.lines ∙ ap (λ names. step_lines names None (move setting.next setting.bodies old).effects) named })
+
+  pub taken-step : (took : Took) → took.turn ≡ n → Moves procs (Some took.line) (taken setting.bodies took old) new out
+      → Stepped names (play setting takes n) (play setting (takes ++ took ∷ []) n) new bytes
+  taken-step took h moves = stepped-take setting names takes n old new bytes made was took h
+      (record { live = moves.live; lines = same ∙ moves.lines ∙ ap (λ names. step_lines names (Some took.line) (taken setting.bodies took old).effects) named })
 
 -- in phase Turn a call is due
 due-turn : (s : State) (turns calls : ℕ) → phase_of s turns calls ≡ phase.Turn → (not s.ended && is_some (choice s)) ≡ true
@@ -43,15 +70,6 @@ due-turn s turns calls h = by_end s.ended (choice s) h
 pub is_call_due-turn : {B : Type 0} (s : Session B) (turns calls : ℕ) → phase_of s.live.state turns calls ≡ phase.Turn → IsTrue (is_call_due s)
 is_call_due-turn s turns calls h = due-turn s.live.state turns calls h
 
--- and it is somebody's turn
-pub current-turn : (s : State) (turns calls : ℕ) → phase_of s turns calls ≡ phase.Turn → is_some (current_of s) ≡ true
-current-turn s turns calls h = by_end s.ended (choice s) h
-  where
-    by_end : (b : Bool) (o : Option ℕ) → cond b (phase.Ended s.status) (phase_by turns calls o) ≡ phase.Turn → is_some (cond b None o) ≡ true
-    by_end true o h = absurd (cc)
-    by_end false None h = absurd (cc)
-    by_end false (Some t) h = refl
-
 -- and fewer calls were made than are allowed
 pub room-turn : (s : State) (turns calls : ℕ) → phase_of s turns calls ≡ phase.Turn → calls + 1 ≤ turns
 room-turn s turns calls h = by_end s.ended (choice s) h
@@ -64,3 +82,38 @@ room-turn s turns calls h = by_end s.ended (choice s) h
     by_end true o h = absurd (cc)
     by_end false None h = absurd (cc)
     by_end false (Some t) h = by_count (nat_lt calls turns) refl h
+
+-- ---- what is kept
+
+pub made-call : {B : Type 0} (setting : Setting B) (takes : List Took) (n turns : ℕ) → IsDefined setting takes n → phase_of (play setting takes n).live.state turns n ≡ phase.Turn → IsDefined setting takes (n + 1)
+made-call setting takes n turns made due = IsDefined-call setting takes n (LastBy-of setting takes n made) made (is_call_due-turn (play setting takes n) turns n due)
+
+pub keeps-call : {B : Type 0} (setting : Setting B) (names procs : List (List ℕ)) (takes : List Took) (n turns : ℕ) (live : Live B) (failed : Bool) (out : List ℕ)
+    → procs ≡ names → IsDefined setting takes n → phase_of (play setting takes n).live.state turns n ≡ phase.Turn
+    → Stepped names (play setting takes n) (play setting takes (n + 1)) live out → Keeps setting names procs live takes (n + 1) turns failed
+keeps-call setting names procs takes n turns live failed out named made due step = record {
+  named = named;
+  made = made-call setting takes n turns made due;
+  room = room-turn (play setting takes n).live.state turns n due;
+  now = λ _. step.now;
+}
+
+pub keeps-take : {B : Type 0} (setting : Setting B) (names procs : List (List ℕ)) (takes : List Took) (n turns : ℕ) (live : Live B) (failed : Bool) (out : List ℕ) (took : Took)
+    → procs ≡ names → IsDefined setting takes n → n ≤ turns → took.turn ≡ n → IsTrue (armed (play setting takes n).live.state took.event)
+    → Stepped names (play setting takes n) (play setting (takes ++ took ∷ []) n) live out → Keeps setting names procs live (takes ++ took ∷ []) n turns failed
+keeps-take setting names procs takes n turns live failed out took named made room h may step = record {
+  named = named;
+  made = IsDefined-take setting took takes n h made may;
+  room = room;
+  now = λ _. step.now;
+}
+
+-- ---- what is told
+
+pub told-ok : {B : Type 0} (procs : List (List ℕ)) (a b : Session B) (live : Live B) (out : List ℕ) (w v : Option (List ℕ)) (f g : ℕ) (x : Unit {0}) → Stepped procs a b live out → v ≡ appended w out → g ≡ f
+    → Tells (record { old = w; new = v; faults_old = f; faults_new = g }) (lines procs a.steps) (lines procs a.steps) (lines procs b.steps) (Ok x)
+told-ok procs a b live out w v f g x step wrote quiet = (writes_on w v (lines procs a.steps) out (lines procs b.steps) step.lines wrote, quiet)
+
+pub told-fault : {B : Type 0} (procs : List (List ℕ)) (a b : Session B) (live : Live B) (out : List ℕ) (w v : Option (List ℕ)) (f g : ℕ) → Stepped procs a b live out → AppendsCut w v [] out → Rose f g → f ≤ g
+    → Broke (record { old = w; new = v; faults_old = f; faults_new = g }) (lines procs a.steps) (lines procs a.steps) (lines procs b.steps)
+told-fault procs a b live out w v f g step cut rose later = (cut_on w v (lines procs a.steps) out (lines procs b.steps) step.lines cut, rose, later)

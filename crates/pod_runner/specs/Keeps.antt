@@ -1,10 +1,14 @@
 -- What a run keeps of its session. Callers see the session alone.
-use Rattle.pod_runner.specs.Play.{LastBy, play}
+use Rattle.pod_runner.specs.Due.{IsDefined}
+use Rattle.pod_runner.specs.Play.{play}
 use Rattle.pod_runner.specs.Session.{Live, Setting}
 use Rattle.pod_runner.specs.declared.session.Took.{Took}
-use Rattle.std.specs.Prelude.{List, reverse, ℕ, ◌≡◌}
+use Rattle.std.specs.Prelude.{Bool, List, false, ℕ, ◌≡◌, ◌≤◌}
 
--- the parts stand as the session does, and no take is still to come
-pub record IsSession {B : Type 0} (setting : Setting B) (live : Live B) (takes : List Took) (calls : ℕ) : Type 0 where
-  pub now : live ≡ (play setting takes calls).live
-  pub last : LastBy (reverse takes) calls
+-- the procedures have their names, there is such a session, with no more calls than are allowed, and unless the run has failed the parts
+-- stand as it does
+pub record Keeps {B : Type 0} (setting : Setting B) (names procs : List (List ℕ)) (live : Live B) (takes : List Took) (calls turns : ℕ) (failed : Bool) : Type 0 where
+  pub named : procs ≡ names
+  pub made : IsDefined setting takes calls
+  pub room : calls ≤ turns
+  pub now : failed ≡ false → live ≡ (play setting takes calls).live

@@ -4,9 +4,10 @@ pub mod Play
 pub mod Due
 pub mod Over
 pub mod Eager
-pub mod History
 pub mod Trace
 pub mod Phase
 pub mod Run
+pub mod Does
 pub mod Keeps
 pub mod Parts
+pub mod Laws

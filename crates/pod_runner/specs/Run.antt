@@ -1,17 +1,22 @@
 -- What a run is seen as, and what its calls say.
+use Rattle.event_gate.specs.Shelves.{Shelf}
 use Rattle.lwp_types.specs.Names.{Names, null_names}
 use Rattle.lwp_types.specs.Poll.{Next}
-use Rattle.lwp_types.specs.Streams.{AppendsPrefix, appended}
+use Rattle.lwp_types.specs.Streams.{AppendsPrefix, Rose, appended}
+use Rattle.lwp_types.specs.declared.call.Line.{Line}
 use Rattle.lwp_types.specs.declared.call.PodParams.{PodParams}
-use Rattle.pod_runner.specs.Eager.{ComesTo, Plan, Planned, plan_whole}
+use Rattle.pod_runner.specs.Eager.{Plan, Planned}
+use Rattle.pod_runner.specs.Over.{over}
 use Rattle.pod_runner.specs.Phase.{phase_of}
 use Rattle.pod_runner.specs.Play.{play}
 use Rattle.pod_runner.specs.Session.{Session, Setting}
-use Rattle.pod_runner.specs.Trace.{lines, trace}
+use Rattle.pod_runner.specs.Trace.{lines}
 use Rattle.pod_runner.specs.declared.phase.Phase.{Phase}
+use Rattle.pod_runner.specs.declared.phase.RunErr.{RunErr}
 use Rattle.pod_runner.specs.declared.session.Took.{Took}
 use Rattle.script_text.specs.declared.script.Halt.{Halt}
-use Rattle.std.specs.Prelude.{Bool, List, Option, [], length, take, ℕ, ◌++◌, ◌-◌, ◌<◌, ◌≡◌, ◌≤◌}
+use Rattle.std.specs.Prelude.{Bool, Err, List, Ok, Option, Result, Some, [], length, take, true, ℕ, ◌++◌, ◌+◌, ◌-◌, ◌<◌, ◌≡◌, ◌≤◌, ◌∷◌}
+use Rattle.pod_runner.specs.declared.phase.RunErr.TheVariants as fails
 
 -- a run: what it plays, and how far it is
 pub record Played (P : Type 0) : Type 0 where
@@ -35,33 +40,59 @@ setting_of next bodies run = record { next = next; bodies = bodies run.program; 
 abbrev pub session_of : {B P : Type 0} → Next B → (P → List B) → Played P → Session B
 session_of next bodies run = play (setting_of next bodies run) run.takes run.calls
 
--- the lines of its steps up to this call
-abbrev pub trace_at : {B P : Type 0} → Next B → (P → List B) → (P → List (List ℕ)) → Played P → ℕ → List ℕ
-trace_at next bodies proc_names run n = lines (proc_names run.program) (play (setting_of next bodies run) run.takes n).steps
+-- all of a list but its last
+abbrev pub but_last : {A : Type 0} → List A → List A
+but_last xs = take (length xs - 1) xs
 
 -- the lines of its steps so far
 abbrev pub trace_of : {B P : Type 0} → Next B → (P → List B) → (P → List (List ℕ)) → Played P → List ℕ
-trace_of next bodies proc_names run = trace_at next bodies proc_names run run.calls
+trace_of next bodies proc_names run = lines (proc_names run.program) (session_of next bodies run).steps
 
--- the same, without the lines of its last call
+-- the same, without the lines of its last step
 abbrev pub trace_before : {B P : Type 0} → Next B → (P → List B) → (P → List (List ℕ)) → Played P → List ℕ
-trace_before next bodies proc_names run = trace_at next bodies proc_names run (run.calls - 1)
+trace_before next bodies proc_names run = lines (proc_names run.program) (but_last (session_of next bodies run).steps)
 
 -- where it stands
 abbrev pub phase_now : {B P : Type 0} → Next B → (P → List B) → Played P → Phase
 phase_now next bodies run = phase_of (session_of next bodies run).live.state run.turns run.calls
 
--- the session whose lines all are there from the start, of the same program and as many calls, where the clients post to these events
-abbrev pub planned_of : {B P : Type 0} → Next B → (P → List B) → List ℕ → Played P → Planned B
-planned_of next bodies clients run = record { setting = setting_of next bodies run; clients = clients; turns = run.turns }
+-- the session whose lines all are there from the start, of the same program and as many calls
+abbrev pub planned_of : {B P : Type 0} → Next B → (P → List B) → Played P → Planned B
+planned_of next bodies run = record { setting = setting_of next bodies run; turns = run.turns }
 
--- how far such a session is, if it is where the run is, with no line taken and none left
-abbrev pub plan_now : {B P : Type 0} → Next B → (P → List B) → Played P → Plan B
-plan_now next bodies run = record { session = session_of next bodies run; calls = run.calls; left = []; takes = [] }
+-- how far such a session is, if it is where the run is, and these lines are left
+abbrev pub plan_now : {B P : Type 0} → Next B → (P → List B) → Played P → List Shelf → Plan B
+plan_now next bodies run stock = record { session = session_of next bodies run; calls = run.calls; left = stock; takes = run.takes }
 
--- without lines, whoever the clients are, that session comes to where the run is, and ends so
-abbrev pub IsPlanned : {B P : Type 0} → Next B → (P → List B) → Played P → Halt → Type 0
-IsPlanned next bodies run halt = (clients : List ℕ) → ComesTo (planned_of next bodies clients run) [] (plan_now next bodies run) halt
+-- with these lines left, the run has ended so
+abbrev pub EndsAt : {B P : Type 0} → Next B → (P → List B) → Played P → List Shelf → Halt → Type 0
+EndsAt next bodies run stock halt = over run.turns (session_of next bodies run).live.state run.calls stock ≡ Some halt
+
+-- a run before its first step
+abbrev pub IsNew : {P : Type 0} → Played P → Type 0
+IsNew run = (run.calls ≡ 0) × (run.takes ≡ [])
+
+-- ---- one step more
+
+-- one call more
+abbrev pub with_call : {P : Type 0} → Played P → Played P
+with_call run = record run { calls = run.calls + 1 }
+
+-- a line, as it is taken now
+abbrev pub took_now : {P : Type 0} → Played P → ℕ → Line → Took
+took_now run e line = record { turn = run.calls; event = e; line = line }
+
+-- one take more, at the present number of calls
+abbrev pub with_took : {P : Type 0} → Played P → ℕ → Line → Played P
+with_took run e line = record run { takes = run.takes ++ took_now run e line ∷ [] }
+
+-- behind a step that would come to this: it does; or the run has failed, and the step counts unless memory was wanting
+abbrev pub stepped : {P T : Type 0} → Played P → Played P → Result T RunErr → Played P
+stepped old next (Ok x) = next
+stepped old next (Err fails.NoMemory) = record old { failed = true }
+stepped old next (Err fails.WriteFault) = record next { failed = true }
+
+-- ---- what is told
 
 -- what is told goes from a trace to a longer one
 abbrev pub Writes : Option (List ℕ) → Option (List ℕ) → List ℕ → List ℕ → Type 0
@@ -82,6 +113,29 @@ pub record AppendsCut (old new : Option (List ℕ)) (least bytes : List ℕ) : T
 abbrev pub WritesCut : Option (List ℕ) → Option (List ℕ) → List ℕ → List ℕ → List ℕ → Type 0
 WritesCut old new before least after = (base : Option (List ℕ)) → old ≡ appended base before → AppendsCut base new least after
 
+-- a sink before and after: what it tells, and its count of faults
+pub record Stream : Type 0 where
+  pub old : Option (List ℕ)
+  pub new : Option (List ℕ)
+  pub faults_old : ℕ
+  pub faults_new : ℕ
+
+-- all was written, from one trace to another, and no fault came
+abbrev pub Wrote : Stream → List ℕ → List ℕ → Type 0
+Wrote stream before after = Writes stream.old stream.new before after × (stream.faults_new ≡ stream.faults_old)
+
+-- it broke off behind all of `least`, and a fault came
+abbrev pub Broke : Stream → List ℕ → List ℕ → List ℕ → Type 0
+Broke stream before least after = WritesCut stream.old stream.new before least after × Rose stream.faults_old stream.faults_new × (stream.faults_old ≤ stream.faults_new)
+
+-- by this result, all was written, or it broke off; where memory was wanting, what was done until then was written
+abbrev pub Tells : {T : Type 0} → Stream → List ℕ → List ℕ → List ℕ → Result T RunErr → Type 0
+Tells stream before least after (Ok x) = Wrote stream before after
+Tells stream before least after (Err fails.NoMemory) = Wrote stream before after
+Tells stream before least after (Err fails.WriteFault) = Broke stream before least after
+
+-- ---- a run goes on
+
 -- the same run, further on
 pub record GoesOn {P : Type 0} (old new : Played P) : Type 0 where
   pub program : new.program ≡ old.program
@@ -92,14 +146,3 @@ pub record GoesOn {P : Type 0} (old new : Played P) : Type 0 where
 -- names as a run begins with them: of each kind as many as these, and none stands for anything
 abbrev pub names_like : Names → Names
 names_like names = null_names (length names.threads) (length names.monitors) (length names.conditions)
-
--- the session whose lines all are there, if there are none, makes these calls at least, and writes at first what they write
-pub record Begins {B : Type 0} (procs : List (List ℕ)) (planned : Planned B) (session : Session B) (calls : ℕ) : Type 0 where
-  pub rest : List ℕ
-  pub writes : trace procs planned (plan_whole planned []) ≡ lines procs session.steps ++ rest
-  pub calls_up : calls ≤ (plan_whole planned []).calls
-
--- without lines, whoever the clients are, a run is the first part of that session
-abbrev pub IsBegun : {B P : Type 0} → Next B → (P → List B) → (P → List (List ℕ)) → Played P → Type 0
-IsBegun next bodies proc_names run =
-    (clients : List ℕ) → Begins (proc_names run.program) (planned_of next bodies clients run) (session_of next bodies run) run.calls

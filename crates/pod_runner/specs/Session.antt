@@ -27,7 +27,7 @@ pub record Setting (B : Type 0) : Type 0 where
   -- the names at the start
   pub names : Names
 
--- how a session stands: the pod, each live thread's body and pending answer, and the names
+-- how a session stands: the pod, each live thread's body and what it was answered last, and the names
 pub record Live (B : Type 0) : Type 0 where
   pub state : State
   pub rows : List (Row B)
@@ -69,9 +69,9 @@ without_row t (row ∷ rows) = if row.tid == t then rows else row ∷ without_ro
 abbrev pub answered : {B : Type 0} → ℕ → Answer → List (Row B) → List (Row B)
 answered t a rows = with_row t (λ row. record row { answer = a }) rows
 
--- a thread's body has taken its answer, and stands so
+-- a thread's body stands so; what it was answered last is its answer still
 abbrev pub polled : {B : Type 0} → ℕ → B → List (Row B) → List (Row B)
-polled t body rows = with_row t (λ row. record row { body = body; answer = zero_answer }) rows
+polled t body rows = with_row t (λ row. record row { body = body }) rows
 
 -- the row of a new thread, if there is such a procedure
 abbrev pub row_opened : {B : Type 0} → ℕ → Option B → List (Row B)

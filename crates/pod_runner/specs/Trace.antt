@@ -1,11 +1,11 @@
 -- The bytes that a session writes.
-use Rattle.lwp_types.specs.declared.call.Line.{Line}
+use Rattle.event_gate.specs.Shelves.{Shelf, left_of_client}
 use Rattle.pod_runner.specs.Eager.{Plan, Planned, plan_over}
 use Rattle.pod_runner.specs.Session.{Made}
 use Rattle.script_text.specs.Lines.{end_text, step_lines}
 use Rattle.script_text.specs.declared.script.Halt.{Halt}
-use Rattle.std.specs.List.{count_by, flat_map}
-use Rattle.std.specs.Prelude.{List, None, Option, Some, [], option_map, ℕ, ◌++◌, ◌+◌, ◌==◌, ◌∷◌}
+use Rattle.std.specs.List.{flat_map}
+use Rattle.std.specs.Prelude.{List, None, Option, Some, [], option_map, ℕ, ◌++◌, ◌+◌, ◌∷◌}
 
 -- the lines of one step; a delivery prints the line that the step took
 abbrev pub made_lines : List (List ℕ) → Made → List ℕ
@@ -15,24 +15,20 @@ made_lines procs made = step_lines procs (option_map (λ took. took.line) made.t
 abbrev pub lines : List (List ℕ) → List Made → List ℕ
 lines procs steps = flat_map (made_lines procs) steps
 
--- how many lines of a client are left
-abbrev pub left_of : ℕ → List Line → ℕ
-left_of c left = count_by (λ line. line.client == c) left
-
--- the same of each client, counted from c
-abbrev pub left_from : ℕ → List ℕ → List Line → List ℕ
+-- how many lines of each client are left, counted from c
+abbrev pub left_from : ℕ → List ℕ → List Shelf → List ℕ
 left_from c [] left = []
-left_from c (event ∷ clients) left = left_of c left ∷ left_from (c + 1) clients left
+left_from c (event ∷ clients) left = left_of_client c left ∷ left_from (c + 1) clients left
 
 -- what stands behind the lines of the last step; nothing, as long as the session isn't over
-abbrev pub tail_by : ℕ → List ℕ → List Line → Option Halt → List ℕ
+abbrev pub tail_by : ℕ → List ℕ → List Shelf → Option Halt → List ℕ
 tail_by turns clients left None = []
 tail_by turns clients left (Some halt) = end_text turns (left_from 0 clients left) halt
 
--- the same of a session with all lines in place
-abbrev pub tail : {B : Type 0} → Planned B → Plan B → List ℕ
-tail planned plan = tail_by planned.turns planned.clients plan.left (plan_over planned plan)
+-- the same of a session with all lines in place, where the clients post to these events
+abbrev pub tail : {B : Type 0} → List ℕ → Planned B → Plan B → List ℕ
+tail clients planned plan = tail_by planned.turns clients plan.left (plan_over planned plan)
 
 -- all that such a session writes
-abbrev pub trace : {B : Type 0} → List (List ℕ) → Planned B → Plan B → List ℕ
-trace procs planned plan = lines procs plan.session.steps ++ tail planned plan
+abbrev pub trace : {B : Type 0} → List (List ℕ) → List ℕ → Planned B → Plan B → List ℕ
+trace procs clients planned plan = lines procs plan.session.steps ++ tail clients planned plan

@@ -1,48 +1,112 @@
-// A run from call to call, until its end.
-ghost use Rattle.std.specs.Prelude.{◌≡◌, ◌≤◌, [], false, IfOk, OnOk, OnErr, IsErrOf};
+// A run over a gate, from step to step, until its end.
+ghost use Rattle.std.specs.Prelude.{◌≡◌, ◌≤◌, false, IfOk, OnOk, OnErr, IsErrOf};
 ghost use Rattle.lwp_types.specs.Streams.{Rose};
+ghost use Rattle.pod_runner.specs.Does.{Does};
 ghost use Rattle.pod_runner.specs.Due.{IsDefined};
-ghost use Rattle.pod_runner.specs.Phase.{phase_of_halt};
-ghost use Rattle.pod_runner.specs.Run.{setting_of, phase_now, trace_before, trace_of, IsBegun, IsPlanned, Writes, WritesCut, WritesPart, GoesOn};
+ghost use Rattle.pod_runner.specs.Eager.{IsFirstPart, boundary, finished, offered, plan_over, plan_whole, round};
+ghost use Rattle.pod_runner.specs.Run.{setting_of, plan_now, planned_of, trace_before, trace_of, EndsAt, IsNew, Writes, WritesCut, WritesPart, GoesOn};
 
 use crate::playing::Run;
 use crate::{Phase, RunErr};
+use event_gate::Gate;
 use lwp_types::{Body, Program, Sink};
 use script_text::Halt;
 
-/// Makes calls until the end. A run that has taken no line plays the session planned without lines, whoever the clients are.
-/// Where it fails, the lines of all calls that it counts are written, but for the last ones of the last call after a write that
-/// failed.
-pub fn run<B: Body, P: Program<B>, K: Sink>(
+// One line of an event is taken, if one is left and can be delivered.
+fn serve<B: Body, P: Program<B>, G: Gate, K: Sink>(
     run: &mut Run<B, P>,
+    gate: &mut G,
+    event: u8,
+    sink: &mut K,
+) -> Result<(), RunErr>
+    requires { run.old.failed ≡ false }
+    ensures { Does B.next P.bodies P.proc_names (record { old = K.written sink.old; new = K.written sink.new; faults_old = K.faults sink.old; faults_new = K.faults sink.new }) (λ planned plan. offered planned event plan) run.old run.new (G.stock gate.old) (G.stock gate.new) result }
+{
+    if !run.wants(event) {
+        return Ok(());
+    }
+    match gate.take(event) {
+        Some(line) => run.offer(event, line, sink),
+        None => Ok(()),
+    }
+}
+
+// Each event in turn may have one line taken.
+fn serve_all<B: Body, P: Program<B>, G: Gate, K: Sink>(
+    run: &mut Run<B, P>,
+    gate: &mut G,
+    sink: &mut K,
+) -> Result<(), RunErr>
+    requires sound { run.old.failed ≡ false }
+    requires made { IsDefined (setting_of B.next P.bodies run.old) run.old.takes run.old.calls }
+    requires room { run.old.calls ≤ run.old.turns }
+    ensures { Does B.next P.bodies P.proc_names (record { old = K.written sink.old; new = K.written sink.new; faults_old = K.faults sink.old; faults_new = K.faults sink.new }) (λ planned plan. boundary planned plan) run.old run.new (G.stock gate.old) (G.stock gate.new) result }
+{
+    for event in 1..32 {
+        serve(run, gate, event, sink)?;
+    }
+    Ok(())
+}
+
+// Lines are taken, and then, if somebody may run, a call is made; unless the session is over, which is told.
+fn go_round<B: Body, P: Program<B>, G: Gate, K: Sink>(
+    run: &mut Run<B, P>,
+    gate: &mut G,
+    sink: &mut K,
+) -> Result<Option<Halt>, RunErr>
+    requires { run.old.failed ≡ false }
+    ensures does { Does B.next P.bodies P.proc_names (record { old = K.written sink.old; new = K.written sink.new; faults_old = K.faults sink.old; faults_new = K.faults sink.new }) (λ planned plan. round planned plan) run.old run.new (G.stock gate.old) (G.stock gate.new) result }
+    ensures over { IfOk result (λ halt. plan_over (planned_of B.next P.bodies run.old) (plan_now B.next P.bodies run.old (G.stock gate.old)) ≡ halt) }
+{
+    match run.phase() {
+        Phase::Ended(status) => Ok(Some(Halt::Ended(status))),
+        Phase::Spent => Ok(Some(Halt::Spent)),
+        Phase::Turn => {
+            serve_all(run, gate, sink)?;
+            run.turn(sink)?;
+            Ok(None)
+        }
+        Phase::Idle => {
+            let taken = run.takes();
+            serve_all(run, gate, sink)?;
+            if run.takes() == taken {
+                return Ok(Some(Halt::Stuck));
+            }
+            Ok(None)
+        }
+    }
+}
+
+/// Makes calls, and takes each line that the gate has as soon as it can be delivered, until the end. A new run plays the session
+/// whose lines all are there from the start, or after an error its first part: the lines of all steps that count are written, but
+/// for the last ones of the last step after a write that failed.
+pub fn run<B: Body, P: Program<B>, G: Gate, K: Sink>(
+    run: &mut Run<B, P>,
+    gate: &mut G,
     sink: &mut K,
 ) -> Result<Halt, RunErr>
     requires sound { run.old.failed ≡ false }
-    requires defined { IsDefined (setting_of B.next P.bodies run.old) run.old.takes run.old.calls }
-    requires room { run.old.calls ≤ run.old.turns }
     ensures same { GoesOn run.old run.new }
-    ensures takes { run.new.takes ≡ run.old.takes }
+    ensures ends { IfOk result (EndsAt B.next P.bodies run.new (G.stock gate.new)) }
+    ensures finishes { OnOk result (plan_now B.next P.bodies run.new (G.stock gate.new) ≡ finished (planned_of B.next P.bodies run.old) (plan_now B.next P.bodies run.old (G.stock gate.old))) }
+    ensures first_part { OnErr result (IsFirstPart (plan_now B.next P.bodies run.new (G.stock gate.new)) (finished (planned_of B.next P.bodies run.old) (plan_now B.next P.bodies run.old (G.stock gate.old)))) }
+    ensures eager { IsNew run.old → OnOk result (plan_now B.next P.bodies run.new (G.stock gate.new) ≡ plan_whole (planned_of B.next P.bodies run.old) (G.stock gate.old)) }
+    ensures begun { IsNew run.old → IsFirstPart (plan_now B.next P.bodies run.new (G.stock gate.new)) (plan_whole (planned_of B.next P.bodies run.old) (G.stock gate.old)) }
     ensures calls { run.new.calls ≤ run.old.turns }
+    ensures made { IsDefined (setting_of B.next P.bodies run.new) run.new.takes run.new.calls }
+    ensures unfailed { OnOk result (run.new.failed ≡ false) }
     ensures whole { OnOk result (Writes (K.written sink.old) (K.written sink.new) (trace_of B.next P.bodies P.proc_names run.old) (trace_of B.next P.bodies P.proc_names run.new)) }
     ensures part { OnErr result (WritesPart (K.written sink.old) (K.written sink.new) (trace_of B.next P.bodies P.proc_names run.old) (trace_of B.next P.bodies P.proc_names run.new)) }
     ensures stopped { IsErrOf result RunErr.NoMemory → Writes (K.written sink.old) (K.written sink.new) (trace_of B.next P.bodies P.proc_names run.old) (trace_of B.next P.bodies P.proc_names run.new) }
     ensures cut { IsErrOf result RunErr.WriteFault → WritesCut (K.written sink.old) (K.written sink.new) (trace_of B.next P.bodies P.proc_names run.old) (trace_before B.next P.bodies P.proc_names run.new) (trace_of B.next P.bodies P.proc_names run.new) }
-    ensures halt { IfOk result (λ halt. phase_now B.next P.bodies run.new ≡ phase_of_halt halt) }
-    ensures planned { run.old.takes ≡ [] → IfOk result (IsPlanned B.next P.bodies run.new) }
-    ensures begun { run.old.takes ≡ [] → IsBegun B.next P.bodies P.proc_names run.new }
-    ensures made { IsDefined (setting_of B.next P.bodies run.new) run.new.takes run.new.calls }
-    ensures unfailed { OnOk result (run.new.failed ≡ false) }
     ensures faults { OnOk result (K.faults sink.new ≡ K.faults sink.old) }
     ensures later { K.faults sink.old ≤ K.faults sink.new }
     ensures cause { IsErrOf result RunErr.WriteFault → Rose (K.faults sink.old) (K.faults sink.new) }
     ensures memory { IsErrOf result RunErr.NoMemory → K.faults sink.new ≡ K.faults sink.old }
 {
     loop {
-        match run.phase() {
-            Phase::Ended(status) => return Ok(Halt::Ended(status)),
-            Phase::Spent => return Ok(Halt::Spent),
-            Phase::Idle => return Ok(Halt::Stuck),
-            Phase::Turn => run.turn(sink)?,
+        if let Some(halt) = go_round(run, gate, sink)? {
+            return Ok(halt);
         }
     }
 }

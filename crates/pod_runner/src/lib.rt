@@ -1,12 +1,14 @@
 //! Sessions: what bodies and the pod do together, step by step.
 //!
-//! A `Run` is seen as what it plays and how many calls it has made. Its contract is that it plays the session of the definition
-//! (`specs/Session.antt`, `specs/Play.antt`): each `turn` is one more call, whose lines are written before it returns, and `run`
-//! goes on until the session has ended. It stands on the pod of `lwp_calls` and the lines of `script_text`, for every kind of
-//! body, program and sink.
+//! A `Run` is seen as what it plays, the lines that it has taken and how many calls it has made. Its contract is that it plays the
+//! session of the definition (`specs/Session.antt`, `specs/Play.antt`): each `turn` is one more call and each `offer` one more take,
+//! whose lines are written before it returns. `run` takes lines from a gate, each as soon as it can be delivered, and goes on until
+//! the session has ended (`specs/Eager.antt`, `specs/Over.antt`). It stands on the pod of `lwp_calls`, the gates of `event_gate` and
+//! the lines of `script_text`, for every kind of body, program, gate and sink.
 #![tactic(auto)]
 
 mod drive;
+mod laws;
 mod parts;
 mod phase;
 mod playing;
@@ -15,7 +17,7 @@ mod session;
 mod written;
 
 pub use drive::run;
-pub use parts::Parts;
+pub use laws::every_session;
 pub use phase::{Phase, RunErr};
 pub use playing::Run;
 pub use session::{Row, Took};

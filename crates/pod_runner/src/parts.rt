@@ -1,32 +1,33 @@
 // What a run moves: the pod, each live thread's body, and the names.
-ghost use Rattle.std.specs.Prelude.{◌≡◌, ◌<◌, ◌≤◌, ◌^◌, IfOk, IsSome, Some, slice_get, length};
+ghost use Rattle.std.specs.Prelude.{◌≡◌, ◌<◌, ◌≤◌, ◌^◌, IfOk, IsSome, IsTrue, None, Some, slice_get, length};
+ghost use Rattle.lwp_types.specs.Agents.{armed};
 ghost use Rattle.lwp_types.specs.State.{opening};
 ghost use Rattle.lwp_calls.specs.Pod.{current_of};
 ghost use Rattle.pod_runner.specs.Phase.{phase_of};
 ghost use Rattle.pod_runner.specs.Polls.{place_of};
-ghost use Rattle.pod_runner.specs.Session.{row_opened};
+ghost use Rattle.pod_runner.specs.Session.{move, row_opened, taken};
 
 use crate::rows::{open, place, poll_at, proc_of, settle};
 use crate::written::lines_of;
-use crate::{Phase, Row};
+use crate::{Phase, Row, Took};
 use lwp_calls::{Pod, PodEnd};
 use lwp_types::{Body, Effects, Env, NoMemory, PodParams, Program, Text, Tid};
 use std::alloc::Global;
 
 /// A pod with its threads' bodies.
 #[derive(Drop)]
-pub struct Parts<B> {
-    pub pod: Pod,
-    pub rows: Vec<Row<B>>,
-    pub env: Env,
-    pub effects: Effects,
+pub(crate) struct Parts<B> {
+    pub(crate) pod: Pod,
+    pub(crate) rows: Vec<Row<B>>,
+    pub(crate) env: Env,
+    pub(crate) effects: Effects,
 }
 
 impl<B: Body> Parts<B> {
     ghost use Rattle.pod_runner.specs.Parts.{live_of, Moves};
 
     /// The first thread, before its first call.
-    pub fn new<P: Program<B>>(
+    pub(crate) fn new<P: Program<B>>(
         alloc: Global,
         params: PodParams,
         program: &P,
@@ -52,7 +53,7 @@ impl<B: Body> Parts<B> {
     }
 
     /// Where a run of so many calls, out of so many, stands.
-    pub fn phase(&self, turns: u64, calls: u64) -> Phase
+    pub(crate) fn phase(&self, turns: u64, calls: u64) -> Phase
         ensures { result ≡ phase_of self.now.pod turns calls }
     {
         match self.pod.ending() {
@@ -68,15 +69,40 @@ impl<B: Body> Parts<B> {
         }
     }
 
+    /// Whether a line of the event can be delivered.
+    pub(crate) fn wants(&self, event: u8) -> bool
+        ensures { result ≡ armed self.now.pod event }
+    {
+        self.pod.armed(event)
+    }
+
+    /// Delivers a line. The answer is the lines of what that did.
+    pub(crate) fn deliver<P: Program<B>>(
+        &mut self,
+        alloc: Global,
+        program: &P,
+        names: &[Text],
+        took: &Took,
+    ) -> Result<Vec<u8>, NoMemory>
+        requires { IsTrue (armed self.old.pod took.now.event) }
+        ensures { IfOk result (λ out. Moves names.now (Some took.now.line) (taken (P.bodies program.now) took.now (live_of self.old)) (live_of self.new) out.items) }
+    {
+        self.pod
+            .deliver(took.event, took.line.text, &mut self.effects);
+        let out = lines_of(alloc, &self.effects, Some(&took.line), names)?;
+        settle(&mut self.rows, program, None, &mut self.effects)?;
+        Ok(out)
+    }
+
     /// Polls the body of the thread whose turn it is, and makes its call. The answer is the lines of what that did.
-    pub fn turn<P: Program<B>>(
+    pub(crate) fn turn<P: Program<B>>(
         &mut self,
         alloc: Global,
         program: &P,
         names: &[Text],
     ) -> Result<Vec<u8>, NoMemory>
         requires current { IsSome (current_of self.old.pod) }
-        ensures { IfOk result (λ out. Moves B.next (P.bodies program.now) names.now (live_of self.old) (live_of self.new) out.items) }
+        ensures { IfOk result (λ out. Moves names.now None (move B.next (P.bodies program.now) (live_of self.old)) (live_of self.new) out.items) }
     {
         match self.pod.current() {
             None => Ok(Vec::new(alloc)),
@@ -102,10 +128,10 @@ impl<B: Body> Parts<B> {
         requires current { current_of self.old.pod ≡ Some tid }
         requires place { i ≡ place_of tid self.old.rows.items }
         requires within { i < length self.old.rows.items }
-        ensures { IfOk result (λ out. Moves B.next (P.bodies program.now) names.now (live_of self.old) (live_of self.new) out.items) }
+        ensures { IfOk result (λ out. Moves names.now None (move B.next (P.bodies program.now) (live_of self.old)) (live_of self.new) out.items) }
     {
         self.env.set_me(tid);
-        let call = poll_at(&mut self.rows, i, &mut self.env)?;
+        let call = poll_at(alloc, &mut self.rows, i, &mut self.env)?;
         let born = proc_of(&call);
         self.pod.call(call, &mut self.effects)?;
         let out = lines_of(alloc, &self.effects, None, names)?;

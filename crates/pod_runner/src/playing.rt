@@ -1,14 +1,14 @@
 // A run: what it plays, how far it is, and its parts as they stand.
-ghost use Rattle.std.specs.Prelude.{◌≡◌, ◌≤◌, ◌<◌, ◌^◌, ◌+◌, [], false, true, length, IfOk, OnOk, OnErr, IsErrOf, IsTrue, slice_index_or};
-ghost use Rattle.lwp_types.specs.Streams.{Rose};
+ghost use Rattle.std.specs.Prelude.{◌≡◌, ◌≤◌, ◌<◌, ◌^◌, [], false, length, IfOk, IsTrue, slice_index_or};
+ghost use Rattle.lwp_types.specs.Agents.{armed};
 ghost use Rattle.pod_runner.specs.Due.{IsDefined};
-ghost use Rattle.pod_runner.specs.Run.{setting_of, phase_now, trace_of, names_like, Writes, WritesCut, WritesPart, GoesOn};
+ghost use Rattle.pod_runner.specs.Run.{setting_of, session_of, phase_now, trace_of, names_like, stepped, with_call, with_took, Tells};
 ghost use Rattle.pod_runner.specs.declared.phase.Phase.TheVariants as phase;
 
 use crate::parts::Parts;
 use crate::written::write_all;
 use crate::{Phase, RunErr, Took};
-use lwp_types::{Body, Env, NoMemory, PodParams, Program, Sink, Text};
+use lwp_types::{Body, Env, Line, NoMemory, PodParams, Program, Sink, Text};
 use std::alloc::Global;
 use std::marker::Model;
 
@@ -35,13 +35,13 @@ impl<B: Body, P: Program<B>> Model for Run<B, P> {
     ghost use Rattle.lwp_types.specs.Names.{null_names};
     ghost use Rattle.pod_runner.specs.Run.{Played};
     ghost use Rattle.pod_runner.specs.Parts.{live_of};
-    ghost use Rattle.pod_runner.specs.Keeps.{IsSession};
+    ghost use Rattle.pod_runner.specs.Keeps.{Keeps};
 
     ghost Value = { Played P };
 
     ghost view = { λ r. record { program = r.program; params = r.params; names = null_names r.threads r.mons r.conds; turns = r.turns; calls = r.calls; takes = r.takes.items; failed = r.failed } };
 
-    ghost invariant = { λ r. (r.procs.items ≡ P.proc_names r.program) × (r.failed ≡ false → IsSession (record { next = B.next; bodies = P.bodies r.program; params = r.params; names = null_names r.threads r.mons r.conds }) (live_of r.parts) r.takes.items r.calls) };
+    ghost invariant = { λ r. Keeps (record { next = B.next; bodies = P.bodies r.program; params = r.params; names = null_names r.threads r.mons r.conds }) (P.proc_names r.program) r.procs.items (live_of r.parts) r.takes.items r.calls r.turns r.failed };
 }
 
 // The names of a program's procedures, by number.
@@ -70,8 +70,7 @@ impl<B: Body, P: Program<B>> Run<B, P> {
         requires few_births { params.births < 2 ^ 32 }
         requires procs { 1 ≤ params.procs }
         requires names { env ≡ names_like env }
-        ensures opening { IfOk result (λ run. run ≡ record { program = program; params = params; names = env; turns = turns; calls = 0; takes = []; failed = false }) }
-        ensures defined { IfOk result (λ run. IsDefined (setting_of B.next P.bodies run) run.takes run.calls) }
+        ensures { IfOk result (λ run. run ≡ record { program = program; params = params; names = env; turns = turns; calls = 0; takes = []; failed = false }) }
     {
         let threads = env.thread_count();
         let mons = env.mon_count();
@@ -116,33 +115,71 @@ impl<B: Body, P: Program<B>> Run<B, P> {
         &self.takes[i]
     }
 
+    /// The lines that were taken, the oldest first.
+    pub fn into_takes(self) -> Vec<Took>
+        ensures { result.items ≡ self.takes }
+    {
+        self.takes
+    }
+
     /// Where the run stands.
     pub fn phase(&self) -> Phase
         requires { self.now.failed ≡ false }
-        ensures { result ≡ phase_now B.next P.bodies self.now }
+        ensures phase { result ≡ phase_now B.next P.bodies self.now }
+        ensures made { IsDefined (setting_of B.next P.bodies self.now) self.now.takes self.now.calls }
+        ensures room { self.now.calls ≤ self.now.turns }
     {
         self.parts.phase(self.turns, self.calls)
     }
 
-    /// One call, and its lines. After an error the run has failed: a call whose lines could not all be written is counted, a call
-    /// for which memory was wanting isn't, and none of its lines is written.
+    /// Whether a line of the event can be delivered.
+    pub fn wants(&self, event: u8) -> bool
+        requires { self.now.failed ≡ false }
+        ensures armed { result ≡ armed (session_of B.next P.bodies self.now).live.state event }
+        ensures made { IsDefined (setting_of B.next P.bodies self.now) self.now.takes self.now.calls }
+        ensures room { self.now.calls ≤ self.now.turns }
+    {
+        self.parts.wants(event)
+    }
+
+    /// Delivers a line of the event, and writes its lines. After an error the run has failed: a take whose lines could not all be
+    /// written counts, one for which memory was wanting doesn't, and none of its lines is written.
+    pub fn offer<K: Sink>(&mut self, event: u8, line: Line, sink: &mut K) -> Result<(), RunErr>
+        requires sound { self.old.failed ≡ false }
+        requires wants { IsTrue (armed (session_of B.next P.bodies self.old).live.state event) }
+        ensures after { self.new ≡ stepped self.old (with_took self.old event line) result }
+        ensures told { Tells (record { old = K.written sink.old; new = K.written sink.new; faults_old = K.faults sink.old; faults_new = K.faults sink.new }) (trace_of B.next P.bodies P.proc_names self.old) (trace_of B.next P.bodies P.proc_names self.old) (trace_of B.next P.bodies P.proc_names self.new) result }
+        ensures made { IsDefined (setting_of B.next P.bodies self.new) self.new.takes self.new.calls }
+        ensures room { self.new.calls ≤ self.new.turns }
+    {
+        self.failed = true;
+        let took = Took {
+            turn: self.calls,
+            line,
+            event,
+        };
+        let out = self
+            .parts
+            .deliver(self.alloc, &self.program, &self.procs, &took)?;
+        self.takes.push(took)?;
+        match write_all(sink, &out) {
+            Ok(()) => {
+                self.failed = false;
+                Ok(())
+            }
+            Err(_) => Err(RunErr::WriteFault),
+        }
+    }
+
+    /// One call, and its lines. After an error the run has failed: a call whose lines could not all be written counts, a call
+    /// for which memory was wanting doesn't, and none of its lines is written.
     pub fn turn<K: Sink>(&mut self, sink: &mut K) -> Result<(), RunErr>
         requires sound { self.old.failed ≡ false }
         requires due { phase_now B.next P.bodies self.old ≡ phase.Turn }
-        ensures same { GoesOn self.old self.new }
-        ensures takes { self.new.takes ≡ self.old.takes }
-        ensures calls { OnOk result ((self.new.calls ≡ self.old.calls + 1) × (self.new.failed ≡ false)) }
-        ensures failed { OnErr result ((self.old.calls ≤ self.new.calls) × (self.new.calls ≤ self.old.calls + 1) × (self.new.failed ≡ true)) }
-        ensures uncounted { IsErrOf result RunErr.NoMemory → (self.new.calls ≡ self.old.calls) × (K.written sink.new ≡ K.written sink.old) }
-        ensures counted { IsErrOf result RunErr.WriteFault → self.new.calls ≡ self.old.calls + 1 }
-        ensures cut { IsErrOf result RunErr.WriteFault → WritesCut (K.written sink.old) (K.written sink.new) (trace_of B.next P.bodies P.proc_names self.old) (trace_of B.next P.bodies P.proc_names self.old) (trace_of B.next P.bodies P.proc_names self.new) }
-        ensures whole { OnOk result (Writes (K.written sink.old) (K.written sink.new) (trace_of B.next P.bodies P.proc_names self.old) (trace_of B.next P.bodies P.proc_names self.new)) }
-        ensures part { OnErr result (WritesPart (K.written sink.old) (K.written sink.new) (trace_of B.next P.bodies P.proc_names self.old) (trace_of B.next P.bodies P.proc_names self.new)) }
-        ensures made { IsDefined (setting_of B.next P.bodies self.old) self.old.takes self.old.calls → IsDefined (setting_of B.next P.bodies self.new) self.new.takes self.new.calls }
-        ensures faults { OnOk result (K.faults sink.new ≡ K.faults sink.old) }
-        ensures later { K.faults sink.old ≤ K.faults sink.new }
-        ensures cause { IsErrOf result RunErr.WriteFault → Rose (K.faults sink.old) (K.faults sink.new) }
-        ensures memory { IsErrOf result RunErr.NoMemory → K.faults sink.new ≡ K.faults sink.old }
+        ensures after { self.new ≡ stepped self.old (with_call self.old) result }
+        ensures told { Tells (record { old = K.written sink.old; new = K.written sink.new; faults_old = K.faults sink.old; faults_new = K.faults sink.new }) (trace_of B.next P.bodies P.proc_names self.old) (trace_of B.next P.bodies P.proc_names self.old) (trace_of B.next P.bodies P.proc_names self.new) result }
+        ensures made { IsDefined (setting_of B.next P.bodies self.new) self.new.takes self.new.calls }
+        ensures room { self.new.calls ≤ self.new.turns }
     {
         self.failed = true;
         let out = self.parts.turn(self.alloc, &self.program, &self.procs)?;

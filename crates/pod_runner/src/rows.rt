@@ -1,13 +1,12 @@
 // The bodies of the live threads.
 ghost use Rattle.std.specs.Prelude.{◌≡◌, ◌++◌, ℕ, slice_get, Option, Some, None, OnOk, IfOk, ◌<◌, vec_len};
 ghost use Rattle.pod_runner.specs.Session.{answered, without_row, row_opened, proc_of, thread_in, rows_born, settled_by, settled};
-ghost use Rattle.lwp_types.specs.Unblock.{zero_answer};
 ghost use Rattle.pod_runner.specs.Polls.{Polls, place_of};
 ghost use Rattle.pod_runner.specs.declared.session.Row.{Row};
 
 use crate::Row;
-use lwp_types::{Answer, Body, Call, Effect, Effects, Env, NoMemory, Program, Tid};
-use std::mem;
+use lwp_types::{Answer, Body, Call, Effect, Effects, Env, IdList, NoMemory, Program, Tid};
+use std::alloc::Global;
 
 // Sets what a thread is polled with next.
 fn answer<B>(rows: &mut Vec<Row<B>>, tid: Tid, answer: Answer)
@@ -38,11 +37,56 @@ fn forget<B: Drop>(rows: &mut Vec<Row<B>>, tid: Tid)
     }
 }
 
-// Polls the body of a row.
-fn poll_row<B: Body>(row: &mut Row<B>, env: &mut Env) -> Result<Call, NoMemory>
-    ensures { IfOk result (λ call. (B.next row.old.body env.old row.old.answer ≡ (call, row.new.body, env.new)) × (row.new.tid ≡ row.old.tid) × (row.new.answer ≡ zero_answer)) }
+fn copy_list(alloc: Global, list: &IdList) -> Result<IdList, NoMemory>
+    ensures { IfOk result (λ copy. copy ≡ list.now) }
 {
-    let got = mem::replace(&mut row.answer, Answer::Value(0));
+    let mut copy = IdList::new(alloc);
+    for i in 0..list.len() {
+        copy.push(list.get(i))?;
+    }
+    Ok(copy)
+}
+
+fn copy_of(alloc: Global, answer: &Answer) -> Result<Answer, NoMemory>
+    ensures { IfOk result (λ copy. copy ≡ answer.now) }
+{
+    Ok(match answer {
+        Answer::Value(value) => Answer::Value(*value),
+        Answer::Thread(tid) => Answer::Thread(*tid),
+        Answer::Monitor(mon) => Answer::Monitor(*mon),
+        Answer::Cond(cond) => Answer::Cond(*cond),
+        Answer::Letter { from, text, room } => Answer::Letter {
+            from: *from,
+            text: *text,
+            room: *room,
+        },
+        Answer::Reply(text) => Answer::Reply(*text),
+        Answer::Bound { func, arg } => Answer::Bound {
+            func: *func,
+            arg: *arg,
+        },
+        Answer::Caught {
+            depth,
+            mark,
+            pattern,
+        } => Answer::Caught {
+            depth: *depth,
+            mark: *mark,
+            pattern: *pattern,
+        },
+        Answer::Ids { kind, list } => Answer::Ids {
+            kind: *kind,
+            list: copy_list(alloc, list)?,
+        },
+        Answer::Refused(error) => Answer::Refused(*error),
+    })
+}
+
+// Polls the body of a row, which keeps its answer.
+fn poll_row<B: Body>(alloc: Global, row: &mut Row<B>, env: &mut Env) -> Result<Call, NoMemory>
+    ensures { IfOk result (λ call. (B.next row.old.body env.old row.old.answer ≡ (call, row.new.body, env.new)) × (row.new.tid ≡ row.old.tid) × (row.new.answer ≡ row.old.answer)) }
+{
+    let got = copy_of(alloc, &row.answer)?;
     row.body.poll(env, got)
 }
 
@@ -61,12 +105,17 @@ pub fn place<B>(rows: &Vec<Row<B>>, tid: Tid) -> usize
 }
 
 /// Polls the body of the row at a place.
-pub fn poll_at<B: Body>(rows: &mut Vec<Row<B>>, i: usize, env: &mut Env) -> Result<Call, NoMemory>
+pub fn poll_at<B: Body>(
+    alloc: Global,
+    rows: &mut Vec<Row<B>>,
+    i: usize,
+    env: &mut Env,
+) -> Result<Call, NoMemory>
     requires { i < vec_len rows.old }
     ensures { IfOk result (λ call. (row : Row B) → slice_get rows.old.items i ≡ Some row → Polls B.next row env.old call i rows.old.items rows.new.items env.new) }
 {
     let row = &mut rows[i];
-    poll_row(row, env)
+    poll_row(alloc, row, env)
 }
 
 /// The row of a new thread, if there is such a procedure.

@@ -1,4 +1,5 @@
 use crate::{Phase, Run, RunErr, lines_of, run, write_all};
+use event_gate::ListGate;
 use lwp_types::{
     Answer, Body, Call, Effect, Effects, Env, Line, MemSink, NoMemory, PodParams, Program, Text,
     Tid,
@@ -7,40 +8,39 @@ use script_text::Halt;
 use std::alloc::Global;
 use std::test::Fail;
 
-// Yields so many times, and then returns.
+// Makes an agent for event 5, and then returns.
 #[derive(Drop)]
-struct Yields {
-    left: u32,
+struct Listens {
+    listening: bool,
 }
 
-impl Body for Yields {
-    ghost use Rattle.std.specs.Prelude.{◌-◌, ◌==◌, if◌then◌else◌, refl};
+impl Body for Listens {
+    ghost use Rattle.std.specs.Prelude.{if◌then◌else◌, refl, true};
     ghost use Rattle.lwp_types.specs.declared.call.Call.TheVariants as call;
 
-    ghost next = { λ body names got. (if body.left == 0 then call.Return else call.Yield names.me, record { left = body.left - 1 }, names) };
+    ghost next = { λ body names got. (if body.listening then call.Return else call.Agent 5, record { listening = true }, names) };
 
     ghost keeps_lengths = { λ body names got. record { threads = refl; monitors = refl; conditions = refl } };
 
-    fn poll(&mut self, env: &mut Env, _got: Answer) -> Result<Call, NoMemory> {
-        if self.left == 0 {
+    fn poll(&mut self, _env: &mut Env, _got: Answer) -> Result<Call, NoMemory> {
+        if self.listening {
             return Ok(Call::Return);
         }
-        self.left -= 1;
-        Ok(Call::Yield { to: env.me() })
+        self.listening = true;
+        Ok(Call::Agent { event: 5 })
     }
 }
 
-// One procedure, whose threads yield so many times.
+// One procedure, whose threads listen.
 #[derive(Drop)]
 struct OneProcedure {
     name: Text,
-    times: u32,
 }
 
-impl Program<Yields> for OneProcedure {
-    ghost use Rattle.std.specs.Prelude.{◌∷◌, [], refl};
+impl Program<Listens> for OneProcedure {
+    ghost use Rattle.std.specs.Prelude.{◌∷◌, [], false, refl};
 
-    ghost bodies = { λ program. record { left = program.times } ∷ [] };
+    ghost bodies = { λ program. record { listening = false } ∷ [] };
 
     ghost proc_names = { λ program. program.name ∷ [] };
 
@@ -52,8 +52,8 @@ impl Program<Yields> for OneProcedure {
         self.name
     }
 
-    fn body_of(&self, _proc: u32) -> Result<Yields, NoMemory> {
-        Ok(Yields { left: self.times })
+    fn body_of(&self, _proc: u32) -> Result<Listens, NoMemory> {
+        Ok(Listens { listening: false })
     }
 
     ghost as_many = { λ program. refl };
@@ -65,29 +65,39 @@ const PARAMS: PodParams = PodParams {
     procs: 1,
 };
 
-// What a thread writes that yields once.
-const TRACE: &[u8] = b"t0: yield self\nt0 = 0\nt0: return\nt0 dies\npod ends 0\n";
+// What such a thread writes, with a line in place.
+const TRACE: &[u8] =
+    b"t0: agent 5\nt0 = t1\nevent 5 client 0 seq 0 hi\nt0: return\nt0 dies\npod ends 0\n";
 
-// How a run of such a thread halts, with so many calls allowed, and what it has written.
-fn halt_of(alloc: Global, name: Text, turns: u64, sink: &mut MemSink) -> Result<Halt, RunErr> {
+fn start(alloc: Global, text: Text, turns: u64) -> Result<Run<Listens, OneProcedure>, NoMemory> {
     let env = Env::new(alloc, 0, 0, 0)?;
-    let program = OneProcedure { name, times: 1 };
-    let mut session = Run::new(alloc, PARAMS, program, env, turns)?;
-    run(&mut session, sink)
+    Run::new(alloc, PARAMS, OneProcedure { name: text }, env, turns)
+}
+
+// How a run of such a thread halts, with so many calls allowed and a line in place, and what it has written.
+fn halt_of(alloc: Global, turns: u64, text: Text, sink: &mut MemSink) -> Result<Halt, RunErr> {
+    let mut session = start(alloc, text, turns)?;
+    let line = Line {
+        client: 0,
+        seq: 0,
+        text,
+    };
+    let mut gate = ListGate::new(alloc, &[5], &[line])?;
+    run(&mut session, &mut gate, sink)
 }
 
 #[test]
 fn a_run_writes_its_session(rt: HostRuntime) -> Result<(), Fail> {
     let alloc = rt.alloc();
-    let name = Text::new(b"main").ok_or("text")?;
+    let text = Text::new(b"hi").ok_or("text")?;
     for (turns, want, length) in [
         (2, Halt::Ended(0), TRACE.len()),
-        (1, Halt::Spent, 22),
+        (1, Halt::Spent, 20),
         (0, Halt::Spent, 0),
     ] {
         // The sink takes at most seven bytes at once.
         let mut sink = MemSink::new(alloc, 200, 7, Vec::new(alloc))?;
-        assert_eq!(rt; halt_of(alloc, name, turns, &mut sink), Ok(want));
+        assert_eq!(rt; halt_of(alloc, turns, text, &mut sink), Ok(want));
         assert_eq!(rt; sink.bytes().len(), length);
         assert!(rt; TRACE.starts_with(sink.bytes()));
     }
@@ -97,27 +107,35 @@ fn a_run_writes_its_session(rt: HostRuntime) -> Result<(), Fail> {
 #[test]
 fn a_run_ends_where_a_write_fails(rt: HostRuntime) -> Result<(), Fail> {
     let alloc = rt.alloc();
-    let name = Text::new(b"main").ok_or("text")?;
-    // The first turn takes four writes.
-    let mut sink = MemSink::new(alloc, 200, 7, vec![in alloc; 4]?)?;
-    assert_eq!(rt; halt_of(alloc, name, 2, &mut sink), Err(RunErr::WriteFault));
-    assert_eq!(rt; sink.bytes(), b"t0: yield self\nt0 = 0\n".as_slice());
+    let text = Text::new(b"hi").ok_or("text")?;
+    // The first turn takes three writes.
+    let mut sink = MemSink::new(alloc, 200, 7, vec![in alloc; 3]?)?;
+    assert_eq!(rt; halt_of(alloc, 2, text, &mut sink), Err(RunErr::WriteFault));
+    assert_eq!(rt; sink.bytes(), b"t0: agent 5\nt0 = t1\n".as_slice());
     Ok(())
 }
 
 #[test]
 fn a_run_is_driven_by_hand(rt: HostRuntime) -> Result<(), Fail> {
     let alloc = rt.alloc();
-    let name = Text::new(b"main").ok_or("text")?;
-    let program = OneProcedure { name, times: 1 };
-    let mut session = Run::new(alloc, PARAMS, program, Env::new(alloc, 0, 0, 0)?, 3)?;
+    let text = Text::new(b"hi").ok_or("text")?;
+    let mut session = start(alloc, text, 3)?;
     let mut sink = MemSink::new(alloc, 200, 200, Vec::new(alloc))?;
     let Phase::Turn = session.phase() else {
         return Err("no first turn".into());
     };
     session.turn(&mut sink)?;
-    assert_eq!(rt; (session.calls(), session.takes()), (1, 0));
-    assert_eq!(rt; sink.bytes().len(), 22);
+    if !session.wants(5) {
+        return Err("no agent".into());
+    }
+    let line = Line {
+        client: 0,
+        seq: 0,
+        text,
+    };
+    session.offer(5, line, &mut sink)?;
+    assert_eq!(rt; (session.calls(), session.takes()), (1, 1));
+    assert_eq!(rt; sink.bytes().len(), 46);
     Ok(())
 }
 

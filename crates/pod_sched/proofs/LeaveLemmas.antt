@@ -1,6 +1,7 @@
 -- A thread is forgotten, or one more is known.
 use Rattle.buckets.specs.Order.{Order, prio_of, taken}
-use Rattle.chains.specs.Lists.{Lists, items, moved_to_back, pushed}
+use Rattle.chains.proofs.Pushes.{items_pushed_other, items_pushed_same, length-pushed}
+use Rattle.chains.specs.Lists.{Lists, items, moved_to_back}
 use Rattle.lwp_types.specs.CountLaws.{count-cons, count-push, length-without, one, times-without_other, times-without_same}
 use Rattle.lwp_types.specs.State.{times_in, without}
 use Rattle.pod_sched.proofs.Counts.{one_other, one_same, times-same, times_found}
@@ -11,29 +12,12 @@ use Rattle.pod_sched.specs.Held.{IsHeld, schedule_of, tid_at}
 use Rattle.pod_sched.specs.Schedule.{left, without_row}
 use Rattle.pod_sched.specs.Slots.{AreSlots, Changes, IsFree, IsKnown, IsReady, Puts, has_tid, row_at}
 use Rattle.pod_sched.specs.declared.rows.Known.{Known}
-use Rattle.std.proofs.Common.{Bool, List, None, Option, Some, [], ap, arith, cond, eqb, false, get_or, inl, inr, length, map, not, refl, slice_get, subst, suc, sym, true, zero, ℕ, ◌++◌, ◌+◌, ◌<◌, ◌∙◌, ◌∷◌, ◌≡◌, ◌≢◌, ◌≤◌}
+use Rattle.std.proofs.Common.{Bool, List, None, Option, Some, [], ap, arith, cond, eqb, false, inl, inr, length, map, not, refl, slice_get, subst, sym, true, ℕ, ◌++◌, ◌+◌, ◌<◌, ◌∙◌, ◌∷◌, ◌≡◌, ◌≢◌, ◌≤◌}
 use Rattle.std.proofs.lemmas.Bool.{cases_eq, eq-eqb, eqb-true, ne_eqb}
 use Rattle.std.proofs.lemmas.List.{get_or-map, length-map, length_push}
 use Rattle.std.specs.List.{AllByRecursion, find}
 
 -- ---- lists of lists
-
-items_pushed_same : (l k : ℕ) (lists : List (List ℕ)) → l < length lists → get_or (pushed l k lists) l [] ≡ get_or lists l [] ++ k ∷ []
-items_pushed_same l k [] inside = absurd (omega arith)
-items_pushed_same zero k (xs ∷ lists) inside = refl
-items_pushed_same (suc l) k (xs ∷ lists) inside = items_pushed_same l k lists (omega arith)
-
-items_pushed_other : (l k i : ℕ) (lists : List (List ℕ)) → i ≢ l → get_or (pushed l k lists) i [] ≡ get_or lists i []
-items_pushed_other l k i [] differs = refl
-items_pushed_other zero k zero (xs ∷ lists) differs = absurd (differs refl)
-items_pushed_other zero k (suc i) (xs ∷ lists) differs = refl
-items_pushed_other (suc l) k zero (xs ∷ lists) differs = refl
-items_pushed_other (suc l) k (suc i) (xs ∷ lists) differs = items_pushed_other l k i lists (λ same. differs (ap suc same))
-
-pub length-pushed : (l k : ℕ) (lists : List (List ℕ)) → length (pushed l k lists) ≡ length lists
-length-pushed l k [] = refl
-length-pushed zero k (xs ∷ lists) = refl
-length-pushed (suc l) k (xs ∷ lists) = ap suc (length-pushed l k lists)
 
 module _ (slots : Lists) (l k : ℕ) (inside : l < length slots.lists) where
   pub items_moved_same : items (moved_to_back slots l k) l ≡ without k (items slots l) ++ k ∷ []

@@ -1,10 +1,11 @@
 -- More places.
 use Rattle.buckets.specs.Order.{Order, prio_of, with_keys}
+use Rattle.chains.proofs.Pushes.{length-pushed}
 use Rattle.chains.specs.Lists.{Lists, items, with_limit}
 use Rattle.lwp_types.specs.CountLaws.{count-cons, count-push, one}
 use Rattle.lwp_types.specs.State.{times_in, without}
 use Rattle.pod_sched.proofs.Counts.{one_other, one_same, times-same}
-use Rattle.pod_sched.proofs.LeaveLemmas.{items_moved_other, items_moved_same, length-pushed, lists_moved}
+use Rattle.pod_sched.proofs.LeaveLemmas.{items_moved_other, items_moved_same, lists_moved}
 use Rattle.pod_sched.proofs.SlotLemmas.{All-found, All-push, All-weaker, find_agree, tids_same, without_none}
 use Rattle.pod_sched.specs.Held.{IsHeld, schedule_of, tid_at}
 use Rattle.pod_sched.specs.Schedule.{reserved}

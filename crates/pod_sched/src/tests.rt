@@ -3,6 +3,7 @@ ghost use Rattle.pod_sched.specs.Schedule.{choice};
 
 use crate::{Sched, Steps};
 use lwp_types::Tid;
+use std::alloc::Global;
 use std::marker::Brand;
 use std::sync::ledger::{Blank, Ledger};
 use std::test::Fail;
@@ -14,136 +15,135 @@ const B: Tid = Tid { number: 1 };
 // It shares a cell of the index with A.
 const FAR: Tid = Tid { number: 4096 };
 
-#[test]
-fn the_greatest_priority_runs(rt: HostRuntime) -> Result<(), Fail> {
-    let mut sched = Sched::new(rt.alloc(), 9).map_err(|_| "no memory")?;
-    sched.reserve(2).map_err(|_| "no memory")?;
-    assert_eq!(rt; sched.current(), None);
-    sched.admit(A, 3, false);
-    sched.admit(B, 5, true);
-    assert_eq!(rt; sched.current(), Some(A));
-    sched.resume(B);
-    assert_eq!(rt; sched.current(), Some(B));
-    sched.block(B);
-    assert_eq!(rt; sched.current(), Some(A));
-    Ok(())
+// A call by its letter, the thread, a priority where the call has one, and who runs next.
+type Step = (u8, Tid, u32, Option<Tid>);
+
+// Admits one thread more, of three at most.
+fn admits(sched: &mut Sched, tid: Tid, prio: u32, suspended: bool) -> bool {
+    if sched.reserve(3).is_err() || sched.len() >= 3 {
+        return false;
+    }
+    if sched.knows(tid) || prio == 0 || prio > sched.maxpri() {
+        return false;
+    }
+    sched.admit(tid, prio, suspended);
+    sched.knows(tid) && sched.eligible(tid) == !suspended
+}
+
+// Gives a known thread a priority.
+fn ranks(sched: &mut Sched, tid: Tid, prio: u32) -> bool {
+    if !sched.knows(tid) || prio == 0 || prio > sched.maxpri() {
+        return false;
+    }
+    let before = sched.prio_of(tid);
+    sched.set_prio(tid, prio) == before
+}
+
+// One thread lets another of its priority run right before it, or goes last where the two are one.
+fn yields(sched: &mut Sched, from: Tid, to: Tid) -> bool {
+    if !sched.knows(from) || !sched.knows(to) || sched.prio_of(from) != sched.prio_of(to) {
+        return false;
+    }
+    let may = sched.eligible(from) && sched.eligible(to);
+    if may {
+        sched.yield_to(from, to);
+    }
+    may
+}
+
+// What is done to one known thread: `l` leave, `b` block, `u` unblock, `s` suspend, `r` resume.
+fn changes(sched: &mut Sched, letter: u8, tid: Tid) -> bool {
+    if !sched.knows(tid) {
+        return false;
+    }
+    match letter {
+        b'l' => sched.leave(tid),
+        b'b' => sched.block(tid),
+        b'u' if sched.blocked(tid) => sched.unblock(tid),
+        b's' => sched.suspend(tid),
+        b'r' => sched.resume(tid),
+        _ => return false,
+    }
+    sched.knows(tid) == (letter != b'l')
+}
+
+// And `+` admit, `-` admit suspended, `y` yield to itself, `p` set the priority, `q` let the first of a priority go last, `m` raise
+// the greatest priority.
+fn does(sched: &mut Sched, step: &Step) -> bool {
+    let (letter, tid, prio, next) = *step;
+    let done = match letter {
+        b'+' | b'-' => admits(sched, tid, prio, letter == b'-'),
+        b'p' => ranks(sched, tid, prio),
+        b'y' => yields(sched, tid, tid),
+        b'q' => {
+            sched.resched(prio);
+            true
+        }
+        b'm' if sched.maxpri() <= prio && prio <= 255 => {
+            sched.set_maxpri(prio);
+            true
+        }
+        _ => changes(sched, letter, tid),
+    };
+    done && sched.current() == next
+}
+
+const STEPS: [Step; 19] = [
+    (b'+', A, 3, Some(A)),
+    (b'-', B, 5, Some(A)),
+    (b'r', B, 0, Some(B)),
+    (b'b', B, 0, Some(A)),
+    (b's', B, 0, Some(A)),
+    (b'u', B, 0, Some(A)),
+    (b'p', B, 3, Some(A)),
+    // It was away, so it stands behind A.
+    (b'r', B, 0, Some(A)),
+    (b'p', A, 3, Some(A)),
+    (b'y', A, 0, Some(B)),
+    (b'q', A, 3, Some(A)),
+    (b'q', A, 4, Some(A)),
+    (b'm', A, 255, Some(A)),
+    (b'+', FAR, 255, Some(FAR)),
+    (b'p', A, 255, Some(FAR)),
+    (b'b', FAR, 0, Some(A)),
+    (b'l', FAR, 0, Some(A)),
+    (b'l', A, 0, Some(B)),
+    (b'l', B, 0, None),
+];
+
+fn does_all(sched: &mut Sched) -> bool {
+    for step in &STEPS {
+        if !does(sched, step) {
+            return false;
+        }
+    }
+    true
+}
+
+// Of three threads of one priority.
+fn yields_in_turn(sched: &mut Sched) -> bool {
+    for tid in [A, B, FAR] {
+        if !admits(sched, tid, 3, false) {
+            return false;
+        }
+    }
+    yields(sched, A, FAR)
+        && sched.current() == Some(FAR)
+        && yields(sched, FAR, FAR)
+        && sched.current() == Some(A)
+}
+
+// A function that owns a scheduler is dear to prove, by each of its steps, so this one has no more than it needs.
+fn is_done(alloc: Global) -> bool {
+    let Ok(mut sched) = Sched::new(alloc, 5) else {
+        return false;
+    };
+    does_all(&mut sched) && yields_in_turn(&mut sched)
 }
 
 #[test]
-fn whoever_leaves_is_forgotten(rt: HostRuntime) -> Result<(), Fail> {
-    let mut sched = Sched::new(rt.alloc(), 9).map_err(|_| "no memory")?;
-    sched.reserve(2).map_err(|_| "no memory")?;
-    sched.admit(A, 3, false);
-    sched.admit(B, 3, false);
-    sched.leave(A);
-    assert!(rt; !sched.knows(A) && sched.knows(B));
-    assert_eq!(rt; sched.current(), Some(B));
-    Ok(())
-}
-
-#[test]
-fn suspended_and_blocked_threads_come_back_once_both_have_ended(
-    rt: HostRuntime,
-) -> Result<(), Fail> {
-    let mut sched = Sched::new(rt.alloc(), 9).map_err(|_| "no memory")?;
-    sched.reserve(2).map_err(|_| "no memory")?;
-    sched.admit(A, 3, false);
-    sched.admit(B, 3, false);
-    sched.suspend(A);
-    sched.block(A);
-    assert!(rt; sched.blocked(A) && !sched.eligible(A));
-    sched.unblock(A);
-    assert!(rt; !sched.blocked(A) && !sched.eligible(A));
-    assert!(rt; sched.knows(A));
-    sched.resume(A);
-    assert!(rt; sched.eligible(A));
-    // It was away, so it stands behind the other.
-    assert_eq!(rt; sched.current(), Some(B));
-    Ok(())
-}
-
-#[test]
-fn threads_of_one_priority_take_turns(rt: HostRuntime) -> Result<(), Fail> {
-    let mut sched = Sched::new(rt.alloc(), 5).map_err(|_| "no memory")?;
-    sched.reserve(2).map_err(|_| "no memory")?;
-    sched.admit(A, 3, false);
-    sched.admit(B, 3, false);
-    sched.yield_to(A, B);
-    assert_eq!(rt; sched.current(), Some(B));
-    sched.resched(3);
-    assert_eq!(rt; sched.current(), Some(A));
-    sched.resched(4);
-    assert_eq!(rt; sched.current(), Some(A));
-    Ok(())
-}
-
-#[test]
-fn who_yields_to_itself_goes_last(rt: HostRuntime) -> Result<(), Fail> {
-    let mut sched = Sched::new(rt.alloc(), 5).map_err(|_| "no memory")?;
-    sched.reserve(2).map_err(|_| "no memory")?;
-    sched.admit(A, 3, false);
-    sched.admit(B, 3, false);
-    sched.yield_to(A, A);
-    assert_eq!(rt; sched.current(), Some(B));
-    Ok(())
-}
-
-#[test]
-fn another_priority_is_another_place(rt: HostRuntime) -> Result<(), Fail> {
-    let mut sched = Sched::new(rt.alloc(), 5).map_err(|_| "no memory")?;
-    sched.reserve(2).map_err(|_| "no memory")?;
-    sched.admit(A, 3, false);
-    sched.admit(B, 2, false);
-    assert_eq!(rt; sched.set_prio(A, 2), 3);
-    assert_eq!(rt; sched.current(), Some(B));
-    Ok(())
-}
-
-#[test]
-fn the_same_priority_is_the_same_place(rt: HostRuntime) -> Result<(), Fail> {
-    let mut sched = Sched::new(rt.alloc(), 5).map_err(|_| "no memory")?;
-    sched.reserve(2).map_err(|_| "no memory")?;
-    sched.admit(A, 3, false);
-    sched.admit(B, 3, false);
-    assert_eq!(rt; sched.set_prio(A, 3), 3);
-    assert_eq!(rt; sched.current(), Some(A));
-    Ok(())
-}
-
-#[test]
-fn a_priority_is_known(rt: HostRuntime) -> Result<(), Fail> {
-    let mut sched = Sched::new(rt.alloc(), 5).map_err(|_| "no memory")?;
-    sched.reserve(1).map_err(|_| "no memory")?;
-    sched.admit(A, 3, false);
-    assert_eq!(rt; sched.set_prio(A, 4), 3);
-    assert!(rt; sched.knows(A));
-    assert_eq!(rt; sched.prio_of(A), 4);
-    Ok(())
-}
-
-#[test]
-fn the_greatest_priority_may_grow(rt: HostRuntime) -> Result<(), Fail> {
-    let mut sched = Sched::new(rt.alloc(), 5).map_err(|_| "no memory")?;
-    sched.reserve(1).map_err(|_| "no memory")?;
-    sched.set_maxpri(255);
-    assert_eq!(rt; sched.maxpri(), 255);
-    sched.admit(A, 255, false);
-    assert_eq!(rt; sched.current(), Some(A));
-    Ok(())
-}
-
-#[test]
-fn threads_are_found_whatever_their_numbers(rt: HostRuntime) -> Result<(), Fail> {
-    let mut sched = Sched::new(rt.alloc(), 5).map_err(|_| "no memory")?;
-    sched.reserve(2).map_err(|_| "no memory")?;
-    sched.admit(FAR, 3, false);
-    assert!(rt; !sched.knows(A));
-    sched.admit(A, 3, false);
-    sched.block(FAR);
-    assert_eq!(rt; sched.current(), Some(A));
-    sched.leave(FAR);
-    assert!(rt; sched.knows(A) && !sched.knows(FAR));
-    Ok(())
+fn the_first_of_the_greatest_priority_runs(rt: HostRuntime) {
+    assert!(rt; is_done(rt.alloc()));
 }
 
 // The choice, with a count of its looks.
@@ -160,9 +160,7 @@ fn counted<L: Ledger>(sched: &Sched, blank: Blank) -> Option<Tid>
 #[test]
 fn a_counted_choice_is_the_choice(rt: HostRuntime) -> Result<(), Fail> {
     let mut sched = Sched::new(rt.alloc(), 255).map_err(|_| "no memory")?;
-    sched.reserve(2).map_err(|_| "no memory")?;
-    sched.admit(A, 1, false);
-    sched.admit(B, 255, false);
+    assert!(rt; admits(&mut sched, A, 1, false) && admits(&mut sched, B, 255, false));
     assert_eq!(rt; counted::<Brand>(&sched, Blank::new(1)), Some(B));
     Ok(())
 }

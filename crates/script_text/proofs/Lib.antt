@@ -9,3 +9,7 @@ pub mod CutLaws
 pub mod ScriptLaws
 pub mod LimitLaws
 pub mod PieceLaws
+pub mod BackLaws
+pub mod PrintLaws
+pub mod SectionLaws
+pub mod FirstBadLaws

@@ -22,7 +22,7 @@ use Rattle.script_text.proofs.PhraseLaws.{phrase_found, phrase_again, phrase_nee
 use Rattle.script_text.proofs.SaidLaws.{phrase_is_printable, said_declares}
 use Rattle.script_text.proofs.TrackLaws.{fold_push}
 
-abbrev AllDeclared : Declared → List Phrase → Type 0
+abbrev pub AllDeclared : Declared → List Phrase → Type 0
 AllDeclared d ps = AllByRecursion (λ p. IsTrue (is_declared d p)) ps
 
 -- ---- A text that is spelt is read.
@@ -30,7 +30,7 @@ AllDeclared d ps = AllByRecursion (λ p. IsTrue (is_declared d p)) ps
 line_again : (p : Phrase) → IsLine p → phrase_at (phrase_text p) ≡ Some p
 line_again p h = phrase_again p h.0 ∙ ap (λ (q : Phrase). Some q) h.1
 
-judge_again : (d : Declared) (before : List Phrase) (p : Phrase) → IsLine p → may_stand before p ≡ true → is_declared d p ≡ true → judge d before (phrase_text p) ≡ Ok p
+pub judge_again : (d : Declared) (before : List Phrase) (p : Phrase) → IsLine p → may_stand before p ≡ true → is_declared d p ≡ true → judge d before (phrase_text p) ≡ Ok p
 judge_again d before p h s a = rw (phrase_is_printable p h.0, line_again p h, s, a) refl
 
 read_again : (d : Declared) (before ps : List Phrase) → AllByRecursion IsLine ps → AllStand before ps → AllDeclared d ps → read_on d before (map phrase_text ps) ≡ Ok (before ++ ps)
@@ -81,20 +81,20 @@ verdict_again text s ps h =
 -- ---- A text that is read is spelt.
 
 -- what reading on has found
-record Read (d : Declared) (before : List Phrase) (lines : List (List ℕ)) (all more : List Phrase) : Type 0 where
-  all_is : all ≡ before ++ more
-  texts : lines ≡ map phrase_text more
-  are_lines : AllByRecursion IsLine more
-  stand : AllStand before more
-  declared : AllDeclared d more
+pub record Read (d : Declared) (before : List Phrase) (lines : List (List ℕ)) (all more : List Phrase) : Type 0 where
+  pub all_is : all ≡ before ++ more
+  pub texts : lines ≡ map phrase_text more
+  pub are_lines : AllByRecursion IsLine more
+  pub stand : AllStand before more
+  pub declared : AllDeclared d more
 
-record Judged (d : Declared) (before : List Phrase) (line : List ℕ) (p : Phrase) : Type 0 where
-  is_line : IsLine p
-  text_is : line ≡ phrase_text p
-  stands : may_stand before p ≡ true
-  declares : is_declared d p ≡ true
+pub record Judged (d : Declared) (before : List Phrase) (line : List ℕ) (p : Phrase) : Type 0 where
+  pub is_line : IsLine p
+  pub text_is : line ≡ phrase_text p
+  pub stands : may_stand before p ≡ true
+  pub declares : is_declared d p ≡ true
 
-judge_found : (d : Declared) (before : List Phrase) (line : List ℕ) (p : Phrase) → judge d before line ≡ Ok p → Judged d before line p
+pub judge_found : (d : Declared) (before : List Phrase) (line : List ℕ) (p : Phrase) → judge d before line ≡ Ok p → Judged d before line p
 judge_found d before line p e = elim (is_printable line) as (λ v. is_printable line ≡ v → cond v (judge_said d before line (phrase_at line)) (Err reason.Bytes) ≡ Ok p → Judged d before line p) [
   | false ↦ λ i f. absurd cc
   | true ↦ λ i f. elim (phrase_at line) as (λ o. phrase_at line ≡ o → judge_said d before line o ≡ Ok p → Judged d before line p) [
@@ -110,7 +110,7 @@ judge_found d before line p e = elim (is_printable line) as (λ v. is_printable 
   ] refl f
 ] refl e
 
-read_found : (d : Declared) (before : List Phrase) (lines : List (List ℕ)) (all : List Phrase) → read_on d before lines ≡ Ok all → (more : List Phrase) × Read d before lines all more
+pub read_found : (d : Declared) (before : List Phrase) (lines : List (List ℕ)) (all : List Phrase) → read_on d before lines ≡ Ok all → (more : List Phrase) × Read d before lines all more
 read_found d before [] all e = ([], record { all_is = (let same : before ≡ all = cc in sym same ∙ sym (append-nil before)); texts = refl; are_lines = tt; stand = tt; declared = tt })
 read_found d before (l ∷ ls) all e = elim (judge d before l) as (λ r. judge d before l ≡ r → at_line (suc (length before)) r (λ p. read_on d (before ++ p ∷ []) ls) ≡ Ok all → (more : List Phrase) × Read d before (l ∷ ls) all more) [
   | Err x ↦ λ i f. absurd cc

@@ -1,5 +1,5 @@
 -- Texts by their spans, and counts.
-use Rattle.std.proofs.Common.{◌≡◌, ℕ, zero, suc, ◌+◌, ◌≤◌, ◌<◌, true, List, [], ◌∷◌, ◌++◌, length, take, drop, Some, refl, ap, subst, ◌∙◌, arith, length-append}
+use Rattle.std.proofs.Common.{◌≡◌, ℕ, zero, suc, ◌+◌, ◌≤◌, ◌<◌, true, List, [], ◌∷◌, ◌++◌, length, take, drop, Some, refl, sym, ap, subst, ◌∙◌, arith, length-append}
 use Rattle.std.specs.Prelude.{IsTrue, slice_get, slice_index_or, slice_set}
 use Rattle.std.specs.List.{AllByRecursion}
 use Rattle.std.proofs.Math.Seq.{take-length}
@@ -90,3 +90,9 @@ pub raised_past : (c : ℕ) (xs : List ℕ) → length xs ≤ c → xs ≡ raise
 raised_past c [] h = refl
 raised_past zero (x ∷ xs) h = absurd (omega (arith, h))
 raised_past (suc c) (x ∷ xs) h = ap (λ l. x ∷ l) (raised_past c xs (omega (arith, h)))
+
+-- the text of a span
+pub span_is_text : (spans : List Span) (bytes : List ℕ) (i : ℕ) (s d : Span) → AllByRecursion (λ x. IsTrue (is_text x)) (texts_in bytes spans) → i < length spans → s ≡ slice_index_or spans i d → IsTrue (is_text (text_in bytes s))
+span_is_text [] bytes i s d h lt e = absurd (omega (arith, lt))
+span_is_text (x ∷ spans) bytes zero s d h lt e = subst (λ y. IsTrue (is_text (text_in bytes y))) (sym e) h.0
+span_is_text (x ∷ spans) bytes (suc i) s d h lt e = span_is_text spans bytes i s d h.1 (omega (arith, lt)) e

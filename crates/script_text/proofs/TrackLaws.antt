@@ -43,12 +43,12 @@ name_is_some [] h = absurd cc
 name_is_some (b ∷ bs) h = name_is_text (b ∷ bs) h
 
 -- the number of a name is its place
-name_place : (names : List (List ℕ)) (w : List ℕ) → is_name w ≡ true → place_of names w ≡ place names w
+pub name_place : (names : List (List ℕ)) (w : List ℕ) → is_name w ≡ true → place_of names w ≡ place names w
 name_place names [] h = absurd cc
 name_place names (b ∷ bs) h = refl
 
 -- what is entered stands in the list
-entered_there : (names : List (List ℕ)) (w : List ℕ) → is_name w ≡ true → contains_name (enter names w) w ≡ true
+pub entered_there : (names : List (List ℕ)) (w : List ℕ) → is_name w ≡ true → contains_name (enter names w) w ≡ true
 entered_there names w h = rw (name_is_some w h) (elim (contains_name names w) as (λ v. contains_name names w ≡ v → contains_name (cond (true && not v) (names ++ w ∷ []) names) w ≡ true) [
   | true ↦ λ e. e
   | false ↦ λ e. at_end names w
@@ -59,7 +59,7 @@ entered_there names w h = rw (name_is_some w h) (elim (contains_name names w) as
     at_end (n ∷ ns) w = elim (bytes_eq n w) as (λ v. (v || contains_name (ns ++ w ∷ []) w) ≡ true) [ true ↦ refl | false ↦ at_end ns w ]
 
 -- at its number stands the name
-place_there : (names : List (List ℕ)) (w : List ℕ) → contains_name names w ≡ true → (place names w < length names) × (name_at names (place names w) ≡ w)
+pub place_there : (names : List (List ℕ)) (w : List ℕ) → contains_name names w ≡ true → (place names w < length names) × (name_at names (place names w) ≡ w)
 place_there [] w h = absurd cc
 place_there (n ∷ ns) w h = elim (bytes_eq n w) as (λ v. bytes_eq n w ≡ v → (v || contains_name ns w) ≡ true → (cond v 0 (suc (place ns w)) < length (n ∷ ns)) × (name_at (n ∷ ns) (cond v 0 (suc (place ns w))) ≡ w)) [
   | true ↦ λ e f. (omega arith, (bytes_eq-Decides n w).0 e)
@@ -67,13 +67,13 @@ place_there (n ∷ ns) w h = elim (bytes_eq n w) as (λ v. bytes_eq n w ≡ v �
 ] refl h
 
 -- a new name moves none
-name_stays : (names : List (List ℕ)) (w : List ℕ) (k : ℕ) → k < length names → name_at (enter names w) k ≡ name_at names k
+pub name_stays : (names : List (List ℕ)) (w : List ℕ) (k : ℕ) → k < length names → name_at (enter names w) k ≡ name_at names k
 name_stays names w k lt = elim (is_some_text w && not (contains_name names w)) as (λ v. name_at (cond v (names ++ w ∷ []) names) k ≡ name_at names k) [
   | true ↦ get_or_append_left names (w ∷ []) [] k lt
   | false ↦ refl
 ]
 
-few_names : (names : List (List ℕ)) (w : List ℕ) → length names ≤ length (enter names w)
+pub few_names : (names : List (List ℕ)) (w : List ℕ) → length names ≤ length (enter names w)
 few_names names w = elim (is_some_text w && not (contains_name names w)) as (λ v. length names ≤ length (cond v (names ++ w ∷ []) names)) [
   | true ↦ omega (arith, length-append names (w ∷ []))
   | false ↦ omega arith

@@ -11,4 +11,5 @@ pub mod Reading
 pub mod Spelling
 pub mod Track
 pub mod Pieces
+pub mod Printing
 pub mod Laws

@@ -11,14 +11,14 @@ use lwp_types::{
 };
 use std::alloc::Global;
 
-fn add_text(out: &mut Vec<u8>, text: &[u8]) -> Result<(), NoMemory>
+pub fn add_text(out: &mut Vec<u8>, text: &[u8]) -> Result<(), NoMemory>
     ensures { OnOk result (out.new.items ≡ out.old.items ++ text.now) }
 {
     out.extend_from_slice(text)?;
     Ok(())
 }
 
-fn add_spaced(out: &mut Vec<u8>, text: &[u8]) -> Result<(), NoMemory>
+pub fn add_spaced(out: &mut Vec<u8>, text: &[u8]) -> Result<(), NoMemory>
     ensures { OnOk result (out.new.items ≡ out.old.items ++ spaced text.now) }
 {
     if !text.is_empty() {
@@ -28,7 +28,7 @@ fn add_spaced(out: &mut Vec<u8>, text: &[u8]) -> Result<(), NoMemory>
     Ok(())
 }
 
-fn add_number(alloc: Global, out: &mut Vec<u8>, n: u64) -> Result<(), NoMemory>
+pub fn add_number(alloc: Global, out: &mut Vec<u8>, n: u64) -> Result<(), NoMemory>
     ensures { OnOk result (out.new.items ≡ out.old.items ++ decimal n) }
 {
     out.extend_from_slice(n.to_string(alloc)?.as_bytes())?;
@@ -81,7 +81,7 @@ fn add_if(out: &mut Vec<u8>, is_set: bool, letter: &[u8]) -> Result<(), NoMemory
     }
 }
 
-fn add_flags(out: &mut Vec<u8>, flags: Flags) -> Result<(), NoMemory>
+pub fn add_flags(out: &mut Vec<u8>, flags: Flags) -> Result<(), NoMemory>
     ensures { OnOk result (out.new.items ≡ out.old.items ++ flags_text flags) }
 {
     if !(flags.suspended || (flags.nolastrites || flags.server)) {
@@ -92,7 +92,7 @@ fn add_flags(out: &mut Vec<u8>, flags: Flags) -> Result<(), NoMemory>
     add_if(out, flags.server, b"v")
 }
 
-fn mode_word(mode: Mode) -> &'static [u8]
+pub fn mode_word(mode: Mode) -> &'static [u8]
     ensures { result.now ≡ mode_text mode }
 {
     match mode {
@@ -101,7 +101,7 @@ fn mode_word(mode: Mode) -> &'static [u8]
     }
 }
 
-fn func_word(func: Func) -> &'static [u8]
+pub fn func_word(func: Func) -> &'static [u8]
     ensures { result.now ≡ func_text func }
 {
     match func {
@@ -111,7 +111,7 @@ fn func_word(func: Func) -> &'static [u8]
     }
 }
 
-fn add_pattern(alloc: Global, out: &mut Vec<u8>, pattern: Pattern) -> Result<(), NoMemory>
+pub fn add_pattern(alloc: Global, out: &mut Vec<u8>, pattern: Pattern) -> Result<(), NoMemory>
     ensures { OnOk result (out.new.items ≡ out.old.items ++ pattern_text pattern) }
 {
     match pattern {

@@ -56,7 +56,8 @@ fn flags_by(suspended: bool, nolastrites: bool, server: bool) -> Flags
     }
 }
 
-fn blank<'l>(op: Op) -> Phrase<'l>
+/// A key with nothing behind it.
+pub fn blank<'l>(op: Op) -> Phrase<'l>
     ensures { result ≡ blank op }
 {
     Phrase {

@@ -1,27 +1,32 @@
 use super::*;
+use lwp_types::Effect;
 use std::alloc::Global;
-use std::mem::size_of;
 use std::test::Fail;
 
 const FIRST_RUN: &[u8] =
     b"lwp 1\npod 1\nproc main\ncreate a worker 1 -\nyield self\nproc worker\nsay hi\n";
 
-// What a text is read as: the count of procedures, names of procedures and texts; or line and reason.
-fn told(read: Result<Script, ReadErr>) -> (usize, usize, usize, u32, Option<Reason>) {
+// Each row of the table behind the first lines.
+const EVERY_ROW: &[u8] =
+    b"lwp 1\npod 9\nlimit births 7\nclient 0 31\nclient 1 1\nnative n store\nnative s session 3 db\nproc p\ncreate a n 1 snv\ncreate b p 4294967295 -\ndestroy a\nping self\nyield first\nsuspend sender\nresume none\njoin b\nresched 0\nsetpri a 1\nsetmaxpri 1\nself\nsetexit 1\ngetexit\npodexit 0\nthreads\nsend a 240  two\nsend a 0\nrecv any poll\nrecv c wait\nreply sender\nsenders\nreceivers\nmoncreate m\ncvcreate c m\nmondestroy m\nenter m\ncondenter m\nmonexit m\nmonbreak m\nmonwaiters m\nmonitors\ncvdestroy c\nwait c\nnotify c\nbroadcast c\ncvsend c a\ncvwaiters c\nconditions\ncall q\nreturn\nhandle all - 0\nhandle 7 give 1\nhandle 8 sum 2\nunhandle\nraise 1\nexcnotify 1\nbound 1\nuniqpatt\nonexit monexit m\nonexit monbreak m\nonexit notify c\nonexit broadcast c\nonexit reply a x\nonexit resume a\nonexit setexit 1\nonexit note\nagent g 40\nagents\nsay\nsay x\nskip ok\nskip err\nskip caught\nskip is 4294967295\nagain\nproc q\npost 0 a\npost 1\npost 0  b\n";
+
+// What a script holds: how many procedures, names of procedures, texts and posted lines; or its first bad line and the reason.
+fn told(read: Result<Script, ReadErr>) -> (usize, usize, usize, usize, u32, Option<Reason>) {
     match read {
         Ok(script) => (
             script.procs.len(),
             script.names.procs.len(),
             script.texts.len(),
+            script.posts.len(),
             0,
             None,
         ),
-        Err(ReadErr::Bad { line, reason }) => (0, 0, 0, line, Some(reason)),
-        Err(ReadErr::NoMemory) => (0, 0, 0, 0, Some(Reason::Unbuilt)),
+        Err(ReadErr::Bad { line, reason }) => (0, 0, 0, 0, line, Some(reason)),
+        Err(ReadErr::NoMemory) => (0, 0, 0, 0, 0, Some(Reason::Unbuilt)),
     }
 }
 
-// The same of a text that comes in pieces of so many bytes, the first of which has another length.
+// Reads a text in pieces of so many bytes, the first of which has another length.
 fn in_pieces(alloc: Global, text: &[u8], first: usize, size: usize) -> Result<Script, ReadErr> {
     let mut reader = ScriptReader::new(alloc);
     let (front, back) = text.split_at(first.min(text.len()));
@@ -34,192 +39,25 @@ fn in_pieces(alloc: Global, text: &[u8], first: usize, size: usize) -> Result<Sc
 
 #[test]
 fn reads_the_first_run_however_it_is_cut(rt: HostRuntime) {
-    let whole = (2, 2, 1, 0, None);
-    assert_eq!(rt; told(read_script(rt.alloc(), FIRST_RUN)), whole);
-    assert_eq!(rt; told(in_pieces(rt.alloc(), FIRST_RUN, 0, 1)), whole);
     for first in 0..FIRST_RUN.len() + 1 {
-        assert_eq!(rt;
-            told(in_pieces(rt.alloc(), FIRST_RUN, first, 100)),
-            whole,
-            "cut at {first}"
-        );
+        for size in [1, 100] {
+            let read = in_pieces(rt.alloc(), FIRST_RUN, first, size);
+            assert_eq!(rt; told(read), (2, 2, 1, 0, 0, None), "cut at {first}");
+        }
     }
 }
 
 #[test]
-fn reads_what_the_lines_say(rt: HostRuntime) -> Result<(), Fail> {
-    let script = read_script(rt.alloc(), FIRST_RUN).ok().ok_or("a script")?;
-    let [main, worker] = script.procs.as_slice() else {
-        return Err("two procedures".into());
-    };
-    assert_eq!(rt; (main.name, worker.name, script.maxpri), (0, 1, 1));
-    let [
-        Stmt::Create {
-            name,
-            proc,
-            prio,
-            ..
-        },
-        Stmt::Yield { to },
-    ] = main.stmts.as_slice()
-    else {
-        return Err("create and yield".into());
-    };
-    assert_eq!(rt; (*name, *proc, *prio), (0, 1, 1));
-    assert!(rt; matches!(to, Who::Me));
-    let [Stmt::Say { text }] = worker.stmts.as_slice() else {
-        return Err("say".into());
-    };
-    assert_eq!(rt; script.texts.get(*text as usize).bytes(), b"hi".as_slice());
-    assert!(rt; size_of::<Stmt>() <= 24);
-    Ok(())
+fn reads_every_row(rt: HostRuntime) {
+    let read = read_script(rt.alloc(), EVERY_ROW);
+    assert_eq!(rt; told(read), (2, 4, 10, 3, 0, None));
 }
 
-const NO_SCRIPTS: [(&[u8], u32, Reason); 44] = [
-    (b"", 1, Reason::Missing),
-    (b"lwp 1\n", 2, Reason::Missing),
-    (b"lwp 1\npod 1\n", 3, Reason::Missing),
-    (b"lwp 1\npod 1\nnative a store\n", 4, Reason::Missing),
-    (b"\n", 1, Reason::Header),
-    (b"lwp 2\n", 1, Reason::Header),
-    (b"lwp 2", 1, Reason::Unended),
-    (b"\x7fwp 1\n", 1, Reason::Bytes),
-    (b"lwp 1\npod 01\n", 2, Reason::Pod),
-    (b"lwp 1\npod 256\n", 2, Reason::Pod),
-    (b"lwp 1\npod 1\n\n", 3, Reason::Statement),
-    (b"lwp 1\npod 1\nagain\n", 3, Reason::Statement),
-    (b"lwp 1\npod 1\n proc main\n", 3, Reason::Statement),
-    (b"lwp 1\npod 1\nproc self\n", 3, Reason::Proc),
-    (b"lwp 1\npod 1\nproc Main\n", 3, Reason::Proc),
-    (b"lwp 1\npod 1\nlimit births 0\n", 3, Reason::Limit),
-    (
-        b"lwp 1\npod 1\nclient 0 1\nlimit births 1\n",
-        4,
-        Reason::Limit,
-    ),
-    (b"lwp 1\npod 1\nclient 1 5\n", 3, Reason::Client),
-    (b"lwp 1\npod 1\nclient 0 32\n", 3, Reason::Client),
-    (
-        b"lwp 1\npod 1\nnative a store\nclient 0 5\n",
-        4,
-        Reason::Client,
-    ),
-    (b"lwp 1\npod 1\nnative a session 0 b\n", 3, Reason::Native),
-    (
-        b"lwp 1\npod 1\nnative a session 1 self\n",
-        3,
-        Reason::Native,
-    ),
-    (
-        b"lwp 1\npod 1\nnative a store\nnative a store\n",
-        4,
-        Reason::Native,
-    ),
-    (b"lwp 1\npod 1\nnative a store\nproc a\n", 4, Reason::Proc),
-    (b"lwp 1\npod 1\nproc a\nnative b store\n", 4, Reason::Native),
-    (b"lwp 1\npod 1\nproc main\nproc main\n", 4, Reason::Proc),
-    (b"lwp 1\npod 1\npost 0 a\n", 3, Reason::Post),
-    (b"lwp 1\npod 1\nproc a\npost 0 b\n", 4, Reason::Post),
-    (
-        b"lwp 1\npod 1\nclient 0 1\nproc a\npost 0 b\nproc c\n",
-        6,
-        Reason::Proc,
-    ),
-    (
-        b"lwp 1\npod 1\nclient 0 1\nproc a\npost 0 b\nself\n",
-        6,
-        Reason::Statement,
-    ),
-    (b"lwp 1\npod 1\nproc main\nsay h", 4, Reason::Unended),
-    (b"lwp 1\npod 1\nproc main\nsey hi\n", 4, Reason::Statement),
-    (b"lwp 1\npod 1\nproc main\nsay \n", 4, Reason::Statement),
-    (b"lwp 1\npod 1\nproc main\nsay \x7f\n", 4, Reason::Bytes),
-    (
-        b"lwp 1\npod 1\nproc main\nping  self\n",
-        4,
-        Reason::Statement,
-    ),
-    (b"lwp 1\npod 1\nproc a\nagain\n", 4, Reason::Again),
-    (
-        b"lwp 1\npod 1\nproc a\nskip ok\nself\nagain\n",
-        6,
-        Reason::Again,
-    ),
-    (
-        b"lwp 1\npod 1\nproc a\nself\nagain\ncreate b c 1 -\n",
-        6,
-        Reason::Again,
-    ),
-    (
-        b"lwp 1\npod 1\nproc a\nself\nagain\nsey b\n",
-        6,
-        Reason::Statement,
-    ),
-    (
-        b"lwp 1\npod 1\nproc main\ncreate a w 1 -\nsey hi\n",
-        4,
-        Reason::Statement,
-    ),
-    (
-        b"lwp 1\npod 1\nproc main\ncreate a w 1 -\nsey hi\nproc w",
-        5,
-        Reason::Statement,
-    ),
-    (
-        b"lwp 1\npod 1\nproc main\ncreate a w 1 -\nnative w \x01",
-        5,
-        Reason::Unended,
-    ),
-    (
-        b"lwp 1\npod 1\nnative w store\nproc main\ncall w\n",
-        5,
-        Reason::Statement,
-    ),
-    (
-        b"lwp 1\npod 1\nproc main\nonexit sum 1\n",
-        4,
-        Reason::Statement,
-    ),
-];
-
 #[test]
-fn names_the_first_bad_line(rt: HostRuntime) {
-    for (text, line, reason) in NO_SCRIPTS {
-        let wanted = (0, 0, 0, line, Some(reason));
-        assert_eq!(rt; told(read_script(rt.alloc(), text)), wanted, "line {line}");
-        assert_eq!(rt;
-            told(in_pieces(rt.alloc(), text, 0, 1)),
-            wanted,
-            "line {line}"
-        );
-    }
-}
-
-// Each row of the table behind the first lines.
-const EVERY_ROW: &[u8] =
-    b"lwp 1\npod 9\nlimit births 7\nclient 0 31\nclient 1 1\nnative n store\nnative s session 3 db\nproc p\ncreate a n 1 snv\ncreate b p 4294967295 -\ndestroy a\nping self\nyield first\nsuspend sender\nresume none\njoin b\nresched 0\nsetpri a 1\nsetmaxpri 1\nself\nsetexit 1\ngetexit\npodexit 0\nthreads\nsend a 240  two\nsend a 0\nrecv any poll\nrecv c wait\nreply sender\nsenders\nreceivers\nmoncreate m\ncvcreate c m\nmondestroy m\nenter m\ncondenter m\nmonexit m\nmonbreak m\nmonwaiters m\nmonitors\ncvdestroy c\nwait c\nnotify c\nbroadcast c\ncvsend c a\ncvwaiters c\nconditions\ncall q\nreturn\nhandle all - 0\nhandle 7 give 1\nhandle 8 sum 2\nunhandle\nraise 1\nexcnotify 1\nbound 1\nuniqpatt\nonexit monexit m\nonexit monbreak m\nonexit notify c\nonexit broadcast c\nonexit reply a x\nonexit resume a\nonexit setexit 1\nonexit note\nagent g 40\nagents\nsay\nsay x\nskip ok\nskip err\nskip caught\nskip is 4294967295\nagain\nproc q\npost 0 a\npost 1\npost 0  b\n";
-
-#[test]
-fn reads_every_row(rt: HostRuntime) -> Result<(), Fail> {
+fn prints_every_row_back(rt: HostRuntime) -> Result<(), Fail> {
     let script = read_script(rt.alloc(), EVERY_ROW).ok().ok_or("a script")?;
-    let [p, q] = script.procs.as_slice() else {
-        return Err("two procedures".into());
-    };
-    assert_eq!(rt;
-        (p.stmts.len(), q.stmts.len(), script.texts.len()),
-        (66, 0, 10)
-    );
-    assert_eq!(rt;
-        (script.clients.len(), script.natives.len(), script.births),
-        (2, 2, 7)
-    );
-    let [first, second, third] = script.posts.as_slice() else {
-        return Err("three posts".into());
-    };
-    assert_eq!(rt; (first.client, first.seq, first.text), (0, 0, 7));
-    assert_eq!(rt; (second.client, second.seq, second.text), (1, 0, 8));
-    assert_eq!(rt; (third.client, third.seq, third.text), (0, 1, 9));
-    assert_eq!(rt; script.texts.get(9).bytes(), b" b".as_slice());
+    let text = print_script(rt.alloc(), &script)?;
+    assert_eq!(rt; text.as_slice(), EVERY_ROW);
     Ok(())
 }
 
@@ -231,6 +69,31 @@ fn counts_bytes_before_all_else(rt: HostRuntime) -> Result<(), Fail> {
         reader.feed(&piece)?;
     }
     reader.feed(b"\n")?;
-    assert_eq!(rt; told(reader.finish()), (0, 0, 0, 0, Some(Reason::TooLarge)));
+    assert_eq!(rt;
+        told(reader.finish()),
+        (0, 0, 0, 0, 0, Some(Reason::TooLarge))
+    );
+    Ok(())
+}
+
+#[test]
+fn numbers_names_as_they_come(rt: HostRuntime) -> Result<(), Fail> {
+    let mut names = NameList::new(rt.alloc());
+    let rows: [(&[u8], u32); 4] = [(b"b", 0), (b"a", 1), (b"b", 0), (b"c7", 2)];
+    for (name, number) in rows {
+        names.enter(name)?;
+        assert_eq!(rt; names.number(name)?, number);
+    }
+    assert_eq!(rt; (names.len(), names.as_slice().len()), (3, 3));
+    assert!(rt; !names.contains(b"c"));
+    Ok(())
+}
+
+#[test]
+fn writes_lines(rt: HostRuntime) -> Result<(), Fail> {
+    let ended = trace_line(rt.alloc(), &Effect::Ended { status: 3 }, None, &[])?;
+    assert_eq!(rt; ended.as_slice(), b"pod ends 3\n".as_slice());
+    let last = end_lines(rt.alloc(), &Halt::Stuck, 9, &[0, 2])?;
+    assert_eq!(rt; last.as_slice(), b"stuck\nleft client 1 2\n".as_slice());
     Ok(())
 }

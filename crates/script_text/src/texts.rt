@@ -63,14 +63,22 @@ impl Texts {
         self.spans.len()
     }
 
+    /// The bytes of the text at place `i`, counted from 0; none behind the last.
+    pub fn bytes(&self, i: usize) -> &[u8]
+        ensures same { result.now ≡ text_at self.now i }
+        ensures is_text { IsTrue (is_text result.now) }
+    {
+        match self.spans.get(i) {
+            Some(span) => text_in(&self.bytes, *span),
+            None => &[],
+        }
+    }
+
     /// The text at place `i`, counted from 0; the empty one behind the last.
     pub fn get(&self, i: usize) -> Text
         ensures { result ≡ text_at self.now i }
     {
-        let Some(span) = self.spans.get(i) else {
-            return Text::empty();
-        };
-        match Text::new(text_in(&self.bytes, *span)) {
+        match Text::new(self.bytes(i)) {
             Some(text) => text,
             None => Text::empty(),
         }

@@ -1,4 +1,4 @@
-use Rattle.std.proofs.Common.{◌≤◌, ◌≡◌, ◌<◌, ◌+◌, length, arith, rules, take}
+use Rattle.std.proofs.Common.{◌≤◌, ◌<◌, ◌+◌, arith, rules, take}
 use Rattle.lwp_serve.proofs.SourceLemmas.{part-read, read-end, read-full, up-end, up-full}
 use Rattle.lwp_serve.proofs.PlanLaws.{on_err}
 use Rattle.lwp_serve.proofs.source.read_all.Goals as goal

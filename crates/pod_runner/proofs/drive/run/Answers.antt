@@ -1,46 +1,45 @@
-use Rattle.std.proofs.Common.{◌∙◌, arith, sym}
-use Rattle.script_text.specs.declared.script.Halt.TheVariants as halts
-use Rattle.pod_runner.specs.Run.{session_of, trace_of}
-use Rattle.pod_runner.proofs.Appends.{on_err, part_then}
-use Rattle.pod_runner.proofs.EagerLaws.{IsBegun-of, IsPlanned-phase, turn-allowed}
+use Rattle.std.proofs.Common.{◌≡◌, ◌∙◌, None, arith, rules, subst}
+use Rattle.pod_runner.specs.Eager.{IsFirstPart}
+use Rattle.pod_runner.specs.Run.{plan_now, trace_before, trace_of}
+use Rattle.pod_runner.proofs.Appends.{on_err}
+use Rattle.pod_runner.proofs.Eagers.{first-same}
+use Rattle.pod_runner.proofs.Rounds.{going-falls, going-finishes, going-on, going-part, going-told, new-whole, stream, told-part}
 use Rattle.pod_runner.proofs.drive.run.Goals as goal
 
-pub returns-in_err-turn-in-Turn-clause-part : goal.returns-in_err-turn-in-Turn-clause-part
-returns-in_err-turn-in-Turn-clause-part g c = on_err c.from_residual.result _
-    (part_then (g.K.Sink.written c.args.sink.now) (g.K.Sink.written c.loop-status.sink) (g.K.Sink.written c.turn.new.sink)
-    (trace_of g.B.Body.next g.P.Program.bodies g.P.Program.proc_names c.args.run.now) (trace_of g.B.Body.next g.P.Program.bodies g.P.Program.proc_names c.loop-status.run) (trace_of g.B.Body.next g.P.Program.bodies g.P.Program.proc_names c.turn.new.self)
-    c.loop-status.invariant.told c.in_err-turn-in-Turn.ensures.part)
+pub returns-in_err-halt-clause-first_part : goal.returns-in_err-halt-clause-first_part
+returns-in_err-halt-clause-first_part g c = on_err c.from_residual.result _ (going-part g.B.Body.next g.P.Program.bodies g.P.Program.proc_names (stream (g.K.Sink.written c.args.sink.now) (g.K.Sink.written c.loop-halt.sink) (g.K.Sink.faults c.args.sink.now) (g.K.Sink.faults c.loop-halt.sink)) (stream (g.K.Sink.written c.loop-halt.sink) (g.K.Sink.written c.go_round.new.sink) (g.K.Sink.faults c.loop-halt.sink) (g.K.Sink.faults c.go_round.new.sink)) c.args.run.now c.loop-halt.run c.go_round.new.run (g.G.Gate.stock c.args.gate.now) (g.G.Gate.stock c.loop-halt.gate) (g.G.Gate.stock c.go_round.new.gate) _ c.loop-halt.invariant c.in_err-halt.ensures.does)
 
-pub returns-in-Ended-clause-planned : goal.returns-in-Ended-clause-planned
-returns-in-Ended-clause-planned g c = λ none. IsPlanned-phase g.B.Body.next g.P.Program.bodies c.loop-status.run (halts.Ended c.in-Ended.status)
-    (c.loop-status.invariant.takes ∙ none) c.loop-status.invariant.made c.loop-status.invariant.calls (sym c.phase.ensures ∙ c.in-Ended.is)
+pub returns-in_err-halt-clause-begun : goal.returns-in_err-halt-clause-begun
+returns-in_err-halt-clause-begun g c = λ new. subst (λ whole. IsFirstPart (plan_now g.B.Body.next g.P.Program.bodies c.go_round.new.run (g.G.Gate.stock c.go_round.new.gate)) whole) (new-whole g.B.Body.next g.P.Program.bodies g.P.Program.proc_names c.args.run.now (g.G.Gate.stock c.args.gate.now) new) (going-part g.B.Body.next g.P.Program.bodies g.P.Program.proc_names (stream (g.K.Sink.written c.args.sink.now) (g.K.Sink.written c.loop-halt.sink) (g.K.Sink.faults c.args.sink.now) (g.K.Sink.faults c.loop-halt.sink)) (stream (g.K.Sink.written c.loop-halt.sink) (g.K.Sink.written c.go_round.new.sink) (g.K.Sink.faults c.loop-halt.sink) (g.K.Sink.faults c.go_round.new.sink)) c.args.run.now c.loop-halt.run c.go_round.new.run (g.G.Gate.stock c.args.gate.now) (g.G.Gate.stock c.loop-halt.gate) (g.G.Gate.stock c.go_round.new.gate) _ c.loop-halt.invariant c.in_err-halt.ensures.does)
 
-pub returns-in-Spent-clause-planned : goal.returns-in-Spent-clause-planned
-returns-in-Spent-clause-planned g c = λ none. IsPlanned-phase g.B.Body.next g.P.Program.bodies c.loop-status.run halts.Spent
-    (c.loop-status.invariant.takes ∙ none) c.loop-status.invariant.made c.loop-status.invariant.calls (sym c.phase.ensures ∙ c.in-Spent.is)
+pub returns-in_err-halt-clause-part : goal.returns-in_err-halt-clause-part
+returns-in_err-halt-clause-part g c =
+    let before = trace_of g.B.Body.next g.P.Program.bodies g.P.Program.proc_names c.args.run.now in
+    let least = trace_before g.B.Body.next g.P.Program.bodies g.P.Program.proc_names c.go_round.new.run in
+    let after = trace_of g.B.Body.next g.P.Program.bodies g.P.Program.proc_names c.go_round.new.run in
+    told-part g.B.Body.next g.P.Program.bodies g.P.Program.proc_names (stream (g.K.Sink.written c.args.sink.now) (g.K.Sink.written c.go_round.new.sink) (g.K.Sink.faults c.args.sink.now) (g.K.Sink.faults c.go_round.new.sink)) before least after c.from_residual.result
+    (going-told g.B.Body.next g.P.Program.bodies g.P.Program.proc_names _ _ (g.K.Sink.written c.args.sink.now) (g.K.Sink.written c.loop-halt.sink) (g.K.Sink.written c.go_round.new.sink) (g.K.Sink.faults c.args.sink.now) (g.K.Sink.faults c.loop-halt.sink) (g.K.Sink.faults c.go_round.new.sink)
+    c.args.run.now c.loop-halt.run c.go_round.new.run (g.G.Gate.stock c.args.gate.now) (g.G.Gate.stock c.loop-halt.gate) (g.G.Gate.stock c.go_round.new.gate) _ c.from_residual.result c.from_residual.ensures.1 c.loop-halt.invariant c.in_err-halt.ensures.does)
 
-pub returns-in-Idle-clause-planned : goal.returns-in-Idle-clause-planned
-returns-in-Idle-clause-planned g c = λ none. IsPlanned-phase g.B.Body.next g.P.Program.bodies c.loop-status.run halts.Stuck
-    (c.loop-status.invariant.takes ∙ none) c.loop-status.invariant.made c.loop-status.invariant.calls (sym c.phase.ensures ∙ c.in-Idle.is)
+pub returns-in-Some-clause-finishes : goal.returns-in-Some-clause-finishes
+returns-in-Some-clause-finishes g c = going-finishes g.B.Body.next g.P.Program.bodies g.P.Program.proc_names (stream (g.K.Sink.written c.args.sink.now) (g.K.Sink.written c.loop-halt.sink) (g.K.Sink.faults c.args.sink.now) (g.K.Sink.faults c.loop-halt.sink)) (stream (g.K.Sink.written c.loop-halt.sink) (g.K.Sink.written c.go_round.new.sink) (g.K.Sink.faults c.loop-halt.sink) (g.K.Sink.faults c.go_round.new.sink)) c.args.run.now c.loop-halt.run c.go_round.new.run (g.G.Gate.stock c.args.gate.now) (g.G.Gate.stock c.loop-halt.gate) (g.G.Gate.stock c.go_round.new.gate) c.in-Some.halt _ c.loop-halt.invariant c.in_ok-halt.ensures.does (c.in_ok-halt.ensures.over ∙ c.in-Some.is)
 
-pub returns-in-Ended-clause-begun : goal.returns-in-Ended-clause-begun
-returns-in-Ended-clause-begun g c = λ none. IsBegun-of g.B.Body.next g.P.Program.bodies g.P.Program.proc_names c.loop-status.run
-    (c.loop-status.invariant.takes ∙ none) c.loop-status.invariant.made c.loop-status.invariant.calls
+pub returns-in-Some-clause-eager : goal.returns-in-Some-clause-eager
+returns-in-Some-clause-eager g c = λ new. going-finishes g.B.Body.next g.P.Program.bodies g.P.Program.proc_names (stream (g.K.Sink.written c.args.sink.now) (g.K.Sink.written c.loop-halt.sink) (g.K.Sink.faults c.args.sink.now) (g.K.Sink.faults c.loop-halt.sink)) (stream (g.K.Sink.written c.loop-halt.sink) (g.K.Sink.written c.go_round.new.sink) (g.K.Sink.faults c.loop-halt.sink) (g.K.Sink.faults c.go_round.new.sink)) c.args.run.now c.loop-halt.run c.go_round.new.run (g.G.Gate.stock c.args.gate.now) (g.G.Gate.stock c.loop-halt.gate) (g.G.Gate.stock c.go_round.new.gate) c.in-Some.halt _ c.loop-halt.invariant c.in_ok-halt.ensures.does (c.in_ok-halt.ensures.over ∙ c.in-Some.is)
+    ∙ new-whole g.B.Body.next g.P.Program.bodies g.P.Program.proc_names c.args.run.now (g.G.Gate.stock c.args.gate.now) new
 
-pub returns-in-Spent-clause-begun : goal.returns-in-Spent-clause-begun
-returns-in-Spent-clause-begun g c = λ none. IsBegun-of g.B.Body.next g.P.Program.bodies g.P.Program.proc_names c.loop-status.run
-    (c.loop-status.invariant.takes ∙ none) c.loop-status.invariant.made c.loop-status.invariant.calls
+pub returns-in-Some-clause-begun : goal.returns-in-Some-clause-begun
+returns-in-Some-clause-begun g c = λ new. subst (λ whole. IsFirstPart (plan_now g.B.Body.next g.P.Program.bodies c.go_round.new.run (g.G.Gate.stock c.go_round.new.gate)) whole)
+    (going-finishes g.B.Body.next g.P.Program.bodies g.P.Program.proc_names (stream (g.K.Sink.written c.args.sink.now) (g.K.Sink.written c.loop-halt.sink) (g.K.Sink.faults c.args.sink.now) (g.K.Sink.faults c.loop-halt.sink)) (stream (g.K.Sink.written c.loop-halt.sink) (g.K.Sink.written c.go_round.new.sink) (g.K.Sink.faults c.loop-halt.sink) (g.K.Sink.faults c.go_round.new.sink)) c.args.run.now c.loop-halt.run c.go_round.new.run (g.G.Gate.stock c.args.gate.now) (g.G.Gate.stock c.loop-halt.gate) (g.G.Gate.stock c.go_round.new.gate) c.in-Some.halt _ c.loop-halt.invariant c.in_ok-halt.ensures.does (c.in_ok-halt.ensures.over ∙ c.in-Some.is)
+    ∙ new-whole g.B.Body.next g.P.Program.bodies g.P.Program.proc_names c.args.run.now (g.G.Gate.stock c.args.gate.now) new)
+    (first-same (plan_now g.B.Body.next g.P.Program.bodies c.go_round.new.run (g.G.Gate.stock c.go_round.new.gate)))
 
-pub returns-in-Idle-clause-begun : goal.returns-in-Idle-clause-begun
-returns-in-Idle-clause-begun g c = λ none. IsBegun-of g.B.Body.next g.P.Program.bodies g.P.Program.proc_names c.loop-status.run
-    (c.loop-status.invariant.takes ∙ none) c.loop-status.invariant.made c.loop-status.invariant.calls
+pub loop-halt-smaller : goal.loop-halt-smaller
+loop-halt-smaller g c =
+    let none : c.in_ok-halt.field-0 ≡ None = search rules in
+    let fewer = going-falls g.B.Body.next g.P.Program.bodies g.P.Program.proc_names (stream (g.K.Sink.written c.loop-halt.sink) (g.K.Sink.written c.go_round.new.sink) (g.K.Sink.faults c.loop-halt.sink) (g.K.Sink.faults c.go_round.new.sink)) c.loop-halt.run c.go_round.new.run (g.G.Gate.stock c.loop-halt.gate) (g.G.Gate.stock c.go_round.new.gate) _ c.in_ok-halt.ensures.does (c.in_ok-halt.ensures.over ∙ none) in
+    omega (arith, fewer)
 
-pub returns-in_err-turn-in-Turn-clause-begun : goal.returns-in_err-turn-in-Turn-clause-begun
-returns-in_err-turn-in-Turn-clause-begun g c = λ none. IsBegun-of g.B.Body.next g.P.Program.bodies g.P.Program.proc_names c.turn.new.self
-    (c.turn.ensures.takes ∙ c.loop-status.invariant.takes ∙ none) (c.turn.ensures.made c.loop-status.invariant.made)
-    (omega (
-      arith,
-      c.turn.ensures.same.turns,
-      c.in_err-turn-in-Turn.ensures.failed.1,
-      turn-allowed (session_of g.B.Body.next g.P.Program.bodies c.loop-status.run).live.state c.loop-status.run.turns c.loop-status.run.calls (sym c.phase.ensures ∙ c.in-Turn.is),
-    ))
+pub loop-halt-preserved : goal.loop-halt-preserved
+loop-halt-preserved g c = going-on g.B.Body.next g.P.Program.bodies g.P.Program.proc_names (g.K.Sink.written c.args.sink.now) (g.K.Sink.written c.loop-halt.sink) (g.K.Sink.written c.go_round.new.sink) (g.K.Sink.faults c.args.sink.now) (g.K.Sink.faults c.loop-halt.sink) (g.K.Sink.faults c.go_round.new.sink)
+    c.args.run.now c.loop-halt.run c.go_round.new.run (g.G.Gate.stock c.args.gate.now) (g.G.Gate.stock c.loop-halt.gate) (g.G.Gate.stock c.go_round.new.gate) _ c.loop-halt.invariant c.in_ok-halt.ensures.does

@@ -1,18 +1,12 @@
-use Rattle.std.proofs.Common.{◌≡◌, ◌≤◌, ◌-◌, false}
-use Rattle.pod_runner.specs.Due.{IsDefined}
-use Rattle.pod_runner.specs.Run.{GoesOn, Writes, setting_of, trace_of}
+use Rattle.std.proofs.Common.{◌+◌, ◌-◌}
+use Rattle.event_gate.specs.Shelves.{left_in_all}
+use Rattle.pod_runner.proofs.Rounds.{Going, stream}
 use Rattle.pod_runner.proofs.drive.run.Given as goal
 
-abbrev pub invariant-loop-status : goal.invariant-loop-status
-invariant-loop-status g l = record {
-  sound : l.run.failed ≡ false;
-  same : GoesOn l.initial.run l.run;
-  takes : l.run.takes ≡ l.initial.run.takes;
-  calls : l.run.calls ≤ l.run.turns;
-  told : Writes (g.K.Sink.written l.initial.sink) (g.K.Sink.written l.sink) (trace_of g.B.Body.next g.P.Program.bodies g.P.Program.proc_names l.initial.run) (trace_of g.B.Body.next g.P.Program.bodies g.P.Program.proc_names l.run);
-  made : IsDefined (setting_of g.B.Body.next g.P.Program.bodies l.run) l.run.takes l.run.calls;
-  faults : g.K.Sink.faults l.sink ≡ g.K.Sink.faults l.initial.sink;
-}
+abbrev pub invariant-loop-halt : goal.invariant-loop-halt
+invariant-loop-halt g l = Going g.B.Body.next g.P.Program.bodies g.P.Program.proc_names
+    (stream (g.K.Sink.written l.initial.sink) (g.K.Sink.written l.sink) (g.K.Sink.faults l.initial.sink) (g.K.Sink.faults l.sink))
+    l.initial.run l.run (g.G.Gate.stock l.initial.gate) (g.G.Gate.stock l.gate)
 
-abbrev pub decreases-loop-status : goal.decreases-loop-status
-decreases-loop-status g l = l.run.turns - l.run.calls
+abbrev pub decreases-loop-halt : goal.decreases-loop-halt
+decreases-loop-halt g l = (l.run.turns - l.run.calls) + left_in_all (g.G.Gate.stock l.gate)

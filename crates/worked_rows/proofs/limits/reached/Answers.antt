@@ -5,29 +5,30 @@ use Rattle.lwp_types.specs.Agents.{deliver}
 use Rattle.lwp_types.specs.Case.{unless}
 use Rattle.lwp_types.specs.State.{and_then, for_each, in_order}
 use Rattle.lwp_types.specs.Step.{step, step_by}
-use Rattle.pod_runner.specs.Eager.{plan_whole}
+use Rattle.pod_runner.specs.Eager.{plan_whole, to_the_end}
+use Rattle.pod_runner.specs.Over.{events}
 use Rattle.pod_runner.specs.Session.{called, move, taken}
 use Rattle.script_body.specs.ScriptBody.{script_next}
 use Rattle.std.proofs.Common.{refl}
 use Rattle.std.specs.Fmt.{digits}
+use Rattle.worked_rows.proofs.ManyThreads.{its_calls, its_halt, its_takes, its_trace}
 use Rattle.worked_rows.proofs.limits.reached.Goals as goal
 
 pub returns-clause-frames : goal.returns-clause-frames
-unfolding trace_of halt_of calls_of takes_of plan_whole move called taken script_next session_next store_next step step_by deliver unless and_then in_order for_each digits
+unfolding trace_of halt_of calls_of takes_of plan_whole to_the_end events move called taken script_next session_next store_next step step_by deliver unless and_then in_order for_each digits
 returns-clause-frames c = (refl, refl, refl, refl)
 
 pub returns-clause-frames_exact_turns : goal.returns-clause-frames_exact_turns
-unfolding trace_of halt_of calls_of takes_of plan_whole move called taken script_next session_next store_next step step_by deliver unless and_then in_order for_each digits
+unfolding trace_of halt_of calls_of takes_of plan_whole to_the_end events move called taken script_next session_next store_next step step_by deliver unless and_then in_order for_each digits
 returns-clause-frames_exact_turns c = (refl, refl, refl, refl)
 
 pub returns-clause-frames_one_turn_fewer : goal.returns-clause-frames_one_turn_fewer
-unfolding trace_of halt_of calls_of takes_of plan_whole move called taken script_next session_next store_next step step_by deliver unless and_then in_order for_each digits
+unfolding trace_of halt_of calls_of takes_of plan_whole to_the_end events move called taken script_next session_next store_next step step_by deliver unless and_then in_order for_each digits
 returns-clause-frames_one_turn_fewer c = (refl, refl, refl, refl)
 
 pub returns-clause-marks : goal.returns-clause-marks
-unfolding trace_of halt_of calls_of takes_of plan_whole move called taken script_next session_next store_next step step_by deliver unless and_then in_order for_each digits
+unfolding trace_of halt_of calls_of takes_of plan_whole to_the_end events move called taken script_next session_next store_next step step_by deliver unless and_then in_order for_each digits
 returns-clause-marks c = (refl, refl, refl, refl)
 
 pub returns-clause-threads : goal.returns-clause-threads
-unfolding trace_of halt_of calls_of takes_of plan_whole move called taken script_next session_next store_next step step_by deliver unless and_then in_order for_each digits
-returns-clause-threads c = (refl, refl, refl, refl)
+returns-clause-threads c = (its_trace, its_halt, its_calls, its_takes)

@@ -1,4 +1,4 @@
-use Rattle.std.proofs.Common.{◌≡◌, ◌∙◌, refl}
+use Rattle.std.proofs.Common.{◌≡◌, ◌∙◌, refl, arith}
 use Rattle.lwp_types.specs.Names.{null_names}
 use Rattle.pod_runner.specs.Session.{Setting}
 use Rattle.pod_runner.proofs.Plays.{IsDefined-zero, play-zero}
@@ -7,13 +7,10 @@ use Rattle.pod_runner.proofs.playing.Run.new.Goals as goal
 pub invariant_of-result : goal.invariant_of-result
 invariant_of-result g c =
     let same : c.args.env ≡ null_names c.thread_count-threads.result c.mon_count-mons.result c.cond_count-conds.result = c.requires.names ∙ rw (← c.thread_count-threads.ensures, ← c.mon_count-mons.ensures, ← c.cond_count-conds.ensures) refl in
-    let setting : Setting _ = record { next = g.B.Body.next; bodies = g.P.Program.bodies c.args.program; params = c.args.params; names = null_names c.thread_count-threads.result c.mon_count-mons.result c.cond_count-conds.result } in (
-      c.in_ok-procs.ensures,
-      λ _. rw c.new-2.ensures.items (record {
-        now = rw (play-zero setting) (c.in_ok-parts.ensures ∙ rw same refl);
-        last = tt;
-      }),
-    )
-
-pub returns-clause-defined : goal.returns-clause-defined
-returns-clause-defined g c = rw c.new-2.ensures.items (IsDefined-zero _)
+    let setting : Setting _ = record { next = g.B.Body.next; bodies = g.P.Program.bodies c.args.program; params = c.args.params; names = null_names c.thread_count-threads.result c.mon_count-mons.result c.cond_count-conds.result } in
+    rw c.new-2.ensures.items (record {
+      named = c.in_ok-procs.ensures;
+      made = IsDefined-zero setting;
+      room = omega arith;
+      now = λ _. rw (play-zero setting) (c.in_ok-parts.ensures ∙ rw same refl);
+    })

@@ -1,0 +1,95 @@
+-- A delivery leaves whoever may run in the order, and ends no pod.
+use Rattle.std.proofs.Common.{◌≡◌, ℕ, List, [], ◌∷◌, ◌++◌, Bool, true, false, cond, None, Some, ap, ◌∙◌, refl, sym, subst}
+use Rattle.std.specs.Prelude.{Option, is_some, nat_le, nat_lt}
+use Rattle.std.specs.List.{fold}
+use Rattle.event_gate.specs.Shelves.{first_left}
+use Rattle.lwp_types.specs.Agents.{armed, deliver, deliver_to, event_agent}
+use Rattle.lwp_types.specs.Choice.{best_by, better_by, choice}
+use Rattle.lwp_types.specs.Letters.{as_answer, as_received, post, takes_from}
+use Rattle.lwp_types.specs.State.{Outcome, State, and_then, is_suspended_in, passes, priority_in, still, thread_of}
+use Rattle.lwp_types.specs.Unblock.{unblock}
+use Rattle.lwp_types.specs.declared.call.Line.{Line}
+use Rattle.lwp_types.specs.declared.rows.AgentRow.{AgentRow}
+use Rattle.lwp_types.specs.declared.rows.Letter.{Letter}
+use Rattle.pod_runner.specs.Eager.{Plan, Planned, boundary, offered, offered_by, state_of, taken_line, took_of}
+use Rattle.pod_runner.specs.Over.{events}
+use Rattle.pod_runner.specs.Phase.{phase_by, phase_of}
+use Rattle.pod_runner.specs.Session.{taken}
+use Rattle.pod_runner.specs.declared.phase.Phase.TheVariants as phase
+
+-- somebody is chosen exactly where somebody is in the order
+best-some : {A : Type 0} (weight : A → ℕ) (xs : List A) (y : A) → is_some (fold (better_by weight) (Some y) xs) ≡ true
+best-some weight [] y = refl
+best-some weight (x ∷ xs) y = by_weight (nat_le (weight x) (weight y)) (λ z. best-some weight xs z)
+  where
+    by_weight : (b : Bool) → ((z : _) → is_some (fold (better_by weight) (Some z) xs) ≡ true) → is_some (fold (better_by weight) (cond b (Some y) (Some x)) xs) ≡ true
+    by_weight true rest = rest y
+    by_weight false rest = rest x
+
+-- the order is longer, if it is another
+order-kept : (v w : ℕ → ℕ) (order : List ℕ) (t : ℕ) (b : Bool) → is_some (best_by v order) ≡ true → is_some (best_by w (cond b order (order ++ t ∷ []))) ≡ true
+order-kept v w [] t b h = absurd (cc)
+order-kept v w (x ∷ xs) t true h = best-some w xs x
+order-kept v w (x ∷ xs) t false h = best-some w (xs ++ t ∷ []) x
+
+order-same : (v w : ℕ → ℕ) (order : List ℕ) → is_some (best_by v order) ≡ true → is_some (best_by w order) ≡ true
+order-same v w [] h = absurd (cc)
+order-same v w (x ∷ xs) h = best-some w xs x
+
+-- a pod that goes on goes on, and somebody may run, if somebody might
+record Kept (s u : State) : Type 0 where
+  pub ended : u.ended ≡ s.ended
+  pub chosen : is_some (choice s) ≡ true → is_some (choice u) ≡ true
+
+post-kept : (letter : Letter) (s : State) → Kept s (post letter s).after
+post-kept letter s = by_taken (passes (λ row. takes_from letter.from row.block) (thread_of s letter.to))
+  where
+    by_taken : (b : Bool) → Kept s (cond {A = Outcome} b
+        (unblock (as_answer letter) letter.to (record s { letters = s.letters ++ as_received letter ∷ [] }))
+        (still (record s { letters = s.letters ++ letter ∷ [] }))).after
+    by_taken true = record { ended = refl; chosen = order-kept (priority_in s) _ s.order letter.to (is_suspended_in s letter.to) }
+    by_taken false = record { ended = refl; chosen = order-same (priority_in s) _ s.order }
+
+deliver_to-kept : (s : State) (text : List ℕ) (o : Option AgentRow) → Kept s (deliver_to s text o).after
+unfolding and_then
+deliver_to-kept s text None = record { ended = refl; chosen = λ h. h }
+deliver_to-kept s text (Some row) = let k = post-kept (record { from = row.number; to = row.owner; text = text; room = 240; received = false }) _ in record { ended = k.ended; chosen = λ h. k.chosen h }
+
+deliver-kept : (s : State) (e : ℕ) (text : List ℕ) → Kept s (deliver s e text).after
+unfolding deliver
+deliver-kept s e text = deliver_to-kept s text (event_agent s.agents e)
+
+phase-kept : (s u : State) (turns calls : ℕ) → Kept s u → phase_of s turns calls ≡ phase.Turn → phase_of u turns calls ≡ phase.Turn
+phase-kept s u turns calls k h = by_end s.ended (choice s) u.ended (choice u) k.ended k.chosen h
+  where
+    by_end : (a : Bool) (o : Option ℕ) (b : Bool) (p : Option ℕ) → b ≡ a → (is_some o ≡ true → is_some p ≡ true)
+        → cond a (phase.Ended s.status) (phase_by turns calls o) ≡ phase.Turn → cond b (phase.Ended u.status) (phase_by turns calls p) ≡ phase.Turn
+    by_end true o b p e c h = absurd (cc)
+    by_end false None b p e c h = absurd (cc)
+    by_end false (Some t) true p e c h = absurd (cc)
+    by_end false (Some t) false None e c h = let no = c refl in absurd (cc)
+    by_end false (Some t) false (Some u) e c h = h
+
+module _ {B : Type 0} (planned : Planned B) where
+  taken-turn : (e : ℕ) (line : Line) (plan : Plan B) → phase_of (state_of plan) planned.turns plan.calls ≡ phase.Turn
+      → phase_of (state_of (taken_line planned e line plan)) planned.turns (taken_line planned e line plan).calls ≡ phase.Turn
+  unfolding taken
+  taken-turn e line plan h = phase-kept (state_of plan) (deliver (state_of plan) e line.text).after planned.turns plan.calls (deliver-kept (state_of plan) e line.text) h
+
+  abbrev IsTurn : Plan B → Type 0
+  IsTurn plan = phase_of (state_of plan) planned.turns plan.calls ≡ phase.Turn
+
+  by_line : (e : ℕ) (plan : Plan B) (o : Option Line) → IsTurn plan → IsTurn (offered_by planned e plan o)
+  by_line e plan None h = h
+  by_line e plan (Some line) h = taken-turn e line plan h
+
+  by_armed : (e : ℕ) (plan : Plan B) (b : Bool) → IsTurn plan → IsTurn (elim b as (λ _. Plan B) [ true ↦ offered_by planned e plan (first_left plan.left e) | false ↦ plan ])
+  by_armed e plan true h = by_line e plan (first_left plan.left e) h
+  by_armed e plan false h = h
+
+  serves-turn : (es : List ℕ) (plan : Plan B) → IsTurn plan → IsTurn (fold (λ (now : Plan B) e. offered planned e now) plan es)
+  serves-turn [] plan h = h
+  serves-turn (e ∷ es) plan h = serves-turn es (offered planned e plan) (by_armed e plan (armed (state_of plan) e) h)
+
+  pub boundary-turn : (plan : Plan B) → IsTurn plan → IsTurn (boundary planned plan)
+  boundary-turn plan h = serves-turn events plan h

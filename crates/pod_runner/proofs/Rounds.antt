@@ -1,0 +1,456 @@
+-- What a run, a gate and a sink come to together, part by part.
+use Rattle.std.proofs.Common.{◌≢◌, ◌≡◌, ◌≤◌, ◌<◌, ℕ, zero, suc, ◌+◌, ◌-◌, List, [], ◌∷◌, Bool, true, false, cond, None, Some, ap, ◌∙◌, refl, sym, subst, ◌++◌, length, length-append, take, inl, inr, arith}
+use Rattle.std.proofs.Math.Seq.{take-append_seam, take-length}
+use Rattle.std.specs.Prelude.{Option, Result, Ok, Err, OnOk, OnErr, IsErrAnd, IsErrOf}
+use Rattle.std.specs.List.{fold, range_with_len}
+use Rattle.std.proofs.lemmas.List.Sums.{fold-append}
+use Rattle.event_gate.specs.Shelves.{Shelf, first_left, left_in_all, taken_from}
+use Rattle.lwp_types.specs.Agents.{armed}
+use Rattle.lwp_types.specs.Poll.{Next}
+use Rattle.lwp_types.specs.Streams.{Rose, appended}
+use Rattle.lwp_types.specs.declared.call.Line.{Line}
+use Rattle.pod_runner.specs.Does.{Does}
+use Rattle.pod_runner.specs.Due.{IsDefined}
+use Rattle.pod_runner.specs.Eager.{IsFirstPart, Plan, Planned, advanced, boundary, finished, has_choice, offered, one_call, opening_plan, plan_over, plan_whole, round, state_of, taken_line}
+use Rattle.pod_runner.specs.Phase.{phase_by, phase_of}
+use Rattle.pod_runner.specs.Run.{Broke, EndsAt, GoesOn, IsNew, Played, Stream, Tells, Writes, WritesCut, WritesPart, Wrote, but_last, plan_now, planned_of, session_of, phase_now, setting_of, stepped, took_now, trace_before, trace_of, with_call, with_took}
+use Rattle.pod_runner.specs.Session.{Made, Move, Session, call_step, extended, take_step}
+use Rattle.pod_runner.specs.Play.{play}
+use Rattle.pod_runner.specs.Trace.{lines}
+use Rattle.pod_runner.specs.declared.phase.Phase.TheVariants as phase
+use Rattle.script_text.specs.declared.script.Halt.{Halt}
+use Rattle.script_text.specs.declared.script.Halt.TheVariants as halts
+use Rattle.pod_runner.specs.declared.phase.RunErr.{RunErr}
+use Rattle.pod_runner.specs.declared.phase.RunErr.TheVariants as fails
+use Rattle.pod_runner.specs.declared.session.Took.{Took}
+use Rattle.pod_runner.proofs.Appends.{writes_same}
+use Rattle.pod_runner.specs.Over.{events, halt_if, is_wanted, over}
+use Rattle.pod_runner.proofs.Kept.{boundary-turn}
+use Rattle.pod_runner.proofs.Plays.{LastBy-of, play-call, play-take, play-zero}
+use Rattle.pod_runner.proofs.Ends.{idle-advanced, idle-on, idle-round, idle-stuck, over-turn, turn-round}
+use Rattle.pod_runner.proofs.Eagers.{call-grows, falls, finished-grows, finished-over, finished-round, first-same, first-then, offered-grows, to_do, offered-some, offered-unable, offered-unarmed, serves-grow, taken_from-none}
+
+-- ---- what is told
+
+abbrev pub stream : Option (List ℕ) → Option (List ℕ) → ℕ → ℕ → Stream
+stream old new faults_old faults_new = record { old = old; new = new; faults_old = faults_old; faults_new = faults_new }
+
+pub tells-then : {T : Type 0} (a b c : Option (List ℕ)) (f g h : ℕ) (t u least v : List ℕ) (r : Result T RunErr) → Wrote (stream a b f g) t u → Tells (stream b c g h) u least v r → Tells (stream a c f h) t least v r
+tells-then a b c f g h t u least v (Ok x) p q = (λ base is. q.0 base (p.0 base is), q.1 ∙ p.1)
+tells-then a b c f g h t u least v (Err fails.NoMemory) p q = (λ base is. q.0 base (p.0 base is), q.1 ∙ p.1)
+tells-then a b c f g h t u least v (Err fails.WriteFault) p q = (λ base is. q.0 base (p.0 base is), rw p.1 at q.1, omega (arith, p.1, q.2))
+
+pub tells-other : (T U : Type 0) (s : Stream) (t least v : List ℕ) (e : RunErr) → Tells {T = T} s t least v (Err e) → Tells {T = U} s t least v (Err e)
+tells-other T U s t least v fails.NoMemory h = h
+tells-other T U s t least v fails.WriteFault h = h
+
+-- ---- all steps but the last
+
+but_last-step : (steps : List Made) (made : Made) → but_last (steps ++ made ∷ []) ≡ steps
+but_last-step steps made =
+    let n : length (steps ++ made ∷ []) - 1 ≡ length steps = omega (arith, length-append steps (made ∷ [])) in
+    ap (λ n. take n (steps ++ made ∷ [])) n ∙ take-append_seam steps (made ∷ [])
+
+but_last-extended : {B : Type 0} (new old : Session B) (took : Option Took) (m : Move B) → new ≡ extended old took m → but_last new.steps ≡ old.steps
+but_last-extended new old took m is = ap (λ (s : Session _). but_last s.steps) is ∙ but_last-step old.steps (record { take = took; effects = m.effects })
+
+module _ {B P : Type 0} (next : Next B) (bodies : P → List B) (procs : P → List (List ℕ)) where
+  -- ---- the same run
+
+  pub goes-same : (run : Played P) → GoesOn run run
+  goes-same run = record { program = refl; params = refl; names = refl; turns = refl }
+
+  pub goes-then : (a b c : Played P) → GoesOn a b → GoesOn b c → GoesOn a c
+  goes-then a b c p q = record { program = q.program ∙ p.program; params = q.params ∙ p.params; names = q.names ∙ p.names; turns = q.turns ∙ p.turns }
+
+  pub planned-same : (old new : Played P) → GoesOn old new → planned_of next bodies new ≡ planned_of next bodies old
+  planned-same old new h = rw (h.program, h.params, h.names, h.turns) refl
+
+  -- ---- one after the other
+
+  abbrev Came : {T : Type 0} → Stream → (Planned B → Plan B → Plan B) → Played P → Played P → List Shelf → List Shelf → Result T RunErr → Type 0
+  Came s by old new stock left r = Does next bodies procs s by old new stock left r
+
+  pub does-nothing : {T : Type 0} (w : Option (List ℕ)) (f : ℕ) (run : Played P) (stock : List Shelf) (x : T)
+      → run.failed ≡ false → IsDefined (setting_of next bodies run) run.takes run.calls → run.calls ≤ run.turns
+      → Came (stream w w f f) (λ planned plan. plan) run run stock stock (Ok x)
+  does-nothing w f run stock x sound made room = record {
+    same = goes-same run;
+    made = made;
+    room = room;
+    told = (λ base is. is, refl);
+    sound = sound;
+    comes = refl;
+    part = tt;
+  }
+
+  -- what it comes to may be told otherwise
+  pub does-by : {T : Type 0} (s : Stream) (f g : Planned B → Plan B → Plan B) (old new : Played P) (stock left : List Shelf) (r : Result T RunErr)
+      → f (planned_of next bodies old) (plan_now next bodies old stock) ≡ g (planned_of next bodies old) (plan_now next bodies old stock)
+      → Came s f old new stock left r → Came s g old new stock left r
+  does-by s f g old new stock left r e h = record {
+    same = h.same;
+    made = h.made;
+    room = h.room;
+    told = h.told;
+    sound = h.sound;
+    comes = subst (λ p. OnOk r (plan_now next bodies new left ≡ p)) e h.comes;
+    part = subst (λ p. OnErr r (IsFirstPart (plan_now next bodies new left) p)) e h.part;
+  }
+
+  pub does-then : {T U : Type 0} (a b c : Option (List ℕ)) (i j k : ℕ) (f g : Planned B → Plan B → Plan B) (old mid new : Played P) (stock some left : List Shelf) (x : T) (r : Result U RunErr)
+      → Came (stream a b i j) f old mid stock some (Ok x) → Came (stream b c j k) g mid new some left r
+      → Came (stream a c i k) (λ planned plan. g planned (f planned plan)) old new stock left r
+  does-then a b c i j k f g old mid new stock some left x r p q =
+      let e : g (planned_of next bodies mid) (plan_now next bodies mid some) ≡ g (planned_of next bodies old) (f (planned_of next bodies old) (plan_now next bodies old stock))
+      = (λ t. g (planned-same old mid p.same t) (p.comes t)) in
+      record {
+        same = goes-then old mid new p.same q.same;
+        made = q.made;
+        room = q.room;
+        told = tells-then a b c i j k (trace_of next bodies procs old) (trace_of next bodies procs mid) (trace_before next bodies procs new) (trace_of next bodies procs new) r p.told q.told;
+        sound = q.sound;
+        comes = subst (λ p. OnOk r (plan_now next bodies new left ≡ p)) e q.comes;
+        part = subst (λ p. OnErr r (IsFirstPart (plan_now next bodies new left) p)) e q.part;
+      }
+
+  -- where the first fails, so does the whole
+  pub does-part : (T U : Type 0) (s : Stream) (f g : Planned B → Plan B → Plan B) (old new : Played P) (stock left : List Shelf) (e : RunErr)
+      → IsFirstPart (f (planned_of next bodies old) (plan_now next bodies old stock)) (g (planned_of next bodies old) (f (planned_of next bodies old) (plan_now next bodies old stock)))
+      → Came {T = T} s f old new stock left (Err e)
+      → Came {T = U} s (λ planned plan. g planned (f planned plan)) old new stock left (Err e)
+  does-part T U s f g old new stock left e more p = record {
+    same = p.same;
+    made = p.made;
+    room = p.room;
+    told = tells-other T U s (trace_of next bodies procs old) (trace_before next bodies procs new) (trace_of next bodies procs new) e p.told;
+    sound = tt;
+    comes = tt;
+    part = first-then (plan_now next bodies new left) (f (planned_of next bodies old) (plan_now next bodies old stock)) _ p.part more;
+  }
+
+  pub does-err : (T : Type 0) (s : Stream) (by : Planned B → Plan B → Plan B) (old new : Played P) (stock left : List Shelf) (r : Result T RunErr) (e : RunErr)
+      → IsErrAnd r (λ given. given ≡ e) → Came {T = T} s by old new stock left (Err e) → Came s by old new stock left r
+  does-err T s by old new stock left (Ok x) e is h = absurd is
+  does-err T s by old new stock left (Err given) e is h = subst (λ given. Came {T = T} s by old new stock left (Err given)) (sym is) h
+
+  -- ---- one event more
+
+  abbrev first_events : ℕ → Planned B → Plan B → Plan B
+  first_events n planned plan = fold (λ (now : Plan B) e. offered planned e now) plan (range_with_len 1 n)
+
+  more-events : (planned : Planned B) (plan : Plan B) (n : ℕ) → offered planned (1 + n) (first_events n planned plan) ≡ first_events (n + 1) planned plan
+  more-events planned plan n = sym (ap (λ es. fold (λ (now : Plan B) e. offered planned e now) plan es) (one_more 1 n)
+      ∙ fold-append (λ (now : Plan B) e. offered planned e now) plan (range_with_len 1 n) ((1 + n) ∷ []))
+    where
+      one_more : (a n : ℕ) → range_with_len a (n + 1) ≡ range_with_len a n ++ (a + n) ∷ []
+      one_more a zero = let at : a ≡ a + 0 = omega arith in ap (λ k. k ∷ []) at
+      one_more a (suc n) = let more : suc n + 1 ≡ suc (n + 1) = omega arith in let on : a + 1 + n ≡ a + suc n = omega arith in ap (range_with_len a) more ∙ ap (λ es. a ∷ es) (one_more (a + 1) n ∙ ap (λ k. range_with_len (a + 1) n ++ k ∷ []) on)
+
+  pub events-begin : {T : Type 0} (w : Option (List ℕ)) (f : ℕ) (run : Played P) (stock : List Shelf) (x : T)
+      → run.failed ≡ false → IsDefined (setting_of next bodies run) run.takes run.calls → run.calls ≤ run.turns
+      → Came (stream w w f f) (λ planned plan. first_events 0 planned plan) run run stock stock (Ok x)
+  events-begin w f run stock x sound made room = does-nothing w f run stock x sound made room
+
+  pub events-more : {T : Type 0} (a b c : Option (List ℕ)) (i j k : ℕ) (old mid new : Played P) (stock some left : List Shelf) (e : ℕ) (x : T) (r : Result (Unit {0}) RunErr) → 1 ≤ e
+      → Came (stream a b i j) (λ planned plan. first_events (e - 1) planned plan) old mid stock some (Ok x) → Came (stream b c j k) (λ planned plan. offered planned e plan) mid new some left r
+      → Came (stream a c i k) (λ planned plan. first_events (e + 1 - 1) planned plan) old new stock left r
+  events-more a b c i j k old mid new stock some left e x r low p q =
+      let is : 1 + (e - 1) ≡ e = omega (arith, low) in
+      let more : (e - 1) + 1 ≡ e + 1 - 1 = omega (arith, low) in
+      does-by (stream a c i k) (λ planned plan. offered planned e (first_events (e - 1) planned plan)) (λ planned plan. first_events (e + 1 - 1) planned plan) old new stock left r
+      (ap (λ e'. offered (planned_of next bodies old) e' (first_events (e - 1) (planned_of next bodies old) (plan_now next bodies old stock))) (sym is)
+      ∙ more-events (planned_of next bodies old) (plan_now next bodies old stock) (e - 1)
+      ∙ ap (λ n. first_events n (planned_of next bodies old) (plan_now next bodies old stock)) more)
+      (does-then a b c i j k (λ planned plan. first_events (e - 1) planned plan) (λ planned plan. offered planned e plan) old mid new stock some left x r p q)
+
+  pub events-end : {T : Type 0} (s : Stream) (old new : Played P) (stock left : List Shelf) (e : ℕ) (x : T) → e ≡ 32
+      → Came s (λ planned plan. first_events (e - 1) planned plan) old new stock left (Ok x) → Came s (λ planned plan. boundary planned plan) old new stock left (Ok x)
+  unfolding events
+  events-end s old new stock left e x is p = does-by s (λ planned plan. first_events (e - 1) planned plan) (λ planned plan. boundary planned plan) old new stock left (Ok x)
+      (ap (λ n. first_events (n - 1) (planned_of next bodies old) (plan_now next bodies old stock)) is) p
+
+  -- where the run fails at an event, the rest isn't done
+  events-rest : (planned : Planned B) (plan : Plan B) (e : ℕ) → e < 32 → IsFirstPart (first_events e planned plan) (boundary planned plan)
+  unfolding events
+  events-rest planned plan e low =
+      let n = 31 - e in
+      let total : e + n ≡ 31 = omega (arith, low) in
+      subst (λ whole. IsFirstPart (first_events e planned plan) whole)
+      (sym (fold-append (λ (now : Plan B) e. offered planned e now) plan (range_with_len 1 e) (range_with_len (1 + e) n)) ∙ ap (λ es. fold (λ (now : Plan B) e. offered planned e now) plan es) (cut 1 e n ∙ ap (range_with_len 1) total))
+      (serves-grow planned (range_with_len (1 + e) n) (first_events e planned plan))
+    where
+      cut : (a m n : ℕ) → range_with_len a m ++ range_with_len (a + m) n ≡ range_with_len a (m + n)
+      cut a zero n = let at : a + 0 ≡ a = omega arith in let all : n ≡ 0 + n = omega arith in ap (λ k. range_with_len k n) at ∙ ap (range_with_len a) all
+      cut a (suc m) n = let e : a + suc m ≡ a + 1 + m = omega arith in let more : suc m + n ≡ suc (m + n) = omega arith in
+          ap (λ k. a ∷ (range_with_len (a + 1) m ++ range_with_len k n)) e ∙ ap (λ es. a ∷ es) (cut (a + 1) m n) ∙ sym (ap (range_with_len a) more)
+
+  pub events-part : {T U : Type 0} (a b c : Option (List ℕ)) (i j k : ℕ) (old mid new : Played P) (stock some left : List Shelf) (e : ℕ) (x : T) (r : Result U RunErr) (error : RunErr) → IsErrAnd r (λ given. given ≡ error) → 1 ≤ e → e < 32
+      → Came (stream a b i j) (λ planned plan. first_events (e - 1) planned plan) old mid stock some (Ok x) → Came {T = Unit {0}} (stream b c j k) (λ planned plan. offered planned e plan) mid new some left (Err error)
+      → Came (stream a c i k) (λ planned plan. boundary planned plan) old new stock left r
+  events-part a b c i j k old mid new stock some left e x r error is low high p q =
+      let same : e + 1 - 1 ≡ e = omega arith in
+      does-err _ (stream a c i k) (λ planned plan. boundary planned plan) old new stock left r error is
+      (does-by (stream a c i k) (λ planned plan. boundary planned (plan_now next bodies old stock)) (λ planned plan. boundary planned plan) old new stock left (Err error) refl
+      (does-part _ _ (stream a c i k) (λ planned plan. first_events (e + 1 - 1) planned plan) (λ planned plan. boundary planned (plan_now next bodies old stock)) old new stock left error
+      (subst (λ n. IsFirstPart (first_events n (planned_of next bodies old) (plan_now next bodies old stock)) (boundary (planned_of next bodies old) (plan_now next bodies old stock))) (sym same)
+      (events-rest (planned_of next bodies old) (plan_now next bodies old stock) e high))
+      (events-more a b c i j k old mid new stock some left e x (Err error) low p q)))
+
+  -- ---- one step
+
+  -- a step counts, by this function of plans, with these lines left then
+  record IsStep (by : Planned B → Plan B → Plan B) (old counted : Played P) (stock left : List Shelf) : Type 0 where
+    pub same : GoesOn old counted
+    pub sound : counted.failed ≡ false
+    pub comes : plan_now next bodies counted left ≡ by (planned_of next bodies old) (plan_now next bodies old stock)
+    pub before : but_last (session_of next bodies counted).steps ≡ (session_of next bodies old).steps
+    pub more : IsFirstPart (plan_now next bodies old stock) (by (planned_of next bodies old) (plan_now next bodies old stock))
+
+  does-step : {T : Type 0} (s : Stream) (by : Planned B → Plan B → Plan B) (old counted new : Played P) (stock left : List Shelf) (r : Result T RunErr)
+      → IsStep by old counted stock left → new ≡ stepped old counted r
+      → Tells s (trace_of next bodies procs old) (trace_of next bodies procs old) (trace_of next bodies procs new) r
+      → IsDefined (setting_of next bodies new) new.takes new.calls → new.calls ≤ new.turns
+      → Came s by old new stock left r
+  does-step s by old counted new stock left (Ok x) h is told made room = record {
+    same = subst (λ n. GoesOn old n) (sym is) h.same;
+    made = made;
+    room = room;
+    told = told;
+    sound = subst (λ (n : Played P). n.failed ≡ false) (sym is) h.sound;
+    comes = ap (λ n. plan_now next bodies n left) is ∙ h.comes;
+    part = tt;
+  }
+  does-step s by old counted new stock left (Err fails.NoMemory) h is told made room = record {
+    same = subst (λ n. GoesOn old n) (sym is) (record { program = refl; params = refl; names = refl; turns = refl });
+    made = made;
+    room = room;
+    told = told;
+    sound = tt;
+    comes = tt;
+    part = subst (λ n. IsFirstPart (plan_now next bodies n left) (by (planned_of next bodies old) (plan_now next bodies old stock))) (sym is)
+        (record { rest = h.more.rest; steps = h.more.steps; later = h.more.later; takes = h.more.takes; calls_up = h.more.calls_up });
+  }
+  does-step s by old counted new stock left (Err fails.WriteFault) h is told made room = record {
+    same = subst (λ n. GoesOn old n) (sym is) (record { program = h.same.program; params = h.same.params; names = h.same.names; turns = h.same.turns });
+    made = made;
+    room = room;
+    told = subst (λ least. Broke s (trace_of next bodies procs old) least (trace_of next bodies procs new)) (sym least) told;
+    sound = tt;
+    comes = tt;
+    part = subst (λ p. IsFirstPart p (by (planned_of next bodies old) (plan_now next bodies old stock))) (sym (ap (λ n. plan_now next bodies n left) is ∙ h.comes))
+        (first-same (by (planned_of next bodies old) (plan_now next bodies old stock)));
+  }
+    where
+      least : trace_before next bodies procs new ≡ trace_of next bodies procs old
+      least = ap (λ n. trace_before next bodies procs n) is ∙ (λ t. lines (procs (h.same.program t)) (h.before t))
+
+  -- ---- a call
+
+  call-last : (run : Played P) → IsDefined (setting_of next bodies run) run.takes run.calls → session_of next bodies (with_call run) ≡ call_step (setting_of next bodies run) (session_of next bodies run)
+  call-last run made = play-call (setting_of next bodies run) run.takes run.calls (LastBy-of (setting_of next bodies run) run.takes run.calls made)
+
+  take-last : (run : Played P) (e : ℕ) (line : Line) → session_of next bodies (with_took run e line) ≡ take_step (setting_of next bodies run) (took_now run e line) (session_of next bodies run)
+  take-last run e line = play-take (setting_of next bodies run) (took_now run e line) run.takes run.calls refl
+
+  pub does-call : {T : Type 0} (s : Stream) (old new : Played P) (stock : List Shelf) (r : Result T RunErr)
+      → old.failed ≡ false → IsDefined (setting_of next bodies old) old.takes old.calls → new ≡ stepped old (with_call old) r
+      → Tells s (trace_of next bodies procs old) (trace_of next bodies procs old) (trace_of next bodies procs new) r
+      → IsDefined (setting_of next bodies new) new.takes new.calls → new.calls ≤ new.turns
+      → Came s (λ planned plan. one_call planned plan) old new stock stock r
+  does-call s old new stock r sound was is told made room = does-step s (λ planned plan. one_call planned plan) old (with_call old) new stock stock r (record {
+    same = record { program = refl; params = refl; names = refl; turns = refl };
+    sound = sound;
+    comes = ap (λ session. record { session = session; calls = old.calls + 1; left = stock; takes = old.takes }) (call-last old was);
+    before = but_last-extended (session_of next bodies (with_call old)) (session_of next bodies old) None _ (call-last old was);
+    more = call-grows (planned_of next bodies old) (plan_now next bodies old stock);
+  }) is told made room
+
+  -- ---- a take
+
+  pub does-take : {T : Type 0} (s : Stream) (e : ℕ) (line : Line) (old new : Played P) (stock left : List Shelf) (r : Result T RunErr)
+      → old.failed ≡ false → armed (session_of next bodies old).live.state e ≡ true → first_left stock e ≡ Some line → left ≡ taken_from stock e
+      → new ≡ stepped old (with_took old e line) r
+      → Tells s (trace_of next bodies procs old) (trace_of next bodies procs old) (trace_of next bodies procs new) r
+      → IsDefined (setting_of next bodies new) new.takes new.calls → new.calls ≤ new.turns
+      → Came s (λ planned plan. offered planned e plan) old new stock left r
+  does-take s e line old new stock left r sound may first rest is told made room = does-step s (λ planned plan. offered planned e plan) old (with_took old e line) new stock left r (record {
+    same = record { program = refl; params = refl; names = refl; turns = refl };
+    sound = sound;
+    comes = (λ t. record { session = take-last old e line t; calls = old.calls; left = rest t; takes = old.takes ++ took_now old e line ∷ [] })
+        ∙ sym (offered-some (planned_of next bodies old) e (plan_now next bodies old stock) line may first);
+    before = but_last-extended (session_of next bodies (with_took old e line)) (session_of next bodies old) (Some (took_now old e line)) _ (take-last old e line);
+    more = offered-grows (planned_of next bodies old) e (plan_now next bodies old stock);
+  }) is told made room
+
+  -- with no line to be taken, nothing is done
+  pub does-none : {T : Type 0} (w : Option (List ℕ)) (f e : ℕ) (run : Played P) (stock left : List Shelf) (x : T)
+      → run.failed ≡ false → first_left stock e ≡ None → left ≡ taken_from stock e
+      → IsDefined (setting_of next bodies run) run.takes run.calls → run.calls ≤ run.turns
+      → Came (stream w w f f) (λ planned plan. offered planned e plan) run run stock left (Ok x)
+  does-none w f e run stock left x sound first rest made room =
+      let still : left ≡ stock = rest ∙ taken_from-none stock e first in
+      subst (λ l. Came (stream w w f f) (λ planned plan. offered planned e plan) run run stock l (Ok x)) (sym still)
+      (does-by (stream w w f f) (λ planned plan. plan) (λ planned plan. offered planned e plan) run run stock stock (Ok x)
+      (sym (offered-unable (planned_of next bodies run) e (plan_now next bodies run stock) first))
+      (does-nothing w f run stock x sound made room))
+
+  pub does-unarmed : {T : Type 0} (w : Option (List ℕ)) (f e : ℕ) (run : Played P) (stock : List Shelf) (x : T)
+      → run.failed ≡ false → armed (session_of next bodies run).live.state e ≡ false
+      → IsDefined (setting_of next bodies run) run.takes run.calls → run.calls ≤ run.turns
+      → Came (stream w w f f) (λ planned plan. offered planned e plan) run run stock stock (Ok x)
+  does-unarmed w f e run stock x sound may made room =
+      does-by (stream w w f f) (λ planned plan. plan) (λ planned plan. offered planned e plan) run run stock stock (Ok x)
+      (sym (offered-unarmed (planned_of next bodies run) e (plan_now next bodies run stock) may))
+      (does-nothing w f run stock x sound made room)
+
+  -- ---- a round
+
+  -- an answer, or an error, may be of another type
+  does-answer : {T U : Type 0} (s : Stream) (f : Planned B → Plan B → Plan B) (old new : Played P) (stock left : List Shelf) (x : T) (y : U)
+      → Came s f old new stock left (Ok x) → Came s f old new stock left (Ok y)
+  does-answer s f old new stock left x y h = record { same = h.same; made = h.made; room = h.room; told = h.told; sound = h.sound; comes = h.comes; part = tt }
+
+  -- lines are taken, and then a call is made
+  pub does-turn : {T : Type 0} (a b c : Option (List ℕ)) (i j k : ℕ) (old mid new : Played P) (stock left : List Shelf) (x y : Unit {0}) (z : T) → phase_now next bodies old ≡ phase.Turn
+      → Came (stream a b i j) (λ planned plan. boundary planned plan) old mid stock left (Ok x)
+      → Came (stream b c j k) (λ planned plan. one_call planned plan) mid new left left (Ok y)
+      → Came (stream a c i k) (λ planned plan. round planned plan) old new stock left (Ok z)
+  does-turn a b c i j k old mid new stock left x y z due p q =
+      does-by (stream a c i k) (λ planned plan. one_call planned (boundary planned plan)) (λ planned plan. round planned plan) old new stock left (Ok z)
+      (sym (turn-round (planned_of next bodies old) (plan_now next bodies old stock) due))
+      (does-answer (stream a c i k) _ old new stock left y z
+      (does-then a b c i j k (λ planned plan. boundary planned plan) (λ planned plan. one_call planned plan) old mid new stock left left x (Ok y) p q))
+
+  pub does-turn-call : {T : Type 0} (a b c : Option (List ℕ)) (i j k : ℕ) (old mid new : Played P) (stock left : List Shelf) (x : Unit {0}) (e : RunErr) → phase_now next bodies old ≡ phase.Turn
+      → Came (stream a b i j) (λ planned plan. boundary planned plan) old mid stock left (Ok x)
+      → Came {T = Unit {0}} (stream b c j k) (λ planned plan. one_call planned plan) mid new left left (Err e)
+      → Came {T = T} (stream a c i k) (λ planned plan. round planned plan) old new stock left (Err e)
+  does-turn-call a b c i j k old mid new stock left x e due p q =
+      does-by (stream a c i k) (λ planned plan. one_call planned (boundary planned plan)) (λ planned plan. round planned plan) old new stock left (Err e)
+      (sym (turn-round (planned_of next bodies old) (plan_now next bodies old stock) due))
+      (does-part _ _ (stream a c i k) (λ planned plan. one_call planned (boundary planned plan)) (λ planned plan. plan) old new stock left e (first-same _)
+      (does-then a b c i j k (λ planned plan. boundary planned plan) (λ planned plan. one_call planned plan) old mid new stock left left x (Err e) p q))
+
+  -- with nobody to run, lines are taken
+  pub does-idle : {T : Type 0} (s : Stream) (old new : Played P) (stock left : List Shelf) (x : Unit {0}) (y : T) → phase_now next bodies old ≡ phase.Idle
+      → Came s (λ planned plan. boundary planned plan) old new stock left (Ok x)
+      → Came s (λ planned plan. round planned plan) old new stock left (Ok y)
+  does-idle s old new stock left x y idle p =
+      does-by s (λ planned plan. boundary planned plan) (λ planned plan. round planned plan) old new stock left (Ok y)
+      (sym (idle-round (planned_of next bodies old) (plan_now next bodies old stock) idle))
+      (does-answer s _ old new stock left x y p)
+
+  pub does-idle-lines : {T : Type 0} (s : Stream) (old new : Played P) (stock left : List Shelf) (e : RunErr) → phase_now next bodies old ≡ phase.Idle
+      → Came {T = Unit {0}} s (λ planned plan. boundary planned plan) old new stock left (Err e)
+      → Came {T = T} s (λ planned plan. round planned plan) old new stock left (Err e)
+  does-idle-lines s old new stock left e idle p =
+      does-by s (λ planned plan. boundary planned plan) (λ planned plan. round planned plan) old new stock left (Err e)
+      (sym (idle-round (planned_of next bodies old) (plan_now next bodies old stock) idle))
+      (does-part _ _ s (λ planned plan. boundary planned plan) (λ planned plan. plan) old new stock left e (first-same _) p)
+
+  -- where no more lines were taken than before, the session is stuck, and else it isn't over
+  pub over-stuck : (s : Stream) (old new : Played P) (stock left : List Shelf) (x : Unit {0}) → phase_now next bodies old ≡ phase.Idle
+      → Came s (λ planned plan. boundary planned plan) old new stock left (Ok x) → length new.takes ≡ length old.takes
+      → plan_over (planned_of next bodies old) (plan_now next bodies old stock) ≡ Some halts.Stuck
+  over-stuck s old new stock left x idle p n = idle-stuck (planned_of next bodies old) (plan_now next bodies old stock) idle (ap (λ (plan : Plan B). length plan.takes) (sym p.comes) ∙ n)
+
+  pub over-on : (s : Stream) (old new : Played P) (stock left : List Shelf) (x : Unit {0}) → phase_now next bodies old ≡ phase.Idle
+      → Came s (λ planned plan. boundary planned plan) old new stock left (Ok x) → length new.takes ≢ length old.takes
+      → plan_over (planned_of next bodies old) (plan_now next bodies old stock) ≡ None
+  over-on s old new stock left x idle p n = idle-on (planned_of next bodies old) (plan_now next bodies old stock) idle (λ same. n (ap (λ (plan : Plan B). length plan.takes) p.comes ∙ same))
+
+  -- somebody may run still, once lines were taken
+  pub due-still : (s : Stream) (old new : Played P) (stock left : List Shelf) (x : Unit {0}) → phase_now next bodies old ≡ phase.Turn
+      → Came s (λ planned plan. boundary planned plan) old new stock left (Ok x) → phase_now next bodies new ≡ phase.Turn
+  due-still s old new stock left x due p =
+      (λ t. phase_of (state_of (p.comes t)) (p.same.turns t) (p.comes t).calls) ∙ boundary-turn (planned_of next bodies old) (plan_now next bodies old stock) due
+
+  -- ---- round after round
+
+  -- so far, a run has gone towards this end
+  pub record Going (s : Stream) (old now : Played P) (stock left : List Shelf) : Type 0 where
+    pub same : GoesOn old now
+    pub sound : now.failed ≡ false
+    pub told : Wrote s (trace_of next bodies procs old) (trace_of next bodies procs now)
+    pub ends : finished (planned_of next bodies old) (plan_now next bodies now left) ≡ finished (planned_of next bodies old) (plan_now next bodies old stock)
+
+  going-round : (old now new : Played P) (some left : List Shelf) → GoesOn old now → plan_now next bodies new left ≡ round (planned_of next bodies now) (plan_now next bodies now some)
+      → plan_now next bodies new left ≡ round (planned_of next bodies old) (plan_now next bodies now some)
+  going-round old now new some left same comes = comes ∙ ap (λ planned. round planned (plan_now next bodies now some)) (planned-same old now same)
+
+  pub going-on : {T : Type 0} (a b c : Option (List ℕ)) (i j k : ℕ) (old now new : Played P) (stock some left : List Shelf) (x : T)
+      → Going (stream a b i j) old now stock some → Came (stream b c j k) (λ planned plan. round planned plan) now new some left (Ok x)
+      → Going (stream a c i k) old new stock left
+  going-on a b c i j k old now new stock some left x g p = record {
+    same = goes-then old now new g.same p.same;
+    sound = p.sound;
+    told = tells-then {T = Unit {0}} a b c i j k (trace_of next bodies procs old) (trace_of next bodies procs now) (trace_of next bodies procs new) (trace_of next bodies procs new) (Ok tt) g.told p.told;
+    ends = ap (finished (planned_of next bodies old)) (going-round old now new some left g.same p.comes)
+        ∙ finished-round (planned_of next bodies old) (plan_now next bodies now some)
+        ∙ g.ends;
+  }
+
+  pub going-falls : {T : Type 0} (s : Stream) (now new : Played P) (some left : List Shelf) (x : T)
+      → Came s (λ planned plan. round planned plan) now new some left (Ok x) → plan_over (planned_of next bodies now) (plan_now next bodies now some) ≡ None
+      → (new.turns - new.calls) + left_in_all left + 1 ≤ (now.turns - now.calls) + left_in_all some
+  going-falls s now new some left x p is =
+      let planned = planned_of next bodies now in
+      let plan = plan_now next bodies now some in
+      let e : to_do planned (plan_now next bodies new left) ≡ to_do planned (advanced planned plan) = ap (to_do planned) (p.comes ∙ ap (λ (o : Option Halt). elim o as (λ _. Plan B) [ None ↦ advanced planned plan | Some halt ↦ plan ]) is) in
+      let f = falls planned plan is in
+      omega (arith, e, f, p.same.turns)
+
+  -- at the end
+  still-over : {T : Type 0} (s : Stream) (old now new : Played P) (some left : List Shelf) (halt : Halt) (x : T) → GoesOn old now
+      → Came s (λ planned plan. round planned plan) now new some left (Ok x) → plan_over (planned_of next bodies now) (plan_now next bodies now some) ≡ Some halt
+      → plan_now next bodies new left ≡ plan_now next bodies now some
+  still-over s old now new some left halt x same p is = p.comes
+      ∙ ap (λ (o : Option Halt). elim o as (λ _. Plan B) [ None ↦ advanced (planned_of next bodies now) (plan_now next bodies now some) | Some halt ↦ plan_now next bodies now some ]) is
+
+  pub going-finishes : {T : Type 0} (s u : Stream) (old now new : Played P) (stock some left : List Shelf) (halt : Halt) (x : T)
+      → Going s old now stock some → Came u (λ planned plan. round planned plan) now new some left (Ok x) → plan_over (planned_of next bodies now) (plan_now next bodies now some) ≡ Some halt
+      → plan_now next bodies new left ≡ finished (planned_of next bodies old) (plan_now next bodies old stock)
+  going-finishes s u old now new stock some left halt x g p is =
+      let over : plan_over (planned_of next bodies old) (plan_now next bodies now some) ≡ Some halt
+      = ap (λ planned. plan_over planned (plan_now next bodies now some)) (sym (planned-same old now g.same)) ∙ is in
+      still-over u old now new some left halt x g.same p is
+      ∙ sym (finished-over (planned_of next bodies old) (plan_now next bodies now some) halt over)
+      ∙ g.ends
+
+  pub going-part : {T : Type 0} (s u : Stream) (old now new : Played P) (stock some left : List Shelf) (e : RunErr)
+      → Going s old now stock some → Came {T = T} u (λ planned plan. round planned plan) now new some left (Err e)
+      → IsFirstPart (plan_now next bodies new left) (finished (planned_of next bodies old) (plan_now next bodies old stock))
+  going-part s u old now new stock some left e g p =
+      let planned = planned_of next bodies old in
+      let plan = plan_now next bodies now some in
+      subst (λ whole. IsFirstPart (plan_now next bodies new left) whole) (finished-round planned plan ∙ g.ends)
+      (first-then (plan_now next bodies new left) (round planned plan) (finished planned (round planned plan))
+      (subst (λ given. IsFirstPart (plan_now next bodies new left) (round given plan)) (planned-same old now g.same) p.part)
+      (finished-grows planned (round planned plan)))
+
+  pub going-told : (T U : Type 0) (a b c : Option (List ℕ)) (i j k : ℕ) (old now new : Played P) (stock some left : List Shelf) (e : RunErr) (r : Result U RunErr) → IsErrAnd r (λ given. given ≡ e)
+      → Going (stream a b i j) old now stock some → Came {T = T} (stream b c j k) (λ planned plan. round planned plan) now new some left (Err e)
+      → Tells {T = U} (stream a c i k) (trace_of next bodies procs old) (trace_before next bodies procs new) (trace_of next bodies procs new) r
+  going-told T U a b c i j k old now new stock some left e (Ok x) is g p = absurd is
+  going-told T U a b c i j k old now new stock some left e (Err given) is g p =
+      subst (λ given. Tells {T = U} (stream a c i k) (trace_of next bodies procs old) (trace_before next bodies procs new) (trace_of next bodies procs new) (Err given)) (sym is)
+      (tells-other T U (stream a c i k) (trace_of next bodies procs old) (trace_before next bodies procs new) (trace_of next bodies procs new) e
+      (tells-then {T = T} a b c i j k (trace_of next bodies procs old) (trace_of next bodies procs now) (trace_before next bodies procs new) (trace_of next bodies procs new) (Err e) g.told p.told))
+
+  -- a new run has done nothing yet
+  new-opens : (run : Played P) (stock : List Shelf) → IsNew run → plan_now next bodies run stock ≡ opening_plan (planned_of next bodies run) stock
+  new-opens run stock h =
+      (λ t. record { session = play (setting_of next bodies run) (h.1 t) (h.0 t); calls = h.0 t; left = stock; takes = h.1 t })
+      ∙ ap (λ session. record { session = session; calls = 0; left = stock; takes = [] }) (play-zero (setting_of next bodies run))
+
+  pub new-whole : (run : Played P) (stock : List Shelf) → IsNew run → finished (planned_of next bodies run) (plan_now next bodies run stock) ≡ plan_whole (planned_of next bodies run) stock
+  unfolding plan_whole
+  new-whole run stock h = ap (finished (planned_of next bodies run)) (new-opens run stock h)
+
+  -- ---- what is told at the end of a run
+
+  pub told-part : {T : Type 0} (s : Stream) (t least v : List ℕ) (r : Result T RunErr) → Tells s t least v r → OnErr r (WritesPart s.old s.new t v)
+  told-part s t least v (Ok x) h = tt
+  told-part s t least v (Err fails.NoMemory) h = λ base is. (length v, h.0 base is ∙ rw take-length refl)
+  told-part s t least v (Err fails.WriteFault) h = λ base is. let cut = h.0 base is in (cut.kept, cut.told)

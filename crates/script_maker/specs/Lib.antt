@@ -1,0 +1,5 @@
+pub mod Draws
+pub mod Made
+pub mod Order
+pub mod Summary
+pub mod Laws

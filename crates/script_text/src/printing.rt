@@ -1,0 +1,519 @@
+// A script to bytes: each line by its row of the table.
+ghost use Rattle.std.specs.Prelude.{◌≡◌, ◌++◌, [], IsTrue, IfOk, OnOk, codes, map};
+ghost use Rattle.std.specs.Fmt.{decimal};
+ghost use Rattle.std.specs.List.{flat_map};
+ghost use Rattle.lwp_types.specs.TextFields.{is_text};
+ghost use Rattle.script_text.specs.Grammar.{who_text, test_text, built_text, slot_text, phrase_text, ended, spelling};
+ghost use Rattle.script_text.specs.Meaning.{empty_names};
+ghost use Rattle.script_text.specs.Printing.{number_line, proc_line, mon_line, cond_line, text_line, with_whom, with_who, with_source, exit_line, plain_line, lock_line, stmt_line, limit_lines, client_line, client_lines, native_line, proc_lines, post_line, printed};
+ghost use Rattle.script_text.specs.Track.{name_at};
+ghost use Rattle.script_text.specs.declared.script.Stmt.TheVariants as a_stmt;
+
+use crate::lines::{
+    add_flags, add_number, add_pattern, add_spaced, add_text, func_word, mode_word,
+};
+use crate::names::NameList;
+use crate::phrase::{Phrase, blank};
+use crate::table::{Kind, Op, Whom};
+use crate::{ExitStmt, Names, Native, NativeKind, Post, Proc, Script, Stmt, Test, Texts, Who};
+use lwp_types::{Flags, Func, Mode, NoMemory, Pattern};
+use std::alloc::Global;
+
+// ---- A line by its row.
+
+fn add_whom(out: &mut Vec<u8>, whom: Whom, name: &[u8]) -> Result<(), NoMemory>
+    ensures { OnOk result (out.new.items ≡ out.old.items ++ who_text whom name.now) }
+{
+    match whom {
+        Whom::Named => add_text(out, name),
+        Whom::Me => add_text(out, b"self"),
+        Whom::First => add_text(out, b"first"),
+        Whom::Sender => add_text(out, b"sender"),
+        Whom::Nobody => add_text(out, b"none"),
+        Whom::Any => add_text(out, b"any"),
+    }
+}
+
+fn add_test(alloc: Global, out: &mut Vec<u8>, test: Test) -> Result<(), NoMemory>
+    ensures { OnOk result (out.new.items ≡ out.old.items ++ test_text test) }
+{
+    match test {
+        Test::Fine => add_text(out, b"ok"),
+        Test::Refused => add_text(out, b"err"),
+        Test::Caught => add_text(out, b"caught"),
+        Test::Value(value) => {
+            add_text(out, b"is ")?;
+            add_number(alloc, out, u64::from(value))
+        }
+    }
+}
+
+// What a built-in procedure is.
+fn add_built(alloc: Global, out: &mut Vec<u8>, event: u8, name: &[u8]) -> Result<(), NoMemory>
+    ensures { OnOk result (out.new.items ≡ out.old.items ++ built_text event name.now) }
+{
+    if event == 0 {
+        return add_text(out, b"store");
+    }
+    add_text(out, b"session ")?;
+    add_number(alloc, out, u64::from(event))?;
+    add_text(out, b" ")?;
+    add_text(out, name)
+}
+
+// A slot behind its space.
+fn add_word(
+    alloc: Global,
+    out: &mut Vec<u8>,
+    phrase: &Phrase<'_>,
+    kind: Kind,
+) -> Result<(), NoMemory>
+    ensures { OnOk result (out.new.items ≡ out.old.items ++ slot_text phrase.now kind) }
+{
+    if kind == Kind::Text {
+        return add_spaced(out, phrase.text);
+    }
+    add_text(out, b" ")?;
+    match kind {
+        Kind::Thread => add_text(out, phrase.thread),
+        Kind::Who | Kind::Source => add_whom(out, phrase.who, phrase.thread),
+        Kind::Procedure => add_text(out, phrase.procedure),
+        Kind::Monitor => add_text(out, phrase.monitor),
+        Kind::Condition => add_text(out, phrase.condition),
+        Kind::Number => add_number(alloc, out, u64::from(phrase.number)),
+        Kind::Room => add_number(alloc, out, u64::from(phrase.room)),
+        Kind::Client => add_number(alloc, out, u64::from(phrase.client)),
+        Kind::Event => add_number(alloc, out, u64::from(phrase.event)),
+        Kind::Flags => add_flags(out, phrase.flags),
+        Kind::Mode => add_text(out, mode_word(phrase.mode)),
+        Kind::Pattern => add_pattern(alloc, out, phrase.pattern),
+        Kind::Func => add_text(out, func_word(phrase.func)),
+        Kind::Test => add_test(alloc, out, phrase.test),
+        Kind::Built => add_built(alloc, out, phrase.event, phrase.thread),
+        Kind::Text => Ok(()),
+    }
+}
+
+// The slots of a row.
+fn add_slots(
+    alloc: Global,
+    out: &mut Vec<u8>,
+    phrase: &Phrase<'_>,
+    kinds: &[Kind],
+) -> Result<(), NoMemory>
+    ensures { OnOk result (out.new.items ≡ out.old.items ++ flat_map (slot_text phrase.now) kinds.now) }
+{
+    for kind in kinds {
+        add_word(alloc, out, phrase, *kind)?;
+    }
+    Ok(())
+}
+
+// A line with its end.
+fn add_line(alloc: Global, out: &mut Vec<u8>, phrase: &Phrase<'_>) -> Result<(), NoMemory>
+    ensures { OnOk result (out.new.items ≡ out.old.items ++ ended (phrase_text phrase.now)) }
+{
+    add_text(out, phrase.op.key())?;
+    add_slots(alloc, out, phrase, phrase.op.slots())?;
+    add_text(out, b"\n")
+}
+
+// ---- Lines of one slot.
+
+fn number_line<'s>(op: Op, number: u32) -> Phrase<'s>
+    ensures { result ≡ number_line op number }
+{
+    let mut line = blank(op);
+    line.number = number;
+    line
+}
+
+fn proc_line(op: Op, name: &[u8]) -> Phrase<'_>
+    ensures { result ≡ proc_line op name.now }
+{
+    let mut line = blank(op);
+    line.procedure = name;
+    line
+}
+
+fn mon_line(op: Op, name: &[u8]) -> Phrase<'_>
+    ensures { result ≡ mon_line op name.now }
+{
+    let mut line = blank(op);
+    line.monitor = name;
+    line
+}
+
+fn cond_line(op: Op, name: &[u8]) -> Phrase<'_>
+    ensures { result ≡ cond_line op name.now }
+{
+    let mut line = blank(op);
+    line.condition = name;
+    line
+}
+
+fn text_line(op: Op, text: &[u8]) -> Phrase<'_>
+    requires { IsTrue (is_text text.now) }
+    ensures { result ≡ text_line op text.now }
+{
+    let mut line = blank(op);
+    line.text = text;
+    line
+}
+
+// ---- Statements.
+
+fn name_at(names: &NameList, number: u32) -> &[u8]
+    ensures { result.now ≡ name_at names.now number }
+{
+    match names.as_slice().get(number as usize) {
+        Some(name) => name.bytes(),
+        None => &[],
+    }
+}
+
+// A line with this word for a thread.
+fn with_whom<'s>(whom: Whom, name: &'s [u8], line: Phrase<'s>) -> Phrase<'s>
+    ensures { result ≡ with_whom whom name.now line.entry }
+{
+    let mut line = line;
+    line.who = whom;
+    line.thread = name;
+    line
+}
+
+// A line with whom a statement speaks of.
+fn with_who<'s>(names: &'s Names, who: Who, line: Phrase<'s>) -> Phrase<'s>
+    ensures { result ≡ with_who names.now who line.entry }
+{
+    match who {
+        Who::Named(number) => with_whom(Whom::Named, name_at(&names.threads, number), line),
+        Who::Me => with_whom(Whom::Me, &[], line),
+        Who::First => with_whom(Whom::First, &[], line),
+        Who::Sender => with_whom(Whom::Sender, &[], line),
+        Who::Nobody => with_whom(Whom::Nobody, &[], line),
+    }
+}
+
+// A line with from whom to receive.
+fn with_source<'s>(names: &'s Names, from: Option<Who>, line: Phrase<'s>) -> Phrase<'s>
+    ensures { result ≡ with_source names.now from line.entry }
+{
+    match from {
+        None => with_whom(Whom::Any, &[], line),
+        Some(who) => with_who(names, who, line),
+    }
+}
+
+fn exit_line<'s>(names: &'s Names, texts: &'s Texts, exit: ExitStmt) -> Phrase<'s>
+    ensures { result ≡ exit_line names.now texts.now exit }
+{
+    match exit {
+        ExitStmt::MonExit { mon } => mon_line(Op::ExitMonExit, name_at(&names.mons, mon)),
+        ExitStmt::MonBreak { mon } => mon_line(Op::ExitMonBreak, name_at(&names.mons, mon)),
+        ExitStmt::Notify { cond } => cond_line(Op::ExitNotify, name_at(&names.conds, cond)),
+        ExitStmt::Broadcast { cond } => cond_line(Op::ExitBroadcast, name_at(&names.conds, cond)),
+        ExitStmt::Reply { to, text } => {
+            with_who(
+                names,
+                to,
+                text_line(Op::ExitReply, texts.bytes(text as usize)),
+            )
+        }
+        ExitStmt::Resume { who } => with_who(names, who, blank(Op::ExitResume)),
+        ExitStmt::SetExit { code } => number_line(Op::ExitSetExit, code),
+        ExitStmt::Note { text } => text_line(Op::ExitNote, texts.bytes(text as usize)),
+    }
+}
+
+fn handle_line<'s>(pattern: Pattern, func: Func, arg: u32) -> Phrase<'s>
+    ensures { result ≡ plain_line empty_names [] (a_stmt.Handle pattern func arg) }
+{
+    let mut line = number_line(Op::Handle, arg);
+    line.pattern = pattern;
+    line.func = func;
+    line
+}
+
+fn skip_line<'s>(test: Test) -> Phrase<'s>
+    ensures { result ≡ plain_line empty_names [] (a_stmt.Skip test) }
+{
+    let mut line = blank(Op::Skip);
+    line.test = test;
+    line
+}
+
+// A statement that names nothing, or one that sets an exit procedure.
+fn plain_line<'s>(names: &'s Names, texts: &'s Texts, stmt: Stmt) -> Phrase<'s>
+    ensures { result ≡ plain_line names.now texts.now stmt }
+{
+    match stmt {
+        Stmt::Resched { prio } => number_line(Op::Resched, prio),
+        Stmt::SetMaxPri { prio } => number_line(Op::SetMaxPri, prio),
+        Stmt::Me => blank(Op::Me),
+        Stmt::SetExit { code } => number_line(Op::SetExit, code),
+        Stmt::GetExit => blank(Op::GetExit),
+        Stmt::PodExit { code } => number_line(Op::PodExit, code),
+        Stmt::Threads => blank(Op::Threads),
+        Stmt::Senders => blank(Op::Senders),
+        Stmt::Receivers => blank(Op::Receivers),
+        Stmt::Monitors => blank(Op::Monitors),
+        Stmt::Conds => blank(Op::Conds),
+        Stmt::Return => blank(Op::Return),
+        Stmt::Handle { pattern, func, arg } => handle_line(pattern, func, arg),
+        Stmt::Unhandle => blank(Op::Unhandle),
+        Stmt::Raise { pattern } => number_line(Op::Raise, pattern),
+        Stmt::ExcNotify { pattern } => number_line(Op::ExcNotify, pattern),
+        Stmt::Bound { pattern } => number_line(Op::Bound, pattern),
+        Stmt::UniqPatt => blank(Op::UniqPatt),
+        Stmt::OnExit { exit } => exit_line(names, texts, exit),
+        Stmt::Agents => blank(Op::Agents),
+        Stmt::Say { text } => text_line(Op::Say, texts.bytes(text as usize)),
+        Stmt::Skip { test } => skip_line(test),
+        _ => blank(Op::Again),
+    }
+}
+
+fn cv_create_line<'s>(names: &'s Names, cond: u32, mon: u32) -> Phrase<'s>
+    ensures { result ≡ lock_line names.now [] (a_stmt.CvCreate cond mon) }
+{
+    let mut line = cond_line(Op::CvCreate, name_at(&names.conds, cond));
+    line.monitor = name_at(&names.mons, mon);
+    line
+}
+
+// The same, or a statement that names a monitor or a condition.
+fn lock_line<'s>(names: &'s Names, texts: &'s Texts, stmt: Stmt) -> Phrase<'s>
+    ensures { result ≡ lock_line names.now texts.now stmt }
+{
+    match stmt {
+        Stmt::MonCreate { mon } => mon_line(Op::MonCreate, name_at(&names.mons, mon)),
+        Stmt::CvCreate { cond, mon } => cv_create_line(names, cond, mon),
+        Stmt::MonDestroy { mon } => mon_line(Op::MonDestroy, name_at(&names.mons, mon)),
+        Stmt::Enter { mon } => mon_line(Op::Enter, name_at(&names.mons, mon)),
+        Stmt::CondEnter { mon } => mon_line(Op::CondEnter, name_at(&names.mons, mon)),
+        Stmt::MonExit { mon } => mon_line(Op::MonExit, name_at(&names.mons, mon)),
+        Stmt::MonBreak { mon } => mon_line(Op::MonBreak, name_at(&names.mons, mon)),
+        Stmt::MonWaiters { mon } => mon_line(Op::MonWaiters, name_at(&names.mons, mon)),
+        Stmt::CvDestroy { cond } => cond_line(Op::CvDestroy, name_at(&names.conds, cond)),
+        Stmt::Wait { cond } => cond_line(Op::Wait, name_at(&names.conds, cond)),
+        Stmt::Notify { cond } => cond_line(Op::Notify, name_at(&names.conds, cond)),
+        Stmt::Broadcast { cond } => cond_line(Op::Broadcast, name_at(&names.conds, cond)),
+        Stmt::CvSend { cond, who } => {
+            let line = cond_line(Op::CvSend, name_at(&names.conds, cond));
+            with_who(names, who, line)
+        }
+        Stmt::CvWaiters { cond } => cond_line(Op::CvWaiters, name_at(&names.conds, cond)),
+        _ => plain_line(names, texts, stmt),
+    }
+}
+
+fn create_line<'s>(names: &'s Names, name: u32, proc: u32, prio: u32, flags: Flags) -> Phrase<'s>
+    ensures { result ≡ stmt_line names.now [] (a_stmt.Create name proc prio flags) }
+{
+    let mut line = number_line(Op::Create, prio);
+    line.thread = name_at(&names.threads, name);
+    line.procedure = name_at(&names.procs, proc);
+    line.flags = flags;
+    line
+}
+
+fn agent_line<'s>(names: &'s Names, name: u32, event: u32) -> Phrase<'s>
+    ensures { result ≡ stmt_line names.now [] (a_stmt.Agent name event) }
+{
+    let mut line = number_line(Op::Agent, event);
+    line.thread = name_at(&names.threads, name);
+    line
+}
+
+fn send_line<'s>(names: &'s Names, to: Who, room: u8, text: &'s [u8]) -> Phrase<'s>
+    requires { IsTrue (is_text text.now) }
+    ensures { result ≡ with_who names.now to (record (text_line Op.Send text.now) { room = room }) }
+{
+    let mut line = text_line(Op::Send, text);
+    line.room = room;
+    with_who(names, to, line)
+}
+
+fn receive_line<'s>(names: &'s Names, from: Option<Who>, mode: Mode) -> Phrase<'s>
+    ensures { result ≡ stmt_line names.now [] (a_stmt.Recv from mode) }
+{
+    let mut line = blank(Op::Recv);
+    line.mode = mode;
+    with_source(names, from, line)
+}
+
+// The line of a statement.
+fn stmt_line<'s>(names: &'s Names, texts: &'s Texts, stmt: Stmt) -> Phrase<'s>
+    ensures { result ≡ stmt_line names.now texts.now stmt }
+{
+    match stmt {
+        Stmt::Create {
+            name,
+            proc,
+            prio,
+            flags,
+        } => create_line(names, name, proc, prio, flags),
+        Stmt::Destroy { who } => with_who(names, who, blank(Op::Destroy)),
+        Stmt::Ping { who } => with_who(names, who, blank(Op::Ping)),
+        Stmt::Yield { to } => with_who(names, to, blank(Op::Yield)),
+        Stmt::Suspend { who } => with_who(names, who, blank(Op::Suspend)),
+        Stmt::Resume { who } => with_who(names, who, blank(Op::Resume)),
+        Stmt::Join { who } => with_who(names, who, blank(Op::Join)),
+        Stmt::SetPri { who, prio } => with_who(names, who, number_line(Op::SetPri, prio)),
+        Stmt::Send { to, room, text } => send_line(names, to, room, texts.bytes(text as usize)),
+        Stmt::Recv { from, mode } => receive_line(names, from, mode),
+        Stmt::Reply { to, text } => {
+            with_who(names, to, text_line(Op::Reply, texts.bytes(text as usize)))
+        }
+        Stmt::CallProc { proc } => proc_line(Op::CallProc, name_at(&names.procs, proc)),
+        Stmt::Agent { name, event } => agent_line(names, name, event),
+        _ => lock_line(names, texts, stmt),
+    }
+}
+
+// ---- The sections of a script.
+
+fn add_limit_line(alloc: Global, out: &mut Vec<u8>, births: u64) -> Result<(), NoMemory>
+    ensures { OnOk result (out.new.items ≡ out.old.items ++ (codes "limit births " ++ (decimal births ++ codes "\n"))) }
+{
+    add_text(out, b"limit births ")?;
+    add_number(alloc, out, births)?;
+    add_text(out, b"\n")
+}
+
+#[tactic(auto, using(crate::proofs::SectionLaws::limit_none, crate::proofs::SectionLaws::limit_some))]
+fn add_limit(alloc: Global, out: &mut Vec<u8>, births: u64) -> Result<(), NoMemory>
+    ensures { OnOk result (out.new.items ≡ out.old.items ++ spelling (limit_lines births)) }
+{
+    if births == 4_294_967_295 {
+        Ok(())
+    } else {
+        add_limit_line(alloc, out, births)
+    }
+}
+
+// A client and its event.
+fn add_client(alloc: Global, out: &mut Vec<u8>, client: u64, event: u8) -> Result<(), NoMemory>
+    ensures { OnOk result (out.new.items ≡ out.old.items ++ ended (phrase_text (client_line client event))) }
+{
+    add_text(out, b"client ")?;
+    add_number(alloc, out, client)?;
+    add_text(out, b" ")?;
+    add_number(alloc, out, u64::from(event))?;
+    add_text(out, b"\n")
+}
+
+fn add_clients(alloc: Global, out: &mut Vec<u8>, events: &[u8]) -> Result<(), NoMemory>
+    ensures { OnOk result (out.new.items ≡ out.old.items ++ spelling (client_lines 0 events.now)) }
+{
+    for (client, event) in events.iter().enumerate() {
+        add_client(alloc, out, client as u64, *event)?;
+    }
+    Ok(())
+}
+
+fn session_line<'s>(line: Phrase<'s>, event: u8, store: &'s [u8]) -> Phrase<'s>
+    ensures { result ≡ record line.entry { event = event; thread = store.now } }
+{
+    let mut line = line;
+    line.event = event;
+    line.thread = store;
+    line
+}
+
+fn native_line<'s>(names: &'s Names, native: Native) -> Phrase<'s>
+    ensures { result ≡ native_line names.now native }
+{
+    let line = proc_line(Op::Native, name_at(&names.procs, native.name));
+    match native.kind {
+        NativeKind::Store => line,
+        NativeKind::Session { event, store } => {
+            session_line(line, event, name_at(&names.threads, store))
+        }
+    }
+}
+
+fn add_natives(
+    alloc: Global,
+    out: &mut Vec<u8>,
+    names: &Names,
+    natives: &[Native],
+) -> Result<(), NoMemory>
+    ensures { OnOk result (out.new.items ≡ out.old.items ++ spelling (map (native_line names.now) natives.now)) }
+{
+    for native in natives {
+        add_line(alloc, out, &native_line(names, *native))?;
+    }
+    Ok(())
+}
+
+fn add_statements(
+    alloc: Global,
+    out: &mut Vec<u8>,
+    names: &Names,
+    texts: &Texts,
+    stmts: &[Stmt],
+) -> Result<(), NoMemory>
+    ensures { OnOk result (out.new.items ≡ out.old.items ++ spelling (map (stmt_line names.now texts.now) stmts.now)) }
+{
+    for stmt in stmts {
+        add_line(alloc, out, &stmt_line(names, texts, *stmt))?;
+    }
+    Ok(())
+}
+
+fn add_procs(
+    alloc: Global,
+    out: &mut Vec<u8>,
+    names: &Names,
+    texts: &Texts,
+    procs: &[Proc],
+) -> Result<(), NoMemory>
+    ensures { OnOk result (out.new.items ≡ out.old.items ++ spelling (flat_map (proc_lines names.now texts.now) procs.now)) }
+{
+    for proc in procs {
+        let line = proc_line(Op::Proc, name_at(&names.procs, proc.name));
+        add_line(alloc, out, &line)?;
+        add_statements(alloc, out, names, texts, proc.stmts.as_slice())?;
+    }
+    Ok(())
+}
+
+fn post_line<'s>(texts: &'s Texts, post: Post) -> Phrase<'s>
+    ensures { result ≡ post_line texts.now post }
+{
+    let mut line = text_line(Op::Post, texts.bytes(post.text as usize));
+    line.client = post.client;
+    line
+}
+
+fn add_posts(
+    alloc: Global,
+    out: &mut Vec<u8>,
+    texts: &Texts,
+    posts: &[Post],
+) -> Result<(), NoMemory>
+    ensures { OnOk result (out.new.items ≡ out.old.items ++ spelling (map (post_line texts.now) posts.now)) }
+{
+    for post in posts {
+        add_line(alloc, out, &post_line(texts, *post))?;
+    }
+    Ok(())
+}
+
+/// The text of a script. Where some text spells the script, this one does too, so it is read as it was.
+#[tactic(auto, unfolding(crate::specs::Printing::printed))]
+pub fn print_script(alloc: Global, s: &Script) -> Result<Vec<u8>, NoMemory>
+    ensures { IfOk result (λ text. text.items ≡ printed s.now) }
+{
+    let mut out = Vec::new(alloc);
+    add_line(alloc, &mut out, &number_line(Op::Lwp, 1))?;
+    add_line(alloc, &mut out, &number_line(Op::Pod, s.maxpri))?;
+    add_limit(alloc, &mut out, s.births)?;
+    add_clients(alloc, &mut out, s.clients.as_slice())?;
+    add_natives(alloc, &mut out, &s.names, s.natives.as_slice())?;
+    add_procs(alloc, &mut out, &s.names, &s.texts, s.procs.as_slice())?;
+    add_posts(alloc, &mut out, &s.texts, s.posts.as_slice())?;
+    Ok(out)
+}
