@@ -16,7 +16,7 @@ use Rattle.pod_runner.specs.Trace.{left_from}
 use Rattle.pod_runner.specs.declared.session.Took.{Took}
 use Rattle.lwp_types.specs.Agents.{armed}
 use Rattle.script_text.specs.Script.{lines_posted}
-use Rattle.script_text.specs.declared.script.Halt.{Halt}
+use Rattle.trace_text.specs.declared.ends.Halt.{Halt}
 use Rattle.script_text.specs.declared.script.Script.{Script}
 use Rattle.std.specs.List.{AllByRecursion, count_by, range_with_len}
 use Rattle.std.proofs.Common.{Bool, List, None, Option, Some, [], ap, append_assoc, arith, cond, eqb, false, fold, get_or-set_other, get_or-set_same, length, length-append, refl, slice_get, subst, suc, sym, take, true, zero, ℕ, ⊎_elim, ◌++◌, ◌+◌, ◌<◌, ◌∙◌, ◌∷◌, ◌≡◌, ◌≢◌, ◌≤◌}

@@ -29,15 +29,15 @@ use Rattle.pod_runner.specs.Session as Sessions
 use Rattle.pod_runner.specs.Trace.{left_from, lines, made_lines, tail, tail_by, trace}
 use Rattle.pod_runner.specs.declared.session.Took.{Took}
 use Rattle.script_text.specs.Grammar.{Spells}
-use Rattle.script_text.specs.Lines.{end_text}
+use Rattle.trace_text.specs.Lines.{end_text}
 use Rattle.script_text.specs.Spelling.{Gives, verdict}
 use Rattle.script_text.specs.declared.reason.ReadErr.{ReadErr}
 use Rattle.script_text.specs.declared.reason.ReadErr.TheVariants as err
 use Rattle.script_text.proofs.ScriptLaws.{one_script, verdict_long}
 use Rattle.script_text.specs.declared.reason.Reason.{Reason}
 use Rattle.script_text.specs.Script.{lines_posted, params_of, proc_names}
-use Rattle.script_text.specs.declared.script.Halt.{Halt}
-use Rattle.script_text.specs.declared.script.Halt.TheVariants as halts
+use Rattle.trace_text.specs.declared.ends.Halt.{Halt}
+use Rattle.trace_text.specs.declared.ends.Halt.TheVariants as halts
 use Rattle.script_text.specs.declared.script.Script.{Script}
 use Rattle.std.specs.Prelude.{if◌then◌else◌, nat_le}
 use Rattle.std.proofs.lemmas.Bool.{cases_lt, lt-ltb}

@@ -4,8 +4,8 @@ use Rattle.lwp_serve.specs.declared.session.Session.{Session}
 use Rattle.lwp_serve.specs.declared.session.SessionEnd.{SessionEnd}
 use Rattle.lwp_serve.specs.declared.session.SessionEnd.TheVariants as end
 use Rattle.pod_runner.specs.declared.session.Took.{Took}
-use Rattle.script_text.specs.declared.script.Halt.{Halt}
-use Rattle.script_text.specs.declared.script.Halt.TheVariants as halt
+use Rattle.trace_text.specs.declared.ends.Halt.{Halt}
+use Rattle.trace_text.specs.declared.ends.Halt.TheVariants as halt
 use Rattle.std.specs.Prelude.{List, Option, None, Some, map, take, ℕ, ◌≡◌}
 
 -- the exit status of the program, by the end

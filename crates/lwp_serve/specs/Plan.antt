@@ -10,9 +10,9 @@ use Rattle.lwp_types.specs.Streams.{AppendsPrefix, Rose, appended}
 use Rattle.script_text.specs.Grammar.{Spells}
 use Rattle.script_text.specs.Spelling.{verdict}
 use Rattle.script_text.specs.declared.reason.Reason.{Reason}
-use Rattle.script_text.specs.Lines.{end_text}
-use Rattle.script_text.specs.declared.script.Halt.{Halt}
-use Rattle.script_text.specs.declared.script.Halt.TheVariants as halts
+use Rattle.trace_text.specs.Lines.{end_text}
+use Rattle.trace_text.specs.declared.ends.Halt.{Halt}
+use Rattle.trace_text.specs.declared.ends.Halt.TheVariants as halts
 use Rattle.script_text.specs.declared.script.Script.{Script}
 use Rattle.event_gate.specs.History.{IsClientHistory}
 use Rattle.lwp_types.specs.declared.call.Line.{Line}

@@ -8,7 +8,7 @@ use Rattle.pod_runner.specs.Session.{Setting}
 use Rattle.pod_runner.specs.Trace.{trace}
 use Rattle.pod_runner.specs.declared.session.Took.{Took}
 use Rattle.script_text.specs.Script.{lines_posted, params_of, proc_names}
-use Rattle.script_text.specs.declared.script.Halt.{Halt}
+use Rattle.trace_text.specs.declared.ends.Halt.{Halt}
 use Rattle.script_text.specs.declared.script.Script.{Script}
 use Rattle.std.specs.Prelude.{List, Option, length, ℕ}
 

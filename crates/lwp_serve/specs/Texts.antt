@@ -20,7 +20,6 @@ reason_text reason.Post = codes "Post"
 reason_text reason.Again = codes "Again"
 reason_text reason.Statement = codes "Statement"
 reason_text reason.Missing = codes "Missing"
-reason_text reason.Unbuilt = codes "Unbuilt"
 
 -- what is said of an end, on a line of its own; nothing, where the pod has ended or no more calls are made
 abbrev pub fault_text : SessionEnd → List ℕ

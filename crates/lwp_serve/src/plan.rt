@@ -15,8 +15,9 @@ use crate::source::{ReadFailure, read_all};
 use event_gate::ListGate;
 use lwp_types::{Env, NoMemory, PodParams, Sink, Source};
 use pod_runner::{Run, RunErr, run, write_all};
-use script_text::{Halt, ReadErr, Script, ScriptReader, end_lines};
+use script_text::{ReadErr, Script, ScriptReader};
 use std::alloc::Global;
+use trace_text::{Halt, end_lines};
 
 // A run of a script, before its first call.
 fn start<'s>(

@@ -4,9 +4,10 @@ ghost use Rattle.lwp_serve.specs.Outcome.{end_of, status_of};
 
 use lwp_types::Text;
 use pod_runner::Took;
-use script_text::{Halt, Reason};
+use script_text::Reason;
 use std::alloc::Global;
 use std::marker::Model;
+use trace_text::Halt;
 
 /// A line that was taken: how many calls had been made by then, its event, and whose line it was.
 #[derive(Clone, Copy)]

@@ -25,7 +25,6 @@ fn reason_text(reason: Reason) -> &'static [u8]
         Reason::Again => b"Again",
         Reason::Statement => b"Statement",
         Reason::Missing => b"Missing",
-        Reason::Unbuilt => b"Unbuilt",
     }
 }
 

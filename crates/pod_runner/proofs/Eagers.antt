@@ -9,8 +9,8 @@ use Rattle.lwp_types.specs.Agents.{armed}
 use Rattle.lwp_types.specs.Choice.{choice}
 use Rattle.lwp_types.specs.State.{State}
 use Rattle.lwp_types.specs.declared.call.Line.{Line}
-use Rattle.script_text.specs.declared.script.Halt.{Halt}
-use Rattle.script_text.specs.declared.script.Halt.TheVariants as halts
+use Rattle.trace_text.specs.declared.ends.Halt.{Halt}
+use Rattle.trace_text.specs.declared.ends.Halt.TheVariants as halts
 use Rattle.pod_runner.specs.Eager.{IsFirstPart, Plan, Planned, advanced, boundary, finished, has_choice, offered, offered_by, one_call, plan_over, round, state_of, taken_line, to_the_end, took_of}
 use Rattle.pod_runner.specs.Over.{can_take, events, halt_if, is_wanted, over}
 use Rattle.pod_runner.specs.Session.{move, taken}

@@ -10,8 +10,8 @@ use Rattle.pod_runner.specs.Eager.{Plan, Planned, advanced, boundary, has_choice
 use Rattle.pod_runner.specs.Over.{can_take, events, halt_if, is_wanted, over}
 use Rattle.pod_runner.specs.Phase.{phase_by, phase_of}
 use Rattle.pod_runner.specs.declared.phase.Phase.TheVariants as phase
-use Rattle.script_text.specs.declared.script.Halt.{Halt}
-use Rattle.script_text.specs.declared.script.Halt.TheVariants as halts
+use Rattle.trace_text.specs.declared.ends.Halt.{Halt}
+use Rattle.trace_text.specs.declared.ends.Halt.TheVariants as halts
 use Rattle.pod_runner.proofs.Eagers.{boundary-or}
 
 -- in phase Turn a session isn't over, and somebody may run

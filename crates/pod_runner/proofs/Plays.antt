@@ -4,7 +4,7 @@ use Rattle.std.specs.Prelude.{Option, reverse, option_map, IsTrue, MatchBool, â—
 use Rattle.std.proofs.lemmas.List.{reverse-append}
 use Rattle.std.proofs.lemmas.Bool.{eq-eqb, eqb-true, ne_eqb}
 use Rattle.lwp_types.specs.declared.call.Effect.{Effect}
-use Rattle.script_text.specs.Lines.{step_lines}
+use Rattle.trace_text.specs.Lines.{step_lines}
 use Rattle.pod_runner.specs.Due.{AllDue, IsDefined, TakeDue, is_call_due, is_take_due}
 use Rattle.pod_runner.specs.Play.{LastBy, play, played, with_take}
 use Rattle.pod_runner.specs.Session.{Made, Session, Setting, call_step, opening_session, take_step}

@@ -18,8 +18,8 @@ use Rattle.pod_runner.specs.Session.{Made, Move, Session, call_step, extended, t
 use Rattle.pod_runner.specs.Play.{play}
 use Rattle.pod_runner.specs.Trace.{lines}
 use Rattle.pod_runner.specs.declared.phase.Phase.TheVariants as phase
-use Rattle.script_text.specs.declared.script.Halt.{Halt}
-use Rattle.script_text.specs.declared.script.Halt.TheVariants as halts
+use Rattle.trace_text.specs.declared.ends.Halt.{Halt}
+use Rattle.trace_text.specs.declared.ends.Halt.TheVariants as halts
 use Rattle.pod_runner.specs.declared.phase.RunErr.{RunErr}
 use Rattle.pod_runner.specs.declared.phase.RunErr.TheVariants as fails
 use Rattle.pod_runner.specs.declared.session.Took.{Took}

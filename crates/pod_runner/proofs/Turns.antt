@@ -16,7 +16,7 @@ use Rattle.pod_runner.specs.Run.{AppendsCut, Broke, Tells}
 use Rattle.pod_runner.specs.Trace.{lines}
 use Rattle.lwp_types.specs.Agents.{armed}
 use Rattle.lwp_types.specs.Streams.{Rose, appended}
-use Rattle.script_text.specs.Lines.{step_lines}
+use Rattle.trace_text.specs.Lines.{step_lines}
 use Rattle.pod_runner.proofs.Appends.{cut_on, writes_on}
 use Rattle.pod_runner.specs.declared.phase.Phase.TheVariants as phase
 use Rattle.pod_runner.specs.declared.session.Took.{Took}

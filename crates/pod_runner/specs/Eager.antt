@@ -5,7 +5,7 @@ use Rattle.lwp_types.specs.Choice.{choice}
 use Rattle.lwp_types.specs.State.{State}
 use Rattle.lwp_types.specs.declared.call.Line.{Line}
 use Rattle.pod_runner.specs.Over.{events, over}
-use Rattle.script_text.specs.declared.script.Halt.{Halt}
+use Rattle.trace_text.specs.declared.ends.Halt.{Halt}
 use Rattle.pod_runner.specs.Session.{Made, Session, Setting, call_step, opening_session, take_step}
 use Rattle.pod_runner.specs.declared.session.Took.{Took}
 use Rattle.std.specs.List.{fold}

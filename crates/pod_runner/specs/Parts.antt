@@ -2,7 +2,7 @@
 use Rattle.lwp_types.specs.declared.call.Line.{Line}
 use Rattle.pod_runner.specs.Session.{Live, Move}
 use Rattle.pod_runner.specs.declared.parts.Parts.{Parts}
-use Rattle.script_text.specs.Lines.{step_lines}
+use Rattle.trace_text.specs.Lines.{step_lines}
 use Rattle.std.specs.Prelude.{List, Option, ℕ, ◌≡◌}
 
 -- how the session stands that these are

@@ -3,8 +3,8 @@ use Rattle.lwp_types.specs.Choice.{choice}
 use Rattle.lwp_types.specs.State.{State}
 use Rattle.pod_runner.specs.declared.phase.Phase.{Phase}
 use Rattle.pod_runner.specs.declared.phase.Phase.TheVariants.{Ended, Idle, Spent, Turn}
-use Rattle.script_text.specs.declared.script.Halt.{Halt}
-use Rattle.script_text.specs.declared.script.Halt.TheVariants as halt
+use Rattle.trace_text.specs.declared.ends.Halt.{Halt}
+use Rattle.trace_text.specs.declared.ends.Halt.TheVariants as halt
 use Rattle.std.specs.Prelude.{None, Option, Some, if◌then◌else◌, nat_lt, ℕ}
 
 -- while the pod goes on: by the calls allowed, the calls made, and who may run

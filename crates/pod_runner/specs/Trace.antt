@@ -2,8 +2,8 @@
 use Rattle.event_gate.specs.Shelves.{Shelf, left_of_client}
 use Rattle.pod_runner.specs.Eager.{Plan, Planned, plan_over}
 use Rattle.pod_runner.specs.Session.{Made}
-use Rattle.script_text.specs.Lines.{end_text, step_lines}
-use Rattle.script_text.specs.declared.script.Halt.{Halt}
+use Rattle.trace_text.specs.Lines.{end_text, step_lines}
+use Rattle.trace_text.specs.declared.ends.Halt.{Halt}
 use Rattle.std.specs.List.{flat_map}
 use Rattle.std.specs.Prelude.{List, None, Option, Some, [], option_map, ℕ, ◌++◌, ◌+◌, ◌∷◌}
 

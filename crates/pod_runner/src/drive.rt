@@ -10,7 +10,7 @@ use crate::playing::Run;
 use crate::{Phase, RunErr};
 use event_gate::Gate;
 use lwp_types::{Body, Program, Sink};
-use script_text::Halt;
+use trace_text::Halt;
 
 // One line of an event is taken, if one is left and can be delivered.
 fn serve<B: Body, P: Program<B>, G: Gate, K: Sink>(

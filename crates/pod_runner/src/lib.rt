@@ -4,7 +4,7 @@
 //! session of the definition (`specs/Session.antt`, `specs/Play.antt`): each `turn` is one more call and each `offer` one more take,
 //! whose lines are written before it returns. `run` takes lines from a gate, each as soon as it can be delivered, and goes on until
 //! the session has ended (`specs/Eager.antt`, `specs/Over.antt`). It stands on the pod of `lwp_calls`, the gates of `event_gate` and
-//! the lines of `script_text`, for every kind of body, program, gate and sink.
+//! the lines of `trace_text`, for every kind of body, program, gate and sink.
 #![tactic(auto)]
 
 mod drive;

@@ -4,9 +4,9 @@ use lwp_types::{
     Answer, Body, Call, Effect, Effects, Env, Line, MemSink, NoMemory, PodParams, Program, Text,
     Tid,
 };
-use script_text::Halt;
 use std::alloc::Global;
 use std::test::Fail;
+use trace_text::Halt;
 
 // Makes an agent for event 5, and then returns.
 #[derive(Drop)]

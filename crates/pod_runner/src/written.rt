@@ -2,11 +2,11 @@
 ghost use Rattle.std.specs.Prelude.{◌≡◌, ◌++◌, [], IfOk, OnOk, OnErr, option_copied};
 ghost use Rattle.lwp_types.specs.Streams.{appended, HasCause};
 ghost use Rattle.pod_runner.specs.Run.{AppendsCut};
-ghost use Rattle.script_text.specs.Lines.{step_lines};
+ghost use Rattle.trace_text.specs.Lines.{step_lines};
 
 use lwp_types::{Effects, Failed, Line, NoMemory, Sink, Text};
-use script_text::trace_line;
 use std::alloc::Global;
+use trace_text::add_step_lines;
 
 /// Writes the bytes, or fails after some of them, before the last.
 pub fn write_all<K: Sink>(sink: &mut K, bytes: &[u8]) -> Result<(), Failed>
@@ -31,9 +31,6 @@ pub fn lines_of(
     ensures { IfOk result (λ out. out.items ≡ step_lines names.now (option_copied took.entry) effects.now) }
 {
     let mut out = Vec::new(alloc);
-    for i in 0..effects.len() {
-        let line = trace_line(alloc, effects.get(i), took, names)?;
-        out.extend_from_slice(&line)?;
-    }
+    add_step_lines(&mut out, effects, took, names)?;
     Ok(out)
 }

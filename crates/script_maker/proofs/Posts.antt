@@ -17,7 +17,7 @@ use Rattle.script_text.specs.declared.reader.Declared.{Declared}
 use Rattle.script_text.specs.declared.table.Role.TheVariants as role
 use Rattle.script_text.specs.Phrase.{Phrase}
 use Rattle.script_text.specs.Words.{value_after}
-use Rattle.script_text.specs.Lines.{spaced}
+use Rattle.trace_text.specs.Lines.{spaced}
 use Rattle.script_text.specs.Grammar.{spelling, IsLine, follows}
 use Rattle.script_text.specs.Meaning.{raised}
 use Rattle.script_maker.specs.Draws.{next, drawn}

@@ -29,7 +29,7 @@ use Rattle.script_text.specs.Phrase.{Phrase}
 use Rattle.script_text.specs.Words.{is_lowercase, is_reserved, is_name, is_name_byte, number_at, reach}
 use Rattle.script_text.specs.Table.{op_in, op_at, ops, slots_of, key_of, key_length, rows_under}
 use Rattle.lwp_types.specs.TextFields.{is_text}
-use Rattle.script_text.specs.Lines.{spaced, flags_text, mode_text, pattern_text, func_text}
+use Rattle.trace_text.specs.Lines.{spaced, flags_text, mode_text, pattern_text, func_text}
 use Rattle.script_text.specs.Grammar.{who_text, built_text, test_text, WhoFits, SourceFits, TestFits, PatternFits, IsEvent, BuiltFits, slot_text, phrase_text, SlotFits, IsPhrase, blank, copy_slot, copy_slots, needed, IsNeeded}
 use Rattle.script_text.specs.Reading.{flags_by, all_flags, flags_in, flags_at, within_room, room_at, client_at, event_at, pattern_at, func_at, who_at, source_at, name_in, mode_at, value_at, test_at, spaced_name, session_at, built_at, fill_word, fill_text, fill_test, fill_built, fill_spaced, slot_at, fill, phrase_at}
 use Rattle.script_text.proofs.WordLemmas.{both, Stops, reach-append, number_again, number_found, own}

@@ -29,7 +29,7 @@ use Rattle.script_text.specs.declared.table.Whom.TheVariants as whom
 use Rattle.script_text.specs.Phrase.{Phrase}
 use Rattle.script_text.specs.Words.{is_name, reach}
 use Rattle.script_text.specs.Table.{key_of, role_of, slots_of, starts}
-use Rattle.script_text.specs.Lines.{spaced, flags_text, mode_text, pattern_text, func_text}
+use Rattle.trace_text.specs.Lines.{spaced, flags_text, mode_text, pattern_text, func_text}
 use Rattle.script_text.specs.Grammar.{who_text, built_text, test_text, SourceFits, TestFits, PatternFits, BuiltFits, slot_text, phrase_text, SlotFits, IsPhrase, declares}
 use Rattle.script_text.specs.Reading.{flags_by, first_word, spaced_word, phrase_at}
 use Rattle.script_text.specs.Spelling.{word_reason, noted}

@@ -23,7 +23,7 @@ use Rattle.script_text.specs.declared.script.Test.TheVariants as test
 use Rattle.script_text.specs.Phrase.{Phrase}
 use Rattle.script_text.specs.Words.{is_name}
 use Rattle.script_text.specs.Table.{key_of, role_of, slots_of, starts, starts_any}
-use Rattle.script_text.specs.Lines.{spaced, flags_text, mode_text, pattern_text, func_text}
+use Rattle.trace_text.specs.Lines.{spaced, flags_text, mode_text, pattern_text, func_text}
 use Rattle.script_text.specs.Meaning.{contains_name, enter, draft_of, script_of}
 
 -- ---- A line.

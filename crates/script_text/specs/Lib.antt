@@ -1,5 +1,4 @@
 pub mod Script
-pub mod Lines
 pub mod Words
 pub mod Table
 pub mod Phrase

@@ -16,7 +16,7 @@ use Rattle.lwp_types.specs.declared.call.Func.{Func}
 use Rattle.lwp_types.specs.declared.call.Func.TheVariants as func
 use Rattle.lwp_types.specs.declared.call.Pattern.{Pattern}
 use Rattle.lwp_types.specs.declared.call.Pattern.TheVariants as pattern
-use Rattle.script_text.specs.Lines.{flags_text}
+use Rattle.trace_text.specs.Lines.{flags_text}
 use Rattle.script_text.specs.Words.{is_name, number_at, reach}
 use Rattle.script_text.specs.Table.{op_at, slots_of, key_length}
 use Rattle.script_text.specs.Grammar.{blank}

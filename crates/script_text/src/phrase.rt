@@ -3,7 +3,7 @@ ghost use Rattle.std.specs.Prelude.{◌≡◌, ℕ, List, [], drop, take, length
 ghost use Rattle.script_text.specs.Words.{is_name};
 ghost use Rattle.script_text.specs.Table.{key_length};
 ghost use Rattle.script_text.specs.Grammar.{blank};
-ghost use Rattle.script_text.specs.Lines.{flags_text};
+ghost use Rattle.trace_text.specs.Lines.{flags_text};
 ghost use Rattle.script_text.specs.Reading.{flags_by, flags_in, flags_at, room_at, client_at, event_at, mode_at, pattern_at, func_at, value_at, test_at, name_in, who_at, source_at, session_at, built_at, fill_word, fill_text, fill_test, fill_built, slot_at, fill, said_by, phrase_at};
 
 use crate::Test;

@@ -9,15 +9,13 @@ ghost use Rattle.script_text.specs.Printing.{number_line, proc_line, mon_line, c
 ghost use Rattle.script_text.specs.Track.{name_at};
 ghost use Rattle.script_text.specs.declared.script.Stmt.TheVariants as a_stmt;
 
-use crate::lines::{
-    add_flags, add_number, add_pattern, add_spaced, add_text, func_word, mode_word,
-};
 use crate::names::NameList;
 use crate::phrase::{Phrase, blank};
 use crate::table::{Kind, Op, Whom};
 use crate::{ExitStmt, Names, Native, NativeKind, Post, Proc, Script, Stmt, Test, Texts, Who};
 use lwp_types::{Flags, Func, Mode, NoMemory, Pattern};
 use std::alloc::Global;
+use trace_text::{add_flags, add_number, add_pattern, add_spaced, add_text, func_word, mode_word};
 
 // ---- A line by its row.
 
@@ -34,7 +32,7 @@ fn add_whom(out: &mut Vec<u8>, whom: Whom, name: &[u8]) -> Result<(), NoMemory>
     }
 }
 
-fn add_test(alloc: Global, out: &mut Vec<u8>, test: Test) -> Result<(), NoMemory>
+fn add_test(out: &mut Vec<u8>, test: Test) -> Result<(), NoMemory>
     ensures { OnOk result (out.new.items ≡ out.old.items ++ test_text test) }
 {
     match test {
@@ -43,31 +41,26 @@ fn add_test(alloc: Global, out: &mut Vec<u8>, test: Test) -> Result<(), NoMemory
         Test::Caught => add_text(out, b"caught"),
         Test::Value(value) => {
             add_text(out, b"is ")?;
-            add_number(alloc, out, u64::from(value))
+            add_number(out, u64::from(value))
         }
     }
 }
 
 // What a built-in procedure is.
-fn add_built(alloc: Global, out: &mut Vec<u8>, event: u8, name: &[u8]) -> Result<(), NoMemory>
+fn add_built(out: &mut Vec<u8>, event: u8, name: &[u8]) -> Result<(), NoMemory>
     ensures { OnOk result (out.new.items ≡ out.old.items ++ built_text event name.now) }
 {
     if event == 0 {
         return add_text(out, b"store");
     }
     add_text(out, b"session ")?;
-    add_number(alloc, out, u64::from(event))?;
+    add_number(out, u64::from(event))?;
     add_text(out, b" ")?;
     add_text(out, name)
 }
 
 // A slot behind its space.
-fn add_word(
-    alloc: Global,
-    out: &mut Vec<u8>,
-    phrase: &Phrase<'_>,
-    kind: Kind,
-) -> Result<(), NoMemory>
+fn add_word(out: &mut Vec<u8>, phrase: &Phrase<'_>, kind: Kind) -> Result<(), NoMemory>
     ensures { OnOk result (out.new.items ≡ out.old.items ++ slot_text phrase.now kind) }
 {
     if kind == Kind::Text {
@@ -80,41 +73,36 @@ fn add_word(
         Kind::Procedure => add_text(out, phrase.procedure),
         Kind::Monitor => add_text(out, phrase.monitor),
         Kind::Condition => add_text(out, phrase.condition),
-        Kind::Number => add_number(alloc, out, u64::from(phrase.number)),
-        Kind::Room => add_number(alloc, out, u64::from(phrase.room)),
-        Kind::Client => add_number(alloc, out, u64::from(phrase.client)),
-        Kind::Event => add_number(alloc, out, u64::from(phrase.event)),
+        Kind::Number => add_number(out, u64::from(phrase.number)),
+        Kind::Room => add_number(out, u64::from(phrase.room)),
+        Kind::Client => add_number(out, u64::from(phrase.client)),
+        Kind::Event => add_number(out, u64::from(phrase.event)),
         Kind::Flags => add_flags(out, phrase.flags),
         Kind::Mode => add_text(out, mode_word(phrase.mode)),
-        Kind::Pattern => add_pattern(alloc, out, phrase.pattern),
+        Kind::Pattern => add_pattern(out, phrase.pattern),
         Kind::Func => add_text(out, func_word(phrase.func)),
-        Kind::Test => add_test(alloc, out, phrase.test),
-        Kind::Built => add_built(alloc, out, phrase.event, phrase.thread),
+        Kind::Test => add_test(out, phrase.test),
+        Kind::Built => add_built(out, phrase.event, phrase.thread),
         Kind::Text => Ok(()),
     }
 }
 
 // The slots of a row.
-fn add_slots(
-    alloc: Global,
-    out: &mut Vec<u8>,
-    phrase: &Phrase<'_>,
-    kinds: &[Kind],
-) -> Result<(), NoMemory>
+fn add_slots(out: &mut Vec<u8>, phrase: &Phrase<'_>, kinds: &[Kind]) -> Result<(), NoMemory>
     ensures { OnOk result (out.new.items ≡ out.old.items ++ flat_map (slot_text phrase.now) kinds.now) }
 {
     for kind in kinds {
-        add_word(alloc, out, phrase, *kind)?;
+        add_word(out, phrase, *kind)?;
     }
     Ok(())
 }
 
 // A line with its end.
-fn add_line(alloc: Global, out: &mut Vec<u8>, phrase: &Phrase<'_>) -> Result<(), NoMemory>
+fn add_line(out: &mut Vec<u8>, phrase: &Phrase<'_>) -> Result<(), NoMemory>
     ensures { OnOk result (out.new.items ≡ out.old.items ++ ended (phrase_text phrase.now)) }
 {
     add_text(out, phrase.op.key())?;
-    add_slots(alloc, out, phrase, phrase.op.slots())?;
+    add_slots(out, phrase, phrase.op.slots())?;
     add_text(out, b"\n")
 }
 
@@ -374,41 +362,41 @@ fn stmt_line<'s>(names: &'s Names, texts: &'s Texts, stmt: Stmt) -> Phrase<'s>
 
 // ---- The sections of a script.
 
-fn add_limit_line(alloc: Global, out: &mut Vec<u8>, births: u64) -> Result<(), NoMemory>
+fn add_limit_line(out: &mut Vec<u8>, births: u64) -> Result<(), NoMemory>
     ensures { OnOk result (out.new.items ≡ out.old.items ++ (codes "limit births " ++ (decimal births ++ codes "\n"))) }
 {
     add_text(out, b"limit births ")?;
-    add_number(alloc, out, births)?;
+    add_number(out, births)?;
     add_text(out, b"\n")
 }
 
 #[tactic(auto, using(crate::proofs::SectionLaws::limit_none, crate::proofs::SectionLaws::limit_some))]
-fn add_limit(alloc: Global, out: &mut Vec<u8>, births: u64) -> Result<(), NoMemory>
+fn add_limit(out: &mut Vec<u8>, births: u64) -> Result<(), NoMemory>
     ensures { OnOk result (out.new.items ≡ out.old.items ++ spelling (limit_lines births)) }
 {
     if births == 4_294_967_295 {
         Ok(())
     } else {
-        add_limit_line(alloc, out, births)
+        add_limit_line(out, births)
     }
 }
 
 // A client and its event.
-fn add_client(alloc: Global, out: &mut Vec<u8>, client: u64, event: u8) -> Result<(), NoMemory>
+fn add_client(out: &mut Vec<u8>, client: u64, event: u8) -> Result<(), NoMemory>
     ensures { OnOk result (out.new.items ≡ out.old.items ++ ended (phrase_text (client_line client event))) }
 {
     add_text(out, b"client ")?;
-    add_number(alloc, out, client)?;
+    add_number(out, client)?;
     add_text(out, b" ")?;
-    add_number(alloc, out, u64::from(event))?;
+    add_number(out, u64::from(event))?;
     add_text(out, b"\n")
 }
 
-fn add_clients(alloc: Global, out: &mut Vec<u8>, events: &[u8]) -> Result<(), NoMemory>
+fn add_clients(out: &mut Vec<u8>, events: &[u8]) -> Result<(), NoMemory>
     ensures { OnOk result (out.new.items ≡ out.old.items ++ spelling (client_lines 0 events.now)) }
 {
     for (client, event) in events.iter().enumerate() {
-        add_client(alloc, out, client as u64, *event)?;
+        add_client(out, client as u64, *event)?;
     }
     Ok(())
 }
@@ -434,22 +422,16 @@ fn native_line<'s>(names: &'s Names, native: Native) -> Phrase<'s>
     }
 }
 
-fn add_natives(
-    alloc: Global,
-    out: &mut Vec<u8>,
-    names: &Names,
-    natives: &[Native],
-) -> Result<(), NoMemory>
+fn add_natives(out: &mut Vec<u8>, names: &Names, natives: &[Native]) -> Result<(), NoMemory>
     ensures { OnOk result (out.new.items ≡ out.old.items ++ spelling (map (native_line names.now) natives.now)) }
 {
     for native in natives {
-        add_line(alloc, out, &native_line(names, *native))?;
+        add_line(out, &native_line(names, *native))?;
     }
     Ok(())
 }
 
 fn add_statements(
-    alloc: Global,
     out: &mut Vec<u8>,
     names: &Names,
     texts: &Texts,
@@ -458,13 +440,12 @@ fn add_statements(
     ensures { OnOk result (out.new.items ≡ out.old.items ++ spelling (map (stmt_line names.now texts.now) stmts.now)) }
 {
     for stmt in stmts {
-        add_line(alloc, out, &stmt_line(names, texts, *stmt))?;
+        add_line(out, &stmt_line(names, texts, *stmt))?;
     }
     Ok(())
 }
 
 fn add_procs(
-    alloc: Global,
     out: &mut Vec<u8>,
     names: &Names,
     texts: &Texts,
@@ -474,8 +455,8 @@ fn add_procs(
 {
     for proc in procs {
         let line = proc_line(Op::Proc, name_at(&names.procs, proc.name));
-        add_line(alloc, out, &line)?;
-        add_statements(alloc, out, names, texts, proc.stmts.as_slice())?;
+        add_line(out, &line)?;
+        add_statements(out, names, texts, proc.stmts.as_slice())?;
     }
     Ok(())
 }
@@ -488,16 +469,11 @@ fn post_line<'s>(texts: &'s Texts, post: Post) -> Phrase<'s>
     line
 }
 
-fn add_posts(
-    alloc: Global,
-    out: &mut Vec<u8>,
-    texts: &Texts,
-    posts: &[Post],
-) -> Result<(), NoMemory>
+fn add_posts(out: &mut Vec<u8>, texts: &Texts, posts: &[Post]) -> Result<(), NoMemory>
     ensures { OnOk result (out.new.items ≡ out.old.items ++ spelling (map (post_line texts.now) posts.now)) }
 {
     for post in posts {
-        add_line(alloc, out, &post_line(texts, *post))?;
+        add_line(out, &post_line(texts, *post))?;
     }
     Ok(())
 }
@@ -508,12 +484,12 @@ pub fn print_script(alloc: Global, s: &Script) -> Result<Vec<u8>, NoMemory>
     ensures { IfOk result (λ text. text.items ≡ printed s.now) }
 {
     let mut out = Vec::new(alloc);
-    add_line(alloc, &mut out, &number_line(Op::Lwp, 1))?;
-    add_line(alloc, &mut out, &number_line(Op::Pod, s.maxpri))?;
-    add_limit(alloc, &mut out, s.births)?;
-    add_clients(alloc, &mut out, s.clients.as_slice())?;
-    add_natives(alloc, &mut out, &s.names, s.natives.as_slice())?;
-    add_procs(alloc, &mut out, &s.names, &s.texts, s.procs.as_slice())?;
-    add_posts(alloc, &mut out, &s.texts, s.posts.as_slice())?;
+    add_line(&mut out, &number_line(Op::Lwp, 1))?;
+    add_line(&mut out, &number_line(Op::Pod, s.maxpri))?;
+    add_limit(&mut out, s.births)?;
+    add_clients(&mut out, s.clients.as_slice())?;
+    add_natives(&mut out, &s.names, s.natives.as_slice())?;
+    add_procs(&mut out, &s.names, &s.texts, s.procs.as_slice())?;
+    add_posts(&mut out, &s.texts, s.posts.as_slice())?;
     Ok(out)
 }

@@ -4,8 +4,7 @@ ghost use Rattle.script_text.specs.declared.reason.ReadErr.TheVariants as read_e
 
 use lwp_types::NoMemory;
 
-/// Why a line is bad. Where several fit, the first of this order is named, but for `Unbuilt`, which a reader never gives: it
-/// is for a script that says what isn't built yet.
+/// Why a line is bad. Where several fit, the first of this order is named.
 #[derive(Clone, Copy, Debug, PartialEq, Eq)]
 pub enum Reason {
     /// More than 16,777,216 bytes: line 0, before all else.
@@ -32,7 +31,6 @@ pub enum Reason {
     Statement,
     /// The text ends too early: the line is one past the last.
     Missing,
-    Unbuilt,
 }
 
 /// Why bytes aren't read as a script.

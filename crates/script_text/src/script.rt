@@ -231,14 +231,3 @@ pub struct Script {
     pub names: Names,
     pub texts: Texts,
 }
-
-/// How a session comes to its end.
-#[derive(Clone, Copy, Debug, PartialEq, Eq)]
-pub enum Halt {
-    /// The pod has ended, with this status.
-    Ended(u8),
-    /// Nobody may run, and no event can be delivered that has a line left.
-    Stuck,
-    /// All calls that were allowed have been made.
-    Spent,
-}

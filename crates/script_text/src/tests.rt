@@ -1,5 +1,4 @@
 use super::*;
-use lwp_types::Effect;
 use std::alloc::Global;
 use std::test::Fail;
 
@@ -10,7 +9,8 @@ const FIRST_RUN: &[u8] =
 const EVERY_ROW: &[u8] =
     b"lwp 1\npod 9\nlimit births 7\nclient 0 31\nclient 1 1\nnative n store\nnative s session 3 db\nproc p\ncreate a n 1 snv\ncreate b p 4294967295 -\ndestroy a\nping self\nyield first\nsuspend sender\nresume none\njoin b\nresched 0\nsetpri a 1\nsetmaxpri 1\nself\nsetexit 1\ngetexit\npodexit 0\nthreads\nsend a 240  two\nsend a 0\nrecv any poll\nrecv c wait\nreply sender\nsenders\nreceivers\nmoncreate m\ncvcreate c m\nmondestroy m\nenter m\ncondenter m\nmonexit m\nmonbreak m\nmonwaiters m\nmonitors\ncvdestroy c\nwait c\nnotify c\nbroadcast c\ncvsend c a\ncvwaiters c\nconditions\ncall q\nreturn\nhandle all - 0\nhandle 7 give 1\nhandle 8 sum 2\nunhandle\nraise 1\nexcnotify 1\nbound 1\nuniqpatt\nonexit monexit m\nonexit monbreak m\nonexit notify c\nonexit broadcast c\nonexit reply a x\nonexit resume a\nonexit setexit 1\nonexit note\nagent g 40\nagents\nsay\nsay x\nskip ok\nskip err\nskip caught\nskip is 4294967295\nagain\nproc q\npost 0 a\npost 1\npost 0  b\n";
 
-// What a script holds: how many procedures, names of procedures, texts and posted lines; or its first bad line and the reason.
+// What a script holds: how many procedures, names of procedures, texts and posted lines; or its first bad line and the reason;
+// nothing, where memory was refused.
 fn told(read: Result<Script, ReadErr>) -> (usize, usize, usize, usize, u32, Option<Reason>) {
     match read {
         Ok(script) => (
@@ -22,7 +22,7 @@ fn told(read: Result<Script, ReadErr>) -> (usize, usize, usize, usize, u32, Opti
             None,
         ),
         Err(ReadErr::Bad { line, reason }) => (0, 0, 0, 0, line, Some(reason)),
-        Err(ReadErr::NoMemory) => (0, 0, 0, 0, 0, Some(Reason::Unbuilt)),
+        Err(ReadErr::NoMemory) => (0, 0, 0, 0, 0, None),
     }
 }
 
@@ -86,14 +86,5 @@ fn numbers_names_as_they_come(rt: HostRuntime) -> Result<(), Fail> {
     }
     assert_eq!(rt; (names.len(), names.as_slice().len()), (3, 3));
     assert!(rt; !names.contains(b"c"));
-    Ok(())
-}
-
-#[test]
-fn writes_lines(rt: HostRuntime) -> Result<(), Fail> {
-    let ended = trace_line(rt.alloc(), &Effect::Ended { status: 3 }, None, &[])?;
-    assert_eq!(rt; ended.as_slice(), b"pod ends 3\n".as_slice());
-    let last = end_lines(rt.alloc(), &Halt::Stuck, 9, &[0, 2])?;
-    assert_eq!(rt; last.as_slice(), b"stuck\nleft client 1 2\n".as_slice());
     Ok(())
 }

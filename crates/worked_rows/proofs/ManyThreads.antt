@@ -15,7 +15,7 @@ use Rattle.pod_runner.specs.Session.{called, move, taken}
 use Rattle.pod_runner.specs.Trace.{trace}
 use Rattle.script_body.specs.ScriptBody.{script_next}
 use Rattle.script_text.specs.Script.{proc_names}
-use Rattle.script_text.specs.declared.script.Halt.{Halt}
+use Rattle.trace_text.specs.declared.ends.Halt.{Halt}
 use Rattle.std.proofs.Common.{Bool, List, None, Option, Some, [], ap, false, fold, map, refl, suc, true, zero, ℕ, ◌+◌, ◌∙◌, ◌∷◌, ◌≡◌}
 use Rattle.std.specs.Fmt.{digits}
 use Rattle.std.specs.List.{range_with_len}

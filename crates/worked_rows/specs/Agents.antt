@@ -1,5 +1,5 @@
 -- Events of the outside, as messages of agents to their owners.
-use Rattle.script_text.specs.declared.script.Halt.TheVariants.{Ended, Spent, Stuck}
+use Rattle.trace_text.specs.declared.ends.Halt.TheVariants.{Ended, Spent, Stuck}
 use Rattle.std.specs.Prelude.{None, Some, [], codes, ◌++◌, ◌∷◌}
 use Rattle.worked_rows.specs.Words.{Row, limited, line, longest_x, longest_y, named, plain, pod, posted, procedure, speaking, took}
 use Rattle.script_text.specs.declared.script.Who.TheVariants as who

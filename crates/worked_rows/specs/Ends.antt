@@ -1,5 +1,5 @@
 -- How a session ends: the pod by itself or by its servers, a stuck pod, and the turns allowed.
-use Rattle.script_text.specs.declared.script.Halt.TheVariants.{Ended, Spent, Stuck}
+use Rattle.trace_text.specs.declared.ends.Halt.TheVariants.{Ended, Spent, Stuck}
 use Rattle.std.specs.Prelude.{None, Some, [], codes, false, true, ◌∷◌}
 use Rattle.worked_rows.specs.Threads.{first_run}
 use Rattle.worked_rows.specs.Words.{Row, asleep, line, named, plain, pod, posted, procedure, serving, speaking, took}

@@ -1,5 +1,5 @@
 -- Exit procedures: when they run, in which order, and what each of the eight comes to.
-use Rattle.script_text.specs.declared.script.Halt.TheVariants.{Ended, Stuck}
+use Rattle.trace_text.specs.declared.ends.Halt.TheVariants.{Ended, Stuck}
 use Rattle.std.specs.Prelude.{None, [], codes, ◌∷◌}
 use Rattle.worked_rows.specs.Words.{Row, asleep, named, plain, pod, procedure, speaking}
 use Rattle.script_text.specs.declared.script.Who.TheVariants as who

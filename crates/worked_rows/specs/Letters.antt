@@ -1,5 +1,5 @@
 -- Messages: a sender waits for its reply.
-use Rattle.script_text.specs.declared.script.Halt.TheVariants.{Ended, Stuck}
+use Rattle.trace_text.specs.declared.ends.Halt.TheVariants.{Ended, Stuck}
 use Rattle.std.specs.Prelude.{None, Some, [], codes, ◌++◌, ◌∷◌}
 use Rattle.worked_rows.specs.Words.{Row, asleep, longest_x, longest_y, named, plain, pod, procedure, serving, speaking}
 use Rattle.script_text.specs.declared.script.Who.TheVariants as who

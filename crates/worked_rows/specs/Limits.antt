@@ -6,7 +6,7 @@ use Rattle.lwp_types.specs.declared.call.Answer.{Answer}
 use Rattle.lwp_types.specs.declared.call.Call.{Call}
 use Rattle.lwp_types.specs.declared.call.LwpErr.{LwpErr}
 use Rattle.pod_runner.specs.Due.{counted_to}
-use Rattle.script_text.specs.declared.script.Halt.TheVariants.{Ended, Spent}
+use Rattle.trace_text.specs.declared.ends.Halt.TheVariants.{Ended, Spent}
 use Rattle.std.specs.Fmt.{decimal}
 use Rattle.std.specs.List.{flat_map}
 use Rattle.std.specs.Prelude.{List, [], codes, map, pos, replicate, ℕ, ◌++◌, ◌+◌, ◌-◌, ◌≡◌, ◌∷◌}

@@ -3,7 +3,7 @@
 use Rattle.lwp_types.specs.declared.call.Line.{Line}
 use Rattle.pod_runner.specs.Due.{counted_to}
 use Rattle.pod_runner.specs.declared.session.Took.{Took}
-use Rattle.script_text.specs.declared.script.Halt.TheVariants.{Ended, Spent}
+use Rattle.trace_text.specs.declared.ends.Halt.TheVariants.{Ended, Spent}
 use Rattle.std.specs.Fmt.{decimal}
 use Rattle.std.specs.List.{flat_map}
 use Rattle.std.specs.Prelude.{List, [], codes, if◌then◌else◌, map, nat_lt, slice_index_or, suc, zero, ℕ, ◌%◌, ◌*◌, ◌++◌, ◌+◌, ◌-◌, ◌/◌, ◌==◌, ◌∷◌}

@@ -1,5 +1,5 @@
 -- Monitors, which their owners may enter again.
-use Rattle.script_text.specs.declared.script.Halt.TheVariants.{Ended}
+use Rattle.trace_text.specs.declared.ends.Halt.TheVariants.{Ended}
 use Rattle.std.specs.Prelude.{[], codes, ◌∷◌}
 use Rattle.worked_rows.specs.Words.{Row, limited, named, plain, pod, procedure}
 use Rattle.script_text.specs.declared.script.Who.TheVariants as who

@@ -1,5 +1,5 @@
 -- Procedures, handlers and exceptions.
-use Rattle.script_text.specs.declared.script.Halt.TheVariants.{Ended}
+use Rattle.trace_text.specs.declared.ends.Halt.TheVariants.{Ended}
 use Rattle.std.specs.Prelude.{[], codes, ◌∷◌}
 use Rattle.worked_rows.specs.Words.{Row, named, plain, pod, procedure, speaking}
 use Rattle.script_text.specs.declared.script.Who.TheVariants as who

@@ -1,5 +1,5 @@
 -- What the statements of a procedure mean that make no call, what names stand for, and how texts are printed.
-use Rattle.script_text.specs.declared.script.Halt.TheVariants.{Ended}
+use Rattle.trace_text.specs.declared.ends.Halt.TheVariants.{Ended}
 use Rattle.std.specs.Prelude.{None, Some, [], codes, ◌++◌, ◌∷◌}
 use Rattle.worked_rows.specs.Words.{Row, limited, longest_x, named, plain, pod, procedure, speaking}
 use Rattle.script_text.specs.declared.script.Who.TheVariants as who

@@ -1,5 +1,5 @@
 -- The line server: sessions, which serve a client each, and the store.
-use Rattle.script_text.specs.declared.script.Halt.TheVariants.{Ended}
+use Rattle.trace_text.specs.declared.ends.Halt.TheVariants.{Ended}
 use Rattle.std.specs.Prelude.{None, [], codes, ◌∷◌}
 use Rattle.worked_rows.specs.Words.{Row, built_in, line, named, plain, pod, posted, procedure, serving, speaking, took, with_natives}
 use Rattle.script_text.specs.declared.script.Who.TheVariants as who

@@ -1,5 +1,5 @@
 -- Threads: how they are created, told apart, ordered, suspended and joined.
-use Rattle.script_text.specs.declared.script.Halt.TheVariants.{Ended, Stuck}
+use Rattle.trace_text.specs.declared.ends.Halt.TheVariants.{Ended, Stuck}
 use Rattle.std.specs.Prelude.{Some, [], codes, false, true, ◌∷◌}
 use Rattle.worked_rows.specs.Words.{Row, asleep, limited, named, plain, pod, procedure, speaking}
 use Rattle.script_text.specs.declared.script.Who.TheVariants as who

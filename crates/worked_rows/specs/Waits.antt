@@ -1,5 +1,5 @@
 -- Conditions, each of one monitor.
-use Rattle.script_text.specs.declared.script.Halt.TheVariants.{Ended, Stuck}
+use Rattle.trace_text.specs.declared.ends.Halt.TheVariants.{Ended, Stuck}
 use Rattle.std.specs.Prelude.{[], codes, ◌∷◌}
 use Rattle.worked_rows.specs.Words.{Row, named, plain, pod, procedure}
 use Rattle.script_text.specs.declared.script.Who.TheVariants as who

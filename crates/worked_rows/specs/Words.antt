@@ -3,7 +3,7 @@ use Rattle.lwp_serve.specs.Planned.{calls_of, halt_of, takes_of, trace_of}
 use Rattle.lwp_types.specs.declared.call.Flags.{Flags}
 use Rattle.lwp_types.specs.declared.call.Line.{Line}
 use Rattle.pod_runner.specs.declared.session.Took.{Took}
-use Rattle.script_text.specs.declared.script.Halt.{Halt}
+use Rattle.trace_text.specs.declared.ends.Halt.{Halt}
 use Rattle.script_text.specs.declared.script.Names.{Names}
 use Rattle.script_text.specs.declared.script.Native.{Native}
 use Rattle.script_text.specs.declared.script.NativeKind.{NativeKind}

@@ -1,7 +1,7 @@
 use Rattle.std.proofs.Common.{rules, ◌∙◌, ap}
 use Rattle.lwp_serve.proofs.PlanLaws.{broken-last, broken-of, came, finished, on_err, part-all, part-last, part-of, stopped-of, told-before, whole-of}
 use Rattle.pod_runner.specs.Trace.{left_from}
-use Rattle.script_text.specs.Lines.{end_text}
+use Rattle.trace_text.specs.Lines.{end_text}
 use Rattle.lwp_serve.proofs.plan.run_out.Goals as goal
 
 pub returns-in_err-halt-clause-part : goal.returns-in_err-halt-clause-part

@@ -1,7 +1,0 @@
-use Rattle.std.proofs.Common.{◌≡◌, ◌++◌, drop}
-use Rattle.std.specs.Prelude.{option_copied}
-use Rattle.script_text.specs.Lines.{step_lines}
-use Rattle.pod_runner.proofs.written.lines_of.Given as goal
-
-abbrev pub invariant-loop-i : goal.invariant-loop-i
-invariant-loop-i l = l.out.items ++ step_lines l.names (option_copied l.took) (drop l.i l.effects) ≡ step_lines l.names (option_copied l.took) l.effects

@@ -1,0 +1,21 @@
+//! Traces as bytes.
+//!
+//! A trace has a line for each effect of each step, and says behind them how the session ended. `specs/Lines.antt` gives the text
+//! of each: of a call, an answer, a delivery, a death, an end. Numbers are written by the kit's `itoa`, and all lines of a step go
+//! into one buffer, so that a step asks for no memory where the buffer has room.
+//!
+//! The crate stands on the words of `lwp_types`. What scripts and traces write alike, such as flags and patterns, is here too.
+#![tactic(auto)]
+
+mod answers;
+mod calls;
+mod ends;
+mod lines;
+mod words;
+
+pub use ends::{Halt, end_lines};
+pub use lines::{add_step_lines, trace_line};
+pub use words::{add_flags, add_number, add_pattern, add_spaced, add_text, func_word, mode_word};
+
+#[cfg(test)]
+mod tests;

@@ -1,0 +1,127 @@
+// The line of each effect.
+ghost use Rattle.std.specs.Prelude.{◌≡◌, ◌++◌, [], OnOk, IfOk, None, option_copied};
+ghost use Rattle.trace_text.specs.Lines.{taken_text, delivered_text, line_text, ended_line, step_lines};
+
+use crate::answers::add_answer;
+use crate::calls::{add_call, add_exit};
+use crate::words::{add_id, add_number, add_spaced, add_text, add_word_number};
+use lwp_types::{Answer, Call, Effect, Effects, ExitCall, Line, NoMemory, Text, Tid};
+use std::alloc::Global;
+
+fn add_taken(out: &mut Vec<u8>, event: u8, line: &Line) -> Result<(), NoMemory>
+    ensures { OnOk result (out.new.items ≡ out.old.items ++ taken_text event line.now) }
+{
+    add_word_number(out, b"event ", u32::from(event))?;
+    add_word_number(out, b" client ", u32::from(line.client))?;
+    add_word_number(out, b" seq ", line.seq)?;
+    add_spaced(out, line.text.bytes())
+}
+
+fn add_called(out: &mut Vec<u8>, procs: &[Text], tid: Tid, call: &Call) -> Result<(), NoMemory>
+    ensures { OnOk result (out.new.items ≡ out.old.items ++ line_text procs.now None (Effect.Called tid call.now)) }
+{
+    add_id(out, b"t", tid.number)?;
+    add_text(out, b": ")?;
+    add_call(out, procs, tid, call)
+}
+
+fn add_answered(out: &mut Vec<u8>, tid: Tid, answer: &Answer) -> Result<(), NoMemory>
+    ensures { OnOk result (out.new.items ≡ out.old.items ++ line_text [] None (Effect.Answered tid answer.now)) }
+{
+    add_id(out, b"t", tid.number)?;
+    add_answer(out, answer)
+}
+
+fn add_exited(out: &mut Vec<u8>, reg: u64, call: &ExitCall, answer: &Answer) -> Result<(), NoMemory>
+    ensures { OnOk result (out.new.items ≡ out.old.items ++ line_text [] None (Effect.Exited 0 reg call.now answer.now)) }
+{
+    add_text(out, b"exit x")?;
+    add_number(out, reg)?;
+    add_text(out, b" ")?;
+    add_exit(out, None, call)?;
+    add_answer(out, answer)
+}
+
+fn add_died(out: &mut Vec<u8>, tid: Tid) -> Result<(), NoMemory>
+    ensures { OnOk result (out.new.items ≡ out.old.items ++ line_text [] None (Effect.Died tid)) }
+{
+    add_id(out, b"t", tid.number)?;
+    add_text(out, b" dies")
+}
+
+fn add_delivered(out: &mut Vec<u8>, event: u8, took: Option<&Line>) -> Result<(), NoMemory>
+    ensures { OnOk result (out.new.items ≡ out.old.items ++ delivered_text event (option_copied took.entry)) }
+{
+    match took {
+        Some(line) => add_taken(out, event, line),
+        None => Ok(()),
+    }
+}
+
+fn add_line(
+    out: &mut Vec<u8>,
+    e: &Effect,
+    took: Option<&Line>,
+    names: &[Text],
+) -> Result<(), NoMemory>
+    ensures { OnOk result (out.new.items ≡ out.old.items ++ line_text names.now (option_copied took.entry) e.now) }
+{
+    match e {
+        Effect::Called { tid, call } => add_called(out, names, *tid, call),
+        Effect::Answered { tid, answer } => add_answered(out, *tid, answer),
+        Effect::Exited {
+            tid: _,
+            reg,
+            call,
+            answer,
+        } => add_exited(out, *reg, call, answer),
+        Effect::Died { tid } => add_died(out, *tid),
+        Effect::Delivered { agent: _, event } => add_delivered(out, *event, took),
+        Effect::Ended { status } => add_word_number(out, b"pod ends ", u32::from(*status)),
+    }
+}
+
+// The line of an effect, with its newline.
+fn add_ended(
+    out: &mut Vec<u8>,
+    e: &Effect,
+    took: Option<&Line>,
+    names: &[Text],
+) -> Result<(), NoMemory>
+    ensures { OnOk result (out.new.items ≡ out.old.items ++ ended_line (line_text names.now (option_copied took.entry) e.now)) }
+{
+    add_line(out, e, took, names)?;
+    out.push(b'\n')?;
+    Ok(())
+}
+
+/// The lines of a step: a line for each effect. `took` is the line that was taken in that step, if any, and `names` are the
+/// procedures' names by number. After an error some of the lines may stand there.
+pub fn add_step_lines(
+    out: &mut Vec<u8>,
+    effects: &Effects,
+    took: Option<&Line>,
+    names: &[Text],
+) -> Result<(), NoMemory>
+    ensures { OnOk result (out.new.items ≡ out.old.items ++ step_lines names.now (option_copied took.entry) effects.now) }
+{
+    for i in 0..effects.len() {
+        add_ended(out, effects.get(i), took, names)?;
+    }
+    Ok(())
+}
+
+/// The line of an effect, with its newline. `took` is the line that was taken, where the effect is a delivery, and `names` are
+/// the procedures' names by number.
+pub fn trace_line(
+    alloc: Global,
+    e: &Effect,
+    took: Option<&Line>,
+    names: &[Text],
+) -> Result<Vec<u8>, NoMemory>
+    ensures { IfOk result (λ out. out.items ≡ ended_line (line_text names.now (option_copied took.entry) e.now)) }
+{
+    let mut out = Vec::new(alloc);
+    add_ended(&mut out, e, took, names)?;
+    Ok(out)
+}

@@ -1,0 +1,179 @@
+// The words that lines are made of. Each function but those that answer a word puts its part at the end of the bytes so far.
+ghost use Rattle.std.specs.Prelude.{◌≡◌, ◌++◌, OnOk};
+ghost use Rattle.std.specs.Fmt.{decimal};
+ghost use Rattle.trace_text.specs.Lines.{spaced, id_text, who_text, proc_text, flags_text, letter_if, mode_text, pattern_text, func_text};
+
+use itoa::Buffer;
+use lwp_types::{Flags, Func, Mode, NoMemory, Pattern, Text, Tid};
+
+/// A text as it is.
+pub fn add_text(out: &mut Vec<u8>, text: &[u8]) -> Result<(), NoMemory>
+    ensures { OnOk result (out.new.items ≡ out.old.items ++ text.now) }
+{
+    out.extend_from_slice(text)?;
+    Ok(())
+}
+
+/// A text behind a space; nothing, where it is empty.
+pub fn add_spaced(out: &mut Vec<u8>, text: &[u8]) -> Result<(), NoMemory>
+    ensures { OnOk result (out.new.items ≡ out.old.items ++ spaced text.now) }
+{
+    if !text.is_empty() {
+        out.push(b' ')?;
+        out.extend_from_slice(text)?;
+    }
+    Ok(())
+}
+
+/// A number in decimal. It needs no memory but for the bytes so far.
+pub fn add_number(out: &mut Vec<u8>, n: u64) -> Result<(), NoMemory>
+    ensures { OnOk result (out.new.items ≡ out.old.items ++ decimal n) }
+{
+    let mut buffer = Buffer::new();
+    out.extend_from_slice(buffer.format(n).as_bytes())?;
+    Ok(())
+}
+
+// A number behind its letter, or `none` for the number that nobody has.
+pub(crate) fn add_id(out: &mut Vec<u8>, letter: &[u8], n: u64) -> Result<(), NoMemory>
+    ensures { OnOk result (out.new.items ≡ out.old.items ++ id_text letter.now n) }
+{
+    if n == u64::MAX {
+        return add_text(out, b"none");
+    }
+    add_text(out, letter)?;
+    add_number(out, n)
+}
+
+// A thread, in what `me` calls.
+pub(crate) fn add_who(out: &mut Vec<u8>, me: Option<Tid>, tid: Tid) -> Result<(), NoMemory>
+    ensures { OnOk result (out.new.items ≡ out.old.items ++ who_text me tid) }
+{
+    match me {
+        Some(caller) => {
+            if caller.number == tid.number {
+                add_text(out, b"self")
+            } else {
+                add_id(out, b"t", tid.number)
+            }
+        }
+        None => add_id(out, b"t", tid.number),
+    }
+}
+
+pub(crate) fn add_proc(out: &mut Vec<u8>, procs: &[Text], number: u32) -> Result<(), NoMemory>
+    ensures { OnOk result (out.new.items ≡ out.old.items ++ proc_text procs.now number) }
+{
+    match procs.get(number as usize) {
+        Some(name) => add_text(out, name.bytes()),
+        None => add_text(out, b"none"),
+    }
+}
+
+fn add_if(out: &mut Vec<u8>, is_set: bool, letter: &[u8]) -> Result<(), NoMemory>
+    ensures { OnOk result (out.new.items ≡ out.old.items ++ letter_if is_set letter.now) }
+{
+    if is_set {
+        add_text(out, letter)
+    } else {
+        Ok(())
+    }
+}
+
+/// The flags of a new thread.
+pub fn add_flags(out: &mut Vec<u8>, flags: Flags) -> Result<(), NoMemory>
+    ensures { OnOk result (out.new.items ≡ out.old.items ++ flags_text flags) }
+{
+    if !(flags.suspended || (flags.nolastrites || flags.server)) {
+        return add_text(out, b"-");
+    }
+    add_if(out, flags.suspended, b"s")?;
+    add_if(out, flags.nolastrites, b"n")?;
+    add_if(out, flags.server, b"v")
+}
+
+pub fn mode_word(mode: Mode) -> &'static [u8]
+    ensures { result.now ≡ mode_text mode }
+{
+    match mode {
+        Mode::Poll => b"poll",
+        Mode::Block => b"wait",
+    }
+}
+
+pub fn func_word(func: Func) -> &'static [u8]
+    ensures { result.now ≡ func_text func }
+{
+    match func {
+        Func::Nothing => b"-",
+        Func::Give => b"give",
+        Func::Sum => b"sum",
+    }
+}
+
+/// A handler's pattern.
+pub fn add_pattern(out: &mut Vec<u8>, pattern: Pattern) -> Result<(), NoMemory>
+    ensures { OnOk result (out.new.items ≡ out.old.items ++ pattern_text pattern) }
+{
+    match pattern {
+        Pattern::All => add_text(out, b"all"),
+        Pattern::Num(number) => add_number(out, u64::from(number)),
+    }
+}
+
+// A word and a thread.
+pub(crate) fn add_word_who(
+    out: &mut Vec<u8>,
+    word: &[u8],
+    me: Option<Tid>,
+    tid: Tid,
+) -> Result<(), NoMemory>
+    ensures { OnOk result (out.new.items ≡ out.old.items ++ (word.now ++ who_text me tid)) }
+{
+    add_text(out, word)?;
+    add_who(out, me, tid)
+}
+
+// A word and a number of a kind.
+pub(crate) fn add_word_id(
+    out: &mut Vec<u8>,
+    word: &[u8],
+    letter: &[u8],
+    n: u64,
+) -> Result<(), NoMemory>
+    ensures { OnOk result (out.new.items ≡ out.old.items ++ (word.now ++ id_text letter.now n)) }
+{
+    add_text(out, word)?;
+    add_id(out, letter, n)
+}
+
+// A word and a number.
+pub(crate) fn add_word_number(out: &mut Vec<u8>, word: &[u8], n: u32) -> Result<(), NoMemory>
+    ensures { OnOk result (out.new.items ≡ out.old.items ++ (word.now ++ decimal n)) }
+{
+    add_text(out, word)?;
+    add_number(out, u64::from(n))
+}
+
+// A word and a text.
+pub(crate) fn add_word_text(out: &mut Vec<u8>, word: &[u8], text: &[u8]) -> Result<(), NoMemory>
+    ensures { OnOk result (out.new.items ≡ out.old.items ++ (word.now ++ spaced text.now)) }
+{
+    add_text(out, word)?;
+    add_spaced(out, text)
+}
+
+// A word, a thread and a text.
+pub(crate) fn add_word_who_text(
+    out: &mut Vec<u8>,
+    word: &[u8],
+    me: Option<Tid>,
+    tid: Tid,
+    text: &[u8],
+) -> Result<(), NoMemory>
+    ensures { OnOk result (out.new.items ≡ out.old.items ++ (word.now ++ (who_text me tid ++ spaced text.now))) }
+{
+    add_text(out, word)?;
+    add_who(out, me, tid)?;
+    add_spaced(out, text)
+}
