@@ -1,0 +1,5 @@
+pub mod Numbering
+pub mod Told
+pub mod Steps
+pub mod ExitLaws
+pub mod DeathLaws

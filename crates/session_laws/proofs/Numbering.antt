@@ -1,0 +1,247 @@
+-- What gives the next exit procedure its number: an OnExit that isn't refused, and nothing else.
+use Rattle.lwp_types.specs.Agents.{deliver, deliver_to, end_agent, event_agent}
+use Rattle.lwp_types.specs.Case.{Case, Check, refused, unanswered, unless, valued, with_zero}
+use Rattle.lwp_types.specs.Choice.{choice}
+use Rattle.lwp_types.specs.Death.{answer_joiners, bury, death, destroyed, end_agents, refuse_receivers, refuse_sender, refuse_senders, release_all, run_all_exits, withdraw}
+use Rattle.lwp_types.specs.Exits.{caught, exit_case, leave_frame, notified_by, run_exit, unwind}
+use Rattle.lwp_types.specs.Letters.{as_answer, as_received, post, receive_by, receivers_of, replied, takes_from, unreceived, with_holding, without_letter}
+use Rattle.lwp_types.specs.Locks.{depth_in, entered, exited, is_owned_by_other, requested, with_depth}
+use Rattle.lwp_types.specs.Marks.{caught_marks, exits_of, first_frames, found, frames, later_frames, on_exit, with_match}
+use Rattle.lwp_types.specs.Release.{grant, last_lock, next_owner, release, without_lock}
+use Rattle.lwp_types.specs.State.{Outcome, State, ThreadRow, and_then, for_each, in_order, is_agent, marked, marks_in, passes, still, thread_of, with_marks}
+use Rattle.lwp_types.specs.Step.{case_of, step, step_by, step_if}
+use Rattle.lwp_types.specs.Unblock.{blocked, nonexist, unblock, zero_answer}
+use Rattle.lwp_types.specs.Waits.{condition_of, waited, woken, woken_all}
+use Rattle.lwp_types.specs.declared.call.Call.{Call}
+use Rattle.lwp_types.specs.declared.call.ExitCall.{ExitCall}
+use Rattle.lwp_types.specs.declared.call.Func.{Func}
+use Rattle.lwp_types.specs.declared.call.Mode.{Mode}
+use Rattle.lwp_types.specs.declared.rows.AgentRow.{AgentRow}
+use Rattle.lwp_types.specs.declared.rows.CondRow.{CondRow}
+use Rattle.lwp_types.specs.declared.rows.Found.{Found}
+use Rattle.lwp_types.specs.declared.rows.Letter.{Letter}
+use Rattle.lwp_types.specs.declared.rows.Lock.{Lock}
+use Rattle.lwp_types.specs.declared.rows.Mark.{Mark}
+use Rattle.lwp_types.specs.declared.rows.Request.{Request}
+use Rattle.lwp_types.specs.declared.rows.WaitRow.{WaitRow}
+use Rattle.pod_laws.proofs.Checks.{unless_keeps}
+use Rattle.pod_laws.specs.Once.{set_by, set_now}
+use Rattle.session_laws.specs.Numbers.{DeliveriesNumberNone, StepsNumberExits, any_exit}
+use Rattle.std.proofs.Common.{Bool, List, None, Option, Some, [], arith, cond, eqb, false, length, refl, true, ℕ, ◌++◌, ◌+◌, ◌-◌, ◌∙◌, ◌∷◌, ◌≡◌, ◌||◌}
+use Rattle.std.specs.List.{fold}
+use Rattle.std.specs.Prelude.{nat_le}
+use Rattle.lwp_types.specs.declared.call.Answer.TheVariants as answer
+use Rattle.lwp_types.specs.declared.call.Call.TheVariants as call
+use Rattle.lwp_types.specs.declared.call.ExitCall.TheVariants as exit
+use Rattle.lwp_types.specs.declared.call.Func.TheVariants as func
+use Rattle.lwp_types.specs.declared.call.LwpErr.TheVariants as error
+use Rattle.lwp_types.specs.declared.call.Mode.TheVariants as mode
+use Rattle.lwp_types.specs.declared.rows.Block.TheVariants as block
+use Rattle.lwp_types.specs.declared.rows.Mark.TheVariants as mark
+
+-- no number was given between these two states
+abbrev pub NoneGiven : State → State → Type 0
+NoneGiven s after = after.next_registration ≡ s.next_registration
+
+-- ---- the changes that calls are made of
+
+none_granted : (o : Option Request) (s : State) → NoneGiven s (grant o s).after
+none_granted None s = refl
+none_granted (Some r) s = refl
+
+none_released : (m : ℕ) (s : State) → NoneGiven s (release m s).after
+none_released m s = none_granted (next_owner s m) (record s { locks = without_lock m s.locks })
+
+none_exited : (m : ℕ) (s : State) → NoneGiven s (exited m s).after
+none_exited m s = by_depth (nat_le (depth_in s.locks m) 1)
+  where
+    by_depth : (b : Bool) → NoneGiven s (cond b (release m s) (still (record s { locks = with_depth m (depth_in s.locks m - 1) s.locks }))).after
+    by_depth true = none_released m s
+    by_depth false = refl
+
+none_posted : (letter : Letter) (s : State) → NoneGiven s (post letter s).after
+none_posted letter s = by_test (passes (λ (row : ThreadRow). takes_from letter.from row.block) (thread_of s letter.to))
+  where
+    by_test : (b : Bool) → NoneGiven s (cond b (unblock (as_answer letter) letter.to (record s { letters = s.letters ++ as_received letter ∷ [] })) (still (record s { letters = s.letters ++ letter ∷ [] }))).after
+    by_test true = refl
+    by_test false = refl
+
+none_replied : (u : ℕ) (text : List ℕ) (s : State) → NoneGiven s (replied u text s).after
+none_replied u text s = by_agent (is_agent s u)
+  where
+    by_agent : (b : Bool) → NoneGiven s (cond b (still (record s { letters = without_letter u s.letters; agents = with_holding u false s.agents })) (unblock (answer.Reply text) u (record s { letters = without_letter u s.letters }))).after
+    by_agent true = refl
+    by_agent false = refl
+
+none_woken : (m : ℕ) (ws : List WaitRow) (s : State) → NoneGiven s (fold (λ now w. woken m w now) s ws)
+none_woken m [] s = refl
+none_woken m (w ∷ ws) s = none_woken m ws (woken m w s)
+
+none_woken_all : (o : Option CondRow) (ws : List WaitRow) (s : State) → NoneGiven s (woken_all o ws s)
+none_woken_all None ws s = refl
+none_woken_all (Some row) ws s = none_woken row.mon ws s
+
+none_waited : (t c : ℕ) (o : Option Lock) (s : State) → NoneGiven s (waited t c o s).after
+none_waited t c None s = refl
+none_waited t c (Some lock) s = none_released lock.mon (blocked (record s { waits = s.waits ++ record { cond = c; tid = t; depth = lock.depth } ∷ [] }) t (block.Waiting c))
+
+none_each : {A : Type 0} (change : A → State → Outcome) → ((x : A) (s : State) → NoneGiven s (change x s).after) → (xs : List A) (s : State) → NoneGiven s (for_each change xs s).after
+unfolding for_each and_then
+none_each change one [] s = refl
+none_each change one (x ∷ xs) s = none_each change one xs (change x s).after ∙ one x s
+
+none_ended : (a : ℕ) (s : State) → NoneGiven s (end_agent a s).after
+unfolding and_then
+none_ended a s = none_each (unblock nonexist) (λ t s. refl) (receivers_of s a) s
+
+none_unless : (s : State) (checks : List Check) (otherwise : Case) → NoneGiven s otherwise.after → NoneGiven s (unless s checks otherwise).after
+none_unless s checks otherwise fine = unless_keeps (NoneGiven s) s checks otherwise refl (λ passed. fine)
+
+none_run : (s : State) (t : ℕ) (x : ExitCall) → NoneGiven s (exit_case s t x).after
+none_run s t (exit.MonExit m) = none_unless s _ _ (none_exited m s)
+none_run s t (exit.MonBreak m) = none_unless s _ _ (none_released m s)
+none_run s t (exit.Notify c) = none_unless s _ _ (none_woken_all (condition_of s.conditions c) _ s)
+none_run s t (exit.Broadcast c) = none_unless s _ _ (none_woken_all (condition_of s.conditions c) _ s)
+none_run s t (exit.Reply to text) = none_unless s _ _ (none_replied to text s)
+none_run s t (exit.Resume u) = none_unless s _ _ refl
+none_run s t (exit.SetExit code) = none_unless s _ _ refl
+none_run s t (exit.Note text) = refl
+
+none_unwound : (t : ℕ) (kept gone : List Mark) (s : State) → NoneGiven s (unwind t kept gone s).after
+none_unwound t kept gone s = none_each (run_exit t) (λ x s. none_run s t x.call) (exits_of gone) (marked s t kept)
+
+-- ---- a death
+
+none_first : (change : State → Outcome) (changes : List (State → Outcome)) (s : State) → NoneGiven s (change s).after → NoneGiven (change s).after (in_order changes (change s).after).after → NoneGiven s (in_order (change ∷ changes) s).after
+unfolding in_order and_then
+none_first change changes s one two = two ∙ one
+
+none_last : (s : State) → NoneGiven s (in_order [] s).after
+unfolding in_order
+none_last s = refl
+
+none_died : (t : ℕ) (s : State) → NoneGiven s (death t s).after
+none_died t s =
+    none_first (withdraw t) _ _ refl
+    (none_first (run_all_exits t) _ _ (none_unwound t [] (marks_in (withdraw t s).after t) (withdraw t s).after)
+    (none_first (release_all t) _ _ (none_each release none_released _ _)
+    (none_first (end_agents t) _ _ (none_each end_agent none_ended _ _)
+    (none_first (refuse_senders t) _ _ (none_each refuse_sender (λ x s. refl) _ _)
+    (none_first (refuse_receivers t) _ _ (none_each (unblock nonexist) (λ x s. refl) _ _)
+    (none_first (answer_joiners t) _ _ (none_each (unblock zero_answer) (λ x s. refl) _ _)
+    (none_first (bury t) _ _ refl (none_last _))))))))
+
+-- ---- calls
+
+none_cond : (s : State) (b : Bool) (one two : Case) → NoneGiven s one.after → NoneGiven s two.after → NoneGiven s (cond b one two).after
+none_cond s true one two first second = first
+none_cond s false one two first second = second
+
+none_received : (s : State) (t : ℕ) (from : Option ℕ) (how : Mode) (o : Option Letter) → NoneGiven s (receive_by s t from how o).after
+none_received s t from mode.Poll None = refl
+none_received s t from mode.Poll (Some letter) = refl
+none_received s t from mode.Block None = refl
+none_received s t from mode.Block (Some letter) = refl
+
+none_matched : (s : State) (on_match : Found → Case) (o : Option Found) → ((f : Found) → NoneGiven s (on_match f).after) → NoneGiven s (with_match s on_match o).after
+none_matched s on_match None fine = refl
+none_matched s on_match (Some f) fine = fine f
+
+none_caught : (s : State) (t p : ℕ) (f : Found) → NoneGiven s (caught s t p f).after
+none_caught s t p f = none_unwound t (caught_marks f (marks_in s t)) (later_frames f.depth (marks_in s t)) s
+
+none_notified : (s : State) (t p : ℕ) (f : Found) (h : Func) → NoneGiven s (notified_by s t p f h).after
+none_notified s t p f func.Give = refl
+none_notified s t p f func.Sum = refl
+none_notified s t p f func.Nothing = none_caught s t p f
+
+none_destroyed : (s : State) (t u : ℕ) → NoneGiven s (destroyed s t u).after
+none_destroyed s t u = none_cond s (is_agent s u) (with_zero (end_agent u s)) _ (none_ended u s)
+    (none_cond s (eqb t u) (unanswered (death u s)) (with_zero (death u s)) (none_died u s) (none_died u s))
+
+-- the one call that gives a number, unless it is refused
+exit_numbered : (s : State) (t : ℕ) (x : ExitCall) → (on_exit s t x).after.next_registration ≡ s.next_registration + set_by any_exit s t (call.OnExit x)
+unfolding unless
+exit_numbered s t x = by_tests (nat_le 256 (length (marks_in s t))) (nat_le 4294967295 s.next_registration)
+  where
+    by_tests : (a b : Bool)
+        → (cond a (refused s error.NoRoom) (cond b (refused s error.NoRoom) (valued (record s { threads = with_marks t (marks_in s t ++ mark.Exit s.next_registration x ∷ []) s.threads; next_registration = s.next_registration + 1 }) s.next_registration))).after.next_registration
+        ≡ s.next_registration + cond (a || b) 0 1
+    by_tests true b = omega arith
+    by_tests false true = omega arith
+    by_tests false false = refl
+
+-- as many numbers were given as this call of t sets
+record Numbers (s : State) (t : ℕ) (c : Call) (made : Case) : Type 0 where
+  next : made.after.next_registration ≡ s.next_registration + set_by any_exit s t c
+
+-- a call that sets none
+plain : (s : State) (t : ℕ) (c : Call) (made : Case) → set_by any_exit s t c ≡ 0 → NoneGiven s made.after → Numbers s t c made
+plain s t c made never none = record { next = omega (arith, never, none) }
+
+-- of every call
+case_numbers : (s : State) (t : ℕ) (c : Call) → Numbers s t c (case_of s t c)
+case_numbers s t (call.Create number prio flags) = plain s t _ _ refl (none_unless s _ _ refl)
+case_numbers s t (call.Destroy u) = plain s t _ _ refl (none_unless s _ _ (none_destroyed s t u))
+case_numbers s t (call.Ping u) = plain s t _ _ refl (none_unless s _ _ refl)
+case_numbers s t (call.Yield u) = plain s t _ _ refl (none_unless s _ _ refl)
+case_numbers s t (call.Resched q) = plain s t _ _ refl (none_unless s _ _ refl)
+case_numbers s t (call.SetPri u q) = plain s t _ _ refl (none_unless s _ _ refl)
+case_numbers s t (call.Suspend u) = plain s t _ _ refl (none_unless s _ _ refl)
+case_numbers s t (call.Resume u) = plain s t _ _ refl (none_unless s _ _ refl)
+case_numbers s t (call.Join u) = plain s t _ _ refl (none_unless s _ _ refl)
+case_numbers s t call.Me = plain s t _ _ refl refl
+case_numbers s t (call.SetMaxPri q) = plain s t _ _ refl (none_unless s _ _ refl)
+case_numbers s t (call.SetExit code) = plain s t _ _ refl (none_unless s _ _ refl)
+case_numbers s t call.GetExit = plain s t _ _ refl refl
+case_numbers s t (call.PodExit code) = plain s t _ _ refl (none_unless s _ _ refl)
+case_numbers s t call.Threads = plain s t _ _ refl refl
+case_numbers s t (call.Send u room text) = plain s t _ _ refl (none_unless s _ _ (none_posted (record { from = t; to = u; text = text; room = room; received = false }) (blocked s t block.Sending)))
+case_numbers s t (call.Recv from how) = plain s t _ _ refl (none_unless s _ _ (none_received s t from how (unreceived s.letters t from)))
+case_numbers s t (call.Reply u text) = plain s t _ _ refl (none_unless s _ _ (none_replied u text s))
+case_numbers s t call.Senders = plain s t _ _ refl refl
+case_numbers s t call.Receivers = plain s t _ _ refl refl
+case_numbers s t call.MonCreate = plain s t _ _ refl (none_unless s _ _ refl)
+case_numbers s t (call.MonDestroy m) = plain s t _ _ refl (none_unless s _ _ refl)
+case_numbers s t (call.Enter m) = plain s t _ _ refl (none_unless s _ _ (none_cond s (is_owned_by_other s.locks t m) (unanswered (still (requested s t m))) (entered s t m) refl refl))
+case_numbers s t (call.CondEnter m) = plain s t _ _ refl (none_unless s _ _ refl)
+case_numbers s t (call.MonExit m) = plain s t _ _ refl (none_unless s _ _ (none_exited m s))
+case_numbers s t (call.MonBreak m) = plain s t _ _ refl (none_unless s _ _ (none_released m s))
+case_numbers s t call.Monitors = plain s t _ _ refl refl
+case_numbers s t (call.MonWaiters m) = plain s t _ _ refl (none_unless s _ _ refl)
+case_numbers s t (call.CvCreate m) = plain s t _ _ refl (none_unless s _ _ refl)
+case_numbers s t (call.CvDestroy c) = plain s t _ _ refl (none_unless s _ _ refl)
+case_numbers s t (call.Wait c) = plain s t _ _ refl (none_unless s _ _ (none_waited t c (last_lock s.locks t) s))
+case_numbers s t (call.Notify c) = plain s t _ _ refl (none_unless s _ _ (none_woken_all (condition_of s.conditions c) _ s))
+case_numbers s t (call.Broadcast c) = plain s t _ _ refl (none_unless s _ _ (none_woken_all (condition_of s.conditions c) _ s))
+case_numbers s t (call.CvSend c u) = plain s t _ _ refl (none_unless s _ _ (none_woken_all (condition_of s.conditions c) _ s))
+case_numbers s t call.Conds = plain s t _ _ refl refl
+case_numbers s t (call.CvWaiters c) = plain s t _ _ refl (none_unless s _ _ refl)
+case_numbers s t (call.CallProc number) = plain s t _ _ refl (none_unless s _ _ refl)
+case_numbers s t call.Return = plain s t _ _ refl (none_cond s (nat_le 2 (frames (marks_in s t))) (leave_frame s t) (unanswered (death t s)) (none_unwound t (first_frames (frames (marks_in s t) - 1) (marks_in s t)) (later_frames (frames (marks_in s t) - 1) (marks_in s t)) s) (none_died t s))
+case_numbers s t (call.Handle pat func arg) = plain s t _ _ refl (none_unless s _ _ refl)
+case_numbers s t call.Unhandle = plain s t _ _ refl (none_unless s _ _ refl)
+case_numbers s t (call.OnExit x) = record { next = exit_numbered s t x }
+case_numbers s t (call.Raise q) = plain s t _ _ refl (none_unless s _ _ (none_matched s (caught s t q) (found s t q) (λ f. none_caught s t q f)))
+case_numbers s t (call.ExcNotify q) = plain s t _ _ refl (none_unless s _ _ (none_matched s (λ f. notified_by s t q f f.func) (found s t q) (λ f. none_notified s t q f f.func)))
+case_numbers s t (call.Bound q) = plain s t _ _ refl (none_unless s _ _ (none_matched s _ (found s t q) (λ f. refl)))
+case_numbers s t call.UniqPatt = plain s t _ _ refl (none_unless s _ _ refl)
+case_numbers s t (call.Agent e) = plain s t _ _ refl (none_unless s _ _ refl)
+case_numbers s t call.Agents = plain s t _ _ refl refl
+case_numbers s t (call.Say text) = plain s t _ _ refl refl
+
+pub steps_number_exits : StepsNumberExits
+unfolding step step_by
+steps_number_exits s c = by_choice (choice s)
+  where
+    by_choice : (o : Option ℕ) → (step_if s c o).after.next_registration ≡ s.next_registration + set_now any_exit s o c
+    by_choice None = omega arith
+    by_choice (Some t) = (case_numbers s t c).next
+
+pub deliveries_number_none : DeliveriesNumberNone
+unfolding deliver and_then
+deliveries_number_none s e text = by_agent (event_agent s.agents e)
+  where
+    by_agent : (o : Option AgentRow) → NoneGiven s (deliver_to s text o).after
+    by_agent None = refl
+    by_agent (Some row) = none_posted (record { from = row.number; to = row.owner; text = text; room = 240; received = false }) (record s { agents = with_holding row.number true s.agents })

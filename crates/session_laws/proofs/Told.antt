@@ -1,0 +1,107 @@
+-- What the effects of a step tell of the exit procedure that it sets.
+use Rattle.lwp_types.specs.Case.{Case, refused, unless, valued}
+use Rattle.lwp_types.specs.Choice.{choice}
+use Rattle.lwp_types.specs.Marks.{on_exit}
+use Rattle.lwp_types.specs.State.{State, marks_in, with_marks}
+use Rattle.lwp_types.specs.Step.{case_of, end_effects, own_effects, step, step_by, step_if}
+use Rattle.lwp_types.specs.declared.call.Call.{Call}
+use Rattle.lwp_types.specs.declared.call.Effect.{Effect}
+use Rattle.lwp_types.specs.declared.call.ExitCall.{ExitCall}
+use Rattle.pod_laws.specs.Once.{ExitTest, set_by, set_now}
+use Rattle.session_laws.specs.Exits.{exits_set_in, set_if, set_by_call}
+use Rattle.std.proofs.Common.{Bool, List, None, Option, Some, [], cond, eq-eqb, eqb, false, length, refl, sym, true, ℕ, ◌++◌, ◌+◌, ◌∙◌, ◌∷◌, ◌≡◌, ◌||◌}
+use Rattle.std.specs.Prelude.{nat_le}
+use Rattle.lwp_types.specs.declared.call.Call.TheVariants as call
+use Rattle.lwp_types.specs.declared.call.LwpErr.TheVariants as error
+use Rattle.lwp_types.specs.declared.rows.Mark.TheVariants as mark
+
+-- what a call sets: one exit procedure, unless it is refused, or nothing
+pub data Sets (c : Call) : Type 0 where
+  Exit : (x : ExitCall) → c ≡ call.OnExit x → Sets c
+  Nothing : ((p : ExitTest) (s : State) (t : ℕ) → set_by p s t c ≡ 0) → ((p : ExitTest) (t : ℕ) (es : List Effect) → set_by_call p t c es ≡ 0) → Sets c
+
+pub what_it_sets : (c : Call) → Sets c
+what_it_sets (call.Create number prio flags) = Nothing (λ p s t. refl) (λ p t es. refl)
+what_it_sets (call.Destroy u) = Nothing (λ p s t. refl) (λ p t es. refl)
+what_it_sets (call.Ping u) = Nothing (λ p s t. refl) (λ p t es. refl)
+what_it_sets (call.Yield u) = Nothing (λ p s t. refl) (λ p t es. refl)
+what_it_sets (call.Resched q) = Nothing (λ p s t. refl) (λ p t es. refl)
+what_it_sets (call.SetPri u q) = Nothing (λ p s t. refl) (λ p t es. refl)
+what_it_sets (call.Suspend u) = Nothing (λ p s t. refl) (λ p t es. refl)
+what_it_sets (call.Resume u) = Nothing (λ p s t. refl) (λ p t es. refl)
+what_it_sets (call.Join u) = Nothing (λ p s t. refl) (λ p t es. refl)
+what_it_sets call.Me = Nothing (λ p s t. refl) (λ p t es. refl)
+what_it_sets (call.SetMaxPri q) = Nothing (λ p s t. refl) (λ p t es. refl)
+what_it_sets (call.SetExit code) = Nothing (λ p s t. refl) (λ p t es. refl)
+what_it_sets call.GetExit = Nothing (λ p s t. refl) (λ p t es. refl)
+what_it_sets (call.PodExit code) = Nothing (λ p s t. refl) (λ p t es. refl)
+what_it_sets call.Threads = Nothing (λ p s t. refl) (λ p t es. refl)
+what_it_sets (call.Send u room text) = Nothing (λ p s t. refl) (λ p t es. refl)
+what_it_sets (call.Recv from how) = Nothing (λ p s t. refl) (λ p t es. refl)
+what_it_sets (call.Reply u text) = Nothing (λ p s t. refl) (λ p t es. refl)
+what_it_sets call.Senders = Nothing (λ p s t. refl) (λ p t es. refl)
+what_it_sets call.Receivers = Nothing (λ p s t. refl) (λ p t es. refl)
+what_it_sets call.MonCreate = Nothing (λ p s t. refl) (λ p t es. refl)
+what_it_sets (call.MonDestroy m) = Nothing (λ p s t. refl) (λ p t es. refl)
+what_it_sets (call.Enter m) = Nothing (λ p s t. refl) (λ p t es. refl)
+what_it_sets (call.CondEnter m) = Nothing (λ p s t. refl) (λ p t es. refl)
+what_it_sets (call.MonExit m) = Nothing (λ p s t. refl) (λ p t es. refl)
+what_it_sets (call.MonBreak m) = Nothing (λ p s t. refl) (λ p t es. refl)
+what_it_sets call.Monitors = Nothing (λ p s t. refl) (λ p t es. refl)
+what_it_sets (call.MonWaiters m) = Nothing (λ p s t. refl) (λ p t es. refl)
+what_it_sets (call.CvCreate m) = Nothing (λ p s t. refl) (λ p t es. refl)
+what_it_sets (call.CvDestroy c) = Nothing (λ p s t. refl) (λ p t es. refl)
+what_it_sets (call.Wait c) = Nothing (λ p s t. refl) (λ p t es. refl)
+what_it_sets (call.Notify c) = Nothing (λ p s t. refl) (λ p t es. refl)
+what_it_sets (call.Broadcast c) = Nothing (λ p s t. refl) (λ p t es. refl)
+what_it_sets (call.CvSend c u) = Nothing (λ p s t. refl) (λ p t es. refl)
+what_it_sets call.Conds = Nothing (λ p s t. refl) (λ p t es. refl)
+what_it_sets (call.CvWaiters c) = Nothing (λ p s t. refl) (λ p t es. refl)
+what_it_sets (call.CallProc number) = Nothing (λ p s t. refl) (λ p t es. refl)
+what_it_sets call.Return = Nothing (λ p s t. refl) (λ p t es. refl)
+what_it_sets (call.Handle pat func arg) = Nothing (λ p s t. refl) (λ p t es. refl)
+what_it_sets call.Unhandle = Nothing (λ p s t. refl) (λ p t es. refl)
+what_it_sets (call.OnExit x) = Exit x refl
+what_it_sets (call.Raise q) = Nothing (λ p s t. refl) (λ p t es. refl)
+what_it_sets (call.ExcNotify q) = Nothing (λ p s t. refl) (λ p t es. refl)
+what_it_sets (call.Bound q) = Nothing (λ p s t. refl) (λ p t es. refl)
+what_it_sets call.UniqPatt = Nothing (λ p s t. refl) (λ p t es. refl)
+what_it_sets (call.Agent e) = Nothing (λ p s t. refl) (λ p t es. refl)
+what_it_sets call.Agents = Nothing (λ p s t. refl) (λ p t es. refl)
+what_it_sets (call.Say text) = Nothing (λ p s t. refl) (λ p t es. refl)
+
+module _ (p : ExitTest) where
+  -- what a case answers its caller at once
+  abbrev answered_in : ℕ → Case → List Effect → List Effect
+  answered_in t made rest = made.others ++ (own_effects t made.own ++ rest)
+
+  exit_told : (s : State) (t : ℕ) (x : ExitCall) (rest : List Effect) → set_if p t x (answered_in t (on_exit s t x) rest) ≡ set_by p s t (call.OnExit x)
+  unfolding unless
+  exit_told s t x rest = by_tests (nat_le 256 (length (marks_in s t))) (nat_le 4294967295 s.next_registration)
+    where
+      by_self : (b : Bool) (n : ℕ) → b ≡ true → cond b n 0 ≡ n
+      by_self true n e = refl
+      by_self false n e = absurd (cc)
+
+      refusal : (b : Bool) → ◌≡◌ {A = ℕ} (cond b 0 0) 0
+      refusal true = refl
+      refusal false = refl
+
+      by_tests : (a b : Bool)
+          → set_if p t x (answered_in t (cond a (refused s error.NoRoom) (cond b (refused s error.NoRoom) (valued (record s { threads = with_marks t (marks_in s t ++ mark.Exit s.next_registration x ∷ []) s.threads; next_registration = s.next_registration + 1 }) s.next_registration))) rest)
+          ≡ cond (a || b) 0 (cond (p t s.next_registration x) 1 0)
+      by_tests true b = refusal (eqb t t)
+      by_tests false true = refusal (eqb t t)
+      by_tests false false = by_self (eqb t t) (cond (p t s.next_registration x) 1 0) (eq-eqb t t refl)
+
+  case_told : (s : State) (t : ℕ) (c : Call) (rest : List Effect) → Sets c → set_by_call p t c (answered_in t (case_of s t c) rest) ≡ set_by p s t c
+  case_told s t c rest (Exit x e) = rw e (exit_told s t x rest)
+  case_told s t c rest (Nothing none untold) = untold p t (answered_in t (case_of s t c) rest) ∙ sym (none p s t)
+
+  pub step_told : (s : State) (c : Call) → exits_set_in p (step s c).effects ≡ set_now p s (choice s) c
+  unfolding step step_by
+  step_told s c = by_choice (choice s)
+    where
+      by_choice : (o : Option ℕ) → exits_set_in p (step_if s c o).effects ≡ set_now p s o c
+      by_choice None = refl
+      by_choice (Some t) = case_told s t c (end_effects (case_of s t c).after) (what_it_sets c)

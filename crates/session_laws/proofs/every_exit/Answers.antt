@@ -1,0 +1,5 @@
+use Rattle.session_laws.proofs.ExitLaws.{each_exit_once}
+use Rattle.session_laws.proofs.every_exit.Goals as goal
+
+pub returns : goal.returns
+returns g c = each_exit_once g.row.B.Denot

@@ -1,0 +1,4 @@
+pub mod Numbers
+pub mod Sessions
+pub mod Exits
+pub mod Deaths

@@ -1,0 +1,67 @@
+//! The laws of sessions, proved of the definitions alone: what the laws of a pod's machine come to over all steps of a session.
+//! There is no code here: each function below has no body, and its clause is the law. So there are no wrong edits either.
+//!
+//! | what is said | law, and where it stands |
+//! |---|---|
+//! | exit procedures run once: each that was set is set still or has run, and never both | `EachExitOnce`, `EachExitHasItsFate`, `EachSetExitOnce` (`specs/Exits.antt`) |
+//! | the dead have run all that they had set | `TheDeadHaveRunTheirExits` (`specs/Exits.antt`) |
+//! | the dead are forgotten, and nobody dies twice | `TheDeadStayForgotten`, `EachDiesOnce` (`specs/Deaths.antt`) |
+//! | each number is given to one of them, in order | `EachNumberIsGivenOnce` (`specs/Exits.antt`), `StepsNumberExits`, `DeliveriesNumberNone` (`specs/Numbers.antt`) |
+//!
+//! `InEverySession` (`specs/Sessions.antt`) is said of all sessions that there are: whatever bodies do and whenever lines are
+//! taken, after each call and each take.
+//!
+//! It stands on `pod_runner`, whose sessions it speaks of, and on `pod_laws`, whose laws of one step it carries on.
+#![tactic(auto)]
+
+ghost use Rattle.session_laws.specs.Deaths.{EachDiesOnce, TheDeadStayForgotten};
+ghost use Rattle.session_laws.specs.Exits.{EachExitHasItsFate, EachExitOnce, EachNumberIsGivenOnce, EachSetExitOnce, TheDeadHaveRunTheirExits};
+ghost use Rattle.session_laws.specs.Numbers.{DeliveriesNumberNone, StepsNumberExits};
+ghost use Rattle.session_laws.specs.Sessions.{InEverySession};
+
+use lwp_types::Body;
+
+/// Of each number that was given, the marks of live threads and the `Exited` so far are one together; of any other, none.
+pub fn every_exit<B: Body>()
+    ensures { InEverySession B EachExitOnce }
+{}
+
+/// The same in words: an exit procedure whose number was given is set still and hasn't run, or has run and isn't set any more.
+pub fn every_fate<B: Body>()
+    ensures { InEverySession B EachExitHasItsFate }
+{}
+
+/// It is so for each thread, number and exit call: whatever was set is set still or has run, as that call, in that thread.
+pub fn every_exit_set<B: Body>()
+    ensures { InEverySession B EachSetExitOnce }
+{}
+
+/// Of a thread that isn't live, all has run that it had set.
+pub fn every_exit_of_the_dead<B: Body>()
+    ensures { InEverySession B TheDeadHaveRunTheirExits }
+{}
+
+/// Whoever died in any step so far isn't there, and no list names it.
+pub fn every_dead<B: Body>()
+    ensures { InEverySession B TheDeadStayForgotten }
+{}
+
+/// Of each number, at most one death is told.
+pub fn every_death<B: Body>()
+    ensures { InEverySession B EachDiesOnce }
+{}
+
+/// Each number below the next was given to one exit procedure, and no other number was given.
+pub fn every_number_given<B: Body>()
+    ensures { InEverySession B EachNumberIsGivenOnce }
+{}
+
+/// A call that sets an exit procedure gives it the next number, and no other call gives one.
+pub fn every_number()
+    ensures { StepsNumberExits }
+{}
+
+/// Nor does a delivery.
+pub fn every_number_of_a_delivery()
+    ensures { DeliveriesNumberNone }
+{}
