@@ -16,28 +16,24 @@ use Rattle.pod_laws.proofs.Opening.{Lawful-opening}
 use Rattle.pod_laws.specs.Forgotten.{IsGone, is_died}
 use Rattle.pod_runner.specs.Session.{Made}
 use Rattle.session_laws.proofs.Steps.{Lasts, play_lasts}
-use Rattle.session_laws.specs.Deaths.{EachDiesOnce, TheDeadStayForgotten}
+use Rattle.session_laws.specs.Deaths.{EachDiesOnce, TheDeadStayForgotten, deaths}
 use Rattle.session_laws.specs.Sessions.{InEverySession}
 use Rattle.lwp_types.specs.CountLaws.{one, one-le}
 use Rattle.lwp_types.specs.Death.{death}
-use Rattle.std.proofs.Common.{List, None, Option, Some, [], ap, arith, count_by, eqb, refl, sum_by, true, zero, suc, ℕ, ◌++◌, ◌+◌, ◌∙◌, ◌∷◌, ◌≡◌, ◌≤◌}
+use Rattle.std.proofs.Common.{List, None, Option, Some, [], ap, arith, count_by, eqb, refl, true, zero, suc, ℕ, ◌++◌, ◌+◌, ◌∙◌, ◌∷◌, ◌≡◌, ◌≤◌}
 use Rattle.std.proofs.lemmas.Bool.{or_parts}
 use Rattle.std.proofs.lemmas.List.Sums.{sum_by_push}
 
--- how often these steps tell of the death of n
-abbrev deaths_in : ℕ → List Made → ℕ
-deaths_in n steps = sum_by (λ made. count_by (is_died n) made.effects) steps
-
 -- the state is lawful, and whoever died in these steps did so once and is gone
-record Buried (s : State) (steps : List Made) : Type 0 where
-  lawful : Lawful s None
-  gone : (n : ℕ) → 1 ≤ deaths_in n steps → IsGone s n
-  once : (n : ℕ) → deaths_in n steps ≤ 1
+pub record Buried (s : State) (steps : List Made) : Type 0 where
+  pub lawful : Lawful s None
+  pub gone : (n : ℕ) → 1 ≤ deaths n steps → IsGone s n
+  pub once : (n : ℕ) → deaths n steps ≤ 1
 
 -- whoever dies in a step was there before it, and dies once
-record Dies (s : State) (n deaths : ℕ) : Type 0 where
-  few : deaths ≤ 1
-  lived : 1 ≤ deaths → is_thread s n ≡ true
+record Dies (s : State) (n told : ℕ) : Type 0 where
+  few : told ≤ 1
+  lived : 1 ≤ told → is_thread s n ≡ true
 
 dies_in_step : (s : State) → Lawful s None → (c : Call) (n : ℕ) → Dies s n (count_by (is_died n) (step s c).effects)
 unfolding step step_by
@@ -81,10 +77,10 @@ module _ (s after : State) (n before now all : ℕ) (sum : all ≡ before + now)
       by_now zero e = omega (arith, sum, e, few)
       by_now (suc m) e = by_before before refl (omega (arith, e))
 
-died_push : (n : ℕ) (steps : List Made) (made : Made) → deaths_in n (steps ++ made ∷ []) ≡ deaths_in n steps + count_by (is_died n) made.effects
+died_push : (n : ℕ) (steps : List Made) (made : Made) → deaths n (steps ++ made ∷ []) ≡ deaths n steps + count_by (is_died n) made.effects
 died_push n steps made = sum_by_push (λ (made : Made). count_by (is_died n) made.effects) steps made
 
-buried_lasts : Lasts Buried
+pub buried_lasts : Lasts Buried
 buried_lasts = record {
   idle = λ s steps was.
       let made : Made = record { take = None; effects = [] } in
@@ -97,9 +93,9 @@ buried_lasts = record {
       let made : Made = record { take = None; effects = (step s c).effects } in
       record {
         lawful = Lawful-step s was.lawful c;
-        gone = λ n. gone_then s (step s c).after n (deaths_in n steps) (count_by (is_died n) (step s c).effects) _ (died_push n steps made) (was.gone n) (was.once n)
+        gone = λ n. gone_then s (step s c).after n (deaths n steps) (count_by (is_died n) (step s c).effects) _ (died_push n steps made) (was.gone n) (was.once n)
             (gone_stays n s (step s c).after (step_fades n s c)) (λ some. (the_dead_are_forgotten s was.lawful c n some).gone);
-        once = λ n. once_then s (step s c).after n (deaths_in n steps) (count_by (is_died n) (step s c).effects) _ (died_push n steps made) (was.gone n) (was.once n) (dies_in_step s was.lawful c n);
+        once = λ n. once_then s (step s c).after n (deaths n steps) (count_by (is_died n) (step s c).effects) _ (died_push n steps made) (was.gone n) (was.once n) (dies_in_step s was.lawful c n);
       };
   take = λ s steps took may was.
       let made : Made = record { take = Some took; effects = (deliver s took.event took.line.text).effects } in
@@ -111,7 +107,7 @@ buried_lasts = record {
       };
 }
 
-buried_opening : (params : PodParams) → 1 ≤ params.maxpri → params.maxpri ≤ 255 → Buried (opening params) []
+pub buried_opening : (params : PodParams) → 1 ≤ params.maxpri → params.maxpri ≤ 255 → Buried (opening params) []
 buried_opening params low high = record { lawful = Lawful-opening params low high; gone = λ n some. absurd (omega (arith, some)); once = λ n. omega arith }
 
 buried_always : (B : Type 0) → InEverySession B (λ session. Buried session.live.state session.steps)

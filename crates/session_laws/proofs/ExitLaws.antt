@@ -19,7 +19,7 @@ use Rattle.pod_runner.specs.declared.session.Took.{Took}
 use Rattle.session_laws.proofs.Numbering.{deliveries_number_none, steps_number_exits}
 use Rattle.session_laws.proofs.Steps.{Lasts, play_lasts}
 use Rattle.session_laws.proofs.Told.{Sets, Sets.Exit, Sets.Nothing, step_told, what_it_sets}
-use Rattle.session_laws.specs.Exits.{EachExitHasItsFate, EachExitOnce, EachNumberIsGivenOnce, EachSetExitOnce, Fate, Fate.HasRun, Fate.IsNotGiven, Fate.IsWaiting, TheDeadHaveRunTheirExits, exits_run, exits_set_in, exits_waiting, has_number, set_by_thread}
+use Rattle.session_laws.specs.Exits.{EachExitHasItsFate, EachExitOnce, EachNumberIsGivenOnce, EachSetExitOnce, Fate, Fate.HasRun, Fate.IsNotGiven, Fate.IsWaiting, TheDeadHaveRunTheirExits, exits_run, exits_set, exits_set_in, has_number, set_by_thread}
 use Rattle.session_laws.specs.Numbers.{any_exit}
 use Rattle.session_laws.specs.Sessions.{InEverySession}
 use Rattle.std.proofs.Common.{Bool, List, None, Option, Some, [], ap, arith, cond, eqb, false, length, refl, suc, sum_by, true, zero, ℕ, ◌++◌, ◌+◌, ◌<◌, ◌∷◌, ◌≡◌, ◌≤◌, ◌||◌}
@@ -32,26 +32,18 @@ use Rattle.lwp_types.specs.declared.rows.Mark.TheVariants as mark
 
 -- ---- what holds between any two steps
 
--- how many that pass have run
-abbrev run_by : ExitTest → List Made → ℕ
-run_by p steps = sum_by (λ made. exits_passing p made.effects) steps
-
--- how many that pass were set
-abbrev set_so_far : ExitTest → List Made → ℕ
-set_so_far p steps = sum_by (λ made. exits_set_in p made.effects) steps
-
 -- the state is lawful, and both equations hold
 record Even (s : State) (steps : List Made) : Type 0 where
   lawful : Lawful s None
-  even : (p : ExitTest) → marks_passing p s + run_by p steps ≡ set_so_far p steps
-  once : (k : ℕ) → marks_passing (has_number k) s + run_by (has_number k) steps ≡ one (nat_lt k s.next_registration)
+  even : (p : ExitTest) → marks_passing p s + exits_run p steps ≡ exits_set p steps
+  once : (k : ℕ) → marks_passing (has_number k) s + exits_run (has_number k) steps ≡ one (nat_lt k s.next_registration)
 
 -- ---- each kind of step keeps it
 
-run_push : (p : ExitTest) (steps : List Made) (made : Made) → run_by p (steps ++ made ∷ []) ≡ run_by p steps + exits_passing p made.effects
+pub run_push : (p : ExitTest) (steps : List Made) (made : Made) → exits_run p (steps ++ made ∷ []) ≡ exits_run p steps + exits_passing p made.effects
 run_push p steps made = sum_by_push (λ (made : Made). exits_passing p made.effects) steps made
 
-set_push : (p : ExitTest) (steps : List Made) (made : Made) → set_so_far p (steps ++ made ∷ []) ≡ set_so_far p steps + exits_set_in p made.effects
+set_push : (p : ExitTest) (steps : List Made) (made : Made) → exits_set p (steps ++ made ∷ []) ≡ exits_set p steps + exits_set_in p made.effects
 set_push p steps made = sum_by_push (λ (made : Made). exits_set_in p made.effects) steps made
 
 -- none more, and so below the next as before
@@ -142,12 +134,12 @@ each_number_is_given_once B setting low high takes n h k = omega (arith, each_se
 
 module _ {B : Type 0} (session : Session B) (k : ℕ) where
   -- below the next number
-  fate_given : (waiting run : ℕ) → k < session.live.state.next_registration → exits_waiting (has_number k) session ≡ waiting → exits_run (has_number k) session ≡ run → waiting + run ≡ 1 → Fate session k
+  fate_given : (waiting run : ℕ) → k < session.live.state.next_registration → marks_passing (has_number k) session.live.state ≡ waiting → exits_run (has_number k) session.steps ≡ run → waiting + run ≡ 1 → Fate session k
   fate_given zero run below here gone sum = HasRun below here (omega (arith, gone, sum))
   fate_given (suc n) run below here gone sum = IsWaiting below (omega (arith, here, sum)) (omega (arith, gone, sum))
 
-  fate_of : (b : Bool) → nat_lt k session.live.state.next_registration ≡ b → exits_waiting (has_number k) session + exits_run (has_number k) session ≡ cond b 1 0 → Fate session k
-  fate_of true e sum = fate_given (exits_waiting (has_number k) session) (exits_run (has_number k) session) (ltb-true k session.live.state.next_registration e) refl refl sum
+  fate_of : (b : Bool) → nat_lt k session.live.state.next_registration ≡ b → marks_passing (has_number k) session.live.state + exits_run (has_number k) session.steps ≡ cond b 1 0 → Fate session k
+  fate_of true e sum = fate_given (marks_passing (has_number k) session.live.state) (exits_run (has_number k) session.steps) (ltb-true k session.live.state.next_registration e) refl refl sum
   fate_of false e sum = IsNotGiven (ltb-false k session.live.state.next_registration e) (omega (arith, sum)) (omega (arith, sum))
 
 pub each_exit_has_its_fate : (B : Type 0) → InEverySession B (EachExitHasItsFate {B = B})
@@ -161,7 +153,7 @@ module _ (u : ℕ) (p : ExitTest) where
   other_mark t other (mark.Exit reg x) = rw other refl
 
   -- no thread of a list is u, so none has a mark of it
-  none_left : (rows : List ThreadRow) → is_some (find (is_number u) rows) ≡ false → sum_by (row_passing (set_by_thread u p)) rows ≡ 0
+  pub none_left : (rows : List ThreadRow) → is_some (find (is_number u) rows) ≡ false → sum_by (row_passing (set_by_thread u p)) rows ≡ 0
   none_left [] gone = refl
   none_left (row ∷ rows) gone = by_test (is_number u row) refl gone (none_left rows)
     where

@@ -3,3 +3,4 @@ pub mod Told
 pub mod Steps
 pub mod ExitLaws
 pub mod DeathLaws
+pub mod Silence

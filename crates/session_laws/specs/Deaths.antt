@@ -1,17 +1,23 @@
 -- The dead are forgotten, over a whole session.
 use Rattle.pod_laws.specs.Forgotten.{IsForgotten, is_died}
-use Rattle.pod_runner.specs.Session.{Session}
+use Rattle.pod_laws.specs.Once.{ExitTest}
+use Rattle.pod_runner.specs.Session.{Made, Session}
+use Rattle.session_laws.specs.Exits.{exits_run, set_by_thread}
 use Rattle.std.specs.List.{count_by, sum_by}
-use Rattle.std.specs.Prelude.{ℕ, ◌≤◌}
+use Rattle.std.specs.Prelude.{List, drop, take, ℕ, ◌≡◌, ◌≤◌}
 
--- how often n has died in the steps so far
-abbrev pub deaths : {B : Type 0} → ℕ → Session B → ℕ
-deaths n session = sum_by (λ made. count_by (is_died n) made.effects) session.steps
+-- how often n has died in these steps
+abbrev pub deaths : ℕ → List Made → ℕ
+deaths n steps = sum_by (λ made. count_by (is_died n) made.effects) steps
 
 -- whoever died in any step so far isn't there, and no list names it
 abbrev pub TheDeadStayForgotten : {B : Type 0} → Session B → Type 0
-TheDeadStayForgotten session = (n : ℕ) → 1 ≤ deaths n session → IsForgotten session.live.state n
+TheDeadStayForgotten session = (n : ℕ) → 1 ≤ deaths n session.steps → IsForgotten session.live.state n
 
 -- and nobody dies twice
 abbrev pub EachDiesOnce : {B : Type 0} → Session B → Type 0
-EachDiesOnce session = (n : ℕ) → deaths n session ≤ 1
+EachDiesOnce session = (n : ℕ) → deaths n session.steps ≤ 1
+
+-- where u has died in the first m steps, none of the others runs an exit procedure of u
+abbrev pub TheDeadRunNothing : {B : Type 0} → Session B → Type 0
+TheDeadRunNothing session = (u m : ℕ) → 1 ≤ deaths u (take m session.steps) → (p : ExitTest) → exits_run (set_by_thread u p) (drop m session.steps) ≡ 0

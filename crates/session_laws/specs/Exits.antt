@@ -6,7 +6,7 @@ use Rattle.lwp_types.specs.declared.call.Call.{Call}
 use Rattle.lwp_types.specs.declared.call.Effect.{Effect}
 use Rattle.lwp_types.specs.declared.call.ExitCall.{ExitCall}
 use Rattle.pod_laws.specs.Once.{ExitTest, exits_passing, marks_passing}
-use Rattle.pod_runner.specs.Session.{Session}
+use Rattle.pod_runner.specs.Session.{Made, Session}
 use Rattle.std.specs.List.{sum_by}
 use Rattle.std.specs.Prelude.{List, cond, false, nat_lt, pos, ℕ, ◌&&◌, ◌+◌, ◌<◌, ◌==◌, ◌∷◌, ◌≡◌, ◌≤◌}
 use Rattle.lwp_types.specs.declared.call.Answer.TheVariants as answer
@@ -15,12 +15,12 @@ use Rattle.lwp_types.specs.declared.call.Effect.TheVariants as effect
 
 -- ---- what the effects tell
 
--- t has set x under the number that it is answered, if it is one
+-- t has set x, if it is answered a number, and that is the number of x
 abbrev pub set_under : ExitTest → ℕ → ExitCall → Answer → ℕ
 set_under p t x (answer.Value (pos n)) = cond (p t n x) 1 0
 set_under p t x _ = 0
 
--- an OnExit of t is answered by the next effect
+-- the next effect answers this OnExit of t
 abbrev pub set_if : ExitTest → ℕ → ExitCall → List Effect → ℕ
 set_if p t x (effect.Answered u a ∷ es) = cond (u == t) (set_under p t x a) 0
 set_if p t x _ = 0
@@ -35,25 +35,21 @@ abbrev pub exits_set_in : ExitTest → List Effect → ℕ
 exits_set_in p (effect.Called t c ∷ es) = set_by_call p t c es
 exits_set_in p _ = 0
 
--- ---- what there is of a session
+-- ---- over steps
 
--- how many exit procedures that pass were set in its steps so far
-abbrev pub exits_set : {B : Type 0} → ExitTest → Session B → ℕ
-exits_set p session = sum_by (λ made. exits_set_in p made.effects) session.steps
+-- how many exit procedures that pass were set in these steps
+abbrev pub exits_set : ExitTest → List Made → ℕ
+exits_set p steps = sum_by (λ made. exits_set_in p made.effects) steps
 
--- how many of them have run in its steps so far
-abbrev pub exits_run : {B : Type 0} → ExitTest → Session B → ℕ
-exits_run p session = sum_by (λ made. exits_passing p made.effects) session.steps
-
--- how many of them are set still, on the stacks of live threads
-abbrev pub exits_waiting : {B : Type 0} → ExitTest → Session B → ℕ
-exits_waiting p session = marks_passing p session.live.state
+-- how many of them have run
+abbrev pub exits_run : ExitTest → List Made → ℕ
+exits_run p steps = sum_by (λ made. exits_passing p made.effects) steps
 
 -- ---- the laws
 
--- of each test: what is set still, and what has run, is what was set
+-- of each test: what is set still, on the stacks of live threads, and what has run, is what was set
 abbrev pub EachSetExitOnce : {B : Type 0} → Session B → Type 0
-EachSetExitOnce session = (p : ExitTest) → exits_waiting p session + exits_run p session ≡ exits_set p session
+EachSetExitOnce session = (p : ExitTest) → marks_passing p session.live.state + exits_run p session.steps ≡ exits_set p session.steps
 
 -- the exit procedure has this number
 abbrev pub has_number : ℕ → ExitTest
@@ -61,17 +57,17 @@ has_number k t n x = n == k
 
 -- of each number that was given one exit procedure is set still or has run, and of any other number none
 abbrev pub EachExitOnce : {B : Type 0} → Session B → Type 0
-EachExitOnce session = (k : ℕ) → exits_waiting (has_number k) session + exits_run (has_number k) session ≡ cond (nat_lt k session.live.state.next_registration) 1 0
+EachExitOnce session = (k : ℕ) → marks_passing (has_number k) session.live.state + exits_run (has_number k) session.steps ≡ cond (nat_lt k session.live.state.next_registration) 1 0
 
 -- and each of these numbers was given to one
 abbrev pub EachNumberIsGivenOnce : {B : Type 0} → Session B → Type 0
-EachNumberIsGivenOnce session = (k : ℕ) → exits_set (has_number k) session ≡ cond (nat_lt k session.live.state.next_registration) 1 0
+EachNumberIsGivenOnce session = (k : ℕ) → exits_set (has_number k) session.steps ≡ cond (nat_lt k session.live.state.next_registration) 1 0
 
--- the same in words, of the number k: its exit procedure is set still, or has run, or there is none yet
+-- in words, of the number k: its exit procedure is set still, or has run, or the number isn't given yet
 pub data Fate {B : Type 0} (session : Session B) (k : ℕ) : Type 0 where
-  IsWaiting : k < session.live.state.next_registration → exits_waiting (has_number k) session ≡ 1 → exits_run (has_number k) session ≡ 0 → Fate session k
-  HasRun : k < session.live.state.next_registration → exits_waiting (has_number k) session ≡ 0 → exits_run (has_number k) session ≡ 1 → Fate session k
-  IsNotGiven : session.live.state.next_registration ≤ k → exits_waiting (has_number k) session ≡ 0 → exits_run (has_number k) session ≡ 0 → Fate session k
+  IsWaiting : k < session.live.state.next_registration → marks_passing (has_number k) session.live.state ≡ 1 → exits_run (has_number k) session.steps ≡ 0 → Fate session k
+  HasRun : k < session.live.state.next_registration → marks_passing (has_number k) session.live.state ≡ 0 → exits_run (has_number k) session.steps ≡ 1 → Fate session k
+  IsNotGiven : session.live.state.next_registration ≤ k → marks_passing (has_number k) session.live.state ≡ 0 → exits_run (has_number k) session.steps ≡ 0 → Fate session k
 
 -- of every number
 abbrev pub EachExitHasItsFate : {B : Type 0} → Session B → Type 0
@@ -83,4 +79,4 @@ set_by_thread u p t n x = (t == u) && p t n x
 
 -- whoever isn't live has nothing set still: all that it has set has run
 abbrev pub TheDeadHaveRunTheirExits : {B : Type 0} → Session B → Type 0
-TheDeadHaveRunTheirExits session = (u : ℕ) → is_thread session.live.state u ≡ false → (p : ExitTest) → exits_run (set_by_thread u p) session ≡ exits_set (set_by_thread u p) session
+TheDeadHaveRunTheirExits session = (u : ℕ) → is_thread session.live.state u ≡ false → (p : ExitTest) → exits_run (set_by_thread u p) session.steps ≡ exits_set (set_by_thread u p) session.steps

@@ -4,7 +4,7 @@
 //! | what is said | law, and where it stands |
 //! |---|---|
 //! | exit procedures run once: each that was set is set still or has run, and never both | `EachExitOnce`, `EachExitHasItsFate`, `EachSetExitOnce` (`specs/Exits.antt`) |
-//! | the dead have run all that they had set | `TheDeadHaveRunTheirExits` (`specs/Exits.antt`) |
+//! | the dead have run all that they had set, and run nothing more | `TheDeadHaveRunTheirExits` (`specs/Exits.antt`), `TheDeadRunNothing` (`specs/Deaths.antt`) |
 //! | the dead are forgotten, and nobody dies twice | `TheDeadStayForgotten`, `EachDiesOnce` (`specs/Deaths.antt`) |
 //! | each number is given to one of them, in order | `EachNumberIsGivenOnce` (`specs/Exits.antt`), `StepsNumberExits`, `DeliveriesNumberNone` (`specs/Numbers.antt`) |
 //!
@@ -14,7 +14,7 @@
 //! It stands on `pod_runner`, whose sessions it speaks of, and on `pod_laws`, whose laws of one step it carries on.
 #![tactic(auto)]
 
-ghost use Rattle.session_laws.specs.Deaths.{EachDiesOnce, TheDeadStayForgotten};
+ghost use Rattle.session_laws.specs.Deaths.{EachDiesOnce, TheDeadRunNothing, TheDeadStayForgotten};
 ghost use Rattle.session_laws.specs.Exits.{EachExitHasItsFate, EachExitOnce, EachNumberIsGivenOnce, EachSetExitOnce, TheDeadHaveRunTheirExits};
 ghost use Rattle.session_laws.specs.Numbers.{DeliveriesNumberNone, StepsNumberExits};
 ghost use Rattle.session_laws.specs.Sessions.{InEverySession};
@@ -39,6 +39,11 @@ pub fn every_exit_set<B: Body>()
 /// Of a thread that isn't live, all has run that it had set.
 pub fn every_exit_of_the_dead<B: Body>()
     ensures { InEverySession B TheDeadHaveRunTheirExits }
+{}
+
+/// After the step in which a thread died, none of its exit procedures runs.
+pub fn every_step_after_a_death<B: Body>()
+    ensures { InEverySession B TheDeadRunNothing }
 {}
 
 /// Whoever died in any step so far isn't there, and no list names it.
