@@ -1,0 +1,116 @@
+-- The thread that keeps items: what it holds, and what it does with each letter.
+use Rattle.lwp_types.specs.declared.call.Answer.{Answer}
+use Rattle.lwp_types.specs.declared.call.Answer.TheVariants as answer
+use Rattle.lwp_types.specs.declared.call.Call.{Call}
+use Rattle.lwp_types.specs.declared.call.Call.TheVariants as call
+use Rattle.lwp_types.specs.declared.call.Flags.{Flags}
+use Rattle.lwp_types.specs.declared.call.Mode.TheVariants as mode
+use Rattle.std.specs.Prelude.{List, None, [], false, if◌then◌else◌, length, nat_lt, ℕ, ◌++◌, ◌+◌, ◌-◌, ◌==◌, ◌∷◌}
+
+-- a thread, and a text for it or from it
+abbrev pub Letter : Type 0
+Letter = ℕ × List ℕ
+
+pub record Buffer : Type 0 where
+  -- how many of the other threads it is to create, and how many it has created
+  pub crew : ℕ
+  pub created : ℕ
+  -- how many items it may hold, and those that it holds, the oldest first
+  pub room : ℕ
+  pub items : List (List ℕ)
+  -- the producers whose item found no room, with the item
+  pub waiting : List Letter
+  -- the consumers that found no item
+  pub asking : List ℕ
+  -- the replies that it has still to make
+  pub replies : List Letter
+  -- how many items are still to be handed out
+  pub left : ℕ
+
+-- ---- what it does with a letter
+
+-- a reply is put behind those to be made
+abbrev pub replied : ℕ → List ℕ → Buffer → Buffer
+replied to text buffer = record buffer { replies = buffer.replies ++ (to, text) ∷ [] }
+
+-- a producer hears that its item was taken
+abbrev pub thanked : ℕ → Buffer → Buffer
+thanked producer buffer = replied producer [] buffer
+
+-- a consumer gets an item
+abbrev pub handed : ℕ → List ℕ → Buffer → Buffer
+handed consumer item buffer = replied consumer item (record buffer { left = buffer.left - 1 })
+
+-- an item is put behind the others
+abbrev pub stored : List ℕ → Buffer → Buffer
+stored item buffer = record buffer { items = buffer.items ++ item ∷ [] }
+
+-- an item for which nobody asks is stored where there is room; else its producer waits
+abbrev pub kept : ℕ → List ℕ → Buffer → Buffer
+kept producer item buffer = if nat_lt (length buffer.items) buffer.room
+    then thanked producer (stored item buffer)
+    else record buffer { waiting = buffer.waiting ++ (producer, item) ∷ [] }
+
+-- an item comes: the consumer that has asked longest gets it, if one has
+abbrev pub put_by : ℕ → List ℕ → Buffer → List ℕ → Buffer
+put_by producer item buffer [] = kept producer item buffer
+put_by producer item buffer (consumer ∷ others) = thanked producer (handed consumer item (record buffer { asking = others }))
+
+abbrev pub put : ℕ → List ℕ → Buffer → Buffer
+put producer item buffer = put_by producer item buffer buffer.asking
+
+-- there is room again: the item that has waited longest is stored, if one has
+abbrev pub refilled_by : Buffer → List Letter → Buffer
+refilled_by buffer [] = buffer
+refilled_by buffer (letter ∷ others) = thanked letter.0 (stored letter.1 (record buffer { waiting = others }))
+
+abbrev pub refilled : Buffer → Buffer
+refilled buffer = refilled_by buffer buffer.waiting
+
+-- a consumer asks: it gets the oldest item, or waits for one
+abbrev pub get_by : ℕ → Buffer → List (List ℕ) → Buffer
+get_by consumer buffer [] = record buffer { asking = buffer.asking ++ consumer ∷ [] }
+get_by consumer buffer (item ∷ others) = refilled (handed consumer item (record buffer { items = others }))
+
+abbrev pub get : ℕ → Buffer → Buffer
+get consumer buffer = get_by consumer buffer buffer.items
+
+-- an empty letter asks for an item, any other is one
+abbrev pub lettered : ℕ → List ℕ → Buffer → Buffer
+lettered from [] buffer = get from buffer
+lettered from (byte ∷ bytes) buffer = put from (byte ∷ bytes) buffer
+
+-- what it makes of an answer: only letters tell it something
+abbrev pub told : Answer → Buffer → Buffer
+told (answer.Letter from text room) buffer = lettered from text buffer
+told _ buffer = buffer
+
+-- ---- what it calls
+
+-- a thread like any other
+abbrev pub plain : Flags
+plain = record { suspended = false; nolastrites = false; server = false }
+
+-- with no reply to be made, it waits for a letter, until all items were handed out
+abbrev pub rests : Buffer → Call × Buffer
+rests buffer = (if buffer.left == 0 then call.Return else call.Recv None mode.Block, buffer)
+
+-- the first reply is made, if there is one
+abbrev pub speaks : Buffer → List Letter → Call × Buffer
+speaks buffer [] = rests buffer
+speaks buffer (letter ∷ others) = (call.Reply letter.0 letter.1, record buffer { replies = others })
+
+-- first it creates the others, one of each procedure behind its own
+abbrev pub calls : Buffer → Call × Buffer
+calls buffer = if nat_lt buffer.created buffer.crew
+    then (call.Create (buffer.created + 1) 1 plain, record buffer { created = buffer.created + 1 })
+    else speaks buffer buffer.replies
+
+-- its next call, and what it holds then
+abbrev pub buffer_next : Buffer → Answer → Call × Buffer
+buffer_next buffer got = calls (told got buffer)
+
+-- before its first call: it is to create so many threads, holds at most `room` items, and hands out `left` in all
+abbrev pub opening : ℕ → ℕ → ℕ → Buffer
+opening crew room left =
+    record { crew = crew; created = 0; room = room; items = []; waiting = []; asking = []; replies = []; left = left }

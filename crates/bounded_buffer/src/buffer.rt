@@ -1,0 +1,190 @@
+// The thread that keeps items.
+ghost use Rattle.bounded_buffer.specs.Buffer.{buffer_next, calls, get, handed, kept, lettered, opening, put, refilled, replied, rests, speaks, stored, thanked, told};
+ghost use Rattle.std.specs.Prelude.{◌≡◌, IfOk, OnOk};
+
+use lwp_types::{Answer, Call, Flags, Mode, NoMemory, Text, Tid};
+use std::alloc::Global;
+use std::collections::VecDeque;
+use std::marker::Model;
+
+/// Keeps items in the order in which they came, at most so many. Who comes at the wrong time is replied to later.
+#[derive(Drop)]
+pub struct Buffer {
+    crew: u32,
+    created: u32,
+    room: usize,
+    items: VecDeque<Text>,
+    waiting: VecDeque<(Tid, Text)>,
+    asking: VecDeque<Tid>,
+    replies: VecDeque<(Tid, Text)>,
+    left: u32,
+}
+
+impl Model for Buffer {
+    ghost use Rattle.bounded_buffer.specs.Buffer.{Buffer};
+
+    ghost Value = { Buffer };
+
+    ghost view = { λ b. record { crew = b.crew; created = b.created; room = b.room; items = b.items.items; waiting = b.waiting.items; asking = b.asking.items; replies = b.replies.items; left = b.left } };
+}
+
+impl Buffer {
+    /// A buffer that is to create `crew` threads, holds at most `room` items, and hands out `left` in all.
+    pub fn new(alloc: Global, crew: u32, room: usize, left: u32) -> Buffer
+        ensures { result ≡ opening crew room left }
+    {
+        Buffer {
+            crew,
+            created: 0,
+            room,
+            items: VecDeque::new(alloc),
+            waiting: VecDeque::new(alloc),
+            asking: VecDeque::new(alloc),
+            replies: VecDeque::new(alloc),
+            left,
+        }
+    }
+
+    fn reply(&mut self, to: Tid, text: Text) -> Result<(), NoMemory>
+        ensures { OnOk result (self.new ≡ replied to text self.old) }
+    {
+        self.replies.push_back((to, text))?;
+        Ok(())
+    }
+
+    fn thank(&mut self, producer: Tid) -> Result<(), NoMemory>
+        ensures { OnOk result (self.new ≡ thanked producer self.old) }
+    {
+        self.reply(producer, Text::empty())
+    }
+
+    fn hand(&mut self, consumer: Tid, item: Text) -> Result<(), NoMemory>
+        ensures { OnOk result (self.new ≡ handed consumer item self.old) }
+    {
+        self.left = self.left.saturating_sub(1);
+        self.reply(consumer, item)
+    }
+
+    fn store(&mut self, item: Text) -> Result<(), NoMemory>
+        ensures { OnOk result (self.new ≡ stored item self.old) }
+    {
+        self.items.push_back(item)?;
+        Ok(())
+    }
+
+    fn keep(&mut self, producer: Tid, item: Text) -> Result<(), NoMemory>
+        ensures { OnOk result (self.new ≡ kept producer item self.old) }
+    {
+        if self.items.len() < self.room {
+            self.store(item)?;
+            return self.thank(producer);
+        }
+        self.waiting.push_back((producer, item))?;
+        Ok(())
+    }
+
+    fn put(&mut self, producer: Tid, item: Text) -> Result<(), NoMemory>
+        ensures { OnOk result (self.new ≡ put producer item self.old) }
+    {
+        match self.asking.pop_front() {
+            Some(consumer) => {
+                self.hand(consumer, item)?;
+                self.thank(producer)
+            }
+            None => self.keep(producer, item),
+        }
+    }
+
+    fn refill(&mut self) -> Result<(), NoMemory>
+        ensures { OnOk result (self.new ≡ refilled self.old) }
+    {
+        match self.waiting.pop_front() {
+            Some((producer, item)) => {
+                self.store(item)?;
+                self.thank(producer)
+            }
+            None => Ok(()),
+        }
+    }
+
+    fn get(&mut self, consumer: Tid) -> Result<(), NoMemory>
+        ensures { OnOk result (self.new ≡ get consumer self.old) }
+    {
+        match self.items.pop_front() {
+            Some(item) => {
+                self.hand(consumer, item)?;
+                self.refill()
+            }
+            None => {
+                self.asking.push_back(consumer)?;
+                Ok(())
+            }
+        }
+    }
+
+    fn take_letter(&mut self, from: Tid, text: Text) -> Result<(), NoMemory>
+        ensures { OnOk result (self.new ≡ lettered from text self.old) }
+    {
+        if text.bytes().is_empty() {
+            self.get(from)
+        } else {
+            self.put(from, text)
+        }
+    }
+
+    fn hear(&mut self, got: &Answer) -> Result<(), NoMemory>
+        ensures { OnOk result (self.new ≡ told got.now self.old) }
+    {
+        match got {
+            Answer::Letter { from, text, .. } => self.take_letter(*from, *text),
+            _ => Ok(()),
+        }
+    }
+
+    fn rest(&self) -> Call
+        ensures { (result, self.now) ≡ rests self.now }
+    {
+        if self.left == 0 {
+            return Call::Return;
+        }
+        Call::Recv {
+            from: None,
+            mode: Mode::Block,
+        }
+    }
+
+    fn speak(&mut self) -> Call
+        ensures { (result, self.new) ≡ speaks self.old self.old.replies }
+    {
+        match self.replies.pop_front() {
+            Some((to, text)) => Call::Reply { to, text },
+            None => self.rest(),
+        }
+    }
+
+    fn call(&mut self) -> Call
+        ensures { (result, self.new) ≡ calls self.old }
+    {
+        if self.created >= self.crew {
+            return self.speak();
+        }
+        self.created += 1;
+        Call::Create {
+            proc: self.created,
+            prio: 1,
+            flags: Flags {
+                suspended: false,
+                nolastrites: false,
+                server: false,
+            },
+        }
+    }
+
+    /// The next call, by the answer to the last one.
+    pub fn next(&mut self, got: &Answer) -> Result<Call, NoMemory>
+        ensures { IfOk result (λ call. (call, self.new) ≡ buffer_next self.old got.now) }
+    {
+        self.hear(got)?;
+        Ok(self.call())
+    }
+}

@@ -1,0 +1,66 @@
+// The threads that bring items and those that fetch them.
+ghost use Rattle.bounded_buffer.specs.Clients.{asks, consumes, produces};
+ghost use Rattle.std.specs.Prelude.{◌≡◌};
+
+use lwp_types::{Answer, Call, Text, Tid};
+
+// The buffer is the first thread, and a reply may have any length.
+const BUFFER: Tid = Tid { number: 0 };
+
+const WHOLE: u8 = 240;
+
+/// Brings the same item so many times.
+#[derive(Drop)]
+pub struct Producer {
+    pub item: Text,
+    pub left: u32,
+}
+
+/// Fetches so many items, and says what each is.
+#[derive(Drop)]
+pub struct Consumer {
+    pub left: u32,
+}
+
+impl Producer {
+    /// The next call.
+    pub fn next(&mut self) -> Call
+        ensures { (result, self.new) ≡ produces self.old }
+    {
+        if self.left == 0 {
+            return Call::Return;
+        }
+        self.left -= 1;
+        Call::Send {
+            to: BUFFER,
+            room: WHOLE,
+            text: self.item,
+        }
+    }
+}
+
+impl Consumer {
+    fn ask(&mut self) -> Call
+        ensures { (result, self.new) ≡ asks self.old }
+    {
+        if self.left == 0 {
+            return Call::Return;
+        }
+        self.left -= 1;
+        Call::Send {
+            to: BUFFER,
+            room: WHOLE,
+            text: Text::empty(),
+        }
+    }
+
+    /// The next call, by the answer to the last one.
+    pub fn next(&mut self, got: &Answer) -> Call
+        ensures { (result, self.new) ≡ consumes self.old got.now }
+    {
+        match got {
+            Answer::Reply(item) => Call::Say { text: *item },
+            _ => self.ask(),
+        }
+    }
+}

@@ -1,0 +1,52 @@
+//! A bounded buffer with producers and a consumer: an example of threads of one's own.
+//!
+//! A buffer keeps at most one item. Two producers send it items, and wait for the reply while there is no room; a consumer asks
+//! for items, and waits while there is none. To wait is to be replied to later: nobody is ever told to try again. What each thread
+//! calls next is exactly what `specs/` computes, and the trace that is written is that of the session of these definitions.
+//!
+//! The crate stands on `pod_runner`, which runs the threads, and on `lwp_types` and `event_gate` for their calls and for lines from
+//! the outside, of which there are none here.
+#![tactic(auto)]
+
+mod actor;
+mod buffer;
+mod clients;
+mod market;
+
+use event_gate::ListGate;
+use lwp_types::{Env, MemSink, NoMemory, PodParams};
+use market::Market;
+use pod_runner::{Run, RunErr, run};
+use std::alloc::Global;
+use std::io::Write;
+use std::process::ExitCode;
+
+// How many bytes a trace may have here, and how many calls there may be.
+const ROOM: usize = 4_096;
+
+const TURNS: u64 = 1_000;
+
+fn main(rt: HostRuntime) -> ExitCode {
+    let Ok(sink) = trace(rt.alloc()) else {
+        return ExitCode::FAILURE;
+    };
+    match rt.stdout().write_all(sink.bytes()) {
+        Ok(()) => ExitCode::SUCCESS,
+        Err(_) => ExitCode::FAILURE,
+    }
+}
+
+// The trace of the session.
+fn trace(alloc: Global) -> Result<MemSink, RunErr> {
+    let params = PodParams {
+        maxpri: 1,
+        births: 10,
+        procs: 4,
+    };
+    let env = Env::new(alloc, 0, 0, 0)?;
+    let mut played = Run::new(alloc, params, Market::new(alloc), env, TURNS)?;
+    let mut gate = ListGate::new(alloc, &[], &[])?;
+    let mut sink = MemSink::new(alloc, ROOM, ROOM, Vec::new(alloc))?;
+    run(&mut played, &mut gate, &mut sink)?;
+    Ok(sink)
+}
