@@ -4,3 +4,4 @@ pub mod PostLaws
 pub mod HistoryLaws
 pub mod LineLaws
 pub mod PlanLaws
+pub mod MakeLaws

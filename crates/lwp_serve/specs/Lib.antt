@@ -6,5 +6,6 @@ pub mod Outcome
 pub mod Reading
 pub mod BodyLaws
 pub mod Plan
+pub mod Make
 pub mod Words
 pub mod Texts

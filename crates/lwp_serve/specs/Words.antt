@@ -1,10 +1,14 @@
 -- What the program's words ask for.
+use Rattle.lwp_serve.specs.Make.{IsMake}
 use Rattle.lwp_serve.specs.Outcome.{outcome_of}
 use Rattle.lwp_serve.specs.Plan.{IsPlan, IsQuiet, Stream}
+use Rattle.lwp_serve.specs.declared.command.Command.{Command}
+use Rattle.lwp_serve.specs.declared.command.Command.TheVariants as command
 use Rattle.lwp_serve.specs.declared.session.Session.{Session}
 use Rattle.lwp_serve.specs.declared.session.SessionEnd.TheVariants as end
+use Rattle.script_maker.specs.Order.{IsAllowed, order_at}
 use Rattle.script_text.specs.Words.{number_at}
-use Rattle.std.specs.Prelude.{Bool, List, None, Option, Some, [], bytes_eq, codes, if◌then◌else◌, nat_le, ℕ, ◌&&◌, ◌∷◌, ◌≡◌}
+use Rattle.std.specs.Prelude.{Bool, List, None, Option, Some, [], bytes_eq, codes, if◌then◌else◌, nat_le, option_map, ℕ, ◌&&◌, ◌∷◌, ◌≡◌, ◌≤◌}
 
 -- how many calls a plan allows, where nobody says so
 abbrev pub plan_turns : ℕ
@@ -23,18 +27,31 @@ turns_by (Some n) = if is_allowed n then Some n else None
 abbrev pub turns_of : List ℕ → Option ℕ
 turns_of word = turns_by (number_at word)
 
--- the command's word
+-- the word of a plan
 abbrev pub is_plan : List ℕ → Bool
 is_plan word = bytes_eq word (codes "plan")
 
--- the calls allowed, if the words are a command: `plan`, and behind it perhaps how many
-abbrev pub command_of : List (List ℕ) → Option ℕ
-command_of [] = None
-command_of (word ∷ []) = if is_plan word then Some plan_turns else None
-command_of (word ∷ turns ∷ []) = if is_plan word then turns_of turns else None
-command_of (word ∷ turns ∷ other ∷ words) = None
+-- the word of what is made
+abbrev pub is_make : List ℕ → Bool
+is_make word = bytes_eq word (codes "make")
 
--- what a session of these words says: a plan's, or else that they are no command, and then nothing was read or written
-abbrev pub TopSays : Option ℕ → Stream → Stream → Session → Type 0
+-- the command of these words, if they are one: `plan`, and behind it perhaps how many calls; or `make`, and what is to be made
+abbrev pub command_of : List (List ℕ) → Option Command
+command_of [] = None
+command_of (word ∷ []) = if is_plan word then Some (command.Plan plan_turns) else None
+command_of (word ∷ turns ∷ []) = if is_plan word then option_map command.Plan (turns_of turns) else None
+command_of (word ∷ seed ∷ threads ∷ []) = None
+command_of (word ∷ seed ∷ threads ∷ lines ∷ []) = if is_make word then option_map command.Make (order_at seed threads lines) else None
+command_of (word ∷ seed ∷ threads ∷ lines ∷ other ∷ words) = None
+
+-- what it asks for may be had
+abbrev pub MayBe : Command → Type 0
+MayBe (command.Plan turns) = (1 ≤ turns) × (turns ≤ 1000000)
+MayBe (command.Make order) = IsAllowed order.threads order.lines
+
+-- What a session of these words says: a plan's; or that of what is made, which reads nothing; or else that they are no command, and
+-- then nothing was read or written.
+abbrev pub TopSays : Option Command → Stream → Stream → Session → Type 0
 TopSays None source sink session = (session ≡ outcome_of end.Usage [] 0) × IsQuiet source × IsQuiet sink
-TopSays (Some turns) source sink session = IsPlan turns source sink session
+TopSays (Some (command.Plan turns)) source sink session = IsPlan turns source sink session
+TopSays (Some (command.Make order)) source sink session = IsQuiet source × IsMake order.seed order.threads order.lines sink session

@@ -1,10 +1,12 @@
 // What the program does, by its words.
 ghost use Rattle.std.specs.Prelude.{◌≡◌, ◌≤◌, IfSome, map, string_bytes};
-ghost use Rattle.lwp_serve.specs.Words.{TopSays, command_of, is_plan, turns_of};
+ghost use Rattle.lwp_serve.specs.Words.{MayBe, TopSays, command_of, is_make, is_plan, turns_of};
 
+use crate::make::make_main;
 use crate::plan::plan_main;
 use crate::session::{Session, SessionEnd};
 use lwp_types::{Sink, Source};
+use script_maker::{Order, order_at};
 use script_text::number_at;
 use std::alloc::Global;
 
@@ -14,15 +16,30 @@ const PLAN_TURNS: u64 = 100_000;
 // The most calls that a plan may allow.
 const MOST_TURNS: u64 = 1_000_000;
 
+/// What is asked for: a plan with so many calls allowed, or a script that is to be made.
+#[derive(Clone, Copy)]
+pub enum Command {
+    Plan(u64),
+    Make(Order),
+}
+
 fn is_plan(word: &[u8]) -> bool
     ensures { result ≡ is_plan word.now }
 {
     word == b"plan".as_slice()
 }
 
+fn is_make(word: &[u8]) -> bool
+    ensures { result ≡ is_make word.now }
+{
+    word == b"make".as_slice()
+}
+
 // The calls allowed, where a word says so.
 fn turns_of(word: &[u8]) -> Option<u64>
-    ensures { result ≡ turns_of word.now }
+    ensures value { result ≡ turns_of word.now }
+    ensures least { IfSome result (λ turns. 1 ≤ turns) }
+    ensures most { IfSome result (λ turns. turns ≤ 1000000) }
 {
     let turns = u64::from(number_at(word)?);
     if turns == 0 || turns > MOST_TURNS {
@@ -31,21 +48,28 @@ fn turns_of(word: &[u8]) -> Option<u64>
     Some(turns)
 }
 
-// The calls allowed, if the words are a command.
-fn command_of(words: &Vec<String>) -> Option<u64>
+// The command of these words, if they are one.
+fn command_of(words: &Vec<String>) -> Option<Command>
     ensures value { result ≡ command_of (map string_bytes words.now.items) }
-    ensures least { IfSome result (λ turns. 1 ≤ turns) }
-    ensures most { IfSome result (λ turns. turns ≤ 1000000) }
+    ensures may_be { IfSome result MayBe }
 {
     match words.as_slice() {
-        [word] if is_plan(word.as_bytes()) => Some(PLAN_TURNS),
-        [word, turns] if is_plan(word.as_bytes()) => turns_of(turns.as_bytes()),
+        [word] if is_plan(word.as_bytes()) => Some(Command::Plan(PLAN_TURNS)),
+        [word, turns] if is_plan(word.as_bytes()) => {
+            let turns = turns_of(turns.as_bytes())?;
+            Some(Command::Plan(turns))
+        }
+        [word, seed, threads, lines] if is_make(word.as_bytes()) => {
+            let order = order_at(seed.as_bytes(), threads.as_bytes(), lines.as_bytes())?;
+            Some(Command::Make(order))
+        }
         _ => None,
     }
 }
 
 /// A session by the program's words, which stand behind its name. The command is `plan`, which allows 100,000 calls, or `plan
-/// TURNS`, which allows as many as this number says, 1 to 1,000,000. Other words are no command: nothing is read or written then.
+/// TURNS`, which allows as many as this number says, 1 to 1,000,000; or it is `make SEED THREADS LINES`, which reads nothing, makes
+/// the script of these three numbers and sums up its session. Other words are no command: nothing is read or written then.
 pub fn top<S: Source, K: Sink>(
     alloc: Global,
     words: &Vec<String>,
@@ -57,7 +81,10 @@ pub fn top<S: Source, K: Sink>(
         (record { old = K.written sink.old; new = K.written sink.new; faults_old = K.faults sink.old; faults_new = K.faults sink.new }) result }
 {
     match command_of(words) {
-        Some(turns) => plan_main(alloc, turns, source, sink),
+        Some(Command::Plan(turns)) => plan_main(alloc, turns, source, sink),
+        Some(Command::Make(order)) => {
+            make_main(alloc, order.seed, order.threads, order.lines, sink)
+        }
         None => Session::unread(alloc, SessionEnd::Usage),
     }
 }

@@ -78,8 +78,8 @@ fn session_of<'s>(end: SessionEnd, played: Run<ThreadBody<'s>, ScriptProgram<'s>
     Session::new(end, played.into_takes(), calls)
 }
 
-// The session of a script.
-fn play_script<K: Sink>(alloc: Global, turns: u64, script: &Script, sink: &mut K) -> Session
+/// The session of a script, with so many turns allowed and all lines in place.
+pub fn play_script<K: Sink>(alloc: Global, turns: u64, script: &Script, sink: &mut K) -> Session
     requires within { IsWithinLimits script.now }
     requires posted { IsPosted script.now }
     ensures { IsPlayed turns script.now (record { old = K.written sink.old; new = K.written sink.new; faults_old = K.faults sink.old; faults_new = K.faults sink.new }) result }

@@ -144,4 +144,15 @@ impl Session {
     {
         Session::new(end, Vec::new(alloc), 0)
     }
+
+    /// The same session with another end.
+    pub fn ending(self, end: SessionEnd) -> Session
+        ensures { result ≡ record self { status = status_of end; end = end } }
+    {
+        Session {
+            status: status_of(end),
+            end,
+            ..self
+        }
+    }
 }

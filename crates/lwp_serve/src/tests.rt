@@ -1,6 +1,6 @@
 ghost use Rattle.std.specs.Prelude.{◌≤◌};
 
-use crate::{SessionEnd, fault_text, plan_main, top};
+use crate::{SessionEnd, fault_text, make_main, plan_main, top};
 use lwp_types::{MemSink, MemSource, NoMemory};
 use script_text::Reason;
 use std::alloc::Global;
@@ -154,6 +154,29 @@ fn the_lines_taken_are_told(rt: HostRuntime) -> Result<(), Fail> {
     Ok(())
 }
 
+#[test]
+fn a_script_that_is_made_is_summed_up(rt: HostRuntime) -> Result<(), Fail> {
+    let alloc = rt.alloc();
+    let mut sink = MemSink::new(alloc, 4096, 4096, Vec::new(alloc))?;
+    let session = make_main(alloc, 7, 2, 3, &mut sink);
+    assert!(rt; session.status == 0 && session.taken.len() == 8);
+    let mut lines = sink.bytes().split(|b| *b == b'\n');
+    assert!(rt; lines.next() == Some(b"script 283".as_slice()));
+    assert!(rt; lines.any(|line| line == b"taken 8 left 0".as_slice()));
+    assert!(rt; sink.bytes().ends_with(b"\nstatus 0\n"));
+    Ok(())
+}
+
+#[test]
+fn a_summary_that_is_not_written_leaves_its_session(rt: HostRuntime) -> Result<(), Fail> {
+    let alloc = rt.alloc();
+    let mut sink = MemSink::new(alloc, 4096, 4, vec![in alloc; 2]?)?;
+    let session = make_main(alloc, 7, 2, 3, &mut sink);
+    assert!(rt; session.status == 102 && session.taken.len() == 8);
+    assert!(rt; sink.bytes() == b"script 2".as_slice());
+    Ok(())
+}
+
 // The status of a session of these words.
 fn status_of_words(alloc: Global, words: &[&str]) -> Result<u8, NoMemory> {
     let mut strings = Vec::new(alloc);
@@ -166,12 +189,14 @@ fn status_of_words(alloc: Global, words: &[&str]) -> Result<u8, NoMemory> {
 }
 
 #[test]
-fn the_words_are_plan_and_how_many_calls(rt: HostRuntime) -> Result<(), Fail> {
+fn the_words_are_a_command(rt: HostRuntime) -> Result<(), Fail> {
     let alloc = rt.alloc();
     for (words, status) in [
         (["plan"].as_slice(), 0),
         (&["plan", "4"], 0),
         (&["plan", ""], 100),
+        (&["make", "7", "2", "3"], 0),
+        (&["make", "7", "0", "3"], 100),
     ] {
         assert_eq!(rt; status_of_words(alloc, words)?, status);
     }

@@ -1,7 +1,8 @@
-//! The program: its words say what to do, standard input holds the script, and standard output takes the trace.
+//! The program: its words say what to do, standard input holds the script, if one is read, and standard output takes the trace, or
+//! what sums it up.
 //!
-//! All that it does is `lwp_serve::top`, on the standard streams; no contract can say what those hold. The trace is gathered and
-//! written 64 KiB at a time. What went wrong is said on standard error, and the exit status is the session's.
+//! All that it does is `lwp_serve::top`, on the standard streams; no contract can say what those hold. What is written is gathered,
+//! and goes out 64 KiB at a time. What went wrong is said on standard error, and the exit status is the session's.
 #![tactic(auto)]
 
 mod streams;
