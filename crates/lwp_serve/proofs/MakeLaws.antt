@@ -21,7 +21,7 @@ use Rattle.script_maker.specs.Summary.{summary_text}
 use Rattle.script_maker.specs.declared.summary.Summary.{Summary}
 use Rattle.script_text.specs.Grammar.{Spells}
 use Rattle.script_text.specs.Script.{line_of, lines_posted}
-use Rattle.script_text.specs.declared.script.Halt.{Halt}
+use Rattle.trace_text.specs.declared.ends.Halt.{Halt}
 use Rattle.script_text.specs.declared.script.Script.{Script}
 use Rattle.std.proofs.Common.{List, None, Option, Some, [], ap, append-nil, arith, cond, eqb, false, inl, inr, length, length-append, map, refl, subst, suc, sym, true, ℕ, ⊎_elim, ◌++◌, ◌+◌, ◌-◌, ◌<◌, ◌∙◌, ◌∷◌, ◌≡◌, ◌≢◌, ◌≤◌, ◌⊎◌}
 use Rattle.std.proofs.lemmas.List.{length-map}

@@ -13,8 +13,8 @@ use Rattle.script_maker.specs.Made.{made_script}
 use Rattle.script_maker.specs.Summary.{summary_text}
 use Rattle.script_maker.specs.declared.summary.Summary.{Summary}
 use Rattle.script_text.specs.Script.{lines_posted}
-use Rattle.script_text.specs.declared.script.Halt.{Halt}
-use Rattle.script_text.specs.declared.script.Halt.TheVariants as halts
+use Rattle.trace_text.specs.declared.ends.Halt.{Halt}
+use Rattle.trace_text.specs.declared.ends.Halt.TheVariants as halts
 use Rattle.script_text.specs.declared.script.Script.{Script}
 use Rattle.std.specs.Prelude.{Bool, List, None, Option, Some, [], false, length, true, ℕ, ◌++◌, ◌-◌, ◌≡◌, ◌≤◌, ◌⊎◌}
 
