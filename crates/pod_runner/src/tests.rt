@@ -1,12 +1,14 @@
+ghost use Rattle.std.specs.Prelude.{◌≡◌, IfOk, false};
+
 use crate::{Phase, Run, RunErr, lines_of, run, write_all};
 use event_gate::ListGate;
 use lwp_types::{
     Answer, Body, Call, Effect, Effects, Env, Line, MemSink, NoMemory, PodParams, Program, Text,
     Tid,
 };
+use trace_text::Halt;
 use std::alloc::Global;
 use std::test::Fail;
-use trace_text::Halt;
 
 // Makes an agent for event 5, and then returns.
 #[derive(Drop)]
@@ -69,7 +71,9 @@ const PARAMS: PodParams = PodParams {
 const TRACE: &[u8] =
     b"t0: agent 5\nt0 = t1\nevent 5 client 0 seq 0 hi\nt0: return\nt0 dies\npod ends 0\n";
 
-fn start(alloc: Global, text: Text, turns: u64) -> Result<Run<Listens, OneProcedure>, NoMemory> {
+fn start(alloc: Global, text: Text, turns: u64) -> Result<Run<Listens, OneProcedure>, NoMemory>
+    ensures { IfOk result (λ run. run.failed ≡ false) }
+{
     let env = Env::new(alloc, 0, 0, 0)?;
     Run::new(alloc, PARAMS, OneProcedure { name: text }, env, turns)
 }
@@ -115,26 +119,41 @@ fn a_run_ends_where_a_write_fails(rt: HostRuntime) -> Result<(), Fail> {
     Ok(())
 }
 
+// One turn, and then a line for the agent that it made.
+fn drive(
+    session: &mut Run<Listens, OneProcedure>,
+    text: Text,
+    sink: &mut MemSink,
+) -> Result<(), RunErr>
+    requires { session.old.failed ≡ false }
+{
+    if let Phase::Turn = session.phase() {
+        session.turn(sink)?;
+        if session.wants(5) {
+            let line = Line {
+                client: 0,
+                seq: 0,
+                text,
+            };
+            session.offer(5, line, sink)?;
+        }
+    }
+    Ok(())
+}
+
+// How many calls and takes were made by hand.
+fn driven(alloc: Global, text: Text, sink: &mut MemSink) -> Result<(u64, usize), RunErr> {
+    let mut session = start(alloc, text, 3)?;
+    drive(&mut session, text, sink)?;
+    Ok((session.calls(), session.takes()))
+}
+
 #[test]
 fn a_run_is_driven_by_hand(rt: HostRuntime) -> Result<(), Fail> {
     let alloc = rt.alloc();
     let text = Text::new(b"hi").ok_or("text")?;
-    let mut session = start(alloc, text, 3)?;
     let mut sink = MemSink::new(alloc, 200, 200, Vec::new(alloc))?;
-    let Phase::Turn = session.phase() else {
-        return Err("no first turn".into());
-    };
-    session.turn(&mut sink)?;
-    if !session.wants(5) {
-        return Err("no agent".into());
-    }
-    let line = Line {
-        client: 0,
-        seq: 0,
-        text,
-    };
-    session.offer(5, line, &mut sink)?;
-    assert_eq!(rt; (session.calls(), session.takes()), (1, 1));
+    assert_eq!(rt; driven(alloc, text, &mut sink), Ok((1, 1)));
     assert_eq!(rt; sink.bytes().len(), 46);
     Ok(())
 }
