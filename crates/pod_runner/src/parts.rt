@@ -1,5 +1,5 @@
 // What a run moves: the pod, each live thread's body, and the names.
-ghost use Rattle.std.specs.Prelude.{◌≡◌, ◌<◌, ◌≤◌, ◌^◌, IfOk, IsSome, IsTrue, None, Some, slice_get, length};
+ghost use Rattle.std.specs.Prelude.{◌≡◌, ◌<◌, ◌≤◌, ◌^◌, IfOk, OnOk, IsSome, IsTrue, None, Some, slice_get, length};
 ghost use Rattle.lwp_types.specs.Agents.{armed};
 ghost use Rattle.lwp_types.specs.State.{opening};
 ghost use Rattle.lwp_calls.specs.Pod.{current_of};
@@ -8,7 +8,7 @@ ghost use Rattle.pod_runner.specs.Polls.{place_of};
 ghost use Rattle.pod_runner.specs.Session.{move, row_opened, taken};
 
 use crate::rows::{open, place, poll_at, proc_of, settle};
-use crate::written::lines_of;
+use crate::written::set_lines;
 use crate::{Phase, Row, Took};
 use lwp_calls::{Pod, PodEnd};
 use lwp_types::{Body, Effects, Env, NoMemory, PodParams, Program, Text, Tid};
@@ -76,42 +76,44 @@ impl<B: Body> Parts<B> {
         self.pod.armed(event)
     }
 
-    /// Delivers a line. The answer is the lines of what that did.
+    /// Delivers a line. `out` then has the lines of what that did, and nothing else.
     pub(crate) fn deliver<P: Program<B>>(
         &mut self,
-        alloc: Global,
         program: &P,
         names: &[Text],
         took: &Took,
-    ) -> Result<Vec<u8>, NoMemory>
+        out: &mut Vec<u8>,
+    ) -> Result<(), NoMemory>
         requires { IsTrue (armed self.old.pod took.now.event) }
-        ensures { IfOk result (λ out. Moves names.now (Some took.now.line) (taken (P.bodies program.now) took.now (live_of self.old)) (live_of self.new) out.items) }
+        ensures { OnOk result (Moves names.now (Some took.now.line) (taken (P.bodies program.now) took.now (live_of self.old)) (live_of self.new) out.new.items) }
     {
         self.pod
             .deliver(took.event, took.line.text, &mut self.effects);
-        let out = lines_of(alloc, &self.effects, Some(&took.line), names)?;
+        set_lines(out, &self.effects, Some(&took.line), names)?;
         settle(&mut self.rows, program, None, &mut self.effects)?;
-        Ok(out)
+        Ok(())
     }
 
-    /// Polls the body of the thread whose turn it is, and makes its call. The answer is the lines of what that did.
+    /// Polls the body of the thread whose turn it is, and makes its call. `out` then has the lines of what that did, and nothing
+    /// else.
     pub(crate) fn turn<P: Program<B>>(
         &mut self,
-        alloc: Global,
         program: &P,
         names: &[Text],
-    ) -> Result<Vec<u8>, NoMemory>
+        out: &mut Vec<u8>,
+    ) -> Result<(), NoMemory>
         requires current { IsSome (current_of self.old.pod) }
-        ensures { IfOk result (λ out. Moves names.now None (move B.next (P.bodies program.now) (live_of self.old)) (live_of self.new) out.items) }
+        ensures { OnOk result (Moves names.now None (move B.next (P.bodies program.now) (live_of self.old)) (live_of self.new) out.new.items) }
     {
+        out.clear();
         match self.pod.current() {
-            None => Ok(Vec::new(alloc)),
+            None => Ok(()),
             Some(tid) => {
                 let i = place(&self.rows, tid);
                 if i < self.rows.len() {
-                    self.make_call(alloc, program, names, tid, i)
+                    self.make_call(program, names, tid, i, out)
                 } else {
-                    Ok(Vec::new(alloc))
+                    Ok(())
                 }
             }
         }
@@ -119,23 +121,24 @@ impl<B: Body> Parts<B> {
 
     fn make_call<P: Program<B>>(
         &mut self,
-        alloc: Global,
         program: &P,
         names: &[Text],
         tid: Tid,
         i: usize,
-    ) -> Result<Vec<u8>, NoMemory>
+        out: &mut Vec<u8>,
+    ) -> Result<(), NoMemory>
         requires current { current_of self.old.pod ≡ Some tid }
         requires place { i ≡ place_of tid self.old.rows.items }
         requires within { i < length self.old.rows.items }
-        ensures { IfOk result (λ out. Moves names.now None (move B.next (P.bodies program.now) (live_of self.old)) (live_of self.new) out.items) }
+        ensures { OnOk result (Moves names.now None (move B.next (P.bodies program.now) (live_of self.old)) (live_of self.new) out.new.items) }
     {
         self.env.set_me(tid);
+        let alloc = *self.rows.allocator();
         let call = poll_at(alloc, &mut self.rows, i, &mut self.env)?;
         let born = proc_of(&call);
         self.pod.call(call, &mut self.effects)?;
-        let out = lines_of(alloc, &self.effects, None, names)?;
+        set_lines(out, &self.effects, None, names)?;
         settle(&mut self.rows, program, born, &mut self.effects)?;
-        Ok(out)
+        Ok(())
     }
 }

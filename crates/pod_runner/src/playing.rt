@@ -27,7 +27,8 @@ pub struct Run<B: Body, P: Program<B>> {
     calls: u64,
     takes: Vec<Took>,
     failed: bool,
-    alloc: Global,
+    // The lines of the last step, in memory that the next step's are put into.
+    out: Vec<u8>,
 }
 
 impl<B: Body, P: Program<B>> Model for Run<B, P> {
@@ -89,7 +90,7 @@ impl<B: Body, P: Program<B>> Run<B, P> {
             calls: 0,
             takes: Vec::new(alloc),
             failed: false,
-            alloc,
+            out: Vec::new(alloc),
         })
     }
 
@@ -158,11 +159,10 @@ impl<B: Body, P: Program<B>> Run<B, P> {
             line,
             event,
         };
-        let out = self
-            .parts
-            .deliver(self.alloc, &self.program, &self.procs, &took)?;
+        self.parts
+            .deliver(&self.program, &self.procs, &took, &mut self.out)?;
         self.takes.push(took)?;
-        match write_all(sink, &out) {
+        match write_all(sink, &self.out) {
             Ok(()) => {
                 self.failed = false;
                 Ok(())
@@ -182,9 +182,9 @@ impl<B: Body, P: Program<B>> Run<B, P> {
         ensures room { self.new.calls ≤ self.new.turns }
     {
         self.failed = true;
-        let out = self.parts.turn(self.alloc, &self.program, &self.procs)?;
+        self.parts.turn(&self.program, &self.procs, &mut self.out)?;
         self.calls += 1;
-        match write_all(sink, &out) {
+        match write_all(sink, &self.out) {
             Ok(()) => {
                 self.failed = false;
                 Ok(())

@@ -21,6 +21,20 @@ pub fn write_all<K: Sink>(sink: &mut K, bytes: &[u8]) -> Result<(), Failed>
     Ok(())
 }
 
+/// Puts the lines of a step in the place of what was there: a line for each effect, where this line was taken, if any, and the
+/// procedures have these names.
+pub(crate) fn set_lines(
+    out: &mut Vec<u8>,
+    effects: &Effects,
+    took: Option<&Line>,
+    names: &[Text],
+) -> Result<(), NoMemory>
+    ensures { OnOk result (out.new.items ≡ step_lines names.now (option_copied took.entry) effects.now) }
+{
+    out.clear();
+    add_step_lines(out, effects, took, names)
+}
+
 /// The lines of a step: a line for each effect, where this line was taken, if any, and the procedures have these names.
 pub fn lines_of(
     alloc: Global,
@@ -31,6 +45,6 @@ pub fn lines_of(
     ensures { IfOk result (λ out. out.items ≡ step_lines names.now (option_copied took.entry) effects.now) }
 {
     let mut out = Vec::new(alloc);
-    add_step_lines(&mut out, effects, took, names)?;
+    set_lines(&mut out, effects, took, names)?;
     Ok(out)
 }

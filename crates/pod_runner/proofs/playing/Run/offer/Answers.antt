@@ -15,8 +15,8 @@ invariant_of-self-in-Ok g c =
     let sound : c.self.inside.failed ≡ false = rw (← c.self.view_is) at c.requires.sound in
     let kept = c.self.invariant in
     let took : Took = record { turn = c.self.inside.calls; line = c.args.line; event = c.args.event } in
-    let step = taken-step setting names c.deref.result.now c.self.inside.takes.items c.self.inside.calls c.self.inside.turns (live_of c.self.inside.parts) (live_of c.deliver.new.self) c.in_ok-out.out.items c.deref-2.result.now
-    (c.deref.ensures.value ∙ kept.named) c.deref-2.ensures.value kept.made (kept.now sound) took refl c.in_ok-out.ensures in
+    let step = taken-step setting names c.deref.result.now c.self.inside.takes.items c.self.inside.calls c.self.inside.turns (live_of c.self.inside.parts) (live_of c.deliver.new.self) c.deliver.new.out.items c.deref-2.result.now
+    (c.deref.ensures.value ∙ kept.named) c.deref-2.ensures.value kept.made (kept.now sound) took refl c.in_ok-deliver.ensures in
     let may = rw (← c.self.view_is) at c.requires.wants in
     rw c.in_ok-push.ensures.items (keeps-take setting names c.self.inside.procs.items c.self.inside.takes.items c.self.inside.calls c.self.inside.turns (live_of c.deliver.new.self) false c.deref-2.result.now took kept.named kept.made kept.room refl may step)
 
@@ -27,8 +27,8 @@ invariant_of-self-in-Err g c =
     let sound : c.self.inside.failed ≡ false = rw (← c.self.view_is) at c.requires.sound in
     let kept = c.self.invariant in
     let took : Took = record { turn = c.self.inside.calls; line = c.args.line; event = c.args.event } in
-    let step = taken-step setting names c.deref.result.now c.self.inside.takes.items c.self.inside.calls c.self.inside.turns (live_of c.self.inside.parts) (live_of c.deliver.new.self) c.in_ok-out.out.items c.deref-2.result.now
-    (c.deref.ensures.value ∙ kept.named) c.deref-2.ensures.value kept.made (kept.now sound) took refl c.in_ok-out.ensures in
+    let step = taken-step setting names c.deref.result.now c.self.inside.takes.items c.self.inside.calls c.self.inside.turns (live_of c.self.inside.parts) (live_of c.deliver.new.self) c.deliver.new.out.items c.deref-2.result.now
+    (c.deref.ensures.value ∙ kept.named) c.deref-2.ensures.value kept.made (kept.now sound) took refl c.in_ok-deliver.ensures in
     let may = rw (← c.self.view_is) at c.requires.wants in
     rw c.in_ok-push.ensures.items (keeps-take setting names c.self.inside.procs.items c.self.inside.takes.items c.self.inside.calls c.self.inside.turns (live_of c.deliver.new.self) true c.deref-2.result.now took kept.named kept.made kept.room refl may step)
 
@@ -39,19 +39,19 @@ returns-in-Ok-clause-told g c =
     let sound : c.self.inside.failed ≡ false = rw (← c.self.view_is) at c.requires.sound in
     let kept = c.self.invariant in
     let took : Took = record { turn = c.self.inside.calls; line = c.args.line; event = c.args.event } in
-    let step = taken-step setting names c.deref.result.now c.self.inside.takes.items c.self.inside.calls c.self.inside.turns (live_of c.self.inside.parts) (live_of c.deliver.new.self) c.in_ok-out.out.items c.deref-2.result.now
-    (c.deref.ensures.value ∙ kept.named) c.deref-2.ensures.value kept.made (kept.now sound) took refl c.in_ok-out.ensures in
+    let step = taken-step setting names c.deref.result.now c.self.inside.takes.items c.self.inside.calls c.self.inside.turns (live_of c.self.inside.parts) (live_of c.deliver.new.self) c.deliver.new.out.items c.deref-2.result.now
+    (c.deref.ensures.value ∙ kept.named) c.deref-2.ensures.value kept.made (kept.now sound) took refl c.in_ok-deliver.ensures in
     rw (← c.self.view_is, c.in_ok-push.ensures.items) (told-ok names (play setting c.self.inside.takes.items c.self.inside.calls) (play setting (c.self.inside.takes.items ++ took ∷ []) c.self.inside.calls) (live_of c.deliver.new.self) c.deref-2.result.now (g.K.Sink.written c.args.sink.now) (g.K.Sink.written c.write_all.new.sink) (g.K.Sink.faults c.args.sink.now) (g.K.Sink.faults c.write_all.new.sink) tt step c.in-Ok.ensures.ok c.in-Ok.ensures.cause.same)
 
-pub returns-clause-told : goal.returns-clause-told
-returns-clause-told g c =
+pub returns-in-Err-clause-told : goal.returns-in-Err-clause-told
+returns-in-Err-clause-told g c =
     let setting : Setting _ = record { next = g.B.Body.next; bodies = g.P.Program.bodies c.self.inside.program; params = c.self.inside.params; names = null_names c.self.inside.threads c.self.inside.mons c.self.inside.conds } in
     let names : List (List ℕ) = g.P.Program.proc_names c.self.inside.program in
     let sound : c.self.inside.failed ≡ false = rw (← c.self.view_is) at c.requires.sound in
     let kept = c.self.invariant in
     let took : Took = record { turn = c.self.inside.calls; line = c.args.line; event = c.args.event } in
-    let step = taken-step setting names c.deref.result.now c.self.inside.takes.items c.self.inside.calls c.self.inside.turns (live_of c.self.inside.parts) (live_of c.deliver.new.self) c.in_ok-out.out.items c.deref-2.result.now
-    (c.deref.ensures.value ∙ kept.named) c.deref-2.ensures.value kept.made (kept.now sound) took refl c.in_ok-out.ensures in
+    let step = taken-step setting names c.deref.result.now c.self.inside.takes.items c.self.inside.calls c.self.inside.turns (live_of c.self.inside.parts) (live_of c.deliver.new.self) c.deliver.new.out.items c.deref-2.result.now
+    (c.deref.ensures.value ∙ kept.named) c.deref-2.ensures.value kept.made (kept.now sound) took refl c.in_ok-deliver.ensures in
     rw (← c.self.view_is, c.in_ok-push.ensures.items) (told-fault names (play setting c.self.inside.takes.items c.self.inside.calls) (play setting (c.self.inside.takes.items ++ took ∷ []) c.self.inside.calls) (live_of c.deliver.new.self) c.deref-2.result.now (g.K.Sink.written c.args.sink.now) (g.K.Sink.written c.write_all.new.sink) (g.K.Sink.faults c.args.sink.now) (g.K.Sink.faults c.write_all.new.sink) step c.in-Err.ensures.err c.in-Err.ensures.cause.failed c.in-Err.ensures.cause.later)
 
 pub returns-in-Ok-clause-made : goal.returns-in-Ok-clause-made
@@ -64,8 +64,8 @@ returns-in-Ok-clause-made g c =
     let may = rw (← c.self.view_is) at c.requires.wants in
     rw c.in_ok-push.ensures.items (IsDefined-take setting took c.self.inside.takes.items c.self.inside.calls refl kept.made may)
 
-pub returns-clause-made : goal.returns-clause-made
-returns-clause-made g c =
+pub returns-in-Err-clause-made : goal.returns-in-Err-clause-made
+returns-in-Err-clause-made g c =
     let setting : Setting _ = record { next = g.B.Body.next; bodies = g.P.Program.bodies c.self.inside.program; params = c.self.inside.params; names = null_names c.self.inside.threads c.self.inside.mons c.self.inside.conds } in
     let names : List (List ℕ) = g.P.Program.proc_names c.self.inside.program in
     let sound : c.self.inside.failed ≡ false = rw (← c.self.view_is) at c.requires.sound in

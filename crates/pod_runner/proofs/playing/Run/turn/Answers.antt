@@ -14,8 +14,8 @@ invariant_of-self-in-Ok g c =
     let sound : c.self.inside.failed ≡ false = rw (← c.self.view_is) at c.requires.sound in
     let kept = c.self.invariant in
     let due = rw (← c.self.view_is) at c.requires.due in
-    let step = called-step setting names c.deref.result.now c.self.inside.takes.items c.self.inside.calls c.self.inside.turns (live_of c.self.inside.parts) (live_of c.turn.new.self) c.in_ok-out.out.items c.deref-2.result.now
-    (c.deref.ensures.value ∙ kept.named) c.deref-2.ensures.value kept.made (kept.now sound) c.in_ok-out.ensures in
+    let step = called-step setting names c.deref.result.now c.self.inside.takes.items c.self.inside.calls c.self.inside.turns (live_of c.self.inside.parts) (live_of c.turn.new.self) c.turn.new.out.items c.deref-2.result.now
+    (c.deref.ensures.value ∙ kept.named) c.deref-2.ensures.value kept.made (kept.now sound) c.in_ok-turn.ensures in
     keeps-call setting names c.self.inside.procs.items c.self.inside.takes.items c.self.inside.calls c.self.inside.turns (live_of c.turn.new.self) false c.deref-2.result.now kept.named kept.made due step
 
 pub invariant_of-self-in-Err : goal.invariant_of-self-in-Err
@@ -25,8 +25,8 @@ invariant_of-self-in-Err g c =
     let sound : c.self.inside.failed ≡ false = rw (← c.self.view_is) at c.requires.sound in
     let kept = c.self.invariant in
     let due = rw (← c.self.view_is) at c.requires.due in
-    let step = called-step setting names c.deref.result.now c.self.inside.takes.items c.self.inside.calls c.self.inside.turns (live_of c.self.inside.parts) (live_of c.turn.new.self) c.in_ok-out.out.items c.deref-2.result.now
-    (c.deref.ensures.value ∙ kept.named) c.deref-2.ensures.value kept.made (kept.now sound) c.in_ok-out.ensures in
+    let step = called-step setting names c.deref.result.now c.self.inside.takes.items c.self.inside.calls c.self.inside.turns (live_of c.self.inside.parts) (live_of c.turn.new.self) c.turn.new.out.items c.deref-2.result.now
+    (c.deref.ensures.value ∙ kept.named) c.deref-2.ensures.value kept.made (kept.now sound) c.in_ok-turn.ensures in
     keeps-call setting names c.self.inside.procs.items c.self.inside.takes.items c.self.inside.calls c.self.inside.turns (live_of c.turn.new.self) true c.deref-2.result.now kept.named kept.made due step
 
 pub returns-in-Ok-clause-told : goal.returns-in-Ok-clause-told
@@ -36,19 +36,19 @@ returns-in-Ok-clause-told g c =
     let sound : c.self.inside.failed ≡ false = rw (← c.self.view_is) at c.requires.sound in
     let kept = c.self.invariant in
     let due = rw (← c.self.view_is) at c.requires.due in
-    let step = called-step setting names c.deref.result.now c.self.inside.takes.items c.self.inside.calls c.self.inside.turns (live_of c.self.inside.parts) (live_of c.turn.new.self) c.in_ok-out.out.items c.deref-2.result.now
-    (c.deref.ensures.value ∙ kept.named) c.deref-2.ensures.value kept.made (kept.now sound) c.in_ok-out.ensures in
+    let step = called-step setting names c.deref.result.now c.self.inside.takes.items c.self.inside.calls c.self.inside.turns (live_of c.self.inside.parts) (live_of c.turn.new.self) c.turn.new.out.items c.deref-2.result.now
+    (c.deref.ensures.value ∙ kept.named) c.deref-2.ensures.value kept.made (kept.now sound) c.in_ok-turn.ensures in
     rw (← c.self.view_is) (told-ok names (play setting c.self.inside.takes.items c.self.inside.calls) (play setting c.self.inside.takes.items (c.self.inside.calls + 1)) (live_of c.turn.new.self) c.deref-2.result.now (g.K.Sink.written c.args.sink.now) (g.K.Sink.written c.write_all.new.sink) (g.K.Sink.faults c.args.sink.now) (g.K.Sink.faults c.write_all.new.sink) tt step c.in-Ok.ensures.ok c.in-Ok.ensures.cause.same)
 
-pub returns-clause-told : goal.returns-clause-told
-returns-clause-told g c =
+pub returns-in-Err-clause-told : goal.returns-in-Err-clause-told
+returns-in-Err-clause-told g c =
     let setting : Setting _ = record { next = g.B.Body.next; bodies = g.P.Program.bodies c.self.inside.program; params = c.self.inside.params; names = null_names c.self.inside.threads c.self.inside.mons c.self.inside.conds } in
     let names : List (List ℕ) = g.P.Program.proc_names c.self.inside.program in
     let sound : c.self.inside.failed ≡ false = rw (← c.self.view_is) at c.requires.sound in
     let kept = c.self.invariant in
     let due = rw (← c.self.view_is) at c.requires.due in
-    let step = called-step setting names c.deref.result.now c.self.inside.takes.items c.self.inside.calls c.self.inside.turns (live_of c.self.inside.parts) (live_of c.turn.new.self) c.in_ok-out.out.items c.deref-2.result.now
-    (c.deref.ensures.value ∙ kept.named) c.deref-2.ensures.value kept.made (kept.now sound) c.in_ok-out.ensures in
+    let step = called-step setting names c.deref.result.now c.self.inside.takes.items c.self.inside.calls c.self.inside.turns (live_of c.self.inside.parts) (live_of c.turn.new.self) c.turn.new.out.items c.deref-2.result.now
+    (c.deref.ensures.value ∙ kept.named) c.deref-2.ensures.value kept.made (kept.now sound) c.in_ok-turn.ensures in
     rw (← c.self.view_is) (told-fault names (play setting c.self.inside.takes.items c.self.inside.calls) (play setting c.self.inside.takes.items (c.self.inside.calls + 1)) (live_of c.turn.new.self) c.deref-2.result.now (g.K.Sink.written c.args.sink.now) (g.K.Sink.written c.write_all.new.sink) (g.K.Sink.faults c.args.sink.now) (g.K.Sink.faults c.write_all.new.sink) step c.in-Err.ensures.err c.in-Err.ensures.cause.failed c.in-Err.ensures.cause.later)
 
 pub returns-in-Ok-clause-made : goal.returns-in-Ok-clause-made
@@ -60,8 +60,8 @@ returns-in-Ok-clause-made g c =
     let due = rw (← c.self.view_is) at c.requires.due in
     made-call setting c.self.inside.takes.items c.self.inside.calls c.self.inside.turns kept.made due
 
-pub returns-clause-made : goal.returns-clause-made
-returns-clause-made g c =
+pub returns-in-Err-clause-made : goal.returns-in-Err-clause-made
+returns-in-Err-clause-made g c =
     let setting : Setting _ = record { next = g.B.Body.next; bodies = g.P.Program.bodies c.self.inside.program; params = c.self.inside.params; names = null_names c.self.inside.threads c.self.inside.mons c.self.inside.conds } in
     let names : List (List ℕ) = g.P.Program.proc_names c.self.inside.program in
     let sound : c.self.inside.failed ≡ false = rw (← c.self.view_is) at c.requires.sound in
