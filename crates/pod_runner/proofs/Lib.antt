@@ -8,3 +8,5 @@ pub mod Kept
 pub mod Ends
 pub mod Rounds
 pub mod Lawfuls
+pub mod Armed
+pub mod Lives

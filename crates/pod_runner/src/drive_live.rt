@@ -47,6 +47,26 @@ fn go_round<B: Body, P: Program<B>, I: Inlet, K: Sink, R: Wait>(
     }
 }
 
+// Round after round, until there is an answer.
+fn go_on<B: Body, P: Program<B>, I: Inlet, K: Sink, R: Wait>(
+    rt: &R,
+    run: &mut Run<B, P>,
+    inlets: &mut Vec<I>,
+    sink: &mut K,
+) -> Result<Live, RunErr>
+    requires sound { run.old.failed ≡ false }
+    requires rise { EventsRise (map I.intake inlets.old.items) }
+    ensures lives { LivesOn B.next P.bodies P.proc_names (record { old = K.written sink.old; new = K.written sink.new; faults_old = K.faults sink.old; faults_new = K.faults sink.new }) run.old run.new (map I.intake inlets.old.items) (map I.intake inlets.new.items) result }
+    ensures answers { IfOk result (Answers B.next P.bodies run.new (map I.intake inlets.old.items) (map I.intake inlets.new.items)) }
+{
+    for _ in rt.forever() {
+        if let Some(answer) = go_round(rt, run, inlets, sink)? {
+            return Ok(answer);
+        }
+    }
+    unreachable!()
+}
+
 /// Makes calls, and takes each line that an inlet has as soon as it can be delivered, until the end; or until nobody may run, no
 /// line is there that can be delivered, and some client's pass is out still. Lines that come later can be taken by another call.
 /// An event without an inlet has no lines. Where memory is wanting for a line that was taken, that line is lost.
@@ -73,10 +93,5 @@ pub fn run_live<B: Body, P: Program<B>, I: Inlet, K: Sink, R: Wait>(
     ensures cause { IsErrOf result RunErr.WriteFault → Rose (K.faults sink.old) (K.faults sink.new) }
     ensures memory { IsErrOf result RunErr.NoMemory → K.faults sink.new ≡ K.faults sink.old }
 {
-    for _ in rt.forever() {
-        if let Some(answer) = go_round(rt, run, inlets, sink)? {
-            return Ok(answer);
-        }
-    }
-    unreachable!()
+    go_on(rt, run, inlets, sink)
 }
