@@ -10,3 +10,4 @@ pub mod Rounds
 pub mod Lawfuls
 pub mod Armed
 pub mod Lives
+pub mod Looks

@@ -545,10 +545,13 @@ module _ {B P : Type 0} (next : Next B) (bodies : P → List B) (procs : P → L
 
   pub none-comes : {T : Type 0} (s : Stream) (old new : Played P) (before after : List Intake) (r : Result T RunErr) → Lived s old new before after r → Serves next bodies (length before) old new before after
       → length new.takes ≡ length old.takes → AllTold after → NoneComes next bodies new after
-  none-comes s old new before after r h serves same told = (told, λ k d low wanted.
-      let n = h.draws.given.0 in
-      let within : k < length before = omega (arith, n, low) in
-      ((serves.seen k d within within).found same wanted).1 (told k d low))
+  none-comes s old new before after r h serves same told = (
+    told,
+    λ k d low wanted.
+        let n = h.draws.given.0 in
+        let within : k < length before = omega (arith, n, low) in
+        ((serves.seen k d within within).found same wanted).1 (told k d low),
+  )
 
   pub quiet-now : {T : Type 0} (s : Stream) (old new : Played P) (before after : List Intake) (r : Result T RunErr) → Lived s old new before after r → Serves next bodies (length before) old new before after
       → length new.takes ≡ length old.takes → phase_now next bodies old ≡ phase.Idle → (AllTold after → ⊥) → IsQuiet next bodies new before after
@@ -561,10 +564,13 @@ module _ {B P : Type 0} (next : Next B) (bodies : P → List B) (procs : P → L
   -- the same, seen from earlier on
   quiet-on : (old mid new : Played P) (before some after : List Intake) → Draws next bodies old mid before some 0
       → IsQuiet next bodies new some after → IsQuiet next bodies new before after
-  quiet-on old mid new before some after h quiet = (quiet.0, quiet.1,
+  quiet-on old mid new before some after h quiet = (
+    quiet.0,
+    quiet.1,
     each-then (Gives (h.later ++ h.lost)) (λ t u. IsWanted next bodies new u → t.finds < u.finds) (λ t u. IsWanted next bodies new u → t.finds < u.finds) before some after
-    (λ t u v p q wanted. let a = gives-finds (h.later ++ h.lost) t u p in let b = q wanted in omega (arith, a, b))
-    h.given quiet.2)
+        (λ t u v p q wanted. let a = gives-finds (h.later ++ h.lost) t u p in let b = q wanted in omega (arith, a, b))
+        h.given quiet.2,
+  )
 
   pub answers-on : (old mid new : Played P) (before some after : List Intake) (answer : Live) → Draws next bodies old mid before some 0
       → Answers next bodies new some after answer → Answers next bodies new before after answer
@@ -607,33 +613,5 @@ module _ {B P : Type 0} (next : Next B) (bodies : P → List B) (procs : P → L
   ends-by : (now : Phase) → phase_now next bodies run ≡ now → now ≢ phase.Turn → EndsAt next bodies run [] (halt_of now)
   ends-by now is other = over-phase (session_of next bodies run).live.state run.turns run.calls (λ e. other (sym is ∙ e)) ∙ ap (λ now. Some (halt_of now)) is
 
-  pub halts-ended : (inlets : List Intake) (status : ℕ) → phase_now next bodies run ≡ phase.Ended status → Halts next bodies run inlets (halts.Ended status)
-  halts-ended inlets status is = (ends-by (phase.Ended status) is (λ e. absurd (cc)), λ e. absurd (cc))
-
-  pub halts-spent : (inlets : List Intake) → phase_now next bodies run ≡ phase.Spent → Halts next bodies run inlets halts.Spent
-  halts-spent inlets is = (ends-by phase.Spent is (λ e. absurd (cc)), λ e. absurd (cc))
-
   pub halts-stuck : (inlets : List Intake) → phase_now next bodies run ≡ phase.Idle → NoneComes next bodies run inlets → Halts next bodies run inlets halts.Stuck
   halts-stuck inlets is none = (ends-by phase.Idle is (λ e. absurd (cc)), λ e. none)
-
--- ---- what is told in the end
-
-module _ {T : Type 0} (s : Stream) (t least v : List ℕ) where
-  pub tells-whole : (r : Result T RunErr) → Tells s t least v r → OnOk r (Writes s.old s.new t v)
-  tells-whole (Ok x) h = h.0
-  tells-whole (Err e) h = tt
-
-  pub tells-quiet : (r : Result T RunErr) → Tells s t least v r → OnOk r (s.faults_new ≡ s.faults_old)
-  tells-quiet (Ok x) h = h.1
-  tells-quiet (Err e) h = tt
-
-  pub tells-stopped : (r : Result T RunErr) → Tells s t least v r → IsErrOf r fails.NoMemory → Wrote s t v
-  tells-stopped r h is = subst (Tells s t least v) is h
-
-  pub tells-broke : (r : Result T RunErr) → Tells s t least v r → IsErrOf r fails.WriteFault → Broke s t least v
-  tells-broke r h is = subst (Tells s t least v) is h
-
-  pub tells-later : (r : Result T RunErr) → Tells s t least v r → s.faults_old ≤ s.faults_new
-  tells-later (Ok x) h = omega (arith, h.1)
-  tells-later (Err fails.NoMemory) h = omega (arith, h.1)
-  tells-later (Err fails.WriteFault) h = h.2

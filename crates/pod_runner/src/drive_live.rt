@@ -2,7 +2,7 @@
 ghost use Rattle.std.specs.Prelude.{◌≡◌, ◌≤◌, false, map, IfOk, OnOk, OnErr, IsErrOf};
 ghost use Rattle.lwp_types.specs.Streams.{Rose};
 ghost use Rattle.pod_runner.specs.Due.{IsDefined};
-ghost use Rattle.pod_runner.specs.Live.{Answers, AnswersIf, Draws, EventsRise, LivesOn, may_lose};
+ghost use Rattle.pod_runner.specs.Live.{Answers, AnswersIf, Draws, EventsRise, LivesOn, LooksAtAll, may_lose};
 ghost use Rattle.pod_runner.specs.Run.{setting_of, trace_before, trace_of, Writes, WritesCut, WritesPart, GoesOn};
 
 use crate::inlets::{all_told, serve_all};
@@ -23,6 +23,7 @@ fn go_round<B: Body, P: Program<B>, I: Inlet, K: Sink, R: Wait>(
     requires sound { run.old.failed ≡ false }
     requires rise { EventsRise (map I.intake inlets.old.items) }
     ensures lives { LivesOn B.next P.bodies P.proc_names (record { old = K.written sink.old; new = K.written sink.new; faults_old = K.faults sink.old; faults_new = K.faults sink.new }) run.old run.new (map I.intake inlets.old.items) (map I.intake inlets.new.items) result }
+    ensures looked { OnOk result (LooksAtAll B.next P.bodies run.old run.new (map I.intake inlets.old.items) (map I.intake inlets.new.items)) }
     ensures answers { IfOk result (AnswersIf B.next P.bodies run.new (map I.intake inlets.old.items) (map I.intake inlets.new.items)) }
 {
     match run.phase() {
@@ -57,6 +58,7 @@ fn go_on<B: Body, P: Program<B>, I: Inlet, K: Sink, R: Wait>(
     requires sound { run.old.failed ≡ false }
     requires rise { EventsRise (map I.intake inlets.old.items) }
     ensures lives { LivesOn B.next P.bodies P.proc_names (record { old = K.written sink.old; new = K.written sink.new; faults_old = K.faults sink.old; faults_new = K.faults sink.new }) run.old run.new (map I.intake inlets.old.items) (map I.intake inlets.new.items) result }
+    ensures looked { OnOk result (LooksAtAll B.next P.bodies run.old run.new (map I.intake inlets.old.items) (map I.intake inlets.new.items)) }
     ensures answers { IfOk result (Answers B.next P.bodies run.new (map I.intake inlets.old.items) (map I.intake inlets.new.items)) }
 {
     for _ in rt.forever() {
@@ -83,6 +85,7 @@ pub fn run_live<B: Body, P: Program<B>, I: Inlet, K: Sink, R: Wait>(
     ensures calls { run.new.calls ≤ run.old.turns }
     ensures unfailed { OnOk result (run.new.failed ≡ false) }
     ensures draws { Draws B.next P.bodies run.old run.new (map I.intake inlets.old.items) (map I.intake inlets.new.items) (may_lose result) }
+    ensures looked { OnOk result (LooksAtAll B.next P.bodies run.old run.new (map I.intake inlets.old.items) (map I.intake inlets.new.items)) }
     ensures answers { IfOk result (Answers B.next P.bodies run.new (map I.intake inlets.old.items) (map I.intake inlets.new.items)) }
     ensures whole { OnOk result (Writes (K.written sink.old) (K.written sink.new) (trace_of B.next P.bodies P.proc_names run.old) (trace_of B.next P.bodies P.proc_names run.new)) }
     ensures part { OnErr result (WritesPart (K.written sink.old) (K.written sink.new) (trace_of B.next P.bodies P.proc_names run.old) (trace_of B.next P.bodies P.proc_names run.new)) }

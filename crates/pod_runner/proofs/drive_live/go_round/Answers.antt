@@ -1,6 +1,7 @@
 use Rattle.std.proofs.Common.{◌≡◌, ◌∙◌, length, map, rules, subst, sym, Ok, Err}
 use Rattle.pod_runner.specs.Live.{AllTold}
 use Rattle.pod_runner.proofs.Lives.{halts-stuck, idle-still, lives-answer, lives-call, lives-err, lives-same, lives-then, none-comes, quiet-now}
+use Rattle.pod_runner.proofs.Looks.{looks-call, looks-same, looks-still}
 use Rattle.pod_runner.proofs.Rounds.{stream}
 use Rattle.pod_runner.proofs.drive_live.go_round.Goals as goal
 
@@ -41,3 +42,22 @@ returns-else-all_told-clause-answers g c =
     let served = c.in_ok-serve_all-in-Idle.ensures.served in
     quiet-now g.B.Body.next g.P.Program.bodies g.P.Program.proc_names (stream (g.K.Sink.written c.args.sink.now) (g.K.Sink.written c.serve_all-in-Idle.new.sink) (g.K.Sink.faults c.args.sink.now) (g.K.Sink.faults c.serve_all-in-Idle.new.sink)) c.args.run.now c.serve_all-in-Idle.new.run (map g.I.Inlet.intake c.args.inlets.now.items) (map g.I.Inlet.intake c.serve_all-in-Idle.new.inlets.items) (Ok c.in_ok-serve_all-in-Idle.field-0) lived served same idle
     (λ all. let answered = c.all_told.ensures.1 (subst (λ xs. AllTold (map g.I.Inlet.intake xs)) (sym c.deref.ensures.value) all) in absurd (cc))
+
+pub returns-in-Ended-clause-looked : goal.returns-in-Ended-clause-looked
+returns-in-Ended-clause-looked g c = looks-same g.B.Body.next g.P.Program.bodies g.P.Program.proc_names c.args.run.now (map g.I.Inlet.intake c.args.inlets.now.items)
+
+pub returns-in-Spent-clause-looked : goal.returns-in-Spent-clause-looked
+returns-in-Spent-clause-looked g c = looks-same g.B.Body.next g.P.Program.bodies g.P.Program.proc_names c.args.run.now (map g.I.Inlet.intake c.args.inlets.now.items)
+
+pub returns-in_ok-turn-in-Turn-clause-looked : goal.returns-in_ok-turn-in-Turn-clause-looked
+returns-in_ok-turn-in-Turn-clause-looked g c = looks-call g.B.Body.next g.P.Program.bodies g.P.Program.proc_names (stream (g.K.Sink.written c.args.sink.now) (g.K.Sink.written c.serve_all.new.sink) (g.K.Sink.faults c.args.sink.now) (g.K.Sink.faults c.serve_all.new.sink)) c.args.run.now c.serve_all.new.run c.turn.new.self (map g.I.Inlet.intake c.args.inlets.now.items) (map g.I.Inlet.intake c.serve_all.new.inlets.items) c.in_ok-serve_all-in-Turn.field-0 c.in_ok-turn-in-Turn.field-0
+    c.in_ok-serve_all-in-Turn.ensures.lives c.in_ok-serve_all-in-Turn.ensures.served c.in_ok-turn-in-Turn.ensures.after
+
+pub returns-then-takes-taken-clause-looked : goal.returns-then-takes-taken-clause-looked
+returns-then-takes-taken-clause-looked g c = looks-still g.B.Body.next g.P.Program.bodies g.P.Program.proc_names (stream (g.K.Sink.written c.args.sink.now) (g.K.Sink.written c.serve_all-in-Idle.new.sink) (g.K.Sink.faults c.args.sink.now) (g.K.Sink.faults c.serve_all-in-Idle.new.sink)) c.args.run.now c.serve_all-in-Idle.new.run (map g.I.Inlet.intake c.args.inlets.now.items) (map g.I.Inlet.intake c.serve_all-in-Idle.new.inlets.items) (Ok c.in_ok-serve_all-in-Idle.field-0) c.in_ok-serve_all-in-Idle.ensures.lives c.in_ok-serve_all-in-Idle.ensures.served.takes
+
+pub returns-then-all_told-clause-looked : goal.returns-then-all_told-clause-looked
+returns-then-all_told-clause-looked g c = looks-still g.B.Body.next g.P.Program.bodies g.P.Program.proc_names (stream (g.K.Sink.written c.args.sink.now) (g.K.Sink.written c.serve_all-in-Idle.new.sink) (g.K.Sink.faults c.args.sink.now) (g.K.Sink.faults c.serve_all-in-Idle.new.sink)) c.args.run.now c.serve_all-in-Idle.new.run (map g.I.Inlet.intake c.args.inlets.now.items) (map g.I.Inlet.intake c.serve_all-in-Idle.new.inlets.items) (Ok c.in_ok-serve_all-in-Idle.field-0) c.in_ok-serve_all-in-Idle.ensures.lives c.in_ok-serve_all-in-Idle.ensures.served.takes
+
+pub returns-else-all_told-clause-looked : goal.returns-else-all_told-clause-looked
+returns-else-all_told-clause-looked g c = looks-still g.B.Body.next g.P.Program.bodies g.P.Program.proc_names (stream (g.K.Sink.written c.args.sink.now) (g.K.Sink.written c.serve_all-in-Idle.new.sink) (g.K.Sink.faults c.args.sink.now) (g.K.Sink.faults c.serve_all-in-Idle.new.sink)) c.args.run.now c.serve_all-in-Idle.new.run (map g.I.Inlet.intake c.args.inlets.now.items) (map g.I.Inlet.intake c.serve_all-in-Idle.new.inlets.items) (Ok c.in_ok-serve_all-in-Idle.field-0) c.in_ok-serve_all-in-Idle.ensures.lives c.in_ok-serve_all-in-Idle.ensures.served.takes
