@@ -1,3 +1,5 @@
+ghost use Rattle.std.specs.Prelude.{◌≡◌, false, IfOk};
+
 use crate::{Phase, Run, RunErr, lines_of, run, write_all};
 use event_gate::ListGate;
 use lwp_types::{
@@ -7,6 +9,8 @@ use lwp_types::{
 use script_text::Halt;
 use std::alloc::Global;
 use std::test::Fail;
+
+mod live;
 
 // Makes an agent for event 5, and then returns.
 #[derive(Drop)]
@@ -69,7 +73,9 @@ const PARAMS: PodParams = PodParams {
 const TRACE: &[u8] =
     b"t0: agent 5\nt0 = t1\nevent 5 client 0 seq 0 hi\nt0: return\nt0 dies\npod ends 0\n";
 
-fn start(alloc: Global, text: Text, turns: u64) -> Result<Run<Listens, OneProcedure>, NoMemory> {
+fn start(alloc: Global, text: Text, turns: u64) -> Result<Run<Listens, OneProcedure>, NoMemory>
+    ensures { IfOk result (λ run. run.failed ≡ false) }
+{
     let env = Env::new(alloc, 0, 0, 0)?;
     Run::new(alloc, PARAMS, OneProcedure { name: text }, env, turns)
 }
