@@ -37,7 +37,7 @@ order-same v w [] h = absurd (cc)
 order-same v w (x ∷ xs) h = best-some w xs x
 
 -- a pod that goes on goes on, and somebody may run, if somebody might
-record Kept (s u : State) : Type 0 where
+pub record Kept (s u : State) : Type 0 where
   pub ended : u.ended ≡ s.ended
   pub chosen : is_some (choice s) ≡ true → is_some (choice u) ≡ true
 
@@ -55,11 +55,11 @@ unfolding and_then
 deliver_to-kept s text None = record { ended = refl; chosen = λ h. h }
 deliver_to-kept s text (Some row) = let k = post-kept (record { from = row.number; to = row.owner; text = text; room = 240; received = false }) _ in record { ended = k.ended; chosen = λ h. k.chosen h }
 
-deliver-kept : (s : State) (e : ℕ) (text : List ℕ) → Kept s (deliver s e text).after
+pub deliver-kept : (s : State) (e : ℕ) (text : List ℕ) → Kept s (deliver s e text).after
 unfolding deliver
 deliver-kept s e text = deliver_to-kept s text (event_agent s.agents e)
 
-phase-kept : (s u : State) (turns calls : ℕ) → Kept s u → phase_of s turns calls ≡ phase.Turn → phase_of u turns calls ≡ phase.Turn
+pub phase-kept : (s u : State) (turns calls : ℕ) → Kept s u → phase_of s turns calls ≡ phase.Turn → phase_of u turns calls ≡ phase.Turn
 phase-kept s u turns calls k h = by_end s.ended (choice s) u.ended (choice u) k.ended k.chosen h
   where
     by_end : (a : Bool) (o : Option ℕ) (b : Bool) (p : Option ℕ) → b ≡ a → (is_some o ≡ true → is_some p ≡ true)

@@ -8,3 +8,6 @@ pub mod Kept
 pub mod Ends
 pub mod Rounds
 pub mod Lawfuls
+pub mod Armed
+pub mod Lives
+pub mod Looks

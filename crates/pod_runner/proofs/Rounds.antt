@@ -51,7 +51,7 @@ but_last-step steps made =
     let n : length (steps ++ made ∷ []) - 1 ≡ length steps = omega (arith, length-append steps (made ∷ [])) in
     ap (λ n. take n (steps ++ made ∷ [])) n ∙ take-append_seam steps (made ∷ [])
 
-but_last-extended : {B : Type 0} (new old : Session B) (took : Option Took) (m : Move B) → new ≡ extended old took m → but_last new.steps ≡ old.steps
+pub but_last-extended : {B : Type 0} (new old : Session B) (took : Option Took) (m : Move B) → new ≡ extended old took m → but_last new.steps ≡ old.steps
 but_last-extended new old took m is = ap (λ (s : Session _). but_last s.steps) is ∙ but_last-step old.steps (record { take = took; effects = m.effects })
 
 module _ {B P : Type 0} (next : Next B) (bodies : P → List B) (procs : P → List (List ℕ)) where

@@ -10,4 +10,6 @@ pub mod Run
 pub mod Does
 pub mod Keeps
 pub mod Parts
+pub mod Live
+pub mod Inlets
 pub mod Laws

@@ -8,7 +8,10 @@
 #![tactic(auto)]
 
 mod drive;
+mod drive_live;
+mod inlets;
 mod laws;
+mod live;
 mod parts;
 mod phase;
 mod playing;
@@ -17,7 +20,9 @@ mod session;
 mod written;
 
 pub use drive::run;
+pub use drive_live::run_live;
 pub use laws::every_session;
+pub use live::Live;
 pub use phase::{Phase, RunErr};
 pub use playing::Run;
 pub use session::{Row, Took};

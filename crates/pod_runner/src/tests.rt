@@ -1,4 +1,4 @@
-ghost use Rattle.std.specs.Prelude.{◌≡◌, IfOk, false};
+ghost use Rattle.std.specs.Prelude.{◌≡◌, false, IfOk};
 
 use crate::{Phase, Run, RunErr, lines_of, run, write_all};
 use event_gate::ListGate;
@@ -9,6 +9,8 @@ use lwp_types::{
 use trace_text::Halt;
 use std::alloc::Global;
 use std::test::Fail;
+
+mod live;
 
 // Makes an agent for event 5, and then returns.
 #[derive(Drop)]

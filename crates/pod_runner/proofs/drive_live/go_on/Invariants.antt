@@ -1,0 +1,10 @@
+use Rattle.std.proofs.Common.{map}
+use Rattle.pod_runner.specs.Live.{LooksAtAll}
+use Rattle.pod_runner.proofs.Lives.{Living}
+use Rattle.pod_runner.proofs.Rounds.{stream}
+use Rattle.pod_runner.proofs.drive_live.go_on.Given as goal
+
+abbrev pub invariant-loop : goal.invariant-loop
+invariant-loop g l = Living g.B.Body.next g.P.Program.bodies g.P.Program.proc_names (stream (g.K.Sink.written l.fn.sink) (g.K.Sink.written l.sink) (g.K.Sink.faults l.fn.sink) (g.K.Sink.faults l.sink))
+    l.fn.run l.run (map g.I.Inlet.intake l.fn.inlets.items) (map g.I.Inlet.intake l.inlets.items)
+    × LooksAtAll g.B.Body.next g.P.Program.bodies l.fn.run l.run (map g.I.Inlet.intake l.fn.inlets.items) (map g.I.Inlet.intake l.inlets.items)

@@ -1,0 +1,34 @@
+-- How inlets are served between two calls. Callers see the session alone.
+use Rattle.event_gate.specs.Inlet.{Intake, IsInletTaken, IsInletTold}
+use Rattle.lwp_types.specs.Agents.{armed}
+use Rattle.lwp_types.specs.Poll.{Next}
+use Rattle.pod_runner.specs.Live.{IsWanted, looks}
+use Rattle.pod_runner.specs.Run.{Played, phase_now, session_of}
+use Rattle.pod_runner.specs.declared.phase.Phase.TheVariants as phase
+use Rattle.std.specs.List.{slice_index_or}
+use Rattle.std.specs.Prelude.{List, length, true, ℕ, ◌+◌, ◌<◌, ◌≡◌, ◌≢◌, ◌≤◌}
+
+-- lines were taken, and no call was made
+pub record Takes {B P : Type 0} (next : Next B) (bodies : P → List B) (old new : Played P) : Type 0 where
+  pub still : new.calls ≡ old.calls
+  -- somebody may run still
+  pub turn : phase_now next bodies old ≡ phase.Turn → phase_now next bodies new ≡ phase.Turn
+  -- no event waits that didn't
+  pub fewer : (e : ℕ) → armed (session_of next bodies new).live.state e ≡ true → armed (session_of next bodies old).live.state e ≡ true
+
+-- an inlet whose event waits still was looked at; and if no line was taken at all, it was found empty
+pub record IsSeen {B P : Type 0} (next : Next B) (bodies : P → List B) (old new : Played P) (t u : Intake) : Type 0 where
+  pub looked : IsWanted next bodies new u → looks t < looks u
+  pub found : length new.takes ≡ length old.takes → IsWanted next bodies new u → (t.finds < u.finds) × (IsInletTold u → IsInletTaken u)
+
+-- the inlet at this place was served, and no other
+pub record ServesAt {B P : Type 0} (next : Next B) (bodies : P → List B) (i : ℕ) (old new : Played P) (before after : List Intake) : Type 0 where
+  pub takes : Takes next bodies old new
+  pub seen : (d : Intake) → IsSeen next bodies old new (slice_index_or before i d) (slice_index_or after i d)
+  pub others : (k : ℕ) (d : Intake) → k ≢ i → slice_index_or after k d ≡ slice_index_or before k d
+
+-- so many inlets were served, from the first on, and no other
+pub record Serves {B P : Type 0} (next : Next B) (bodies : P → List B) (n : ℕ) (old new : Played P) (before after : List Intake) : Type 0 where
+  pub takes : Takes next bodies old new
+  pub seen : (k : ℕ) (d : Intake) → k < n → k < length before → IsSeen next bodies old new (slice_index_or before k d) (slice_index_or after k d)
+  pub others : (k : ℕ) (d : Intake) → n ≤ k → slice_index_or after k d ≡ slice_index_or before k d

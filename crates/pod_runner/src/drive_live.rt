@@ -1,0 +1,100 @@
+// A run over inlets, into which other threads post while it goes on.
+ghost use Rattle.std.specs.Prelude.{◌≡◌, ◌≤◌, false, map, IfOk, OnOk, OnErr, IsErrOf};
+ghost use Rattle.lwp_types.specs.Streams.{Rose};
+ghost use Rattle.pod_runner.specs.Due.{IsDefined};
+ghost use Rattle.pod_runner.specs.Live.{Answers, AnswersIf, Draws, EventsRise, LivesOn, LooksAtAll, may_lose};
+ghost use Rattle.pod_runner.specs.Run.{setting_of, trace_before, trace_of, Writes, WritesCut, WritesPart, GoesOn};
+
+use crate::inlets::{all_told, serve_all};
+use crate::playing::Run;
+use crate::{Live, Phase, RunErr};
+use event_gate::Inlet;
+use lwp_types::{Body, Program, Sink};
+use trace_text::Halt;
+use std::sync::Wait;
+
+// Lines are taken, and then, if somebody may run, a call is made; unless the session has ended or is quiet, which is told.
+fn go_round<B: Body, P: Program<B>, I: Inlet, K: Sink, R: Wait>(
+    rt: &R,
+    run: &mut Run<B, P>,
+    inlets: &mut Vec<I>,
+    sink: &mut K,
+) -> Result<Option<Live>, RunErr>
+    requires sound { run.old.failed ≡ false }
+    requires rise { EventsRise (map I.intake inlets.old.items) }
+    ensures lives { LivesOn B.next P.bodies P.proc_names (record { old = K.written sink.old; new = K.written sink.new; faults_old = K.faults sink.old; faults_new = K.faults sink.new }) run.old run.new (map I.intake inlets.old.items) (map I.intake inlets.new.items) result }
+    ensures looked { OnOk result (LooksAtAll B.next P.bodies run.old run.new (map I.intake inlets.old.items) (map I.intake inlets.new.items)) }
+    ensures answers { IfOk result (AnswersIf B.next P.bodies run.new (map I.intake inlets.old.items) (map I.intake inlets.new.items)) }
+{
+    match run.phase() {
+        Phase::Ended(status) => Ok(Some(Live::Halt(Halt::Ended(status)))),
+        Phase::Spent => Ok(Some(Live::Halt(Halt::Spent))),
+        Phase::Turn => {
+            serve_all(rt, run, inlets, sink)?;
+            run.turn(sink)?;
+            Ok(None)
+        }
+        Phase::Idle => {
+            let taken = run.takes();
+            serve_all(rt, run, inlets, sink)?;
+            if run.takes() != taken {
+                return Ok(None);
+            }
+            if all_told(inlets) {
+                return Ok(Some(Live::Halt(Halt::Stuck)));
+            }
+            Ok(Some(Live::Quiet))
+        }
+    }
+}
+
+// Round after round, until there is an answer.
+fn go_on<B: Body, P: Program<B>, I: Inlet, K: Sink, R: Wait>(
+    rt: &R,
+    run: &mut Run<B, P>,
+    inlets: &mut Vec<I>,
+    sink: &mut K,
+) -> Result<Live, RunErr>
+    requires sound { run.old.failed ≡ false }
+    requires rise { EventsRise (map I.intake inlets.old.items) }
+    ensures lives { LivesOn B.next P.bodies P.proc_names (record { old = K.written sink.old; new = K.written sink.new; faults_old = K.faults sink.old; faults_new = K.faults sink.new }) run.old run.new (map I.intake inlets.old.items) (map I.intake inlets.new.items) result }
+    ensures looked { OnOk result (LooksAtAll B.next P.bodies run.old run.new (map I.intake inlets.old.items) (map I.intake inlets.new.items)) }
+    ensures answers { IfOk result (Answers B.next P.bodies run.new (map I.intake inlets.old.items) (map I.intake inlets.new.items)) }
+{
+    for _ in rt.forever() {
+        if let Some(answer) = go_round(rt, run, inlets, sink)? {
+            return Ok(answer);
+        }
+    }
+    unreachable!()
+}
+
+/// Makes calls, and takes each line that an inlet has as soon as it can be delivered, until the end; or until nobody may run, no
+/// line is there that can be delivered, and some client's pass is out still. Lines that come later can be taken by another call.
+/// An event without an inlet has no lines. Where memory is wanting for a line that was taken, that line is lost.
+pub fn run_live<B: Body, P: Program<B>, I: Inlet, K: Sink, R: Wait>(
+    rt: &R,
+    run: &mut Run<B, P>,
+    inlets: &mut Vec<I>,
+    sink: &mut K,
+) -> Result<Live, RunErr>
+    requires sound { run.old.failed ≡ false }
+    requires rise { EventsRise (map I.intake inlets.old.items) }
+    ensures same { GoesOn run.old run.new }
+    ensures made { IsDefined (setting_of B.next P.bodies run.new) run.new.takes run.new.calls }
+    ensures calls { run.new.calls ≤ run.old.turns }
+    ensures unfailed { OnOk result (run.new.failed ≡ false) }
+    ensures draws { Draws B.next P.bodies run.old run.new (map I.intake inlets.old.items) (map I.intake inlets.new.items) (may_lose result) }
+    ensures looked { OnOk result (LooksAtAll B.next P.bodies run.old run.new (map I.intake inlets.old.items) (map I.intake inlets.new.items)) }
+    ensures answers { IfOk result (Answers B.next P.bodies run.new (map I.intake inlets.old.items) (map I.intake inlets.new.items)) }
+    ensures whole { OnOk result (Writes (K.written sink.old) (K.written sink.new) (trace_of B.next P.bodies P.proc_names run.old) (trace_of B.next P.bodies P.proc_names run.new)) }
+    ensures part { OnErr result (WritesPart (K.written sink.old) (K.written sink.new) (trace_of B.next P.bodies P.proc_names run.old) (trace_of B.next P.bodies P.proc_names run.new)) }
+    ensures stopped { IsErrOf result RunErr.NoMemory → Writes (K.written sink.old) (K.written sink.new) (trace_of B.next P.bodies P.proc_names run.old) (trace_of B.next P.bodies P.proc_names run.new) }
+    ensures cut { IsErrOf result RunErr.WriteFault → WritesCut (K.written sink.old) (K.written sink.new) (trace_of B.next P.bodies P.proc_names run.old) (trace_before B.next P.bodies P.proc_names run.new) (trace_of B.next P.bodies P.proc_names run.new) }
+    ensures faults { OnOk result (K.faults sink.new ≡ K.faults sink.old) }
+    ensures later { K.faults sink.old ≤ K.faults sink.new }
+    ensures cause { IsErrOf result RunErr.WriteFault → Rose (K.faults sink.old) (K.faults sink.new) }
+    ensures memory { IsErrOf result RunErr.NoMemory → K.faults sink.new ≡ K.faults sink.old }
+{
+    go_on(rt, run, inlets, sink)
+}
