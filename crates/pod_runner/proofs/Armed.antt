@@ -1,9 +1,9 @@
 -- A delivery makes no event wait that didn't.
-use Rattle.std.proofs.Common.{◌≡◌, ℕ, List, [], ◌∷◌, ◌++◌, Bool, true, false, cond, None, Some, ap, ◌∙◌, refl, sym, subst}
+use Rattle.std.proofs.Common.{◌≡◌, ℕ, List, [], ◌∷◌, ◌++◌, Bool, true, false, cond, None, Some, ◌∙◌, refl, sym}
 use Rattle.std.specs.Prelude.{Option, not, ◌&&◌}
 use Rattle.std.specs.List.{find}
 use Rattle.lwp_types.specs.Agents.{armed, deliver, deliver_to, event_agent, is_armed, is_for}
-use Rattle.lwp_types.specs.Letters.{as_answer, as_received, holding_set, post, takes_from, with_holding}
+use Rattle.lwp_types.specs.Letters.{as_answer, as_received, post, takes_from, with_holding}
 use Rattle.lwp_types.specs.State.{Outcome, State, and_then, is_agent_row, passes, still, thread_of}
 use Rattle.lwp_types.specs.Unblock.{unblock}
 use Rattle.lwp_types.specs.declared.rows.AgentRow.{AgentRow}

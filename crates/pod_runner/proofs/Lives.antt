@@ -1,7 +1,7 @@
 -- What a live run, its inlets and a sink come to together, part by part.
-use Rattle.std.proofs.Common.{◌≢◌, ◌≡◌, ◌≤◌, ◌<◌, ℕ, zero, suc, ◌+◌, ◌-◌, List, [], ◌∷◌, Bool, true, false, cond, None, Some, ap, ◌∙◌, refl, sym, subst, ◌++◌, length, length-append, append-nil, append_assoc, map, eqb, slice_index_or, slice_set, inl, inr, arith}
-use Rattle.std.specs.Prelude.{Option, Result, Ok, Err, OnOk, OnErr, IsErrAnd, IsErrOf, nat_le, nat_lt, ◌&&◌, ◌||◌, ◌⊎◌}
-use Rattle.std.specs.List.{All, AllPairs, HoldsAt, filter, list_any}
+use Rattle.std.proofs.Common.{◌≢◌, ◌≡◌, ◌≤◌, ◌<◌, ℕ, zero, suc, ◌+◌, List, [], ◌∷◌, Bool, true, false, cond, None, Some, ap, ◌∙◌, refl, sym, subst, ◌++◌, length, length-append, append-nil, append_assoc, map, eqb, slice_index_or, slice_set, inl, inr, arith}
+use Rattle.std.specs.Prelude.{Option, Result, Ok, Err, OnOk, IsErrAnd, nat_le, nat_lt, ◌&&◌, ◌||◌, ◌⊎◌}
+use Rattle.std.specs.List.{All, filter, list_any}
 use Rattle.std.proofs.lemmas.Bool.{cases_lt, eq-eqb, eqb-true, ne_eqb}
 use Rattle.std.proofs.lemmas.List.{get_or-map, get_or-set_other, get_or-set_same, length-map, length-set, map-append}
 use Rattle.std.proofs.lemmas.List.Elements.{All-append, filter-append}
@@ -11,7 +11,7 @@ use Rattle.lwp_types.specs.Poll.{Next}
 use Rattle.lwp_types.specs.declared.call.Line.{Line}
 use Rattle.pod_runner.specs.Due.{IsDefined}
 use Rattle.pod_runner.specs.Inlets.{IsSeen, Serves, ServesAt, Takes}
-use Rattle.pod_runner.specs.Live.{AllTold, Answers, AnswersIf, Draws, EachInlet, EventsRise, Extends, Gives, Halts, HasEvent, IsQuiet, IsWanted, LivesOn, NoneComes, drawn_from, is_take_of, lines_taken, looks, may_lose}
+use Rattle.pod_runner.specs.Live.{AllTold, Answers, Draws, EachInlet, EventsRise, Extends, Gives, Halts, HasEvent, IsQuiet, IsWanted, LivesOn, NoneComes, drawn_from, is_take_of, lines_taken, looks, may_lose}
 use Rattle.pod_runner.specs.Over.{can_take, events, halt_if, is_wanted, over}
 use Rattle.pod_runner.specs.Phase.{phase_by, phase_of}
 use Rattle.pod_runner.specs.Play.{play}
@@ -21,8 +21,8 @@ use Rattle.trace_text.specs.declared.ends.Halt.TheVariants as halts
 use Rattle.lwp_types.specs.Choice.{choice}
 use Rattle.lwp_types.specs.State.{State}
 use Rattle.std.proofs.lemmas.Bool.Decides.{nat_tests}
-use Rattle.pod_runner.specs.Run.{Broke, EndsAt, GoesOn, Played, Stream, Tells, Writes, Wrote, but_last, session_of, phase_now, setting_of, stepped, took_now, trace_before, trace_of, with_call, with_took}
-use Rattle.pod_runner.specs.Session.{Made, Session, call_step, taken, take_step}
+use Rattle.pod_runner.specs.Run.{Broke, EndsAt, GoesOn, Played, Stream, Tells, Wrote, but_last, session_of, phase_now, setting_of, stepped, took_now, trace_before, trace_of, with_call, with_took}
+use Rattle.pod_runner.specs.Session.{Session, call_step, taken, take_step}
 use Rattle.pod_runner.specs.Trace.{lines}
 use Rattle.pod_runner.specs.declared.live.Live.{Live}
 use Rattle.pod_runner.specs.declared.live.Live.TheVariants as live
@@ -33,7 +33,7 @@ use Rattle.pod_runner.specs.declared.session.Took.{Took}
 use Rattle.pod_runner.proofs.Armed.{deliver-fewer}
 use Rattle.pod_runner.proofs.Kept.{deliver-kept, phase-kept}
 use Rattle.pod_runner.proofs.Plays.{LastBy-of, play-call, play-take}
-use Rattle.pod_runner.proofs.Rounds.{but_last-extended, goes-same, goes-then, stream, tells-other, tells-then}
+use Rattle.pod_runner.proofs.Rounds.{but_last-extended, goes-same, goes-then, stream, tells-then}
 
 -- ---- takes
 

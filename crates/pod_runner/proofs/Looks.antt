@@ -1,5 +1,5 @@
 -- How often inlets are looked at.
-use Rattle.std.proofs.Common.{◌≢◌, ◌≡◌, ◌≤◌, ◌<◌, ℕ, zero, suc, ◌+◌, ◌-◌, List, [], ◌∷◌, Bool, true, false, cond, None, Some, ap, ◌∙◌, refl, sym, subst, ◌++◌, length, length-append, append-nil, append_assoc, add-one, slice_index_or, arith}
+use Rattle.std.proofs.Common.{◌≡◌, ◌≤◌, ◌<◌, ℕ, zero, suc, ◌+◌, List, [], ◌∷◌, Bool, true, false, cond, ap, ◌∙◌, refl, sym, subst, ◌++◌, length, length-append, append-nil, add-one, slice_index_or, arith}
 use Rattle.std.specs.Prelude.{Result, Ok, MatchBool, IsTrue, reverse, nat_le, ◌==◌}
 use Rattle.std.specs.List.{All, AllByRecursion, filter}
 use Rattle.std.proofs.lemmas.Bool.{eqb-true}
@@ -10,8 +10,8 @@ use Rattle.event_gate.specs.Inlet.{Intake}
 use Rattle.lwp_types.specs.Agents.{armed}
 use Rattle.lwp_types.specs.Poll.{Next}
 use Rattle.pod_runner.specs.Due.{AllDue, IsDefined, TakeDue, armed_calls, counted_to, is_armed_at, is_call_due, is_take_due, takes_by}
-use Rattle.pod_runner.specs.Inlets.{IsSeen, Serves, Takes}
-use Rattle.pod_runner.specs.Live.{Draws, EachInlet, Gives, IsWanted, LivesOn, LooksAt, LooksAtAll, armed_count, drawn_from, lines_taken, looks}
+use Rattle.pod_runner.specs.Inlets.{Serves, Takes}
+use Rattle.pod_runner.specs.Live.{Draws, Gives, LivesOn, LooksAt, LooksAtAll, armed_count, lines_taken, looks}
 use Rattle.pod_runner.specs.Play.{play, played, with_take}
 use Rattle.pod_runner.specs.Run.{GoesOn, Played, Stream, session_of, setting_of, stepped, with_call}
 use Rattle.pod_runner.specs.Session.{Session, Setting}

@@ -6,7 +6,7 @@ use Rattle.pod_runner.specs.Live.{IsWanted, looks}
 use Rattle.pod_runner.specs.Run.{Played, phase_now, session_of}
 use Rattle.pod_runner.specs.declared.phase.Phase.TheVariants as phase
 use Rattle.std.specs.List.{slice_index_or}
-use Rattle.std.specs.Prelude.{List, length, true, ℕ, ◌+◌, ◌<◌, ◌≡◌, ◌≢◌, ◌≤◌}
+use Rattle.std.specs.Prelude.{List, length, true, ℕ, ◌<◌, ◌≡◌, ◌≢◌, ◌≤◌}
 
 -- lines were taken, and no call was made
 pub record Takes {B P : Type 0} (next : Next B) (bodies : P → List B) (old new : Played P) : Type 0 where

@@ -1,4 +1,4 @@
-use Rattle.std.proofs.Common.{◌≡◌, map, rules, Ok, Err}
+use Rattle.std.proofs.Common.{map, rules, Ok, Err}
 use Rattle.pod_runner.proofs.Lives.{answers-on, lives-answer, lives-err, living-of, living-same, living-then, rise-living}
 use Rattle.pod_runner.proofs.Looks.{looks-same, looks-then}
 use Rattle.pod_runner.proofs.Rounds.{stream}

@@ -1,4 +1,4 @@
-use Rattle.std.proofs.Common.{◌≡◌, ◌∙◌, map, refl, Ok, Err}
+use Rattle.std.proofs.Common.{◌∙◌, map, refl, Ok, Err}
 use Rattle.pod_runner.proofs.Lives.{lives-err, lives-same, lives-then, rise-still, same-length, serves-more, serves-none}
 use Rattle.pod_runner.proofs.Rounds.{stream}
 use Rattle.pod_runner.proofs.inlets.serve_all.Goals as goal
