@@ -7,8 +7,8 @@ use Rattle.byte_count.specs.Counting.{Counting}
 use Rattle.lwp_serve.proofs.PlanLaws.{says-all}
 use Rattle.lwp_serve.specs.Make.{IsMake, IsOver, IsSummedUp, MakeSays, TellsAll, TellsPart, is_over, make_turns, status_by, summary_by, summary_of, told_of}
 use Rattle.lwp_serve.specs.Outcome.{end_of, status_of}
-use Rattle.lwp_serve.specs.Plan.{AreDue, IsFaultless, IsFaulty, IsHistory, IsPart, IsQuiet, IsRun, IsUnread, IsWhole, RunSays, Stream, Tells}
-use Rattle.lwp_serve.specs.Planned.{calls_of, halt_of, takes_of, trace_of}
+use Rattle.lwp_serve.specs.Plan.{IsFaultless, IsFaulty, IsHistory, IsPart, IsQuiet, IsRun, IsWhole, RunSays, Stream, Tells}
+use Rattle.lwp_serve.specs.Planned.{halt_of, takes_of, trace_of}
 use Rattle.lwp_serve.specs.declared.session.Session.{Session}
 use Rattle.lwp_serve.specs.declared.session.SessionEnd.{SessionEnd}
 use Rattle.lwp_serve.specs.declared.session.SessionEnd.TheVariants as end
@@ -23,7 +23,7 @@ use Rattle.script_text.specs.Grammar.{Spells}
 use Rattle.script_text.specs.Script.{line_of, lines_posted}
 use Rattle.trace_text.specs.declared.ends.Halt.{Halt}
 use Rattle.script_text.specs.declared.script.Script.{Script}
-use Rattle.std.proofs.Common.{List, None, Option, Some, [], ap, append-nil, arith, cond, eqb, false, inl, inr, length, length-append, map, refl, subst, suc, sym, true, ℕ, ⊎_elim, ◌++◌, ◌+◌, ◌-◌, ◌<◌, ◌∙◌, ◌∷◌, ◌≡◌, ◌≢◌, ◌≤◌, ◌⊎◌}
+use Rattle.std.proofs.Common.{List, Some, [], ap, append-nil, arith, cond, eqb, false, inl, inr, length, length-append, map, refl, subst, suc, sym, true, ℕ, ⊎_elim, ◌+◌, ◌<◌, ◌∙◌, ◌∷◌, ◌≡◌, ◌≢◌, ◌≤◌, ◌⊎◌}
 use Rattle.std.proofs.lemmas.List.{length-map}
 
 -- ---- no more lines are taken than are posted
