@@ -6,16 +6,18 @@ use script_text::Reason;
 use std::alloc::Global;
 use std::test::Fail;
 
-const SCRIPT: &[u8] = b"lwp 1\npod 1\nproc main\ncreate a worker 1 -\nyield self\nproc worker\n";
+const SCRIPT: &[u8] =
+    b"lwp 1\npod 1\nclient 0 5\nproc main\nagent g 5\nrecv g wait\nreply g ok\npost 0 hi\n";
 
 const TRACE: &[u8] =
-    b"t0: create worker 1 -\nt0 = t1\nt0: yield self\nt0 = 0\nt1: return\nt1 dies\nt0: return\nt0 dies\npod ends 0\n";
+    b"t0: agent 5\nt0 = t1\nevent 5 client 0 seq 0 hi\nt0: recv t1 wait\nt0 = letter t1 240 hi\nt0: reply t1 ok\nt0 = 0\nt0: return\nt0 dies\npod ends 0\n";
 
-// A session's status, how many calls it made, and what it wrote.
+// A session's status, how many calls it made and lines it took, and what it wrote.
 #[derive(Drop)]
 struct Outcome {
     status: u8,
     turns: u64,
+    taken: usize,
     written: Vec<u8>,
 }
 
@@ -36,6 +38,7 @@ fn plan(
     Ok(Outcome {
         status: session.status,
         turns: session.turns,
+        taken: session.taken.len(),
         written: sink.bytes().to_vec(alloc)?,
     })
 }
@@ -80,16 +83,22 @@ fn a_read_that_fails_leaves_all_unwritten(rt: HostRuntime) -> Result<(), Fail> {
     Ok(())
 }
 
-// How many calls were made, where so many bytes of the trace were written and no more: the calls end at bytes 30, 52, 71 and 101.
+// How many calls were made, where so many bytes of the trace were written and no more: the steps end at bytes 20, 46, 85, 108 and
+// 138, and the second of them is a take.
 fn calls_by(written: usize) -> u64 {
-    1 + u64::from(written >= 30) + u64::from(written >= 52) + u64::from(written >= 71)
+    1 + u64::from(written >= 46) + u64::from(written >= 85) + u64::from(written >= 108)
+}
+
+// And how many lines were taken.
+fn takes_by(written: usize) -> usize {
+    usize::from(written >= 20)
 }
 
 #[test]
 fn a_write_that_fails_leaves_a_first_part(rt: HostRuntime) -> Result<(), Fail> {
     let alloc = rt.alloc();
     let third = plan(alloc, SCRIPT, 100_000, Vec::new(alloc), vec![in alloc; 2]?)?;
-    assert!(rt; is(&third, 102, 1, b"t0: crea"));
+    assert!(rt; is(&third, 102, 1, b"t0: agen"));
     for fails in 0..100 {
         let outcome = plan(
             alloc,
@@ -104,6 +113,7 @@ fn a_write_that_fails_leaves_a_first_part(rt: HostRuntime) -> Result<(), Fail> {
         }
         assert_eq!(rt; outcome.status, 102);
         assert_eq!(rt; outcome.turns, calls_by(outcome.written.len()));
+        assert_eq!(rt; outcome.taken, takes_by(outcome.written.len()));
         assert!(rt; TRACE.starts_with(outcome.written.as_slice()));
         assert!(rt; outcome.written.len() < TRACE.len());
     }

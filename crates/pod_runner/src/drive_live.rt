@@ -10,8 +10,8 @@ use crate::playing::Run;
 use crate::{Live, Phase, RunErr};
 use event_gate::Inlet;
 use lwp_types::{Body, Program, Sink};
-use trace_text::Halt;
 use std::sync::Wait;
+use trace_text::Halt;
 
 // Lines are taken, and then, if somebody may run, a call is made; unless the session has ended or is quiet, which is told.
 fn go_round<B: Body, P: Program<B>, I: Inlet, K: Sink, R: Wait>(

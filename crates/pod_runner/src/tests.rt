@@ -6,9 +6,9 @@ use lwp_types::{
     Answer, Body, Call, Effect, Effects, Env, Line, MemSink, NoMemory, PodParams, Program, Text,
     Tid,
 };
-use trace_text::Halt;
 use std::alloc::Global;
 use std::test::Fail;
+use trace_text::Halt;
 
 mod live;
 

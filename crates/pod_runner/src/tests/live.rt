@@ -5,10 +5,10 @@ use crate::tests::{TRACE, start};
 use crate::{Live, RunErr, run_live};
 use event_gate::{Bell, NoGate, Poster, open_port, post_all};
 use lwp_types::{MemSink, Text};
-use trace_text::Halt;
 use std::alloc::Global;
 use std::sync::Wait;
 use std::test::*;
+use trace_text::Halt;
 
 // Each client posts the text and ends.
 fn post_each<R: Wait>(rt: &R, posters: Vec<Poster>, text: Text)
