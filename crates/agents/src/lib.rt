@@ -10,6 +10,3 @@ mod agents;
 mod rows;
 
 pub use agents::Agents;
-
-#[cfg(test)]
-mod tests;

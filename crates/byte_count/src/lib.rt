@@ -10,6 +10,3 @@ mod count;
 mod told;
 
 pub use count::CountSink;
-
-#[cfg(test)]
-mod tests;

@@ -15,6 +15,3 @@ mod waits;
 pub use conds::Conds;
 pub use laws::{every_broadcast, every_change, every_question, every_rank};
 pub use waits::WaitRec;
-
-#[cfg(test)]
-mod tests;

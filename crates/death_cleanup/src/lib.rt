@@ -24,8 +24,6 @@ mod locks;
 mod parts;
 mod rows;
 mod signals;
-#[cfg(test)]
-mod tests;
 mod waiters;
 
 pub use death::die;

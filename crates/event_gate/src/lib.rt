@@ -38,6 +38,3 @@ pub use poster::{PostPass, PostRefused, Poster};
 pub use posts::{NoGate, PostEnd, PostGate, post_all};
 pub use taker::Taker;
 pub use view::{Told, View};
-
-#[cfg(test)]
-mod tests;

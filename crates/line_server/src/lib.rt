@@ -19,6 +19,3 @@ mod words;
 pub use laws::senders_are_apart;
 pub use session::SessionBody;
 pub use store::StoreBody;
-
-#[cfg(test)]
-mod tests;

@@ -15,8 +15,6 @@ mod locks;
 mod marks;
 mod numbers;
 mod pod;
-#[cfg(test)]
-mod tests;
 mod turns;
 mod waits;
 

@@ -15,8 +15,6 @@ mod memory;
 mod rows;
 mod sequence;
 mod stream;
-#[cfg(test)]
-mod tests;
 mod text;
 
 pub use body::{Body, Program};

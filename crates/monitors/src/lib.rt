@@ -15,6 +15,3 @@ mod requests;
 pub use laws::{every_change, every_question, every_rank};
 pub use monitors::Monitors;
 pub use requests::EntryRequest;
-
-#[cfg(test)]
-mod tests;

@@ -27,6 +27,3 @@ pub use phase::{Phase, RunErr};
 pub use playing::Run;
 pub use session::{Row, Took};
 pub use written::{lines_of, write_all};
-
-#[cfg(test)]
-mod tests;

@@ -12,8 +12,6 @@ mod index;
 pub mod laws;
 mod rows;
 mod sched;
-#[cfg(test)]
-mod tests;
 
 pub use bucket::{Bucket, Steps};
 pub use rows::Known;

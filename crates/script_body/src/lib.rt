@@ -13,6 +13,3 @@ mod numbers;
 mod walk;
 
 pub use body::ScriptBody;
-
-#[cfg(test)]
-mod tests;

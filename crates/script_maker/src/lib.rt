@@ -18,6 +18,3 @@ pub use laws::made_spells;
 pub use order::{Order, order_at};
 pub use script::make_script;
 pub use summary::{Summary, summary_lines};
-
-#[cfg(test)]
-mod tests;

@@ -34,6 +34,3 @@ pub use reason::{ReadErr, Reason};
 pub use script::{ExitStmt, Names, Native, NativeKind, Post, Proc, Script, Stmt, Test, Who};
 pub use texts::Texts;
 pub use words::number_at;
-
-#[cfg(test)]
-mod tests;

@@ -10,6 +10,3 @@ mod index;
 mod registry;
 
 pub use registry::Registry;
-
-#[cfg(test)]
-mod tests;

@@ -1,0 +1,331 @@
+ghost use Rattle.std.specs.Prelude.{◌≡◌, ◌+◌, ◌≤◌, [], All, IfOk, length};
+ghost use denote.Param.Send.{IsSync};
+
+use event_gate::{Bell, Gate, ListGate, NoGate, PostEnd, PostGate, Poster, Taker, open_port, post_all};
+use crossbeam_utils::atomic::AtomicCell;
+use lwp_types::{Line, NoMemory, Text};
+use std::alloc::Global;
+use std::snapshot::Snapshot;
+use std::sync::Wait;
+use std::test::*;
+use std::thread::{self, Promise, PromisedHandle, Scope, Threads, join};
+
+fn text(bytes: &[u8]) -> Text {
+    Text::new(bytes).unwrap_or(Text::empty())
+}
+
+fn line(client: u8, seq: u32) -> Line
+    ensures { result.client ≡ client }
+{
+    Line {
+        client,
+        seq,
+        text: text(b"a"),
+    }
+}
+
+// What a thread of this port's clients will bring back.
+#[derive(Drop)]
+struct OfPort {
+    taker: Snapshot<Taker>,
+}
+
+impl Promise<PostEnd> for OfPort {
+    ghost kept_by = { λ p e. e.pass.port ≡ p.taker.value.port };
+}
+
+// How many lines came, by client, and whether each came in its place.
+#[derive(Drop)]
+struct Tally {
+    counts: [u32; 16],
+    in_order: bool,
+}
+
+impl Tally {
+    fn new() -> Tally {
+        Tally {
+            counts: [0; 16],
+            in_order: true,
+        }
+    }
+
+    fn note(&mut self, line: &Line) {
+        let i = usize::from(line.client);
+        if i >= 16 || line.seq != self.counts[i] {
+            self.in_order = false;
+        } else {
+            self.counts[i] = self.counts[i].wrapping_add(1);
+        }
+    }
+}
+
+// Takes so many lines, and waits on the bell where none is there.
+fn take_some<R: Wait>(rt: &R, taker: &mut Taker, bell: &Bell, lines: u32, tally: &mut Tally)
+    ensures { taker.new.port ≡ taker.old.port }
+{
+    let mut taken = 0;
+    for _ in rt.forever() {
+        if taken >= lines {
+            return;
+        }
+        if let Some(line) = taker.take(rt) {
+            tally.note(&line);
+            taken += 1;
+        } else {
+            bell.park(rt);
+        }
+    }
+}
+
+// Starts a thread for each poster, which posts all texts.
+fn start_all<'s, E, R: Threads + Wait + Sync>(
+    scope: &Scope<'s, E>,
+    rt: &'s R,
+    alloc: Global,
+    taker: &Taker,
+    posters: Vec<Poster>,
+    texts: &'s [Text],
+    bell: &'s Bell,
+) -> Result<Vec<PromisedHandle<PostEnd, OfPort>>, NoMemory>
+    requires new { All (λ p. (p.port ≡ taker.now.port) × (p.posted ≡ [])) posters.items }
+    requires few { length texts.now ≤ 1000 }
+    ensures { IfOk result (λ v. All (λ h. h.promise.taker.value.port ≡ taker.now.port) v.items) }
+{
+    let mut handles = Vec::new(alloc);
+    for poster in posters {
+        let promise = OfPort {
+            taker: Snapshot::of(taker),
+        };
+        let started = scope.spawn_with(
+            promise,
+            move || -> PostEnd
+                requires { length poster.posted + length texts.now ≤ 4294967295 }
+                ensures { result.pass.port ≡ poster.port }
+            { post_all(rt, poster, NoGate, texts, bell) },
+        );
+        let Ok(handle) = started else {
+            return Err(NoMemory);
+        };
+        handles.push(handle)?;
+    }
+    Ok(handles)
+}
+
+// Takes in the passes of all threads, and answers how many have posted all.
+fn take_in_all<R: Threads + Wait>(
+    rt: &R,
+    taker: &mut Taker,
+    handles: Vec<PromisedHandle<PostEnd, OfPort>>,
+) -> u32
+    requires { All (λ h. h.promise.taker.value.port ≡ taker.old.port) handles.items }
+{
+    let mut whole = 0u32;
+    for handle in handles {
+        let end = handle.join(rt);
+        taker.take_in(rt, end.pass);
+        whole = whole.wrapping_add(u32::from(end.all));
+    }
+    whole
+}
+
+// What came of it: the lines that came, how many threads posted all, how many lines were left when all had, and whether
+// none was left in the end.
+#[derive(Drop)]
+struct Harvest {
+    tally: Tally,
+    whole: u32,
+    left: u32,
+    done: bool,
+}
+
+// Threads post while this one takes ten thousand lines, and the rest when they have ended.
+fn take_beside<'s, E, R: Threads + Wait + Sync>(
+    scope: &Scope<'s, E>,
+    rt: &'s R,
+    alloc: Global,
+    mut taker: Taker,
+    posters: Vec<Poster>,
+    texts: &'s [Text],
+    bell: &'s Bell,
+) -> Result<Harvest, NoMemory>
+    requires new { All (λ p. (p.port ≡ taker.port) × (p.posted ≡ [])) posters.items }
+    requires few { length texts.now ≤ 1000 }
+{
+    let handles = start_all(scope, rt, alloc, &taker, posters, texts, bell)?;
+    let mut tally = Tally::new();
+    take_some(rt, &mut taker, bell, 10_000, &mut tally);
+    let whole = take_in_all(rt, &mut taker, handles);
+    let mut left = 0u32;
+    for client in 0..16 {
+        left = left.wrapping_add(taker.left(client));
+    }
+    take_some(rt, &mut taker, bell, left, &mut tally);
+    let done = taker.told() && taker.take(rt).is_none();
+    Ok(Harvest {
+        tally,
+        whole,
+        left,
+        done,
+    })
+}
+
+fn rush_of_sixteen<R: Threads + Wait + Sync>(
+    rt: &R,
+    alloc: Global,
+    texts: &[Text],
+) -> Result<Harvest, NoMemory>
+    requires { length texts.now ≤ 1000 }
+{
+    let clients = [0u8, 1, 2, 3, 4, 5, 6, 7, 8, 9, 10, 11, 12, 13, 14, 15];
+    let (taker, posters) = open_port(rt, alloc, 5, &clients)?;
+    let bell = Bell::new();
+    let bell = &bell;
+    thread::scope(
+        thread::scope_env(),
+        rt,
+        move |scope| -> Result<Harvest, NoMemory>
+            requires { IsSync R.row × All (λ p. (p.port ≡ taker.port) × (p.posted ≡ [])) posters.items × (length texts.now ≤ 1000) }
+        { take_beside(scope, rt, alloc, taker, posters, texts, bell) },
+    )
+}
+
+#[test]
+fn sixteen_clients_post_while_one_thread_takes(rt: HostRuntime) -> Result<(), Fail> {
+    let texts = [text(b"a"); 1000];
+    let harvest = rush_of_sixteen(&rt, rt.alloc(), &texts).map_err(|_| "no memory")?;
+    assert_eq!(rt; harvest.whole, 16);
+    assert_eq!(rt; harvest.left, 6_000);
+    assert_eq!(rt; harvest.tally.counts, [1000; 16]);
+    assert!(rt; harvest.tally.in_order && harvest.done);
+    Ok(())
+}
+
+// Before the second line it waits until the first was seen.
+#[derive(Drop)]
+struct Waits<'a> {
+    seen: &'a AtomicCell<bool>,
+    gave_up: &'a AtomicCell<bool>,
+}
+
+impl PostGate for Waits<'_> {
+    fn before(&mut self, _client: u8, seq: u32) {
+        if seq == 0 {
+            return;
+        }
+        for _ in 0..100_000_000 {
+            if self.seen.load() {
+                return;
+            }
+        }
+        self.gave_up.store(true);
+    }
+}
+
+// Whether a line was taken while its client had more to post, and how many lines came.
+fn while_it_posts<R: Threads + Wait + Sync>(
+    rt: &R,
+    alloc: Global,
+    texts: &[Text],
+) -> Result<(bool, u32), NoMemory>
+    requires { length texts.now ≤ 1000 }
+{
+    let (mut taker, mut posters) = open_port(rt, alloc, 5, &[4])?;
+    let poster = posters.pop().ok_or(NoMemory)?;
+    let (seen, gave_up) = (AtomicCell::new(false), AtomicCell::new(false));
+    let gate = Waits {
+        seen: &seen,
+        gave_up: &gave_up,
+    };
+    let bell = Bell::new();
+    let bell = &bell;
+    let seen = &seen;
+    let (end, tally) = join(
+        rt,
+        move || -> PostEnd
+            requires { length poster.posted + length texts.now ≤ 4294967295 }
+        { post_all(rt, poster, gate, texts, bell) },
+        move || -> Tally {
+            let mut tally = Tally::new();
+            take_some(rt, &mut taker, bell, 1, &mut tally);
+            seen.store(true);
+            take_some(rt, &mut taker, bell, 1, &mut tally);
+            tally
+        },
+    );
+    Ok((end.all && !gave_up.load(), tally.counts[4]))
+}
+
+#[test]
+fn a_line_is_taken_while_its_client_posts(rt: HostRuntime) -> Result<(), Fail> {
+    let texts = [text(b"a"); 2];
+    let (taken, lines) = while_it_posts(&rt, rt.alloc(), &texts).map_err(|_| "no memory")?;
+    assert!(rt; taken);
+    assert_eq!(rt; lines, 2);
+    Ok(())
+}
+
+// Each client posts these texts and ends, and its pass comes in at once. Answers how often another pass was still out.
+fn take_in_each<R: Wait>(
+    rt: &R,
+    taker: &mut Taker,
+    posters: Vec<Poster>,
+    texts: &[Text],
+    bell: &Bell,
+) -> u32
+    requires new { All (λ p. (p.port ≡ taker.old.port) × (p.posted ≡ [])) posters.items }
+    requires few { length texts.now ≤ 1000 }
+{
+    let mut out = 0u32;
+    for poster in posters {
+        let end = post_all(rt, poster, NoGate, texts, bell);
+        taker.take_in(rt, end.pass);
+        out = out.wrapping_add(u32::from(!taker.told()));
+    }
+    out
+}
+
+fn both_end_early<R: Wait>(
+    rt: &R,
+    alloc: Global,
+    texts: &[Text],
+    bell: &Bell,
+) -> Result<(Taker, u32), NoMemory>
+    requires { length texts.now ≤ 1000 }
+{
+    let (mut taker, posters) = open_port(rt, alloc, 7, &[3, 9])?;
+    let out = take_in_each(rt, &mut taker, posters, texts, bell);
+    Ok((taker, out))
+}
+
+#[test]
+fn a_pass_comes_in_before_its_lines(rt: HostRuntime) -> Result<(), Fail> {
+    let texts = [text(b"a"); 2];
+    let bell = Bell::new();
+    let (mut taker, out) = both_end_early(&rt, rt.alloc(), &texts, &bell).map_err(|_| "no memory")?;
+    bell.park(&rt);
+    assert_eq!(rt; (out, bell.gone(&rt), taker.event()), (1, 2, 7));
+    let mut left = [(9u32, 9u32); 5];
+    for place in &mut left {
+        *place = (taker.left(3), taker.left(9));
+        let _ = taker.take(&rt);
+    }
+    assert_eq!(rt; left, [(2, 2), (1, 2), (0, 2), (0, 1), (0, 0)]);
+    Ok(())
+}
+
+#[test]
+fn a_gate_gives_each_event_its_lines_in_order(rt: HostRuntime) -> Result<(), Fail> {
+    let posts = [line(0, 0), line(1, 0), line(0, 1), line(2, 0)];
+    let mut gate = ListGate::new(rt.alloc(), &[5, 6, 5], &posts).map_err(|_| "no memory")?;
+    let before = (gate.left(0), gate.left(1), gate.left(2));
+    let mut came = [(9u8, 9u32); 6];
+    for (place, event) in came.iter_mut().zip([5u8, 5, 6, 5, 5, 7]) {
+        if let Some(line) = gate.take(event) {
+            *place = (line.client, line.seq);
+        }
+    }
+    assert_eq!(rt; before, (2, 1, 1));
+    assert_eq!(rt; came, [(0, 0), (0, 1), (1, 0), (2, 0), (9, 9), (9, 9)]);
+    assert_eq!(rt; (gate.left(0), gate.left(1), gate.left(2)), (0, 0, 0));
+    Ok(())
+}

@@ -1,0 +1,166 @@
+ghost use Rattle.std.specs.Prelude.{◌≡◌, ◌<◌};
+ghost use Rattle.pod_sched.specs.Schedule.{choice};
+
+use pod_sched::{Sched, Steps};
+use lwp_types::Tid;
+use std::alloc::Global;
+use std::marker::Brand;
+use std::sync::ledger::{Blank, Ledger};
+use std::test::Fail;
+
+const A: Tid = Tid { number: 0 };
+
+const B: Tid = Tid { number: 1 };
+
+// It shares a cell of the index with A.
+const FAR: Tid = Tid { number: 4096 };
+
+// A call by its letter, the thread, a priority where the call has one, and who runs next.
+type Step = (u8, Tid, u32, Option<Tid>);
+
+// Admits one thread more, of three at most.
+fn admits(sched: &mut Sched, tid: Tid, prio: u32, suspended: bool) -> bool {
+    if sched.reserve(3).is_err() || sched.len() >= 3 {
+        return false;
+    }
+    if sched.knows(tid) || prio == 0 || prio > sched.maxpri() {
+        return false;
+    }
+    sched.admit(tid, prio, suspended);
+    sched.knows(tid) && sched.eligible(tid) == !suspended
+}
+
+// Gives a known thread a priority.
+fn ranks(sched: &mut Sched, tid: Tid, prio: u32) -> bool {
+    if !sched.knows(tid) || prio == 0 || prio > sched.maxpri() {
+        return false;
+    }
+    let before = sched.prio_of(tid);
+    sched.set_prio(tid, prio) == before
+}
+
+// One thread lets another of its priority run right before it, or goes last where the two are one.
+fn yields(sched: &mut Sched, from: Tid, to: Tid) -> bool {
+    if !sched.knows(from) || !sched.knows(to) || sched.prio_of(from) != sched.prio_of(to) {
+        return false;
+    }
+    let may = sched.eligible(from) && sched.eligible(to);
+    if may {
+        sched.yield_to(from, to);
+    }
+    may
+}
+
+// What is done to one known thread: `l` leave, `b` block, `u` unblock, `s` suspend, `r` resume.
+fn changes(sched: &mut Sched, letter: u8, tid: Tid) -> bool {
+    if !sched.knows(tid) {
+        return false;
+    }
+    match letter {
+        b'l' => sched.leave(tid),
+        b'b' => sched.block(tid),
+        b'u' if sched.blocked(tid) => sched.unblock(tid),
+        b's' => sched.suspend(tid),
+        b'r' => sched.resume(tid),
+        _ => return false,
+    }
+    sched.knows(tid) == (letter != b'l')
+}
+
+// And `+` admit, `-` admit suspended, `y` yield to itself, `p` set the priority, `q` let the first of a priority go last, `m` raise
+// the greatest priority.
+fn does(sched: &mut Sched, step: &Step) -> bool {
+    let (letter, tid, prio, next) = *step;
+    let done = match letter {
+        b'+' | b'-' => admits(sched, tid, prio, letter == b'-'),
+        b'p' => ranks(sched, tid, prio),
+        b'y' => yields(sched, tid, tid),
+        b'q' => {
+            sched.resched(prio);
+            true
+        }
+        b'm' if sched.maxpri() <= prio && prio <= 255 => {
+            sched.set_maxpri(prio);
+            true
+        }
+        _ => changes(sched, letter, tid),
+    };
+    done && sched.current() == next
+}
+
+const STEPS: [Step; 19] = [
+    (b'+', A, 3, Some(A)),
+    (b'-', B, 5, Some(A)),
+    (b'r', B, 0, Some(B)),
+    (b'b', B, 0, Some(A)),
+    (b's', B, 0, Some(A)),
+    (b'u', B, 0, Some(A)),
+    (b'p', B, 3, Some(A)),
+    // It was away, so it stands behind A.
+    (b'r', B, 0, Some(A)),
+    (b'p', A, 3, Some(A)),
+    (b'y', A, 0, Some(B)),
+    (b'q', A, 3, Some(A)),
+    (b'q', A, 4, Some(A)),
+    (b'm', A, 255, Some(A)),
+    (b'+', FAR, 255, Some(FAR)),
+    (b'p', A, 255, Some(FAR)),
+    (b'b', FAR, 0, Some(A)),
+    (b'l', FAR, 0, Some(A)),
+    (b'l', A, 0, Some(B)),
+    (b'l', B, 0, None),
+];
+
+fn does_all(sched: &mut Sched) -> bool {
+    for step in &STEPS {
+        if !does(sched, step) {
+            return false;
+        }
+    }
+    true
+}
+
+// Of three threads of one priority.
+fn yields_in_turn(sched: &mut Sched) -> bool {
+    for tid in [A, B, FAR] {
+        if !admits(sched, tid, 3, false) {
+            return false;
+        }
+    }
+    yields(sched, A, FAR)
+        && sched.current() == Some(FAR)
+        && yields(sched, FAR, FAR)
+        && sched.current() == Some(A)
+}
+
+// A function that owns a scheduler is dear to prove, by each of its steps, so this one has no more than it needs.
+fn is_done(alloc: Global) -> bool {
+    let Ok(mut sched) = Sched::new(alloc, 5) else {
+        return false;
+    };
+    does_all(&mut sched) && yields_in_turn(&mut sched)
+}
+
+#[test]
+fn the_first_of_the_greatest_priority_runs(rt: HostRuntime) {
+    assert!(rt; is_done(rt.alloc()));
+}
+
+// The choice, with a count of its looks.
+fn counted<L: Ledger>(sched: &Sched, blank: Blank) -> Option<Tid>
+    requires name { blank.name ≡ L.name }
+    requires parts { blank.parts ≡ L.parts }
+    requires some { 0 < blank.parts }
+    ensures { result ≡ choice sched.now }
+{
+    let mut steps = Steps::<L>::new(blank);
+    sched.current_counted(&mut steps)
+}
+
+#[test]
+fn a_counted_choice_is_the_choice(rt: HostRuntime) -> Result<(), Fail> {
+    let mut sched = Sched::new(rt.alloc(), 255).map_err(|_| "no memory")?;
+    assert!(rt; admits(&mut sched, A, 1, false) && admits(&mut sched, B, 255, false));
+    assert_eq!(rt; counted::<Brand>(&sched, Blank::new(1)), Some(B));
+    Ok(())
+}

@@ -1,0 +1,273 @@
+ghost use Rattle.std.specs.Prelude.{◌≡◌, ◌<◌, [], IfOk, length};
+ghost use Rattle.death_cleanup.specs.Example as example;
+ghost use Rattle.death_cleanup.specs.Example.{thread};
+ghost use Rattle.death_cleanup.specs.Ties.{LawfulParts};
+ghost use Rattle.stale_ids.specs.Register.{inserted};
+
+use death_cleanup::{Kind, Parts, ThreadRec, die};
+use agents::Agents;
+use conditions::{Conds, WaitRec};
+use exc_stack::ExcStack;
+use lwp_types::{
+    Answer, Block, Cid, Effect, Effects, ExitCall, Flags, Letter, LwpErr, Mid, NoMemory, Text, Tid,
+};
+use monitors::Monitors;
+use pod_sched::Sched;
+use rendezvous::Mail;
+use stale_ids::Registry;
+use std::alloc::Global;
+use std::test::Fail;
+
+const PLAIN: Flags = Flags {
+    suspended: false,
+    nolastrites: false,
+    server: false,
+};
+
+const DYING: Tid = Tid { number: 0 };
+
+const AGENT: Tid = Tid { number: 8 };
+
+// A thread is born that waits so, with these marks.
+fn bear(ids: &mut Registry<Kind>, block: Block, stack: ExcStack)
+    requires room { length ids.old.live < ids.old.places }
+    requires more { ids.old.births < ids.old.limit }
+    ensures { ids.new ≡ inserted ids.old (thread block stack) }
+{
+    let _ = ids.insert(Kind::Thread(ThreadRec {
+        flags: PLAIN,
+        block,
+        stack,
+    }));
+}
+
+// The stack with five exit procedures: one of them resumes the dying thread itself.
+fn five_exits(alloc: Global) -> Result<ExcStack, NoMemory>
+    ensures { IfOk result (λ s. s ≡ example.stack) }
+{
+    let mut stack = ExcStack::new(alloc)?;
+    stack.on_exit(
+        0,
+        ExitCall::Note {
+            text: Text::empty(),
+        },
+    )?;
+    let to = Tid { number: 2 };
+    let text = Text::empty();
+    stack.on_exit(1, ExitCall::Reply { to, text })?;
+    stack.on_exit(2, ExitCall::Resume { tid: DYING })?;
+    let cond = Cid { number: 0 };
+    stack.on_exit(3, ExitCall::Notify { cond })?;
+    stack.on_exit(4, ExitCall::SetExit { code: 7 })?;
+    Ok(stack)
+}
+
+fn living(alloc: Global) -> Result<Registry<Kind>, NoMemory>
+    ensures { IfOk result (λ ids. ids ≡ example.ids) }
+{
+    let mut ids = Registry::new(alloc, 100);
+    ids.reserve(9)?;
+    bear(
+        &mut ids,
+        Block::Waiting(Cid { number: 0 }),
+        five_exits(alloc)?,
+    );
+    bear(&mut ids, Block::Sending, ExcStack::new(alloc)?);
+    bear(&mut ids, Block::Sending, ExcStack::new(alloc)?);
+    bear(
+        &mut ids,
+        Block::Receiving(Some(DYING)),
+        ExcStack::new(alloc)?,
+    );
+    bear(&mut ids, Block::Joining(DYING), ExcStack::new(alloc)?);
+    bear(&mut ids, Block::Joining(DYING), ExcStack::new(alloc)?);
+    bear(
+        &mut ids,
+        Block::Entering(Mid { number: 0 }),
+        ExcStack::new(alloc)?,
+    );
+    bear(
+        &mut ids,
+        Block::Entering(Mid { number: 1 }),
+        ExcStack::new(alloc)?,
+    );
+    let _ = ids.insert(Kind::Agent);
+    Ok(ids)
+}
+
+fn scheduled(alloc: Global) -> Result<Sched, NoMemory>
+    ensures { IfOk result (λ s. s ≡ example.sched) }
+{
+    let mut sched = Sched::new(alloc, 9)?;
+    sched.reserve(8)?;
+    sched.admit(DYING, 1, false);
+    sched.block(DYING);
+    sched.admit(Tid { number: 1 }, 5, false);
+    sched.block(Tid { number: 1 });
+    sched.admit(Tid { number: 2 }, 5, false);
+    sched.block(Tid { number: 2 });
+    sched.admit(Tid { number: 3 }, 5, false);
+    sched.block(Tid { number: 3 });
+    sched.admit(Tid { number: 4 }, 5, false);
+    sched.block(Tid { number: 4 });
+    sched.admit(Tid { number: 5 }, 5, false);
+    sched.block(Tid { number: 5 });
+    sched.admit(Tid { number: 6 }, 5, false);
+    sched.block(Tid { number: 6 });
+    sched.admit(Tid { number: 7 }, 5, false);
+    sched.block(Tid { number: 7 });
+    Ok(sched)
+}
+
+// A letter to the dying thread.
+fn letter(from: u64, room: u8, received: bool) -> Letter
+    ensures { result ≡ record { from = from; to = 0; text = []; room = room; received = received } }
+{
+    Letter {
+        from: Tid { number: from },
+        to: DYING,
+        text: Text::empty(),
+        room,
+        received,
+    }
+}
+
+fn posted(alloc: Global) -> Result<Mail, NoMemory>
+    ensures { IfOk result (λ m. m ≡ example.mail) }
+{
+    let mut mail = Mail::new(alloc);
+    mail.reserve(9)?;
+    mail.post_letter(letter(1, 9, true));
+    mail.post_letter(letter(2, 9, false));
+    mail.post_letter(letter(8, 240, false));
+    Ok(mail)
+}
+
+fn held(alloc: Global) -> Result<Monitors, NoMemory>
+    ensures { IfOk result (λ m. m ≡ example.mons) }
+{
+    let first = Mid { number: 0 };
+    let second = Mid { number: 1 };
+    let mut mons = Monitors::new(alloc, 100);
+    mons.reserve(8)?;
+    mons.create()?;
+    mons.create()?;
+    mons.create()?;
+    mons.enter(first, DYING);
+    mons.enter(second, DYING);
+    mons.request(first, Tid { number: 6 }, 5, 1);
+    mons.request(second, Tid { number: 7 }, 5, 1);
+    Ok(mons)
+}
+
+fn waited(alloc: Global) -> Result<Conds, NoMemory>
+    ensures { IfOk result (λ c. c ≡ example.conds) }
+{
+    let mut conds = Conds::new(alloc, 100);
+    conds.reserve(8)?;
+    conds.create(Mid { number: 2 })?;
+    conds.wait(WaitRec {
+        cond: Cid { number: 0 },
+        tid: DYING,
+        prio: 1,
+        depth: 1,
+    });
+    Ok(conds)
+}
+
+fn armed(alloc: Global) -> Result<Agents, NoMemory>
+    ensures { IfOk result (λ a. a ≡ example.agents) }
+{
+    let mut agents = Agents::new(alloc);
+    agents.reserve(1)?;
+    agents.create(AGENT, 3, DYING);
+    agents.hold(3);
+    Ok(agents)
+}
+
+fn parts(alloc: Global) -> Result<Parts, NoMemory>
+    ensures same { IfOk result (λ p. p ≡ example.parts) }
+    ensures lawful { IfOk result (λ p. LawfulParts p) }
+{
+    Ok(Parts {
+        ids: living(alloc)?,
+        sched: scheduled(alloc)?,
+        mail: posted(alloc)?,
+        mons: held(alloc)?,
+        conds: waited(alloc)?,
+        agents: armed(alloc)?,
+        exit: 0,
+        ended: false,
+        procs: 1,
+        registration: 5,
+        pattern: 1_073_741_824,
+        dying: None,
+        last_prio: 0,
+    })
+}
+
+// The parts once the first thread has died, and what is told of it.
+fn after_the_death(alloc: Global, effects: &mut Effects) -> Result<Parts, NoMemory>
+    requires { effects.old ≡ [] }
+{
+    let mut parts = parts(alloc)?;
+    die(&mut parts, DYING, effects);
+    Ok(parts)
+}
+
+// An effect as its letter, whose it is or its number, and the answer: `x` an exit procedure, `=` an answer, `d` a death.
+fn deed_of(effect: &Effect) -> (u8, u64, u8) {
+    match effect {
+        Effect::Exited { reg, answer, .. } => (b'x', *reg, letter_of(answer)),
+        Effect::Answered { tid, answer } => (b'=', tid.number, letter_of(answer)),
+        Effect::Died { tid } => (b'd', tid.number, 0),
+        _ => (b'?', 0, 0),
+    }
+}
+
+// `0` for the number 0, and a capital for a refusal.
+fn letter_of(answer: &Answer) -> u8 {
+    match answer {
+        Answer::Value(0) => b'0',
+        Answer::Refused(LwpErr::NonExist) => b'X',
+        Answer::Refused(LwpErr::NotOwned) => b'O',
+        Answer::Refused(LwpErr::NoWait) => b'W',
+        _ => b'?',
+    }
+}
+
+// The steps of a death in their order: exit procedures, the last set first; locks, the last acquired first; an agent, of which
+// nothing is told; senders, the named receiver, joiners.
+const TOLD: [(u8, u64, u8); 13] = [
+    (b'x', 4, b'0'),
+    (b'x', 3, b'O'),
+    (b'x', 2, b'0'),
+    (b'x', 1, b'W'),
+    (b'x', 0, b'0'),
+    (b'=', 7, b'0'),
+    (b'=', 6, b'0'),
+    (b'=', 1, b'X'),
+    (b'=', 2, b'X'),
+    (b'=', 3, b'X'),
+    (b'=', 4, b'0'),
+    (b'=', 5, b'0'),
+    (b'd', 0, 0),
+];
+
+#[test]
+fn a_death_in_full(rt: HostRuntime) -> Result<(), Fail> {
+    let mut effects = Effects::new(rt.alloc()).map_err(|_| "no memory")?;
+    let mut parts = after_the_death(rt.alloc(), &mut effects).map_err(|_| "no memory")?;
+    assert_eq!(rt; effects.len(), TOLD.len());
+    for place in 0..TOLD.len() {
+        if place < effects.len() {
+            assert_eq!(rt; deed_of(effects.get(place)), TOLD[place]);
+        }
+    }
+    assert_eq!(rt; parts.sched.current(), Some(Tid { number: 7 }));
+    assert_eq!(rt; parts.exit, 7);
+    assert!(rt; !parts.ids.is_live(0) && !parts.ids.is_live(8));
+    assert_eq!(rt; parts.mail.pop_to(DYING), None);
+    assert_eq!(rt; parts.agents.owner_of(AGENT), None);
+    Ok(())
+}
