@@ -1,5 +1,5 @@
 use Rattle.std.proofs.Common.{◌≡◌, All}
-use Rattle.event_gate.proofs.tests.take_in_all.Given as goal
+use Rattle.tests_of_inlets.proofs.ports.take_in_all.Given as goal
 
 abbrev pub invariant-loop-handle : goal.invariant-loop-handle
 invariant-loop-handle g l =

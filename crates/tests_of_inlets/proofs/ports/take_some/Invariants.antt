@@ -1,5 +1,5 @@
 use Rattle.std.proofs.Common.{◌≡◌}
-use Rattle.event_gate.proofs.tests.take_some.Given as goal
+use Rattle.tests_of_inlets.proofs.ports.take_some.Given as goal
 
 abbrev pub invariant-loop : goal.invariant-loop
 invariant-loop g l =

@@ -1,7 +1,7 @@
 use Rattle.std.proofs.Common.{◌<◌, [], ◌∷◌, arith}
 use Rattle.std.proofs.lemmas.List.Elements.{All-cons}
 use Rattle.lwp_types.specs.declared.call.Line.{Line}
-use Rattle.event_gate.proofs.tests.a_gate_gives_each_event_its_lines_in_order.Goals as goal
+use Rattle.tests_of_inlets.proofs.ports.a_gate_gives_each_event_its_lines_in_order.Goals as goal
 
 abbrev IsKnown : Line → Type 0
 IsKnown l = l.client < 3

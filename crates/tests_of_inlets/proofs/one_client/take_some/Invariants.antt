@@ -1,5 +1,5 @@
 use Rattle.std.proofs.Common.{◌≡◌}
-use Rattle.lanes.proofs.tests.take_some.Given as goal
+use Rattle.tests_of_inlets.proofs.one_client.take_some.Given as goal
 
 abbrev pub invariant-loop : goal.invariant-loop
 invariant-loop g l =

@@ -2,9 +2,9 @@ use Rattle.std.proofs.Common.{◌≡◌, ◌∙◌, ℕ, [], All, ap, sym, subst
 use Rattle.std.proofs.lemmas.List.Elements.{All-push, All-tail}
 use Rattle.std.specs.declared.thread.PromisedHandle.{PromisedHandle}
 use Rattle.event_gate.specs.declared.posts.PostEnd.{PostEnd}
-use Rattle.event_gate.specs.declared.tests.OfPort.{OfPort}
+use Rattle.tests_of_inlets.specs.declared.ports.OfPort.{OfPort}
 use Rattle.event_gate.specs.Ends.{Posting}
-use Rattle.event_gate.proofs.tests.start_all.Goals as goal
+use Rattle.tests_of_inlets.proofs.ports.start_all.Goals as goal
 
 abbrev Handle : Type 0
 Handle = PromisedHandle PostEnd OfPort

@@ -1,5 +1,5 @@
 use Rattle.std.proofs.Common.{◌≡◌, [], All}
-use Rattle.event_gate.proofs.tests.take_in_each.Given as goal
+use Rattle.tests_of_inlets.proofs.ports.take_in_each.Given as goal
 
 abbrev pub invariant-loop-poster : goal.invariant-loop-poster
 invariant-loop-poster g l =
