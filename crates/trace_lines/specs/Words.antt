@@ -1,6 +1,6 @@
 -- Words and numbers in a line.
 use Rattle.std.specs.Char.{is_ascii_digit}
-use Rattle.std.specs.Prelude.{Bool, List, None, Option, Some, [], drop, false, if◌then◌else◌, nat_lt, suc, take, true, ℕ, ◌*◌, ◌+◌, ◌-◌, ◌==◌, ◌^◌, ◌&&◌, ◌∷◌}
+use Rattle.std.specs.Prelude.{Bool, List, None, Option, Some, [], drop, false, if◌then◌else◌, length, nat_lt, suc, take, true, ℕ, ◌*◌, ◌+◌, ◌-◌, ◌==◌, ◌^◌, ◌&&◌, ◌∷◌}
 
 -- whether these bytes stand in front
 abbrev pub starts : List ℕ → List ℕ → Bool
@@ -43,3 +43,7 @@ number line = value_of (take (digits line) line)
 -- what stands behind the number in front
 abbrev pub behind : List ℕ → List ℕ
 behind line = drop (digits line) line
+
+-- the number that a word writes, if it writes one and nothing else
+abbrev pub whole_number : List ℕ → Option ℕ
+whole_number w = if digits w == length w then number w else None

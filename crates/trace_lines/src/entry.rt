@@ -4,7 +4,7 @@
 pub const NOBODY: u64 = u64::MAX;
 
 /// What is called, as far as it shows in a picture.
-#[derive(Clone, Copy, Debug, PartialEq, Eq)]
+#[derive(Clone, Copy)]
 pub enum Verb {
     Create,
     Destroy,
@@ -25,7 +25,7 @@ pub enum Verb {
 }
 
 /// What a call is answered, as far as it shows in a picture.
-#[derive(Clone, Copy, Debug, PartialEq, Eq)]
+#[derive(Clone, Copy)]
 pub enum Gain {
     Value(u64),
     /// A new thread or agent.
@@ -39,7 +39,7 @@ pub enum Gain {
 }
 
 /// What a line tells. Who is named nowhere is `NOBODY`.
-#[derive(Clone, Copy, Debug, PartialEq, Eq)]
+#[derive(Clone, Copy)]
 pub enum Entry {
     /// A thread calls. The target is the thread, the monitor, the condition or the event that it names; a new thread may begin
     /// suspended.

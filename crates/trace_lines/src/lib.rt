@@ -18,4 +18,4 @@ pub use laws::{
     answered_again, called_again, closed_again, delivered_again, died_again, exited_again,
 };
 pub use reading::entry_of;
-pub use words::reach;
+pub use words::{reach, skip, whole_number};

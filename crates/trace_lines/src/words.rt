@@ -1,6 +1,6 @@
 // Words and numbers in a line.
 ghost use Rattle.std.specs.Prelude.{◌≡◌, ◌≤◌, drop, length};
-ghost use Rattle.trace_lines.specs.Words.{behind, digits, number, reach, rest, starts, value_of, word};
+ghost use Rattle.trace_lines.specs.Words.{behind, digits, number, reach, rest, starts, value_of, whole_number, word};
 
 /// Whether these bytes stand in front.
 pub(crate) fn starts(front: &[u8], line: &[u8]) -> bool
@@ -44,7 +44,7 @@ fn digits(bytes: &[u8]) -> usize
 }
 
 /// What stands behind so many bytes.
-pub(crate) fn skip(count: usize, line: &[u8]) -> &[u8]
+pub fn skip(count: usize, line: &[u8]) -> &[u8]
     ensures { result.now ≡ drop count line.now }
 {
     if count < line.len() {
@@ -99,4 +99,15 @@ pub(crate) fn behind(line: &[u8]) -> &[u8]
     ensures { result.now ≡ behind line.now }
 {
     &line[digits(line)..]
+}
+
+/// The number that a word writes, if it writes one and nothing else.
+pub fn whole_number(word: &[u8]) -> Option<u64>
+    ensures { result ≡ whole_number word.now }
+{
+    if digits(word) == word.len() {
+        number(word)
+    } else {
+        None
+    }
 }
