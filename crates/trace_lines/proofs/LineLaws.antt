@@ -1,0 +1,260 @@
+-- Each line is read back.
+use Rattle.lwp_types.specs.Names.{null_id}
+use Rattle.lwp_types.specs.declared.call.Answer.{Answer}
+use Rattle.lwp_types.specs.declared.call.Answer.TheVariants as answer
+use Rattle.lwp_types.specs.declared.call.Call.{Call}
+use Rattle.lwp_types.specs.declared.call.Call.TheVariants as call
+use Rattle.lwp_types.specs.declared.call.ExitCall.{ExitCall}
+use Rattle.lwp_types.specs.declared.call.ExitCall.TheVariants as exit
+use Rattle.lwp_types.specs.declared.call.Flags.{Flags}
+use Rattle.lwp_types.specs.declared.call.IdKind.TheVariants as kind
+use Rattle.lwp_types.specs.declared.call.Line.{Line}
+use Rattle.std.proofs.Common.{Bool, List, None, Option, Some, [], ap, arith, codes, cond, eqb, false, length, refl, sym, true, ℕ, ◌&&◌, ◌++◌, ◌<◌, ◌∙◌, ◌∷◌, ◌≡◌, ◌≤◌, ◌^◌, drop}
+use Rattle.std.proofs.lemmas.Bool.{eqb-false, eqb-true}
+use Rattle.std.specs.Fmt.{decimal}
+use Rattle.std.specs.Prelude.{negsuc, pos}
+use Rattle.trace_lines.proofs.WordLaws.{EndsDigits, behind_again, id_again, id_alone, id_is_word, not_number, number_again, number_alone, number_is_word, rest_again, who_again, who_alone}
+use Rattle.trace_lines.specs.Entries.{call_entry, entry_of, exit_entry, gain_of, id_of, is_suspended, shows, thread_entry, who_of}
+use Rattle.trace_lines.specs.Told.{AnswersAreRead, CallsAreRead, DeathsAreRead, EndsAreRead, EventsAreRead, ExitsAreRead, IsAnswer, IsPrinted, exit_target, exit_verb, gain_told, is_refused, suspended_told, target_told, verb_told}
+use Rattle.trace_lines.specs.Words.{reach, rest, starts}
+use Rattle.trace_lines.specs.declared.entry.Entry.TheVariants as entry
+use Rattle.trace_lines.specs.declared.entry.Gain.TheVariants as gain
+use Rattle.trace_lines.specs.declared.entry.Verb.TheVariants as verb
+use Rattle.trace_text.specs.Lines.{answer_text, call_text, exit_text, flags_text, id_text, proc_text, spaced, thread_text}
+
+-- a line that begins with a thread
+thread_line : (t : ℕ) (r : List ℕ) → t < null_id → EndsDigits r → entry_of (thread_text t ++ r) ≡ thread_entry (Some t) r
+thread_line t r lt e = by_null (eqb t null_id) refl
+  where
+    by_null : (v : Bool) → eqb t null_id ≡ v → entry_of (cond v (codes "none") (116 ∷ decimal t) ++ r) ≡ thread_entry (Some t) r
+    by_null true h = absurd (omega (arith, eqb-true t null_id h))
+    by_null false h =
+        let fits : t < 2 ^ 64 = omega (arith, lt) in
+        rw (number_again t r fits e, behind_again t r fits e) refl
+
+-- ---- calls
+
+flags_again : (s n v : Bool) → starts (codes "s") (flags_text (record { suspended = s; nolastrites = n; server = v })) ≡ s
+flags_again true n v = refl
+flags_again false true v = refl
+flags_again false false true = refl
+flags_again false false false = refl
+
+created : (procs : List (List ℕ)) (number prio : ℕ) (flags : Flags) → reach 32 (proc_text procs number) ≡ length (proc_text procs number) → prio < 2 ^ 32
+    → is_suspended verb.Create (proc_text procs number ++ (codes " " ++ (decimal prio ++ (codes " " ++ flags_text flags)))) ≡ flags.suspended
+created procs number prio flags one lt =
+    rw (rest_again (proc_text procs number) (decimal prio ++ (codes " " ++ flags_text flags)) one, rest_again (decimal prio) (flags_text flags) (number_is_word prio (omega (arith, lt)))) (flags_again flags.suspended flags.nolastrites flags.server)
+
+said : (t : ℕ) (text : List ℕ) → call_entry t (codes "say" ++ spaced text) ≡ Some (entry.Called t verb.Other null_id false)
+said t [] = refl
+said t (b ∷ bs) = refl
+
+received : (procs : List (List ℕ)) (t : ℕ) (from : Option ℕ) (mode : _) → target_told (call.Recv from mode) ≤ null_id
+    → call_entry t (call_text procs (Some t) (call.Recv from mode)) ≡ Some (entry.Called t verb.Receive (target_told (call.Recv from mode)) false)
+received procs t None mode le = refl
+received procs t (Some u) mode le = rw (who_again t u _ le refl) refl
+
+replied : (procs : List (List ℕ)) (t u : ℕ) (text : List ℕ) → call_entry t (call_text procs (Some t) (call.Reply u text)) ≡ Some (entry.Called t verb.Other null_id false)
+replied procs t u text = refl
+
+asked : (procs : List (List ℕ)) (t : ℕ) (c : Call) → IsPrinted procs c
+    → call_entry t (call_text procs (Some t) c) ≡ Some (entry.Called t (verb_told c) (target_told c) (suspended_told c))
+asked procs t (call.Create number prio flags) h = ap (λ s. Some (entry.Called t verb.Create null_id s)) (created procs number prio flags h.0 h.1)
+asked procs t (call.Destroy u) h = ap (λ n. Some (entry.Called t verb.Destroy n false)) (who_alone t u h)
+asked procs t (call.Ping u) h = refl
+asked procs t (call.Yield u) h = refl
+asked procs t (call.Resched p) h = refl
+asked procs t (call.SetPri u p) h = refl
+asked procs t (call.Suspend u) h = ap (λ n. Some (entry.Called t verb.Suspend n false)) (who_alone t u h)
+asked procs t (call.Resume u) h = ap (λ n. Some (entry.Called t verb.Resume n false)) (who_alone t u h)
+asked procs t (call.Join u) h = ap (λ n. Some (entry.Called t verb.Join n false)) (who_alone t u h)
+asked procs t call.Me h = refl
+asked procs t (call.SetMaxPri p) h = refl
+asked procs t (call.SetExit code) h = refl
+asked procs t call.GetExit h = refl
+asked procs t (call.PodExit code) h = refl
+asked procs t call.Threads h = refl
+asked procs t (call.Send u room text) h = ap (λ n. Some (entry.Called t verb.Send n false)) (who_again t u (codes " " ++ (decimal room ++ spaced text)) h refl)
+asked procs t (call.Recv from mode) h = received procs t from mode h
+asked procs t (call.Reply u text) h = replied procs t u text
+asked procs t call.Senders h = refl
+asked procs t call.Receivers h = refl
+asked procs t call.MonCreate h = refl
+asked procs t (call.MonDestroy m) h = refl
+asked procs t (call.Enter m) h = ap (λ n. Some (entry.Called t verb.Enter n false)) (id_alone 109 m h)
+asked procs t (call.CondEnter m) h = ap (λ n. Some (entry.Called t verb.CondEnter n false)) (id_alone 109 m h)
+asked procs t (call.MonExit m) h = ap (λ n. Some (entry.Called t verb.MonExit n false)) (id_alone 109 m h)
+asked procs t (call.MonBreak m) h = ap (λ n. Some (entry.Called t verb.MonBreak n false)) (id_alone 109 m h)
+asked procs t call.Monitors h = refl
+asked procs t (call.MonWaiters m) h = refl
+asked procs t (call.CvCreate m) h = refl
+asked procs t (call.CvDestroy c) h = refl
+asked procs t (call.Wait c) h = ap (λ n. Some (entry.Called t verb.Wait n false)) (id_alone 99 c h)
+asked procs t (call.Notify c) h = refl
+asked procs t (call.Broadcast c) h = refl
+asked procs t (call.CvSend c u) h = refl
+asked procs t call.Conds h = refl
+asked procs t (call.CvWaiters c) h = refl
+asked procs t (call.CallProc number) h = refl
+asked procs t call.Return h = refl
+asked procs t (call.Handle pat func arg) h = refl
+asked procs t call.Unhandle h = refl
+asked procs t (call.OnExit x) h = refl
+asked procs t (call.Raise p) h = refl
+asked procs t (call.ExcNotify p) h = refl
+asked procs t (call.Bound p) h = refl
+asked procs t call.UniqPatt h = refl
+asked procs t (call.Agent e) h = rw (number_alone e (omega (arith, h))) refl
+asked procs t call.Agents h = refl
+asked procs t (call.Say text) h = said t text
+
+pub called_again : (procs : List (List ℕ)) (took : Option Line) (t : ℕ) (c : Call) → CallsAreRead procs took t c
+called_again procs took t c lt h = thread_line t (58 ∷ 32 ∷ call_text procs (Some t) c) lt refl ∙ asked procs t c h
+
+-- ---- answers
+
+valued : (n : ℕ) → n < 2 ^ 63 → gain_of (decimal n) ≡ gain.Value n
+valued n lt =
+    let fits : n < 2 ^ 64 = omega (arith, lt) in
+    rw (not_number 108 (codes "etter ") n fits refl, not_number 114 (codes "eply") n fits refl, not_number 116 [] n fits refl, number_alone n fits) refl
+
+born : (u : ℕ) → u < null_id → gain_of (thread_text u) ≡ gain.Thread u
+born u lt = by_null (eqb u null_id) refl
+  where
+    by_null : (v : Bool) → eqb u null_id ≡ v → gain_of (cond v (codes "none") (116 ∷ decimal u)) ≡ gain.Thread u
+    by_null true h = absurd (omega (arith, eqb-true u null_id h))
+    by_null false h = let fits : u < 2 ^ 64 = omega (arith, lt) in rw (number_alone u fits) refl
+
+-- a monitor and a condition don't show
+other_id : (n : ℕ) → (v : Bool) → gain_of (cond v (codes "none") (109 ∷ decimal n)) ≡ gain.Other
+other_id n true = refl
+other_id n false = refl
+
+other_condition : (n : ℕ) → (v : Bool) → gain_of (cond v (codes "none") (99 ∷ decimal n)) ≡ gain.Other
+other_condition n true = refl
+other_condition n false = refl
+
+answered : (t : ℕ) (a : Answer) → IsAnswer a → thread_entry (Some t) (answer_text a) ≡ Some (entry.Answered t (gain_told a))
+answered t (answer.Value (pos n)) h = ap (λ g. Some (entry.Answered t g)) (valued n h)
+answered t (answer.Value (negsuc n)) h = refl
+answered t (answer.Thread u) h = ap (λ g. Some (entry.Answered t g)) (born u h)
+answered t (answer.Monitor m) h = ap (λ g. Some (entry.Answered t g)) (other_id m (eqb m null_id))
+answered t (answer.Cond c) h = ap (λ g. Some (entry.Answered t g)) (other_condition c (eqb c null_id))
+answered t (answer.Letter from text room) h = ap (λ n. Some (entry.Answered t (gain.Letter n))) (id_again 116 from (codes " " ++ (decimal room ++ spaced text)) h refl)
+answered t (answer.Reply text) h = refl
+answered t (answer.Bound func arg) h = refl
+answered t (answer.Caught depth mark p) h = refl
+answered t (answer.Ids kind.Thread ids) h = refl
+answered t (answer.Ids kind.Monitor ids) h = refl
+answered t (answer.Ids kind.Cond ids) h = refl
+answered t (answer.Refused e) h = refl
+
+begins : (a : Answer) → EndsDigits (answer_text a)
+begins (answer.Value v) = refl
+begins (answer.Thread u) = refl
+begins (answer.Monitor m) = refl
+begins (answer.Cond c) = refl
+begins (answer.Letter from text room) = refl
+begins (answer.Reply text) = refl
+begins (answer.Bound func arg) = refl
+begins (answer.Caught depth mark p) = refl
+begins (answer.Ids k ids) = refl
+begins (answer.Refused e) = refl
+
+pub answered_again : (procs : List (List ℕ)) (took : Option Line) (t : ℕ) (a : Answer) → AnswersAreRead procs took t a
+answered_again procs took t a lt h = thread_line t (answer_text a) lt (begins a) ∙ answered t a h
+
+-- ---- deaths
+
+pub died_again : (procs : List (List ℕ)) (took : Option Line) (t : ℕ) → DeathsAreRead procs took t
+died_again procs took t lt = thread_line t (codes " dies") lt refl
+
+-- ---- deliveries
+
+ends_spaced : (text : List ℕ) → EndsDigits (spaced text)
+ends_spaced [] = tt
+ends_spaced (b ∷ bs) = refl
+
+pub delivered_again : (procs : List (List ℕ)) (line : Line) (agent e : ℕ) → EventsAreRead procs line agent e
+delivered_again procs line agent e he hc hs =
+    let tail = spaced line.text in
+    let third = decimal line.seq ++ tail in
+    let second = decimal line.client ++ (codes " seq " ++ third) in
+    rw (
+      number_again e (codes " client " ++ second) (omega (arith, he)) refl,
+      behind_again e (codes " client " ++ second) (omega (arith, he)) refl,
+      number_again line.client (codes " seq " ++ third) (omega (arith, hc)) refl,
+      behind_again line.client (codes " seq " ++ third) (omega (arith, hc)) refl,
+      number_again line.seq tail (omega (arith, hs)) (ends_spaced line.text),
+    ) refl
+
+-- ---- ends
+
+pub ends_again : EndsAreRead
+ends_again = record {
+  pod = λ procs took status. refl;
+  stuck = refl;
+  spent = λ turns. refl;
+  left = λ client count. refl;
+}
+
+-- ---- exit procedures
+
+headed : (a : Answer) → answer_text a ≡ 32 ∷ drop 1 (answer_text a)
+headed (answer.Value v) = refl
+headed (answer.Thread u) = refl
+headed (answer.Monitor m) = refl
+headed (answer.Cond c) = refl
+headed (answer.Letter from text room) = refl
+headed (answer.Reply text) = refl
+headed (answer.Bound func arg) = refl
+headed (answer.Caught depth mark p) = refl
+headed (answer.Ids k ids) = refl
+headed (answer.Refused e) = refl
+
+refused : (a : Answer) → starts (codes "! ") (drop 1 (answer_text a)) ≡ is_refused a
+refused (answer.Value v) = refl
+refused (answer.Thread u) = refl
+refused (answer.Monitor m) = refl
+refused (answer.Cond c) = refl
+refused (answer.Letter from text room) = refl
+refused (answer.Reply text) = refl
+refused (answer.Bound func arg) = refl
+refused (answer.Caught depth mark p) = refl
+refused (answer.Ids k ids) = refl
+refused (answer.Refused e) = refl
+
+-- an id with an answer behind it: the id, and whether the answer is a refusal
+named : (b m : ℕ) (a : Answer) → eqb b 32 ≡ false → m ≤ null_id
+    → (id_of (id_text (b ∷ []) m ++ answer_text a) ≡ m) × (starts (codes "! ") (rest (id_text (b ∷ []) m ++ answer_text a)) ≡ is_refused a)
+named b m a other le = (
+  id_again b m (answer_text a) le (begins a),
+  ap (λ l. starts (codes "! ") (rest (id_text (b ∷ []) m ++ l))) (headed a) ∙ ap (starts (codes "! ")) (rest_again (id_text (b ∷ []) m) (drop 1 (answer_text a)) (id_is_word b m other le)) ∙ refused a,
+)
+
+-- nobody's own call: no thread is `self`
+named_who : (m : ℕ) (l : List ℕ) → m ≤ null_id → EndsDigits l → who_of null_id (thread_text m ++ l) ≡ m
+named_who m l le e = by_null (eqb m null_id) refl
+  where
+    by_null : (v : Bool) → eqb m null_id ≡ v → who_of null_id (cond v (codes "none") (116 ∷ decimal m) ++ l) ≡ m
+    by_null true h = sym (eqb-true m null_id h)
+    by_null false h = let fits : m < 2 ^ 64 = omega (arith, eqb-false m null_id h) in rw (number_again m l fits e) refl
+
+noted : (reg : ℕ) (text : List ℕ) (a : Answer) → exit_entry (Some reg) (32 ∷ ((codes "note" ++ spaced text) ++ answer_text a)) ≡ Some (entry.Exited reg verb.Other null_id false)
+noted reg [] a = rw (headed a) refl
+noted reg (b ∷ bs) a = refl
+
+ran : (reg : ℕ) (x : ExitCall) (a : Answer) → exit_target x ≤ null_id
+    → exit_entry (Some reg) (32 ∷ (exit_text None x ++ answer_text a)) ≡ Some (entry.Exited reg (exit_verb x) (exit_target x) (shows (exit_verb x) && is_refused a))
+ran reg (exit.MonExit m) a h = let n = named 109 m a refl h in rw (n.0, n.1) refl
+ran reg (exit.MonBreak m) a h = let n = named 109 m a refl h in rw (n.0, n.1) refl
+ran reg (exit.Notify c) a h = refl
+ran reg (exit.Broadcast c) a h = refl
+ran reg (exit.Reply u text) a h = refl
+ran reg (exit.Resume t) a h = let n = named 116 t a refl h in rw (named_who t (answer_text a) h (begins a), n.1) refl
+ran reg (exit.SetExit code) a h = refl
+ran reg (exit.Note text) a h = noted reg text a
+
+pub exited_again : (procs : List (List ℕ)) (took : Option Line) (t reg : ℕ) (x : ExitCall) (a : Answer) → ExitsAreRead procs took t reg x a
+exited_again procs took t reg x a lt h =
+    rw (number_again reg (32 ∷ (exit_text None x ++ answer_text a)) lt refl, behind_again reg (32 ∷ (exit_text None x ++ answer_text a)) lt refl) (ran reg x a h)

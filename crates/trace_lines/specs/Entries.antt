@@ -1,0 +1,170 @@
+-- What a line of a trace tells.
+use Rattle.lwp_types.specs.Names.{null_id}
+use Rattle.std.specs.Prelude.{Bool, List, None, Option, Some, bytes_eq, codes, drop, false, if◌then◌else◌, true, unwrap_or, ℕ, ◌&&◌, ◌||◌}
+use Rattle.trace_lines.specs.Words.{behind, number, rest, starts, word}
+use Rattle.trace_lines.specs.declared.entry.Entry.{Entry}
+use Rattle.trace_lines.specs.declared.entry.Entry.TheVariants as entry
+use Rattle.trace_lines.specs.declared.entry.Gain.{Gain}
+use Rattle.trace_lines.specs.declared.entry.Gain.TheVariants as gain
+use Rattle.trace_lines.specs.declared.entry.Verb.{Verb}
+use Rattle.trace_lines.specs.declared.entry.Verb.TheVariants as verb
+
+-- the calls on threads that show as themselves
+abbrev pub thread_verb : List ℕ → Option Verb
+thread_verb w =
+    if bytes_eq w (codes "create") then Some verb.Create
+    else if bytes_eq w (codes "destroy") then Some verb.Destroy
+    else if bytes_eq w (codes "suspend") then Some verb.Suspend
+    else if bytes_eq w (codes "resume") then Some verb.Resume
+    else if bytes_eq w (codes "join") then Some verb.Join
+    else if bytes_eq w (codes "send") then Some verb.Send
+    else if bytes_eq w (codes "recv") then Some verb.Receive
+    else None
+
+-- the other calls that do
+abbrev pub monitor_verb : List ℕ → Option Verb
+monitor_verb w =
+    if bytes_eq w (codes "enter") then Some verb.Enter
+    else if bytes_eq w (codes "condenter") then Some verb.CondEnter
+    else if bytes_eq w (codes "monexit") then Some verb.MonExit
+    else if bytes_eq w (codes "monbreak") then Some verb.MonBreak
+    else if bytes_eq w (codes "wait") then Some verb.Wait
+    else if bytes_eq w (codes "agent") then Some verb.Agent
+    else if bytes_eq w (codes "onexit") then Some verb.OnExit
+    else None
+
+-- words of calls that don't
+abbrev pub is_quiet : List ℕ → Bool
+is_quiet w = bytes_eq w (codes "ping") || bytes_eq w (codes "yield") || bytes_eq w (codes "resched") || bytes_eq w (codes "setpri")
+    || bytes_eq w (codes "self") || bytes_eq w (codes "setmaxpri") || bytes_eq w (codes "setexit") || bytes_eq w (codes "getexit")
+    || bytes_eq w (codes "podexit") || bytes_eq w (codes "threads") || bytes_eq w (codes "reply")
+
+abbrev pub is_list : List ℕ → Bool
+is_list w = bytes_eq w (codes "senders") || bytes_eq w (codes "receivers") || bytes_eq w (codes "monitors") || bytes_eq w (codes "monwaiters")
+    || bytes_eq w (codes "conditions") || bytes_eq w (codes "cvwaiters") || bytes_eq w (codes "agents") || bytes_eq w (codes "moncreate")
+    || bytes_eq w (codes "mondestroy") || bytes_eq w (codes "cvcreate") || bytes_eq w (codes "cvdestroy")
+
+abbrev pub is_mark : List ℕ → Bool
+is_mark w = bytes_eq w (codes "notify") || bytes_eq w (codes "broadcast") || bytes_eq w (codes "cvsend") || bytes_eq w (codes "call")
+    || bytes_eq w (codes "return") || bytes_eq w (codes "handle") || bytes_eq w (codes "unhandle") || bytes_eq w (codes "raise")
+    || bytes_eq w (codes "excnotify") || bytes_eq w (codes "bound") || bytes_eq w (codes "uniqpatt") || bytes_eq w (codes "say")
+    || bytes_eq w (codes "note")
+
+-- the first of these that there is
+abbrev pub either : Option Verb → Option Verb → Option Verb
+either None other = other
+either (Some v) other = Some v
+
+abbrev pub plain_verb : List ℕ → Option Verb
+plain_verb w = if is_quiet w || is_list w || is_mark w then Some verb.Other else None
+
+-- the call of a word, if it is one
+abbrev pub verb_of : List ℕ → Option Verb
+verb_of w = either (thread_verb w) (either (monitor_verb w) (plain_verb w))
+
+-- a number behind a letter, or nobody
+abbrev pub id_of : List ℕ → ℕ
+id_of text = unwrap_or (number (drop 1 text)) null_id
+
+-- whom a call of `me` names
+abbrev pub who_of : ℕ → List ℕ → ℕ
+who_of me text = if starts (codes "self") text then me else id_of text
+
+-- whom or what a call names, by what stands behind its word
+abbrev pub target_of : Verb → ℕ → List ℕ → ℕ
+target_of verb.Create me text = null_id
+target_of verb.OnExit me text = null_id
+target_of verb.Other me text = null_id
+target_of verb.Agent me text = unwrap_or (number text) null_id
+target_of verb.Destroy me text = who_of me text
+target_of verb.Suspend me text = who_of me text
+target_of verb.Resume me text = who_of me text
+target_of verb.Join me text = who_of me text
+target_of verb.Send me text = who_of me text
+target_of verb.Receive me text = who_of me text
+target_of verb.Enter me text = id_of text
+target_of verb.CondEnter me text = id_of text
+target_of verb.MonExit me text = id_of text
+target_of verb.MonBreak me text = id_of text
+target_of verb.Wait me text = id_of text
+
+-- a new thread begins suspended: its flags stand behind its procedure and its priority
+abbrev pub is_suspended : Verb → List ℕ → Bool
+is_suspended verb.Create text = starts (codes "s") (rest (rest text))
+is_suspended _ text = false
+
+abbrev pub called : ℕ → List ℕ → Option Verb → Option Entry
+called tid text None = None
+called tid text (Some v) = Some (entry.Called tid v (target_of v tid text) (is_suspended v text))
+
+-- the line of a call, behind the thread
+abbrev pub call_entry : ℕ → List ℕ → Option Entry
+call_entry tid text = called tid (rest text) (verb_of (word text))
+
+abbrev pub value_gain : Option ℕ → Gain
+value_gain None = gain.Other
+value_gain (Some n) = gain.Value n
+
+-- an answer that isn't refused
+abbrev pub gain_of : List ℕ → Gain
+gain_of text =
+    if starts (codes "letter ") text then gain.Letter (id_of (drop 7 text))
+    else if starts (codes "reply") text then gain.Reply
+    else if starts (codes "t") text then gain.Thread (id_of text)
+    else value_gain (number text)
+
+-- the line of an answer or a death, behind the thread
+abbrev pub answer_entry : ℕ → List ℕ → Option Entry
+answer_entry tid text =
+    if starts (codes " = ") text then Some (entry.Answered tid (gain_of (drop 3 text)))
+    else if starts (codes " ! ") text then Some (entry.Answered tid gain.Refused)
+    else if starts (codes " caught ") text then Some (entry.Answered tid gain.Other)
+    else if bytes_eq text (codes " dies") then Some (entry.Died tid)
+    else None
+
+-- what stands behind the number of a thread
+abbrev pub thread_entry : Option ℕ → List ℕ → Option Entry
+thread_entry None text = None
+thread_entry (Some tid) text = if starts (codes ": ") text then call_entry tid (drop 2 text) else answer_entry tid text
+
+-- which results of exit procedures show
+abbrev pub shows : Verb → Bool
+shows verb.MonExit = true
+shows verb.MonBreak = true
+shows verb.Resume = true
+shows _ = false
+
+abbrev pub exited : ℕ → List ℕ → Option Verb → Option Entry
+exited reg text None = None
+exited reg text (Some v) = Some (entry.Exited reg v (target_of v null_id text) (shows v && starts (codes "! ") (rest text)))
+
+-- the line of an exit procedure, behind its number
+abbrev pub exit_entry : Option ℕ → List ℕ → Option Entry
+exit_entry None text = None
+exit_entry (Some reg) text = if starts (codes " ") text then exited reg (rest (drop 1 text)) (verb_of (word (drop 1 text))) else None
+
+abbrev pub event_told : ℕ → ℕ → Option ℕ → Option Entry
+event_told event client None = None
+event_told event client (Some seq) = Some (entry.Event event client seq)
+
+abbrev pub event_client : ℕ → Option ℕ → List ℕ → Option Entry
+event_client event None text = None
+event_client event (Some client) text = if starts (codes " seq ") text then event_told event client (number (drop 5 text)) else None
+
+-- the line of a delivery, behind its event
+abbrev pub event_entry : Option ℕ → List ℕ → Option Entry
+event_entry None text = None
+event_entry (Some event) text = if starts (codes " client ") text then event_client event (number (drop 8 text)) (behind (drop 8 text)) else None
+
+-- whether the line stands behind the last step
+abbrev pub is_closing : List ℕ → Bool
+is_closing line = starts (codes "pod ends ") line || bytes_eq line (codes "stuck") || starts (codes "spent ") line || starts (codes "left client ") line
+
+-- what a line tells, without its newline
+abbrev pub entry_of : List ℕ → Option Entry
+entry_of line =
+    if starts (codes "t") line then thread_entry (number (drop 1 line)) (behind (drop 1 line))
+    else if starts (codes "exit x") line then exit_entry (number (drop 6 line)) (behind (drop 6 line))
+    else if starts (codes "event ") line then event_entry (number (drop 6 line)) (behind (drop 6 line))
+    else if is_closing line then Some entry.Closing
+    else None

@@ -1,0 +1,139 @@
+-- What the picture needs of an effect, and the laws that its line is read back so.
+use Rattle.lwp_types.specs.Names.{null_id}
+use Rattle.lwp_types.specs.declared.call.Answer.{Answer}
+use Rattle.lwp_types.specs.declared.call.Answer.TheVariants as answer
+use Rattle.lwp_types.specs.declared.call.Call.{Call}
+use Rattle.lwp_types.specs.declared.call.Call.TheVariants as call
+use Rattle.lwp_types.specs.declared.call.Effect.TheVariants as effect
+use Rattle.lwp_types.specs.declared.call.ExitCall.{ExitCall}
+use Rattle.lwp_types.specs.declared.call.ExitCall.TheVariants as exit
+use Rattle.lwp_types.specs.declared.call.Line.{Line}
+use Rattle.std.specs.Fmt.{decimal}
+use Rattle.std.specs.Prelude.{Bool, List, None, Option, Some, codes, false, length, negsuc, pos, ℤ, true, ℕ, ◌&&◌, ◌++◌, ◌<◌, ◌≡◌, ◌≤◌, ◌^◌}
+use Rattle.trace_lines.specs.Entries.{entry_of, shows}
+use Rattle.trace_lines.specs.Words.{reach}
+use Rattle.trace_lines.specs.declared.entry.Entry.TheVariants as entry
+use Rattle.trace_lines.specs.declared.entry.Gain.{Gain}
+use Rattle.trace_lines.specs.declared.entry.Gain.TheVariants as gain
+use Rattle.trace_lines.specs.declared.entry.Verb.{Verb}
+use Rattle.trace_lines.specs.declared.entry.Verb.TheVariants as verb
+use Rattle.trace_text.specs.Lines.{line_text, proc_text}
+
+-- what is called
+abbrev pub verb_told : Call → Verb
+verb_told (call.Create number prio flags) = verb.Create
+verb_told (call.Destroy t) = verb.Destroy
+verb_told (call.Suspend t) = verb.Suspend
+verb_told (call.Resume t) = verb.Resume
+verb_told (call.Join t) = verb.Join
+verb_told (call.Send t room text) = verb.Send
+verb_told (call.Recv from mode) = verb.Receive
+verb_told (call.Enter m) = verb.Enter
+verb_told (call.CondEnter m) = verb.CondEnter
+verb_told (call.MonExit m) = verb.MonExit
+verb_told (call.MonBreak m) = verb.MonBreak
+verb_told (call.Wait c) = verb.Wait
+verb_told (call.Agent e) = verb.Agent
+verb_told (call.OnExit x) = verb.OnExit
+verb_told _ = verb.Other
+
+abbrev pub somebody : Option ℕ → ℕ
+somebody None = null_id
+somebody (Some t) = t
+
+-- whom or what it names
+abbrev pub target_told : Call → ℕ
+target_told (call.Destroy t) = t
+target_told (call.Suspend t) = t
+target_told (call.Resume t) = t
+target_told (call.Join t) = t
+target_told (call.Send t room text) = t
+target_told (call.Recv from mode) = somebody from
+target_told (call.Enter m) = m
+target_told (call.CondEnter m) = m
+target_told (call.MonExit m) = m
+target_told (call.MonBreak m) = m
+target_told (call.Wait c) = c
+target_told (call.Agent e) = e
+target_told _ = null_id
+
+-- whether a new thread begins suspended
+abbrev pub suspended_told : Call → Bool
+suspended_told (call.Create number prio flags) = flags.suspended
+suspended_told _ = false
+
+-- a procedure's name has no space
+abbrev pub IsOneWord : List ℕ → Type 0
+IsOneWord name = reach 32 name ≡ length name
+
+-- the numbers of the call fit their types, and the name of a new thread's procedure is a word
+abbrev pub IsPrinted : List (List ℕ) → Call → Type 0
+IsPrinted procs (call.Create number prio flags) = IsOneWord (proc_text procs number) × (prio < 2 ^ 32)
+IsPrinted procs c = target_told c ≤ null_id
+
+-- a call of a thread is read back
+abbrev pub CallsAreRead : List (List ℕ) → Option Line → ℕ → Call → Type 0
+CallsAreRead procs took t c = t < null_id → IsPrinted procs c
+    → entry_of (line_text procs took (effect.Called t c)) ≡ Some (entry.Called t (verb_told c) (target_told c) (suspended_told c))
+
+abbrev pub value_told : ℤ → Gain
+value_told (pos n) = gain.Value n
+value_told (negsuc n) = gain.Other
+
+-- what a thread is answered
+abbrev pub gain_told : Answer → Gain
+gain_told (answer.Value v) = value_told v
+gain_told (answer.Thread t) = gain.Thread t
+gain_told (answer.Letter from text room) = gain.Letter from
+gain_told (answer.Reply text) = gain.Reply
+gain_told (answer.Refused e) = gain.Refused
+gain_told _ = gain.Other
+
+-- the numbers of the answer fit their types, and a new thread is somebody
+abbrev pub IsAnswer : Answer → Type 0
+IsAnswer (answer.Value (pos n)) = n < 2 ^ 63
+IsAnswer (answer.Thread t) = t < null_id
+IsAnswer (answer.Letter from text room) = from ≤ null_id
+IsAnswer _ = Unit {0}
+
+-- an answer is read back
+abbrev pub AnswersAreRead : List (List ℕ) → Option Line → ℕ → Answer → Type 0
+AnswersAreRead procs took t a = t < null_id → IsAnswer a → entry_of (line_text procs took (effect.Answered t a)) ≡ Some (entry.Answered t (gain_told a))
+
+-- a death is read back
+abbrev pub DeathsAreRead : List (List ℕ) → Option Line → ℕ → Type 0
+DeathsAreRead procs took t = t < null_id → entry_of (line_text procs took (effect.Died t)) ≡ Some (entry.Died t)
+
+-- what an exit procedure does
+abbrev pub exit_verb : ExitCall → Verb
+exit_verb (exit.MonExit m) = verb.MonExit
+exit_verb (exit.MonBreak m) = verb.MonBreak
+exit_verb (exit.Resume t) = verb.Resume
+exit_verb _ = verb.Other
+
+abbrev pub exit_target : ExitCall → ℕ
+exit_target (exit.MonExit m) = m
+exit_target (exit.MonBreak m) = m
+exit_target (exit.Resume t) = t
+exit_target _ = null_id
+
+abbrev pub is_refused : Answer → Bool
+is_refused (answer.Refused e) = true
+is_refused _ = false
+
+-- an exit procedure is read back, with what becomes of it where that shows
+abbrev pub ExitsAreRead : List (List ℕ) → Option Line → ℕ → ℕ → ExitCall → Answer → Type 0
+ExitsAreRead procs took t reg x a = reg < 2 ^ 64 → exit_target x ≤ null_id
+    → entry_of (line_text procs took (effect.Exited t reg x a)) ≡ Some (entry.Exited reg (exit_verb x) (exit_target x) (shows (exit_verb x) && is_refused a))
+
+-- a line that was taken is read back
+abbrev pub EventsAreRead : List (List ℕ) → Line → ℕ → ℕ → Type 0
+EventsAreRead procs line agent e = e < 2 ^ 8 → line.client < 2 ^ 8 → line.seq < 2 ^ 32
+    → entry_of (line_text procs (Some line) (effect.Delivered agent e)) ≡ Some (entry.Event e line.client line.seq)
+
+-- the lines behind the last step are read back; each is what `end_text` prints, without its newline
+pub record EndsAreRead : Type 0 where
+  pub pod : (procs : List (List ℕ)) (took : Option Line) (status : ℕ) → entry_of (line_text procs took (effect.Ended status)) ≡ Some entry.Closing
+  pub stuck : entry_of (codes "stuck") ≡ Some entry.Closing
+  pub spent : (turns : ℕ) → entry_of (codes "spent " ++ decimal turns) ≡ Some entry.Closing
+  pub left : (client count : ℕ) → entry_of (codes "left client " ++ (decimal client ++ (codes " " ++ decimal count))) ≡ Some entry.Closing

@@ -1,0 +1,37 @@
+// What `trace_text` prints is read back.
+ghost use Rattle.std.specs.Prelude.{ℕ, List, Option};
+ghost use Rattle.lwp_types.specs.declared.call.Answer.{Answer};
+ghost use Rattle.lwp_types.specs.declared.call.Call.{Call};
+ghost use Rattle.lwp_types.specs.declared.call.ExitCall.{ExitCall};
+ghost use Rattle.lwp_types.specs.declared.call.Line.{Line};
+ghost use Rattle.trace_lines.specs.Told.{AnswersAreRead, CallsAreRead, DeathsAreRead, EndsAreRead, EventsAreRead, ExitsAreRead};
+
+/// A call's line is read back as the call.
+pub fn called_again()
+    ensures { (procs : List (List ℕ)) (took : Option Line) (t : ℕ) (c : Call) → CallsAreRead procs took t c }
+{}
+
+/// An answer's line is read back as the answer.
+pub fn answered_again()
+    ensures { (procs : List (List ℕ)) (took : Option Line) (t : ℕ) (a : Answer) → AnswersAreRead procs took t a }
+{}
+
+/// The line of an exit procedure is read back.
+pub fn exited_again()
+    ensures { (procs : List (List ℕ)) (took : Option Line) (t reg : ℕ) (x : ExitCall) (a : Answer) → ExitsAreRead procs took t reg x a }
+{}
+
+/// A death's line is read back.
+pub fn died_again()
+    ensures { (procs : List (List ℕ)) (took : Option Line) (t : ℕ) → DeathsAreRead procs took t }
+{}
+
+/// The line of a delivery is read back.
+pub fn delivered_again()
+    ensures { (procs : List (List ℕ)) (line : Line) (agent e : ℕ) → EventsAreRead procs line agent e }
+{}
+
+/// The lines behind the last step are read back.
+pub fn closed_again()
+    ensures { EndsAreRead }
+{}

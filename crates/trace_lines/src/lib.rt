@@ -1,0 +1,21 @@
+//! The lines of a trace, read back.
+//!
+//! `entry_of` takes a line to what a picture of the trace needs of it: who called what, who was answered, what an exit procedure
+//! did, who died, which line was taken, or how it ended. `specs/Entries.antt` has the definitions. The line is looked at no
+//! further than that, so what stands behind the words that are needed may be anything; a line of which they can't be read is no
+//! line of a trace. `called_again` and its neighbours say that whatever `trace_text` prints is read back.
+//!
+//! The crate stands on `lwp_types`, and its laws on `trace_text`.
+#![tactic(auto)]
+
+mod entry;
+mod laws;
+mod reading;
+mod words;
+
+pub use entry::{Entry, Gain, NOBODY, Verb};
+pub use laws::{
+    answered_again, called_again, closed_again, delivered_again, died_again, exited_again,
+};
+pub use reading::entry_of;
+pub use words::{reach, skip, whole_number};

@@ -1,0 +1,6 @@
+pub mod Scene
+pub mod Spans
+pub mod Steps
+pub mod Shapes
+pub mod Frame
+pub mod Page

@@ -1,0 +1,58 @@
+-- The page of a trace.
+use Rattle.std.specs.Prelude.{Bool, List, None, Option, Some, [], if◌then◌else◌, is_some, true, ℕ, ◌++◌, ◌+◌, ◌==◌, ◌∷◌}
+use Rattle.trace_lines.specs.Entries.{entry_of}
+use Rattle.trace_lines.specs.declared.entry.Entry.{Entry}
+use Rattle.trace_page.specs.Frame.{head, tail}
+use Rattle.trace_page.specs.Scene.{Seen, opening}
+use Rattle.trace_page.specs.Shapes.{group_text}
+use Rattle.trace_page.specs.Steps.{finished, is_shown, told}
+
+-- a byte in front of the first of these lines, if there is any
+abbrev pub onto_first : ℕ → List (List ℕ) → List (List ℕ)
+onto_first b [] = []
+onto_first b (l ∷ ls) = (b ∷ l) ∷ ls
+
+-- the lines of a text that have a newline, without it
+abbrev pub whole_lines : List ℕ → List (List ℕ)
+whole_lines [] = []
+whole_lines (b ∷ bs) = if b == 10 then [] ∷ whole_lines bs else onto_first b (whole_lines bs)
+
+-- nothing stands behind the last newline
+abbrev pub is_whole : List ℕ → Bool
+is_whole [] = true
+is_whole (b ∷ []) = b == 10
+is_whole (b ∷ c ∷ bs) = is_whole (c ∷ bs)
+
+-- the first of these that is no line of a trace, where the first has this number; or the one behind them, where there is more
+abbrev pub bad_from : ℕ → Bool → List (List ℕ) → Option ℕ
+bad_from n whole [] = if whole then None else Some n
+bad_from n whole (l ∷ ls) = if is_some (entry_of l) then bad_from (n + 1) whole ls else Some n
+
+-- the first line of a text that is no line of a trace, counted from 1; one without its newline is none
+abbrev pub bad_line : List ℕ → Option ℕ
+bad_line text = bad_from 1 (is_whole text) (whole_lines text)
+
+-- what is known behind a line
+abbrev pub told_by : Option Entry → Seen → Seen
+told_by None s = s
+told_by (Some e) s = told e s
+
+unfoldable pub told_line : List ℕ → Seen → Seen
+told_line l s = told_by (entry_of l) s
+
+-- behind these lines
+abbrev pub told_all : Seen → List (List ℕ) → Seen
+told_all s [] = s
+told_all s (l ∷ ls) = told_all (told_line l s) ls
+
+-- what is drawn for a line, if it is drawn at all
+unfoldable pub shown : Seen → List ℕ → List ℕ
+shown s l = if is_shown s then group_text s l else []
+
+abbrev pub groups : Seen → List (List ℕ) → List ℕ
+groups s [] = []
+groups s (l ∷ ls) = shown (told_line l s) l ++ groups (told_line l s) ls
+
+-- the page of the calls behind `base`, up to `last`
+abbrev pub page : ℕ → ℕ → List (List ℕ) → List ℕ
+page base last lines = head ++ (groups (opening base last) lines ++ tail (finished (told_all (opening base last) lines)))

@@ -1,0 +1,84 @@
+-- What is known of the lines so far.
+use Rattle.lwp_types.specs.Names.{null_id}
+use Rattle.std.specs.Prelude.{Bool, List, [], false, if◌then◌else◌, min, not, slice_index_or, slice_set, suc, true, ℕ, ◌&&◌, ◌++◌, ◌+◌, ◌==◌, ◌^◌, ◌-◌, ◌∷◌}
+use Rattle.trace_lines.specs.declared.entry.Verb.TheVariants as verb
+use Rattle.trace_page.specs.declared.scene.Kind.TheVariants as kind
+use Rattle.trace_page.specs.declared.scene.Lane.{Lane}
+use Rattle.trace_page.specs.declared.scene.Moment.{Moment}
+use Rattle.trace_page.specs.declared.scene.Setting.{Setting}
+use Rattle.trace_page.specs.declared.scene.Shape.{Shape}
+use Rattle.trace_page.specs.declared.scene.Span.{Span}
+
+-- The calls behind `base`, up to `last`, are drawn; there are more where a call came behind the last. `time` is when the last line
+-- happened, and the caller who made the last call. Lanes stand in the order of birth.
+pub record Seen : Type 0 where
+  pub base : ℕ
+  pub last : ℕ
+  pub more : Bool
+  pub time : Moment
+  pub caller : ℕ
+  pub events : ℕ
+  pub closings : ℕ
+  pub lanes : List Lane
+  pub spans : List Span
+  pub settings : List Setting
+  -- what is drawn for the last line
+  pub shapes : List Shape
+
+-- before the first line
+abbrev pub opening : ℕ → ℕ → Seen
+opening base last = record {
+  base = base;
+  last = last;
+  more = false;
+  time = record { call = 0; late = false };
+  caller = null_id;
+  events = 0;
+  closings = 0;
+  lanes = [];
+  spans = [];
+  settings = [];
+  shapes = [];
+}
+
+-- one more, up to the greatest number of 64 bits
+abbrev pub one_more : ℕ → ℕ
+one_more n = min (n + 1) (2 ^ 64 - 1)
+
+-- the two are the same
+abbrev pub same_bool : Bool → Bool → Bool
+same_bool true b = b
+same_bool false b = not b
+
+-- the two happen together
+abbrev pub together : Moment → Moment → Bool
+together one other = (one.call == other.call) && same_bool one.late other.late
+
+-- the place of a thread or an agent among the lanes; behind them all, where it isn't there
+abbrev pub place : ℕ → List Lane → ℕ
+place id [] = 0
+place id (lane ∷ lanes) = if lane.id == id then 0 else suc (place id lanes)
+
+-- a lane that has called nothing yet
+abbrev pub blank : ℕ → ℕ → Moment → Lane
+blank id event now = record { id = id; event = event; verb = verb.Other; target = null_id; suspended = false; since = now; waits = false }
+
+-- the lane of a thread or an agent
+abbrev pub lane_of : Seen → ℕ → Lane
+lane_of s id = slice_index_or s.lanes (place id s.lanes) (blank id 0 s.time)
+
+-- the lane has changed to this
+abbrev pub put : Lane → Seen → Seen
+put lane s = record s { lanes = slice_set s.lanes (place lane.id s.lanes) lane }
+
+-- something more is drawn
+abbrev pub drawn : Shape → Seen → Seen
+drawn shape s = record s { shapes = s.shapes ++ shape ∷ [] }
+
+-- something more goes on
+abbrev pub begun : Span → Seen → Seen
+begun span s = record s { spans = s.spans ++ span ∷ [] }
+
+-- a lane more, which lives from now on
+abbrev pub opened : ℕ → ℕ → ℕ → Seen → Seen
+opened id event owner s = begun (record { tid = id; kind = kind.Life; of = owner; since = s.time; level = 0 }) (record s { lanes = s.lanes ++ blank id event s.time ∷ [] })

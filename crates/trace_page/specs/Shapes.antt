@@ -1,0 +1,243 @@
+-- The text of what is drawn.
+use Rattle.lwp_types.specs.Names.{null_id}
+use Rattle.std.specs.Fmt.{decimal}
+use Rattle.std.specs.List.{flat_map}
+use Rattle.std.specs.Prelude.{Bool, List, [], codes, false, if◌then◌else◌, min, true, ℕ, ◌%◌, ◌*◌, ◌++◌, ◌+◌, ◌-◌, ◌==◌, ◌∷◌}
+use Rattle.trace_lines.specs.declared.entry.Verb.{Verb}
+use Rattle.trace_lines.specs.declared.entry.Verb.TheVariants as verb
+use Rattle.trace_page.specs.Scene.{Seen, place}
+use Rattle.trace_page.specs.declared.scene.Kind.{Kind}
+use Rattle.trace_page.specs.declared.scene.Kind.TheVariants as kind
+use Rattle.trace_page.specs.declared.scene.Lane.{Lane}
+use Rattle.trace_page.specs.declared.scene.Moment.{Moment}
+use Rattle.trace_page.specs.declared.scene.Shape.{Shape}
+use Rattle.trace_page.specs.declared.scene.Shape.TheVariants as shape
+use Rattle.trace_page.specs.declared.scene.Span.{Span}
+use Rattle.trace_page.specs.declared.scene.Way.{Way}
+use Rattle.trace_page.specs.declared.scene.Way.TheVariants as way
+
+-- ---- text of the trace
+
+-- a byte that would begin or end something is written by its name
+abbrev pub escaped_byte : ℕ → List ℕ
+escaped_byte b = if b == 38 then codes "&amp;" else if b == 60 then codes "&lt;" else if b == 62 then codes "&gt;" else if b == 34 then codes "&quot;" else if b == 39 then codes "&#39;" else b ∷ []
+
+-- a text of the trace, as it stands in the page
+abbrev pub escaped : List ℕ → List ℕ
+escaped text = flat_map (λ b. escaped_byte b) text
+
+-- ---- places
+
+unfoldable pub half : Bool → ℕ
+half true = 8
+half false = 0
+
+-- 16 to the right for each call
+unfoldable pub x_of : Seen → Moment → ℕ
+x_of s at = 40 + (16 * min (at.call - s.base) 5001 + half at.late)
+
+-- 44 down for each lane
+unfoldable pub y_of : Seen → ℕ → ℕ
+y_of s id = 56 + 44 * min (place id s.lanes) 65535
+
+-- ---- elements
+
+unfoldable pub use_open : List ℕ
+use_open = codes "<use href='"
+
+unfoldable pub sign_open : List ℕ → List ℕ
+sign_open name = use_open ++ name
+
+unfoldable pub rect_open : List ℕ → List ℕ
+rect_open class = codes "<rect class='" ++ class
+
+unfoldable pub path_open : List ℕ → List ℕ
+path_open class = codes "<path class='" ++ class
+
+unfoldable pub label_open : List ℕ → List ℕ
+label_open class = codes "<text class='" ++ class
+
+unfoldable pub x_text : ℕ → List ℕ
+x_text x = codes "' x='" ++ decimal x
+
+unfoldable pub y_text : ℕ → List ℕ
+y_text y = codes "' y='" ++ decimal y
+
+unfoldable pub width_text : ℕ → List ℕ
+width_text width = codes "' width='" ++ decimal width
+
+unfoldable pub height_text : ℕ → List ℕ
+height_text height = codes "' height='" ++ decimal height
+
+-- a path begins here, and goes there
+unfoldable pub move_text : ℕ → ℕ → List ℕ
+move_text x y = codes "' d='M" ++ (decimal x ++ (codes " " ++ decimal y))
+
+unfoldable pub line_text : ℕ → ℕ → List ℕ
+line_text x y = codes "L" ++ (decimal x ++ (codes " " ++ decimal y))
+
+-- the end of an element that has nothing inside
+unfoldable pub closed : List ℕ
+closed = codes "'/>"
+
+unfoldable pub label_closed : List ℕ
+label_closed = codes "</text>"
+
+-- a sign of the page's head
+unfoldable pub use_text : List ℕ → ℕ → ℕ → List ℕ
+use_text sign x y = sign_open sign ++ (x_text x ++ (y_text y ++ closed))
+
+unfoldable pub rect_text : List ℕ → ℕ → ℕ → ℕ → ℕ → List ℕ
+rect_text class x y width height = rect_open class ++ (x_text x ++ (y_text y ++ (width_text width ++ (height_text height ++ closed))))
+
+unfoldable pub path_text : List ℕ → ℕ → ℕ → ℕ → ℕ → List ℕ
+path_text class x y to_x to_y = path_open class ++ (move_text x y ++ (line_text to_x to_y ++ closed))
+
+-- a label, before its words
+unfoldable pub label_text : List ℕ → ℕ → ℕ → List ℕ
+label_text class x y = label_open class ++ (x_text x ++ (y_text y ++ codes "'>"))
+
+-- ---- shapes
+
+-- each tenth call has its number above
+unfoldable pub number_text : Seen → Moment → List ℕ
+number_text s at = if at.call % 10 == 0 then label_text (codes "number") (x_of s at) 12 ++ (decimal at.call ++ label_closed) else []
+
+unfoldable pub tick_text : Seen → ℕ → Moment → List ℕ
+tick_text s tid at = use_text (codes "#tick") (x_of s at) (y_of s tid) ++ number_text s at
+
+-- what a call waits for
+unfoldable pub wait_class : Verb → List ℕ
+wait_class verb.Send = codes "reply"
+wait_class verb.Receive = codes "letter"
+wait_class verb.Enter = codes "monitor"
+wait_class verb.Wait = codes "condition"
+wait_class verb.Join = codes "death"
+wait_class verb.Create = codes "other"
+wait_class verb.Destroy = codes "other"
+wait_class verb.Suspend = codes "other"
+wait_class verb.Resume = codes "other"
+wait_class verb.CondEnter = codes "other"
+wait_class verb.MonExit = codes "other"
+wait_class verb.MonBreak = codes "other"
+wait_class verb.Agent = codes "other"
+wait_class verb.OnExit = codes "other"
+wait_class verb.Other = codes "other"
+
+unfoldable pub wait_text : Seen → Lane → Moment → List ℕ
+wait_text s lane to = rect_text (wait_class lane.verb) (x_of s lane.since) (y_of s lane.id + 4) (x_of s to - x_of s lane.since) 12
+
+-- how far down the bar of a monitor is: below those that were acquired before, of which three show apart
+unfoldable pub deep : ℕ → ℕ
+deep level = 12 + 8 * min level 3
+
+unfoldable pub tag_text : ℕ → ℕ → ℕ → List ℕ
+tag_text x y mon = label_text (codes "tag") x y ++ (codes "m" ++ (decimal mon ++ label_closed))
+
+unfoldable pub held_text : Seen → Span → Moment → List ℕ
+held_text s span to =
+    rect_text (codes "held") (x_of s span.since) (y_of s span.tid + deep span.level) (x_of s to - x_of s span.since) 7
+    ++ tag_text (x_of s span.since + 3) (y_of s span.tid + deep span.level + 6) span.of
+
+unfoldable pub band_text : Seen → List ℕ → ℕ → ℕ → Span → Moment → List ℕ
+band_text s class down height span to = rect_text class (x_of s span.since) (y_of s span.tid + down) (x_of s to - x_of s span.since) height
+
+unfoldable pub bar_text : Seen → Kind → Span → Moment → List ℕ
+bar_text s kind.Life span to = band_text s (codes "life") 9 2 span to
+bar_text s kind.Parked span to = band_text s (codes "suspended") 4 6 span to
+bar_text s kind.Held span to = held_text s span to
+bar_text s kind.Given span to = []
+
+unfoldable pub way_class : Way → List ℕ
+way_class way.Letter = codes "sent"
+way_class way.Reply = codes "replied"
+way_class way.Wake = codes "woken"
+
+unfoldable pub arrow_text : Seen → Way → ℕ → Moment → ℕ → Moment → List ℕ
+arrow_text s way from left to at = path_text (way_class way) (x_of s left) (y_of s from + 10) (x_of s at) (y_of s to + 10)
+
+-- a client and the number of its line
+unfoldable pub posted_text : ℕ → ℕ → List ℕ
+posted_text client seq = decimal client ++ (codes ":" ++ decimal seq)
+
+unfoldable pub event_text : Seen → ℕ → ℕ → ℕ → ℕ → Moment → List ℕ
+event_text s client seq nth agent at =
+    label_text (codes "event") (x_of s at) (24 + 11 * (nth % 3)) ++ (posted_text client seq ++ (label_closed ++ path_text (codes "event") (x_of s at) 48 (x_of s at) (y_of s agent + 10)))
+
+unfoldable pub closing_text : Seen → List ℕ → ℕ → Moment → List ℕ
+closing_text s line nth at = label_text (codes "end") (x_of s at + 24) (14 + 14 * min nth 16) ++ (escaped line ++ label_closed)
+
+-- what it waits for, in words
+unfoldable pub wanted_text : Verb → List ℕ
+wanted_text verb.Send = codes "a reply"
+wanted_text verb.Receive = codes "a letter"
+wanted_text verb.Enter = codes "monitor"
+wanted_text verb.Wait = codes "condition"
+wanted_text verb.Join = codes "the death"
+wanted_text verb.Create = codes "nothing"
+wanted_text verb.Destroy = codes "nothing"
+wanted_text verb.Suspend = codes "nothing"
+wanted_text verb.Resume = codes "nothing"
+wanted_text verb.CondEnter = codes "nothing"
+wanted_text verb.MonExit = codes "nothing"
+wanted_text verb.MonBreak = codes "nothing"
+wanted_text verb.Agent = codes "nothing"
+wanted_text verb.OnExit = codes "nothing"
+wanted_text verb.Other = codes "nothing"
+
+-- the letter of what it names
+unfoldable pub letter_text : Verb → List ℕ
+letter_text verb.Enter = codes " m"
+letter_text verb.Wait = codes " c"
+letter_text verb.Send = codes " of t"
+letter_text verb.Receive = codes " of t"
+letter_text verb.Join = codes " of t"
+letter_text verb.Create = codes " "
+letter_text verb.Destroy = codes " "
+letter_text verb.Suspend = codes " "
+letter_text verb.Resume = codes " "
+letter_text verb.CondEnter = codes " "
+letter_text verb.MonExit = codes " "
+letter_text verb.MonBreak = codes " "
+letter_text verb.Agent = codes " "
+letter_text verb.OnExit = codes " "
+letter_text verb.Other = codes " "
+
+unfoldable pub named_text : Verb → ℕ → List ℕ
+named_text v target = if target == null_id then [] else letter_text v ++ decimal target
+
+-- the same of a call
+unfoldable pub waits_text : Verb → ℕ → List ℕ
+waits_text v target = codes "waits for " ++ (wanted_text v ++ named_text v target)
+
+unfoldable pub due_text : Seen → Lane → Moment → List ℕ
+due_text s lane at = label_text (codes "due") (x_of s at + 6) (y_of s lane.id + 14) ++ (waits_text lane.verb lane.target ++ label_closed)
+
+-- a shape of a line
+unfoldable pub shape_text : Seen → List ℕ → Shape → List ℕ
+shape_text s line (shape.Tick tid at) = tick_text s tid at
+shape_text s line (shape.Wait lane to) = wait_text s lane to
+shape_text s line (shape.Bar span to) = bar_text s span.kind span to
+shape_text s line (shape.Arrow way from left to at) = arrow_text s way from left to at
+shape_text s line (shape.Exit tid at) = use_text (codes "#exit") (x_of s at) (y_of s tid)
+shape_text s line (shape.Death tid at) = use_text (codes "#death") (x_of s at) (y_of s tid)
+shape_text s line (shape.Event client seq nth agent at) = event_text s client seq nth agent at
+shape_text s line (shape.Closing nth at) = closing_text s line nth at
+shape_text s line (shape.Due lane at) = due_text s lane at
+
+abbrev pub shapes_text : Seen → List ℕ → List Shape → List ℕ
+shapes_text s line shapes = flat_map (λ shape. shape_text s line shape) shapes
+
+-- a line as a title
+unfoldable pub title_text : List ℕ → List ℕ
+title_text line = codes "<title>" ++ (escaped line ++ codes "</title>")
+
+unfoldable pub group_open : List ℕ
+group_open = codes "<g>"
+
+unfoldable pub group_closed : List ℕ
+group_closed = codes "</g>\n"
+
+-- all that is drawn for a line, with the line as its title
+unfoldable pub group_text : Seen → List ℕ → List ℕ
+group_text s line = group_open ++ (title_text line ++ (shapes_text s line s.shapes ++ group_closed))

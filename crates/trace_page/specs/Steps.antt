@@ -1,0 +1,270 @@
+-- What a line makes of all that is known, and what is drawn for it.
+use Rattle.lwp_types.specs.Names.{null_id}
+use Rattle.std.specs.Prelude.{Bool, List, [], false, if◌then◌else◌, length, nat_lt, not, true, ℕ, ◌&&◌, ◌++◌, ◌==◌, ◌||◌, ◌∷◌}
+use Rattle.trace_lines.specs.declared.entry.Entry.{Entry}
+use Rattle.trace_lines.specs.declared.entry.Entry.TheVariants as entry
+use Rattle.trace_lines.specs.declared.entry.Gain.{Gain}
+use Rattle.trace_lines.specs.declared.entry.Gain.TheVariants as gain
+use Rattle.trace_lines.specs.declared.entry.Verb.{Verb}
+use Rattle.trace_lines.specs.declared.entry.Verb.TheVariants as verb
+use Rattle.trace_page.specs.Scene.{Seen, begun, drawn, lane_of, one_more, opened, place, put, together}
+use Rattle.trace_page.specs.Spans.{changed, held_more, last_from, level_from, top_from}
+use Rattle.trace_page.specs.declared.scene.Kind.TheVariants as kind
+use Rattle.trace_page.specs.declared.scene.Lane.{Lane}
+use Rattle.trace_page.specs.declared.scene.Moment.{Moment}
+use Rattle.trace_page.specs.declared.scene.Setting.{Setting}
+use Rattle.trace_page.specs.declared.scene.Shape.{Shape}
+use Rattle.trace_page.specs.declared.scene.Shape.TheVariants as shape
+use Rattle.trace_page.specs.declared.scene.Way.TheVariants as way
+use Rattle.trace_page.specs.declared.spans.Change.TheVariants as change
+
+-- a thread that acts has a lane
+abbrev pub met : ℕ → ℕ → ℕ → Seen → Seen
+met id event owner s = if nat_lt (place id s.lanes) (length s.lanes) then s else opened id event owner s
+
+-- a thread does
+abbrev pub met_thread : ℕ → Seen → Seen
+met_thread id s = met id 0 null_id s
+
+-- ---- a call
+
+-- the next call is made
+abbrev pub counted : ℕ → Seen → Seen
+counted tid s = record s { time = record { call = one_more s.time.call; late = false }; caller = tid }
+
+-- the thread waits for the answer
+abbrev pub asking : ℕ → Verb → ℕ → Bool → Seen → Seen
+asking tid v target suspended s = put (record (lane_of s tid) { verb = v; target = target; suspended = suspended; since = s.time; waits = true }) s
+
+-- a wait gives up the monitor that was acquired last
+abbrev pub given_up : ℕ → Verb → Seen → Seen
+given_up tid verb.Wait s = changed (change.GivesUp tid (last_from null_id tid (top_from 0 tid s.spans) s.spans)) s
+given_up tid verb.Create s = s
+given_up tid verb.Destroy s = s
+given_up tid verb.Suspend s = s
+given_up tid verb.Resume s = s
+given_up tid verb.Join s = s
+given_up tid verb.Send s = s
+given_up tid verb.Receive s = s
+given_up tid verb.Enter s = s
+given_up tid verb.CondEnter s = s
+given_up tid verb.MonExit s = s
+given_up tid verb.MonBreak s = s
+given_up tid verb.Agent s = s
+given_up tid verb.OnExit s = s
+given_up tid verb.Other s = s
+
+abbrev pub called : ℕ → Verb → ℕ → Bool → Seen → Seen
+called tid v target suspended s =
+    let begins = met_thread tid (counted tid s) in
+    given_up tid v (drawn (shape.Tick tid begins.time) (asking tid v target suspended begins))
+
+-- ---- an answer
+
+-- a call of this kind may wait
+abbrev pub may_wait : Verb → Bool
+may_wait verb.Send = true
+may_wait verb.Receive = true
+may_wait verb.Enter = true
+may_wait verb.Wait = true
+may_wait verb.Join = true
+may_wait verb.Create = false
+may_wait verb.Destroy = false
+may_wait verb.Suspend = false
+may_wait verb.Resume = false
+may_wait verb.CondEnter = false
+may_wait verb.MonExit = false
+may_wait verb.MonBreak = false
+may_wait verb.Agent = false
+may_wait verb.OnExit = false
+may_wait verb.Other = false
+
+-- it has waited until now
+abbrev pub has_waited : Lane → Moment → Bool
+has_waited lane now = lane.waits && not (together lane.since now)
+
+abbrev pub waited : Lane → Moment → List Shape
+waited lane now = if has_waited lane now && may_wait lane.verb then shape.Wait lane now ∷ [] else []
+
+-- who has woken it: not itself, and only where it has waited
+abbrev pub woken : Lane → ℕ → Moment → List Shape
+woken lane caller now = if has_waited lane now && not (caller == lane.id) then shape.Arrow way.Wake caller now lane.id now ∷ [] else []
+
+-- what came to it with the answer
+abbrev pub came : Lane → Gain → Seen → List Shape
+came lane (gain.Letter from) s = shape.Arrow way.Letter from (lane_of s from).since lane.id s.time ∷ []
+came lane gain.Reply s = shape.Arrow way.Reply s.caller s.time lane.id s.time ∷ []
+came lane (gain.Value n) s = woken lane s.caller s.time
+came lane (gain.Thread n) s = woken lane s.caller s.time
+came lane gain.Refused s = woken lane s.caller s.time
+came lane gain.Other s = woken lane s.caller s.time
+
+abbrev pub shown_answer : Lane → Gain → Seen → Seen
+shown_answer lane g s = record s { shapes = s.shapes ++ (waited lane s.time ++ came lane g s) }
+
+-- a new thread begins suspended
+abbrev pub parked : Bool → ℕ → Seen → Seen
+parked suspended id s = if suspended then begun (record { tid = id; kind = kind.Parked; of = null_id; since = s.time; level = 0 }) s else s
+
+abbrev pub created : Lane → Gain → Seen → Seen
+created lane (gain.Thread u) s = parked lane.suspended u (met_thread u s)
+created lane (gain.Value n) s = s
+created lane (gain.Letter n) s = s
+created lane gain.Reply s = s
+created lane gain.Refused s = s
+created lane gain.Other s = s
+
+abbrev pub with_agent : Lane → Gain → Seen → Seen
+with_agent lane (gain.Thread u) s = met u lane.target lane.id s
+with_agent lane (gain.Value n) s = s
+with_agent lane (gain.Letter n) s = s
+with_agent lane gain.Reply s = s
+with_agent lane gain.Refused s = s
+with_agent lane gain.Other s = s
+
+abbrev pub set : Lane → Gain → Seen → Seen
+set lane (gain.Value n) s = record s { settings = s.settings ++ record { reg = n; tid = lane.id } ∷ [] }
+set lane (gain.Thread u) s = s
+set lane (gain.Letter n) s = s
+set lane gain.Reply s = s
+set lane gain.Refused s = s
+set lane gain.Other s = s
+
+-- a thread leaves a monitor once
+abbrev pub left : ℕ → ℕ → Seen → Seen
+left tid mon s = changed (change.Leaves tid (level_from 0 tid mon s.spans)) s
+
+-- what a call has done that was granted
+abbrev pub granted : Lane → Verb → Gain → Seen → Seen
+granted lane verb.Create g s = created lane g s
+granted lane verb.Agent g s = with_agent lane g s
+granted lane verb.OnExit g s = set lane g s
+granted lane verb.Destroy g s = changed (change.Dies lane.target) s
+granted lane verb.Suspend g s = parked true lane.target s
+granted lane verb.Resume g s = changed (change.Resumes lane.target) s
+granted lane verb.Enter g s = begun (held_more lane.id lane.target s) s
+granted lane verb.CondEnter g s = begun (held_more lane.id lane.target s) s
+granted lane verb.MonExit g s = left lane.id lane.target s
+granted lane verb.MonBreak g s = changed (change.Breaks lane.target) s
+granted lane verb.Wait g s = changed (change.Wakes lane.id s.time) s
+granted lane verb.Join g s = s
+granted lane verb.Send g s = s
+granted lane verb.Receive g s = s
+granted lane verb.Other g s = s
+
+-- a refused wait has given nothing up
+abbrev pub settled : Lane → Gain → Seen → Seen
+settled lane gain.Refused s = changed (change.Stays lane.id) s
+settled lane (gain.Value n) s = granted lane lane.verb (gain.Value n) s
+settled lane (gain.Thread n) s = granted lane lane.verb (gain.Thread n) s
+settled lane (gain.Letter n) s = granted lane lane.verb (gain.Letter n) s
+settled lane gain.Reply s = granted lane lane.verb gain.Reply s
+settled lane gain.Other s = granted lane lane.verb gain.Other s
+
+abbrev pub answered : ℕ → Gain → Seen → Seen
+answered tid g s =
+    let begins = met_thread tid s in
+    let lane = lane_of begins tid in
+    settled lane g (put (record lane { waits = false }) (shown_answer lane g begins))
+
+-- ---- the others
+
+-- who has set an exit procedure
+abbrev pub owner_of : ℕ → List Setting → ℕ
+owner_of reg [] = null_id
+owner_of reg (setting ∷ settings) = if setting.reg == reg then setting.tid else owner_of reg settings
+
+-- what an exit procedure has done that wasn't refused
+abbrev pub carried : ℕ → Verb → ℕ → Seen → Seen
+carried tid verb.MonExit target s = left tid target s
+carried tid verb.MonBreak target s = changed (change.Breaks target) s
+carried tid verb.Resume target s = changed (change.Resumes target) s
+carried tid verb.Create target s = s
+carried tid verb.Destroy target s = s
+carried tid verb.Suspend target s = s
+carried tid verb.Join target s = s
+carried tid verb.Send target s = s
+carried tid verb.Receive target s = s
+carried tid verb.Enter target s = s
+carried tid verb.CondEnter target s = s
+carried tid verb.Wait target s = s
+carried tid verb.Agent target s = s
+carried tid verb.OnExit target s = s
+carried tid verb.Other target s = s
+
+abbrev pub exited : ℕ → Verb → ℕ → Bool → Seen → Seen
+exited reg v target refused s =
+    let ran = drawn (shape.Exit (owner_of reg s.settings) s.time) s in
+    if refused then ran else carried (owner_of reg s.settings) v target ran
+
+abbrev pub died : ℕ → Seen → Seen
+died tid s =
+    let begins = met_thread tid s in
+    let lane = lane_of begins tid in
+    let ends = record begins { shapes = begins.shapes ++ waited lane begins.time } in
+    changed (change.Dies tid) (drawn (shape.Death tid begins.time) (put (record lane { waits = false }) ends))
+
+-- the last of these lanes that is an agent of this event
+abbrev pub agent_from : ℕ → ℕ → List Lane → ℕ
+agent_from found event [] = found
+agent_from found event (lane ∷ lanes) = agent_from (if lane.event == event then lane.id else found) event lanes
+
+-- the agent has sent its letter
+abbrev pub sent : ℕ → Seen → Seen
+sent id s = put (record (lane_of s id) { since = s.time }) s
+
+abbrev pub event_taken : ℕ → ℕ → ℕ → Seen → Seen
+event_taken event client seq s =
+    let late = record s { time = record s.time { late = true }; events = one_more s.events } in
+    let agent = agent_from null_id event s.lanes in
+    sent agent (drawn (shape.Event client seq s.events agent late.time) late)
+
+abbrev pub closed : Seen → Seen
+closed s = drawn (shape.Closing s.closings s.time) (record s { closings = one_more s.closings })
+
+-- ---- a line
+
+unfoldable pub done : Entry → Seen → Seen
+done (entry.Called tid v target suspended) s = called tid v target suspended s
+done (entry.Answered tid g) s = answered tid g s
+done (entry.Exited reg v target refused) s = exited reg v target refused s
+done (entry.Died tid) s = died tid s
+done (entry.Event event client seq) s = event_taken event client seq s
+done entry.Closing s = closed s
+
+abbrev pub is_call : Entry → Bool
+is_call (entry.Called tid v target suspended) = true
+is_call (entry.Answered tid g) = false
+is_call (entry.Exited reg v target refused) = false
+is_call (entry.Died tid) = false
+is_call (entry.Event event client seq) = false
+is_call entry.Closing = false
+
+-- the line stands behind the last call that is drawn
+abbrev pub is_past : Entry → Seen → Bool
+is_past e s = s.more || (is_call e && (s.time.call == s.last))
+
+-- all that is known behind a line
+unfoldable pub told : Entry → Seen → Seen
+told e s = if is_past e s then record s { more = true; shapes = [] } else done e (record s { shapes = [] })
+
+-- a line is drawn: it belongs to a call behind the first
+unfoldable pub is_shown : Seen → Bool
+is_shown s = not s.more && ((s.base == 0) || nat_lt s.base s.time.call)
+
+-- ---- behind all lines
+
+-- who waits still
+abbrev pub due : Moment → Lane → List Shape
+due at lane = if lane.waits && may_wait lane.verb then shape.Wait lane at ∷ (shape.Due lane at ∷ []) else []
+
+abbrev pub all_due : Moment → List Lane → List Shape
+all_due at [] = []
+all_due at (lane ∷ lanes) = due at lane ++ all_due at lanes
+
+-- all that goes on still is drawn, up to the place of the next call
+unfoldable pub finished : Seen → Seen
+finished s =
+    let ends = record s { time = record { call = one_more s.time.call; late = false }; shapes = [] } in
+    let rest = changed change.Ends ends in
+    record rest { shapes = rest.shapes ++ all_due rest.time rest.lanes }

@@ -1,0 +1,277 @@
+// What stands around the picture.
+ghost use Rattle.std.specs.Prelude.{◌≡◌, ◌++◌, OnOk};
+ghost use Rattle.std.specs.List.{flat_map};
+ghost use Rattle.trace_page.specs.Frame.{colours, end_text, event_open, event_words, head, head_key, head_style, height_open, key_marks, key_waits, layout, marks, more_closed, more_open, more_text, name_closed, name_text, name_words, names_closed, names_open, names_text, opening, page_closed, patterns, signs, size_closed, size_text, tail, waits, ways, width_open};
+
+use crate::scene::{Lane, Scene};
+use crate::shapes::{add_group_closed, add_group_open, add_label};
+use lwp_types::NoMemory;
+use trace_lines::NOBODY;
+use trace_text::{add_number, add_text};
+
+#[tactic(auto, unfolding(crate::specs::Frame::opening))]
+fn opening() -> &'static [u8]
+    ensures { result.now ≡ opening }
+{
+    b"<!DOCTYPE html>\n<html lang='en'>\n<head>\n<meta charset='utf-8'>\n<meta name='viewport' content='width=device-width'>\n<style>\n"
+}
+
+#[tactic(auto, unfolding(crate::specs::Frame::colours))]
+fn colours() -> &'static [u8]
+    ensures { result.now ≡ colours }
+{
+    b":root{color-scheme:light dark;--paper:#fff;--ink:#1c1c1c;--soft:#667;--line:#b9bec8;--reply:#c2541b;--letter:#1f6fb4;--monitor:#b3261e;--condition:#7a3fa0;--death:#5a5a5a;--suspended:#a07800;--held:#cfe6d2;--edge:#3c7a46}\n@media(prefers-color-scheme:dark){:root{--paper:#15171a;--ink:#e8e8e8;--soft:#a4abb8;--line:#4a505c;--reply:#ff9a5c;--letter:#6db8ff;--monitor:#ff7d74;--condition:#cf9bf2;--death:#b9b9b9;--suspended:#f0c64a;--held:#24442a;--edge:#7fc98b}}\n"
+}
+
+#[tactic(auto, unfolding(crate::specs::Frame::layout))]
+fn layout() -> &'static [u8]
+    ensures { result.now ≡ layout }
+{
+    b"body{margin:0;padding:8px;display:flex;flex-direction:column;background:var(--paper);color:var(--ink);font:13px sans-serif}\n.more{order:-1;margin:4px 0}\n.key{height:76px;width:900px;flex:none}\n.page{display:grid;grid-template-columns:120px auto;min-width:max-content}\n.run{grid-area:1/2}\n.names{grid-area:1/1;position:sticky;left:0;width:120px;background:var(--paper);border-right:1px solid var(--line)}\nsvg{display:block;fill:var(--ink)}\ng{pointer-events:bounding-box}\n"
+}
+
+#[tactic(auto, unfolding(crate::specs::Frame::marks))]
+fn marks() -> &'static [u8]
+    ensures { result.now ≡ marks }
+{
+    b"text{font:12px sans-serif}\n.name{font-weight:bold}\n.number,.event{font-size:10px;fill:var(--soft);text-anchor:middle}\n.tag{font-size:7px;fill:var(--ink)}\n.end{font-weight:bold}\n.due{font-weight:bold;fill:var(--monitor)}\n.life{fill:var(--line);opacity:.7}\n.held{fill:var(--held);stroke:var(--edge);stroke-width:.8}\n.reply,.letter,.monitor,.condition,.death,.suspended{stroke-width:1}\n"
+}
+
+#[tactic(auto, unfolding(crate::specs::Frame::waits))]
+fn waits() -> &'static [u8]
+    ensures { result.now ≡ waits }
+{
+    b".reply{fill:url(#p-reply);stroke:var(--reply)}\n.letter{fill:url(#p-letter);stroke:var(--letter)}\n.monitor{fill:url(#p-monitor);stroke:var(--monitor)}\n.condition{fill:url(#p-condition);stroke:var(--condition)}\n.death{fill:url(#p-death);stroke:var(--death)}\n.suspended{fill:url(#p-suspended);stroke:var(--suspended)}\n#p-reply path{stroke:var(--reply);stroke-width:1.4;fill:none}\n#p-letter path{stroke:var(--letter);stroke-width:1.4;fill:none}\n#p-monitor path{stroke:var(--monitor);stroke-width:1.4;fill:none}\n#p-condition path{stroke:var(--condition);stroke-width:1.4;fill:none}\n#p-death path{stroke:var(--death);stroke-width:1.4;fill:none}\n#p-suspended path{stroke:var(--suspended);stroke-width:1.4;fill:none}\n"
+}
+
+#[tactic(auto, unfolding(crate::specs::Frame::ways))]
+fn ways() -> &'static [u8]
+    ensures { result.now ≡ ways }
+{
+    b"path.sent,path.replied,path.woken,path.event{fill:none;stroke-width:1.3}\npath.sent{stroke:var(--letter);marker-end:url(#a-sent)}\npath.replied{stroke:var(--reply);stroke-dasharray:5 2;marker-end:url(#a-replied)}\npath.woken{stroke:var(--soft);stroke-dasharray:1.5 2;marker-end:url(#a-woken)}\npath.event{stroke:var(--soft);opacity:.5}\n#a-sent path{fill:var(--letter)}\n#a-replied path{fill:var(--reply)}\n#a-woken path{fill:var(--soft)}\n.sign{fill:none;stroke:var(--ink);stroke-width:2}\n</style>\n</head>\n<body>\n"
+}
+
+#[tactic(auto, unfolding(crate::specs::Frame::patterns))]
+fn patterns() -> &'static [u8]
+    ensures { result.now ≡ patterns }
+{
+    b"<svg class='key' viewBox='0 0 900 76'>\n<defs><pattern id='p-reply' width='6' height='6' patternUnits='userSpaceOnUse'><path d='M0 6L6 0'/></pattern><pattern id='p-letter' width='6' height='6' patternUnits='userSpaceOnUse'><path d='M1 3h1.5M4 0h1.5M4 6h1.5'/></pattern><pattern id='p-monitor' width='6' height='6' patternUnits='userSpaceOnUse'><path d='M0 0L6 6M0 6L6 0'/></pattern><pattern id='p-condition' width='6' height='6' patternUnits='userSpaceOnUse'><path d='M1 0V6M4 0V6'/></pattern><pattern id='p-death' width='6' height='6' patternUnits='userSpaceOnUse'><path d='M0 0L6 6'/></pattern><pattern id='p-suspended' width='6' height='6' patternUnits='userSpaceOnUse'><path d='M0 1.5H6M0 4.5H6'/></pattern>"
+}
+
+#[tactic(auto, unfolding(crate::specs::Frame::signs))]
+fn signs() -> &'static [u8]
+    ensures { result.now ≡ signs }
+{
+    b"<marker id='a-sent' viewBox='0 0 8 8' refX='7' refY='4' markerWidth='6' markerHeight='6' orient='auto'><path d='M0 0L8 4L0 8z'/></marker><marker id='a-replied' viewBox='0 0 8 8' refX='7' refY='4' markerWidth='6' markerHeight='6' orient='auto'><path d='M0 0L8 4L0 8z'/></marker><marker id='a-woken' viewBox='0 0 8 8' refX='7' refY='4' markerWidth='6' markerHeight='6' orient='auto'><path d='M0 0L8 4L0 8z'/></marker><g id='tick'><rect x='-1' y='2' width='2' height='16'/></g><g id='exit'><path class='sign' d='M0 4L5 10L0 16L-5 10z'/></g><g id='death'><path class='sign' d='M-5 5L5 15M-5 15L5 5'/></g></defs>\n"
+}
+
+#[tactic(auto, unfolding(crate::specs::Frame::key_waits))]
+fn key_waits() -> &'static [u8]
+    ensures { result.now ≡ key_waits }
+{
+    b"<rect class='reply' x='8' y='6' width='28' height='12'/><text x='42' y='16'>waits for a reply</text><rect class='letter' x='158' y='6' width='28' height='12'/><text x='192' y='16'>for a letter</text><rect class='monitor' x='288' y='6' width='28' height='12'/><text x='322' y='16'>for a monitor</text><rect class='condition' x='418' y='6' width='28' height='12'/><text x='452' y='16'>on a condition</text><rect class='death' x='558' y='6' width='28' height='12'/><text x='592' y='16'>for a death</text><rect class='suspended' x='678' y='6' width='28' height='6'/><text x='712' y='16'>suspended</text><rect class='held' x='788' y='8' width='28' height='7'/><text class='tag' x='791' y='14'>m0</text><text x='822' y='16'>holds</text>\n"
+}
+
+#[tactic(auto, unfolding(crate::specs::Frame::key_marks))]
+fn key_marks() -> &'static [u8]
+    ensures { result.now ≡ key_marks }
+{
+    b"<use href='#tick' x='20' y='28'/><text x='34' y='42'>a call</text><use href='#exit' x='110' y='28'/><text x='122' y='42'>an exit procedure</text><use href='#death' x='250' y='28'/><text x='262' y='42'>a death</text><path class='sent' d='M330 38L360 38'/><text x='366' y='42'>a letter</text><path class='replied' d='M430 38L460 38'/><text x='466' y='42'>a reply</text><path class='woken' d='M530 38L560 38'/><text x='566' y='42'>wakes</text><text class='event' x='632' y='42'>0:1</text><text x='648' y='42'>a line: client and number</text><text x='8' y='66'>Calls go from left to right, every tenth has its number above. Point at a mark to see its line of the trace.</text></svg>\n<div class='page'>\n<svg class='run'>\n"
+}
+
+#[tactic(auto, unfolding(crate::specs::Frame::names_open))]
+fn names_open() -> &'static [u8]
+    ensures { result.now ≡ names_open }
+{
+    b"</svg>\n<svg class='names'>\n"
+}
+
+#[tactic(auto, unfolding(crate::specs::Frame::names_closed))]
+fn names_closed() -> &'static [u8]
+    ensures { result.now ≡ names_closed }
+{
+    b"</svg>\n</div>\n"
+}
+
+#[tactic(auto, unfolding(crate::specs::Frame::width_open))]
+fn width_open() -> &'static [u8]
+    ensures { result.now ≡ width_open }
+{
+    b"<style>.run{width:"
+}
+
+#[tactic(auto, unfolding(crate::specs::Frame::height_open))]
+fn height_open() -> &'static [u8]
+    ensures { result.now ≡ height_open }
+{
+    b"px}.run,.names{height:"
+}
+
+#[tactic(auto, unfolding(crate::specs::Frame::size_closed))]
+fn size_closed() -> &'static [u8]
+    ensures { result.now ≡ size_closed }
+{
+    b"px}</style>\n"
+}
+
+#[tactic(auto, unfolding(crate::specs::Frame::more_open))]
+fn more_open() -> &'static [u8]
+    ensures { result.now ≡ more_open }
+{
+    b"<p class='more'>Call "
+}
+
+#[tactic(auto, unfolding(crate::specs::Frame::more_closed))]
+fn more_closed() -> &'static [u8]
+    ensures { result.now ≡ more_closed }
+{
+    b" is the last that is drawn; the trace goes on.</p>\n"
+}
+
+#[tactic(auto, unfolding(crate::specs::Frame::page_closed))]
+fn page_closed() -> &'static [u8]
+    ensures { result.now ≡ page_closed }
+{
+    b"</body>\n</html>\n"
+}
+
+#[tactic(auto, unfolding(crate::specs::Frame::event_open))]
+fn event_open() -> &'static [u8]
+    ensures { result.now ≡ event_open }
+{
+    b", event "
+}
+
+#[tactic(auto, unfolding(crate::specs::Frame::name_closed))]
+fn name_closed() -> &'static [u8]
+    ensures { result.now ≡ name_closed }
+{
+    b"</text>\n"
+}
+
+#[tactic(auto, unfolding(crate::specs::Frame::head_style))]
+fn add_head_style(out: &mut Vec<u8>) -> Result<(), NoMemory>
+    ensures { OnOk result (out.new.items ≡ out.old.items ++ head_style) }
+{
+    add_text(out, opening())?;
+    add_text(out, colours())?;
+    add_text(out, layout())?;
+    add_text(out, marks())?;
+    add_text(out, waits())?;
+    add_text(out, ways())
+}
+
+#[tactic(auto, unfolding(crate::specs::Frame::head_key))]
+fn add_head_key(out: &mut Vec<u8>) -> Result<(), NoMemory>
+    ensures { OnOk result (out.new.items ≡ out.old.items ++ head_key) }
+{
+    add_text(out, patterns())?;
+    add_text(out, signs())?;
+    add_text(out, key_waits())?;
+    add_text(out, key_marks())
+}
+
+/// All that stands before the picture.
+#[tactic(auto, unfolding(crate::specs::Frame::head))]
+pub(crate) fn add_head(out: &mut Vec<u8>) -> Result<(), NoMemory>
+    ensures { OnOk result (out.new.items ≡ out.old.items ++ head) }
+{
+    add_head_style(out)?;
+    add_head_key(out)
+}
+
+#[tactic(auto, unfolding(crate::specs::Frame::event_words))]
+fn add_event_words(out: &mut Vec<u8>, event: u64) -> Result<(), NoMemory>
+    ensures { OnOk result (out.new.items ≡ out.old.items ++ event_words event) }
+{
+    if event == 0 {
+        return Ok(());
+    }
+    add_text(out, event_open())?;
+    add_number(out, event)
+}
+
+#[tactic(auto, unfolding(crate::specs::Frame::name_words))]
+fn add_name_words(out: &mut Vec<u8>, lane: Lane) -> Result<(), NoMemory>
+    ensures { OnOk result (out.new.items ≡ out.old.items ++ name_words lane) }
+{
+    add_text(out, b"t")?;
+    add_number(out, lane.id)?;
+    add_event_words(out, lane.event)
+}
+
+impl Scene {
+    #[tactic(auto, unfolding(crate::specs::Frame::name_text))]
+    fn add_name(&self, out: &mut Vec<u8>, lane: Lane) -> Result<(), NoMemory>
+        ensures { OnOk result (out.new.items ≡ out.old.items ++ name_text self.now lane) }
+    {
+        let y = self.y_of(lane.id) + 14;
+        add_label(out, b"name", 4, y)?;
+        add_name_words(out, lane)?;
+        add_text(out, name_closed())
+    }
+
+    fn add_all_names(&self, out: &mut Vec<u8>) -> Result<(), NoMemory>
+        ensures { OnOk result (out.new.items ≡ out.old.items ++ flat_map (λ lane. name_text self.now lane) self.now.lanes) }
+    {
+        for lane in self.lanes.as_slice() {
+            self.add_name(out, *lane)?;
+        }
+        Ok(())
+    }
+
+    #[tactic(auto, unfolding(crate::specs::Frame::names_text))]
+    fn add_names(&self, out: &mut Vec<u8>) -> Result<(), NoMemory>
+        ensures { OnOk result (out.new.items ≡ out.old.items ++ names_text self.now) }
+    {
+        add_text(out, names_open())?;
+        self.add_all_names(out)?;
+        add_text(out, names_closed())
+    }
+
+    #[tactic(auto, unfolding(crate::specs::Frame::size_text))]
+    fn add_size(&self, out: &mut Vec<u8>) -> Result<(), NoMemory>
+        ensures { OnOk result (out.new.items ≡ out.old.items ++ size_text self.now) }
+    {
+        let width = self.x_of(self.time) + 320;
+        let height = self.y_of(NOBODY) + 8;
+        add_text(out, width_open())?;
+        add_number(out, width)?;
+        add_text(out, height_open())?;
+        add_number(out, height)?;
+        add_text(out, size_closed())
+    }
+
+    #[tactic(auto, unfolding(crate::specs::Frame::more_text))]
+    fn add_more(&self, out: &mut Vec<u8>) -> Result<(), NoMemory>
+        ensures { OnOk result (out.new.items ≡ out.old.items ++ more_text self.now) }
+    {
+        if !self.more {
+            return Ok(());
+        }
+        add_text(out, more_open())?;
+        add_number(out, self.last)?;
+        add_text(out, more_closed())
+    }
+
+    #[tactic(auto, unfolding(crate::specs::Frame::end_text))]
+    fn add_end(&self, out: &mut Vec<u8>) -> Result<(), NoMemory>
+        ensures { OnOk result (out.new.items ≡ out.old.items ++ end_text self.now) }
+    {
+        add_group_open(out)?;
+        self.add_shapes(out, &[])?;
+        add_group_closed(out)
+    }
+
+    /// All that stands behind the last line.
+    #[tactic(auto, unfolding(crate::specs::Frame::tail))]
+    pub(crate) fn add_tail(&self, out: &mut Vec<u8>) -> Result<(), NoMemory>
+        ensures { OnOk result (out.new.items ≡ out.old.items ++ tail self.now) }
+    {
+        self.add_end(out)?;
+        self.add_names(out)?;
+        self.add_size(out)?;
+        self.add_more(out)?;
+        add_text(out, page_closed())
+    }
+}

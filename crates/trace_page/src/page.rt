@@ -1,0 +1,105 @@
+// The page of a trace.
+ghost use Rattle.std.specs.Prelude.{◌≡◌, ◌++◌, true, ℕ, is_some, None, Some, OnOk, IfErr};
+ghost use Rattle.trace_lines.specs.Entries.{entry_of};
+ghost use Rattle.trace_page.specs.Frame.{tail};
+ghost use Rattle.trace_page.specs.Page.{bad_line, groups, page, shown, told_all, told_line, whole_lines};
+ghost use Rattle.trace_page.specs.Scene.{opening};
+ghost use Rattle.trace_page.specs.Steps.{finished};
+
+use crate::frame::add_head;
+use crate::scene::Scene;
+use lwp_types::NoMemory;
+use std::alloc::Global;
+use trace_lines::{entry_of, reach, skip};
+
+/// Why there is no page.
+#[derive(Clone, Copy)]
+pub enum PageErr {
+    /// This line, counted from 1, is no line of a trace.
+    Line(u64),
+    NoMemory,
+}
+
+impl From<NoMemory> for PageErr {
+    ghost use Rattle.std.specs.Prelude.{◌≡◌};
+    ghost use Rattle.trace_page.specs.declared.page.PageErr.TheVariants.{NoMemory as Memory};
+
+    ghost from_gives = { λ _ e. e ≡ Memory };
+
+    fn from(_: NoMemory) -> Self {
+        PageErr::NoMemory
+    }
+}
+
+impl Scene {
+    #[tactic(auto, unfolding(crate::specs::Page::shown))]
+    fn add_shown(&self, out: &mut Vec<u8>, line: &[u8]) -> Result<(), NoMemory>
+        ensures { OnOk result (out.new.items ≡ out.old.items ++ shown self.now line.now) }
+    {
+        if self.is_shown() {
+            self.add_group(out, line)
+        } else {
+            Ok(())
+        }
+    }
+}
+
+// A line is told and drawn, if it is one.
+#[tactic(auto, unfolding(crate::specs::Page::told_line))]
+fn add_line(scene: &mut Scene, out: &mut Vec<u8>, line: &[u8], number: u64) -> Result<(), PageErr>
+    ensures told { OnOk result (scene.new ≡ told_line line.now scene.old) }
+    ensures drawn { OnOk result (out.new.items ≡ out.old.items ++ shown (told_line line.now scene.old) line.now) }
+    ensures good { OnOk result (is_some (entry_of line.now) ≡ true) }
+    ensures bad { IfErr result (λ e. (n : ℕ) → e ≡ PageErr.Line n → (n ≡ number) × (entry_of line.now ≡ None)) }
+{
+    let Some(entry) = entry_of(line) else {
+        return Err(PageErr::Line(number));
+    };
+    scene.tell(entry)?;
+    scene.add_shown(out, line)?;
+    Ok(())
+}
+
+// The lines of a text, which are told and drawn one by one.
+fn add_lines(scene: &mut Scene, out: &mut Vec<u8>, text: &[u8]) -> Result<(), PageErr>
+    ensures told { OnOk result (scene.new ≡ told_all scene.old (whole_lines text.now)) }
+    ensures drawn { OnOk result (out.new.items ≡ out.old.items ++ groups scene.old (whole_lines text.now)) }
+    ensures good { OnOk result (bad_line text.now ≡ None) }
+    ensures bad { IfErr result (λ e. (n : ℕ) → e ≡ PageErr.Line n → bad_line text.now ≡ Some n) }
+{
+    let mut number = 1;
+    let mut rest = text;
+    while !rest.is_empty() {
+        let end = reach(b'\n', rest);
+        if end == rest.len() {
+            return Err(PageErr::Line(number));
+        }
+        match add_line(scene, out, &rest[..end], number) {
+            Ok(()) => {}
+            Err(error) => return Err(error),
+        }
+        number += 1;
+        rest = skip(end + 1, rest);
+    }
+    Ok(())
+}
+
+/// Puts the page of a trace behind the bytes so far: one HTML page with an inline SVG, of the calls behind `base`, up to `last`.
+pub fn add_page(
+    alloc: Global,
+    out: &mut Vec<u8>,
+    base: u64,
+    last: u64,
+    text: &[u8],
+) -> Result<(), PageErr>
+    ensures page { OnOk result (out.new.items ≡ out.old.items ++ page base last (whole_lines text.now)) }
+    ensures good { OnOk result (bad_line text.now ≡ None) }
+    ensures bad { IfErr result (λ e. (n : ℕ) → e ≡ PageErr.Line n → bad_line text.now ≡ Some n) }
+{
+    add_head(out)?;
+    let mut scene = Scene::new(alloc, base, last);
+    add_lines(&mut scene, out, text)?;
+    scene.finish()?;
+    scene.add_tail(out)?;
+    Ok(())
+}

@@ -1,0 +1,139 @@
+// What is known of a trace so far, and what is drawn for its next line.
+use std::marker::Model;
+use trace_lines::Verb;
+
+/// When something happens: at a call, by its number counted from 1, or behind it, where lines are taken before the next.
+#[derive(Clone, Copy)]
+pub struct Moment {
+    pub call: u64,
+    pub late: bool,
+}
+
+/// A thread or an agent, with what it has called last.
+#[derive(Clone, Copy)]
+pub struct Lane {
+    pub id: u64,
+    /// The event of an agent; 0, where it is a thread.
+    pub event: u64,
+    pub verb: Verb,
+    pub target: u64,
+    pub suspended: bool,
+    pub since: Moment,
+    /// The call isn't answered yet.
+    pub waits: bool,
+}
+
+/// What goes on over some time.
+#[derive(Clone, Copy)]
+pub enum Kind {
+    Life,
+    Parked,
+    /// A monitor is held.
+    Held,
+    /// A monitor was given up for a wait, and comes back.
+    Given,
+}
+
+/// What goes on, of whom, and since when. `of` is the monitor that is held or the owner of an agent; the level of a monitor is one
+/// more than those of the monitors held before.
+#[derive(Clone, Copy)]
+pub struct Span {
+    pub tid: u64,
+    pub kind: Kind,
+    pub of: u64,
+    pub since: Moment,
+    pub level: u64,
+}
+
+/// An exit procedure, and who has set it.
+#[derive(Clone, Copy)]
+pub struct Setting {
+    pub reg: u64,
+    pub tid: u64,
+}
+
+/// What goes from one lane to another.
+#[derive(Clone, Copy)]
+pub enum Way {
+    Letter,
+    Reply,
+    Wake,
+}
+
+/// Something that is drawn.
+#[derive(Clone, Copy)]
+pub enum Shape {
+    /// The tick of a call.
+    Tick {
+        tid: u64,
+        at: Moment,
+    },
+    /// A wait that a call began.
+    Wait {
+        lane: Lane,
+        to: Moment,
+    },
+    /// What has gone on until then.
+    Bar {
+        span: Span,
+        to: Moment,
+    },
+    Arrow {
+        way: Way,
+        from: u64,
+        left: Moment,
+        to: u64,
+        at: Moment,
+    },
+    /// An exit procedure of the thread.
+    Exit {
+        tid: u64,
+        at: Moment,
+    },
+    Death {
+        tid: u64,
+        at: Moment,
+    },
+    /// A line that was taken, how many were taken before, and the agent.
+    Event {
+        client: u64,
+        seq: u64,
+        nth: u64,
+        agent: u64,
+        at: Moment,
+    },
+    /// A line behind the last step, and how many such lines came before.
+    Closing {
+        nth: u64,
+        at: Moment,
+    },
+    /// Who waits when all is told.
+    Due {
+        lane: Lane,
+        at: Moment,
+    },
+}
+
+/// All that is known of the lines so far, and what is drawn for the last of them.
+#[derive(Drop)]
+pub struct Scene {
+    pub(crate) base: u64,
+    pub(crate) last: u64,
+    pub(crate) more: bool,
+    pub(crate) time: Moment,
+    pub(crate) caller: u64,
+    pub(crate) events: u64,
+    pub(crate) closings: u64,
+    pub(crate) lanes: Vec<Lane>,
+    pub(crate) spans: Vec<Span>,
+    pub(crate) settings: Vec<Setting>,
+    pub(crate) shapes: Vec<Shape>,
+}
+
+impl Model for Scene {
+    ghost use Rattle.trace_page.specs.Scene.{Seen};
+
+    ghost Value = { Seen };
+
+    ghost view = { λ s. record { base = s.base; last = s.last; more = s.more; time = s.time; caller = s.caller; events = s.events; closings = s.closings; lanes = s.lanes.items; spans = s.spans.items; settings = s.settings.items; shapes = s.shapes.items } };
+}

@@ -1,0 +1,577 @@
+// The text of what is drawn. Each function but those that answer a number or a word puts its part at the end of the bytes so far.
+ghost use Rattle.std.specs.Prelude.{◌≡◌, ◌≤◌, ◌+◌, ◌++◌, OnOk, codes};
+ghost use Rattle.std.specs.Fmt.{decimal};
+ghost use Rattle.trace_page.specs.Shapes.{closed, group_closed, group_open, height_text, label_closed, label_open, line_text, move_text, path_open, posted_text, rect_open, sign_open, tag_text, title_text, use_open, waits_text, width_text, x_text, y_text, arrow_text, band_text, bar_text, closing_text, deep, due_text, escaped, escaped_byte, event_text, group_text, half, held_text, label_text, letter_text, named_text, number_text, path_text, rect_text, shape_text, shapes_text, tick_text, use_text, wait_class, wait_text, wanted_text, way_class, x_of, y_of};
+
+use crate::scene::{Kind, Lane, Moment, Scene, Shape, Span, Way};
+use crate::steps::place;
+use lwp_types::NoMemory;
+use trace_lines::{NOBODY, Verb};
+use trace_text::{add_number, add_text};
+
+// ---- Text of the trace.
+
+fn add_escaped_byte(out: &mut Vec<u8>, byte: u8) -> Result<(), NoMemory>
+    ensures { OnOk result (out.new.items ≡ out.old.items ++ escaped_byte byte) }
+{
+    match byte {
+        b'&' => add_text(out, b"&amp;"),
+        b'<' => add_text(out, b"&lt;"),
+        b'>' => add_text(out, b"&gt;"),
+        b'"' => add_text(out, b"&quot;"),
+        b'\'' => add_text(out, b"&#39;"),
+        _ => {
+            out.push(byte)?;
+            Ok(())
+        }
+    }
+}
+
+/// A text of the trace, with each byte that would begin or end something written by its name.
+pub(crate) fn add_escaped(out: &mut Vec<u8>, text: &[u8]) -> Result<(), NoMemory>
+    ensures { OnOk result (out.new.items ≡ out.old.items ++ escaped text.now) }
+{
+    for byte in text {
+        add_escaped_byte(out, *byte)?;
+    }
+    Ok(())
+}
+
+// ---- Elements.
+
+#[tactic(auto, unfolding(crate::specs::Shapes::use_open))]
+fn use_open() -> &'static [u8]
+    ensures { result.now ≡ use_open }
+{
+    b"<use href='"
+}
+
+#[tactic(auto, unfolding(crate::specs::Shapes::sign_open))]
+fn add_sign(out: &mut Vec<u8>, word: &[u8]) -> Result<(), NoMemory>
+    ensures { OnOk result (out.new.items ≡ out.old.items ++ sign_open word.now) }
+{
+    add_text(out, use_open())?;
+    add_text(out, word)
+}
+
+#[tactic(auto, unfolding(crate::specs::Shapes::rect_open))]
+fn add_rect_open(out: &mut Vec<u8>, word: &[u8]) -> Result<(), NoMemory>
+    ensures { OnOk result (out.new.items ≡ out.old.items ++ rect_open word.now) }
+{
+    add_text(out, b"<rect class='")?;
+    add_text(out, word)
+}
+
+#[tactic(auto, unfolding(crate::specs::Shapes::path_open))]
+fn add_path_open(out: &mut Vec<u8>, word: &[u8]) -> Result<(), NoMemory>
+    ensures { OnOk result (out.new.items ≡ out.old.items ++ path_open word.now) }
+{
+    add_text(out, b"<path class='")?;
+    add_text(out, word)
+}
+
+#[tactic(auto, unfolding(crate::specs::Shapes::label_open))]
+fn add_label_open(out: &mut Vec<u8>, word: &[u8]) -> Result<(), NoMemory>
+    ensures { OnOk result (out.new.items ≡ out.old.items ++ label_open word.now) }
+{
+    add_text(out, b"<text class='")?;
+    add_text(out, word)
+}
+
+#[tactic(auto, unfolding(crate::specs::Shapes::x_text))]
+fn add_x(out: &mut Vec<u8>, n: u64) -> Result<(), NoMemory>
+    ensures { OnOk result (out.new.items ≡ out.old.items ++ x_text n) }
+{
+    add_text(out, b"' x='")?;
+    add_number(out, n)
+}
+
+#[tactic(auto, unfolding(crate::specs::Shapes::y_text))]
+fn add_y(out: &mut Vec<u8>, n: u64) -> Result<(), NoMemory>
+    ensures { OnOk result (out.new.items ≡ out.old.items ++ y_text n) }
+{
+    add_text(out, b"' y='")?;
+    add_number(out, n)
+}
+
+#[tactic(auto, unfolding(crate::specs::Shapes::width_text))]
+fn add_width(out: &mut Vec<u8>, n: u64) -> Result<(), NoMemory>
+    ensures { OnOk result (out.new.items ≡ out.old.items ++ width_text n) }
+{
+    add_text(out, b"' width='")?;
+    add_number(out, n)
+}
+
+#[tactic(auto, unfolding(crate::specs::Shapes::height_text))]
+fn add_height(out: &mut Vec<u8>, n: u64) -> Result<(), NoMemory>
+    ensures { OnOk result (out.new.items ≡ out.old.items ++ height_text n) }
+{
+    add_text(out, b"' height='")?;
+    add_number(out, n)
+}
+
+#[tactic(auto, unfolding(crate::specs::Shapes::move_text))]
+fn add_move(out: &mut Vec<u8>, x: u64, y: u64) -> Result<(), NoMemory>
+    ensures { OnOk result (out.new.items ≡ out.old.items ++ move_text x y) }
+{
+    add_text(out, b"' d='M")?;
+    add_number(out, x)?;
+    add_text(out, b" ")?;
+    add_number(out, y)
+}
+
+#[tactic(auto, unfolding(crate::specs::Shapes::line_text))]
+fn add_line(out: &mut Vec<u8>, x: u64, y: u64) -> Result<(), NoMemory>
+    ensures { OnOk result (out.new.items ≡ out.old.items ++ line_text x y) }
+{
+    add_text(out, b"L")?;
+    add_number(out, x)?;
+    add_text(out, b" ")?;
+    add_number(out, y)
+}
+
+#[tactic(auto, unfolding(crate::specs::Shapes::closed))]
+fn add_closed(out: &mut Vec<u8>) -> Result<(), NoMemory>
+    ensures { OnOk result (out.new.items ≡ out.old.items ++ closed) }
+{
+    add_text(out, b"'/>")
+}
+
+#[tactic(auto, unfolding(crate::specs::Shapes::label_closed))]
+pub(crate) fn add_label_closed(out: &mut Vec<u8>) -> Result<(), NoMemory>
+    ensures { OnOk result (out.new.items ≡ out.old.items ++ label_closed) }
+{
+    add_text(out, b"</text>")
+}
+
+#[tactic(auto, unfolding(crate::specs::Shapes::use_text))]
+fn add_use(out: &mut Vec<u8>, sign: &[u8], x: u64, y: u64) -> Result<(), NoMemory>
+    ensures { OnOk result (out.new.items ≡ out.old.items ++ use_text sign.now x y) }
+{
+    add_sign(out, sign)?;
+    add_x(out, x)?;
+    add_y(out, y)?;
+    add_closed(out)
+}
+
+#[tactic(auto, unfolding(crate::specs::Shapes::rect_text))]
+fn add_rect(
+    out: &mut Vec<u8>,
+    class: &[u8],
+    x: u64,
+    y: u64,
+    width: u64,
+    height: u64,
+) -> Result<(), NoMemory>
+    ensures { OnOk result (out.new.items ≡ out.old.items ++ rect_text class.now x y width height) }
+{
+    add_rect_open(out, class)?;
+    add_x(out, x)?;
+    add_y(out, y)?;
+    add_width(out, width)?;
+    add_height(out, height)?;
+    add_closed(out)
+}
+
+#[tactic(auto, unfolding(crate::specs::Shapes::path_text))]
+fn add_path(
+    out: &mut Vec<u8>,
+    class: &[u8],
+    x: u64,
+    y: u64,
+    to_x: u64,
+    to_y: u64,
+) -> Result<(), NoMemory>
+    ensures { OnOk result (out.new.items ≡ out.old.items ++ path_text class.now x y to_x to_y) }
+{
+    add_path_open(out, class)?;
+    add_move(out, x, y)?;
+    add_line(out, to_x, to_y)?;
+    add_closed(out)
+}
+
+/// A label, before its words.
+#[tactic(auto, unfolding(crate::specs::Shapes::label_text))]
+pub(crate) fn add_label(out: &mut Vec<u8>, class: &[u8], x: u64, y: u64) -> Result<(), NoMemory>
+    ensures { OnOk result (out.new.items ≡ out.old.items ++ label_text class.now x y) }
+{
+    add_label_open(out, class)?;
+    add_x(out, x)?;
+    add_y(out, y)?;
+    add_text(out, b"'>")
+}
+
+// ---- Words.
+
+#[tactic(auto, unfolding(crate::specs::Shapes::half))]
+fn half(late: bool) -> u64
+    ensures value { result ≡ half late }
+    ensures most { result ≤ 8 }
+{
+    if late { 8 } else { 0 }
+}
+
+// How far down the bar of a monitor is.
+#[tactic(auto, unfolding(crate::specs::Shapes::deep))]
+fn deep(level: u64) -> u64
+    ensures value { result ≡ deep level }
+    ensures most { result ≤ 36 }
+{
+    12 + 8 * level.min(3)
+}
+
+#[tactic(auto, unfolding(crate::specs::Shapes::wait_class))]
+fn wait_class(verb: Verb) -> &'static [u8]
+    ensures { result.now ≡ wait_class verb }
+{
+    match verb {
+        Verb::Send => b"reply",
+        Verb::Receive => b"letter",
+        Verb::Enter => b"monitor",
+        Verb::Wait => b"condition",
+        Verb::Join => b"death",
+        Verb::Create
+        | Verb::Destroy
+        | Verb::Suspend
+        | Verb::Resume
+        | Verb::CondEnter
+        | Verb::MonExit
+        | Verb::MonBreak
+        | Verb::Agent
+        | Verb::OnExit
+        | Verb::Other => b"other",
+    }
+}
+
+#[tactic(auto, unfolding(crate::specs::Shapes::way_class))]
+fn way_class(way: Way) -> &'static [u8]
+    ensures { result.now ≡ way_class way }
+{
+    match way {
+        Way::Letter => b"sent",
+        Way::Reply => b"replied",
+        Way::Wake => b"woken",
+    }
+}
+
+#[tactic(auto, unfolding(crate::specs::Shapes::wanted_text))]
+fn wanted(verb: Verb) -> &'static [u8]
+    ensures { result.now ≡ wanted_text verb }
+{
+    match verb {
+        Verb::Send => b"a reply",
+        Verb::Receive => b"a letter",
+        Verb::Enter => b"monitor",
+        Verb::Wait => b"condition",
+        Verb::Join => b"the death",
+        Verb::Create
+        | Verb::Destroy
+        | Verb::Suspend
+        | Verb::Resume
+        | Verb::CondEnter
+        | Verb::MonExit
+        | Verb::MonBreak
+        | Verb::Agent
+        | Verb::OnExit
+        | Verb::Other => b"nothing",
+    }
+}
+
+#[tactic(auto, unfolding(crate::specs::Shapes::letter_text))]
+fn letter(verb: Verb) -> &'static [u8]
+    ensures { result.now ≡ letter_text verb }
+{
+    match verb {
+        Verb::Enter => b" m",
+        Verb::Wait => b" c",
+        Verb::Send | Verb::Receive | Verb::Join => b" of t",
+        Verb::Create
+        | Verb::Destroy
+        | Verb::Suspend
+        | Verb::Resume
+        | Verb::CondEnter
+        | Verb::MonExit
+        | Verb::MonBreak
+        | Verb::Agent
+        | Verb::OnExit
+        | Verb::Other => b" ",
+    }
+}
+
+#[tactic(auto, unfolding(crate::specs::Shapes::named_text))]
+fn add_named(out: &mut Vec<u8>, verb: Verb, target: u64) -> Result<(), NoMemory>
+    ensures { OnOk result (out.new.items ≡ out.old.items ++ named_text verb target) }
+{
+    if target == NOBODY {
+        return Ok(());
+    }
+    add_text(out, letter(verb))?;
+    add_number(out, target)
+}
+
+#[tactic(auto, unfolding(crate::specs::Shapes::waits_text))]
+fn add_waits(out: &mut Vec<u8>, verb: Verb, target: u64) -> Result<(), NoMemory>
+    ensures { OnOk result (out.new.items ≡ out.old.items ++ waits_text verb target) }
+{
+    add_text(out, b"waits for ")?;
+    add_text(out, wanted(verb))?;
+    add_named(out, verb, target)
+}
+
+#[tactic(auto, unfolding(crate::specs::Shapes::posted_text))]
+fn add_posted(out: &mut Vec<u8>, client: u64, seq: u64) -> Result<(), NoMemory>
+    ensures { OnOk result (out.new.items ≡ out.old.items ++ posted_text client seq) }
+{
+    add_number(out, client)?;
+    add_text(out, b":")?;
+    add_number(out, seq)
+}
+
+// The number of a monitor, on its bar.
+#[tactic(auto, unfolding(crate::specs::Shapes::tag_text))]
+fn add_tag(out: &mut Vec<u8>, x: u64, y: u64, mon: u64) -> Result<(), NoMemory>
+    ensures { OnOk result (out.new.items ≡ out.old.items ++ tag_text x y mon) }
+{
+    add_label(out, b"tag", x, y)?;
+    add_text(out, b"m")?;
+    add_number(out, mon)?;
+    add_label_closed(out)
+}
+
+#[tactic(auto, unfolding(crate::specs::Shapes::title_text))]
+fn add_title(out: &mut Vec<u8>, line: &[u8]) -> Result<(), NoMemory>
+    ensures { OnOk result (out.new.items ≡ out.old.items ++ title_text line.now) }
+{
+    add_text(out, b"<title>")?;
+    add_escaped(out, line)?;
+    add_text(out, b"</title>")
+}
+
+#[tactic(auto, unfolding(crate::specs::Shapes::group_open))]
+pub(crate) fn add_group_open(out: &mut Vec<u8>) -> Result<(), NoMemory>
+    ensures { OnOk result (out.new.items ≡ out.old.items ++ group_open) }
+{
+    add_text(out, b"<g>")
+}
+
+#[tactic(auto, unfolding(crate::specs::Shapes::group_closed))]
+pub(crate) fn add_group_closed(out: &mut Vec<u8>) -> Result<(), NoMemory>
+    ensures { OnOk result (out.new.items ≡ out.old.items ++ group_closed) }
+{
+    add_text(out, b"</g>\n")
+}
+
+// ---- Shapes.
+
+impl Scene {
+    /// Where a moment is, from the left.
+    #[tactic(auto, unfolding(crate::specs::Shapes::x_of))]
+    pub(crate) fn x_of(&self, at: Moment) -> u64
+        ensures value { result ≡ x_of self.now at }
+        ensures most { result ≤ 80064 }
+    {
+        40 + (16 * at.call.saturating_sub(self.base).min(5001) + half(at.late))
+    }
+
+    /// Where a lane is, from above.
+    #[tactic(auto, unfolding(crate::specs::Shapes::y_of))]
+    pub(crate) fn y_of(&self, id: u64) -> u64
+        ensures value { result ≡ y_of self.now id }
+        ensures most { result ≤ 2883596 }
+    {
+        56 + 44 * (place(id, &self.lanes).min(65535) as u64)
+    }
+
+    #[tactic(auto, unfolding(crate::specs::Shapes::number_text))]
+    fn add_call_number(&self, out: &mut Vec<u8>, at: Moment) -> Result<(), NoMemory>
+        ensures { OnOk result (out.new.items ≡ out.old.items ++ number_text self.now at) }
+    {
+        if at.call % 10 != 0 {
+            return Ok(());
+        }
+        add_label(out, b"number", self.x_of(at), 12)?;
+        add_number(out, at.call)?;
+        add_label_closed(out)
+    }
+
+    #[tactic(auto, unfolding(crate::specs::Shapes::tick_text))]
+    fn add_tick(&self, out: &mut Vec<u8>, tid: u64, at: Moment) -> Result<(), NoMemory>
+        ensures { OnOk result (out.new.items ≡ out.old.items ++ tick_text self.now tid at) }
+    {
+        add_use(out, b"#tick", self.x_of(at), self.y_of(tid))?;
+        self.add_call_number(out, at)
+    }
+
+    #[tactic(auto, unfolding(crate::specs::Shapes::wait_text))]
+    fn add_wait(&self, out: &mut Vec<u8>, lane: Lane, to: Moment) -> Result<(), NoMemory>
+        ensures { OnOk result (out.new.items ≡ out.old.items ++ wait_text self.now lane to) }
+    {
+        let x = self.x_of(lane.since);
+        let width = self.x_of(to).saturating_sub(x);
+        add_rect(
+            out,
+            wait_class(lane.verb),
+            x,
+            self.y_of(lane.id) + 4,
+            width,
+            12,
+        )
+    }
+
+    #[tactic(auto, unfolding(crate::specs::Shapes::held_text))]
+    fn add_held(&self, out: &mut Vec<u8>, span: Span, to: Moment) -> Result<(), NoMemory>
+        ensures { OnOk result (out.new.items ≡ out.old.items ++ held_text self.now span to) }
+    {
+        let x = self.x_of(span.since);
+        let y = self.y_of(span.tid) + deep(span.level);
+        add_rect(out, b"held", x, y, self.x_of(to).saturating_sub(x), 7)?;
+        add_tag(out, x + 3, y + 6, span.of)
+    }
+
+    #[tactic(auto, unfolding(crate::specs::Shapes::band_text))]
+    fn add_band(
+        &self,
+        out: &mut Vec<u8>,
+        class: &[u8],
+        down: u64,
+        height: u64,
+        span: Span,
+        to: Moment,
+    ) -> Result<(), NoMemory>
+        requires { down ≤ 44 }
+        ensures { OnOk result (out.new.items ≡ out.old.items ++ band_text self.now class.now down height span to) }
+    {
+        let x = self.x_of(span.since);
+        let width = self.x_of(to).saturating_sub(x);
+        add_rect(out, class, x, self.y_of(span.tid) + down, width, height)
+    }
+
+    #[tactic(auto, unfolding(crate::specs::Shapes::bar_text))]
+    fn add_bar(&self, out: &mut Vec<u8>, span: Span, to: Moment) -> Result<(), NoMemory>
+        ensures { OnOk result (out.new.items ≡ out.old.items ++ bar_text self.now span.kind span to) }
+    {
+        match span.kind {
+            Kind::Life => self.add_band(out, b"life", 9, 2, span, to),
+            Kind::Parked => self.add_band(out, b"suspended", 4, 6, span, to),
+            Kind::Held => self.add_held(out, span, to),
+            Kind::Given => Ok(()),
+        }
+    }
+
+    #[tactic(auto, unfolding(crate::specs::Shapes::arrow_text))]
+    fn add_arrow(
+        &self,
+        out: &mut Vec<u8>,
+        way: Way,
+        from: u64,
+        left: Moment,
+        to: u64,
+        at: Moment,
+    ) -> Result<(), NoMemory>
+        ensures { OnOk result (out.new.items ≡ out.old.items ++ arrow_text self.now way from left to at) }
+    {
+        let x = self.x_of(left);
+        let y = self.y_of(from) + 10;
+        let to_x = self.x_of(at);
+        let to_y = self.y_of(to) + 10;
+        add_path(out, way_class(way), x, y, to_x, to_y)
+    }
+
+    #[tactic(auto, unfolding(crate::specs::Shapes::event_text))]
+    fn add_event(
+        &self,
+        out: &mut Vec<u8>,
+        client: u64,
+        seq: u64,
+        nth: u64,
+        agent: u64,
+        at: Moment,
+    ) -> Result<(), NoMemory>
+        ensures { OnOk result (out.new.items ≡ out.old.items ++ event_text self.now client seq nth agent at) }
+    {
+        let x = self.x_of(at);
+        let y = self.y_of(agent) + 10;
+        add_label(out, b"event", x, 24 + 11 * (nth % 3))?;
+        add_posted(out, client, seq)?;
+        add_label_closed(out)?;
+        add_path(out, b"event", x, 48, x, y)
+    }
+
+    #[tactic(auto, unfolding(crate::specs::Shapes::closing_text))]
+    fn add_closing(
+        &self,
+        out: &mut Vec<u8>,
+        line: &[u8],
+        nth: u64,
+        at: Moment,
+    ) -> Result<(), NoMemory>
+        ensures { OnOk result (out.new.items ≡ out.old.items ++ closing_text self.now line.now nth at) }
+    {
+        let x = self.x_of(at) + 24;
+        let y = 14 + 14 * nth.min(16);
+        add_label(out, b"end", x, y)?;
+        add_escaped(out, line)?;
+        add_label_closed(out)
+    }
+
+    #[tactic(auto, unfolding(crate::specs::Shapes::due_text))]
+    fn add_due(&self, out: &mut Vec<u8>, lane: Lane, at: Moment) -> Result<(), NoMemory>
+        ensures { OnOk result (out.new.items ≡ out.old.items ++ due_text self.now lane at) }
+    {
+        let x = self.x_of(at) + 6;
+        let y = self.y_of(lane.id) + 14;
+        add_label(out, b"due", x, y)?;
+        add_waits(out, lane.verb, lane.target)?;
+        add_label_closed(out)
+    }
+
+    #[tactic(auto, unfolding(crate::specs::Shapes::shape_text))]
+    fn add_shape(&self, out: &mut Vec<u8>, line: &[u8], shape: Shape) -> Result<(), NoMemory>
+        ensures { OnOk result (out.new.items ≡ out.old.items ++ shape_text self.now line.now shape) }
+    {
+        match shape {
+            Shape::Tick { tid, at } => self.add_tick(out, tid, at),
+            Shape::Wait { lane, to } => self.add_wait(out, lane, to),
+            Shape::Bar { span, to } => self.add_bar(out, span, to),
+            Shape::Arrow {
+                way,
+                from,
+                left,
+                to,
+                at,
+            } => self.add_arrow(out, way, from, left, to, at),
+            Shape::Exit { tid, at } => add_use(out, b"#exit", self.x_of(at), self.y_of(tid)),
+            Shape::Death { tid, at } => add_use(out, b"#death", self.x_of(at), self.y_of(tid)),
+            Shape::Event {
+                client,
+                seq,
+                nth,
+                agent,
+                at,
+            } => self.add_event(out, client, seq, nth, agent, at),
+            Shape::Closing { nth, at } => self.add_closing(out, line, nth, at),
+            Shape::Due { lane, at } => self.add_due(out, lane, at),
+        }
+    }
+
+    /// What is drawn for a line.
+    pub(crate) fn add_shapes(&self, out: &mut Vec<u8>, line: &[u8]) -> Result<(), NoMemory>
+        ensures { OnOk result (out.new.items ≡ out.old.items ++ shapes_text self.now line.now self.now.shapes) }
+    {
+        for shape in self.shapes.as_slice() {
+            self.add_shape(out, line, *shape)?;
+        }
+        Ok(())
+    }
+
+    /// What is drawn for a line, with the line as its title.
+    #[tactic(auto, unfolding(crate::specs::Shapes::group_text))]
+    pub(crate) fn add_group(&self, out: &mut Vec<u8>, line: &[u8]) -> Result<(), NoMemory>
+        ensures { OnOk result (out.new.items ≡ out.old.items ++ group_text self.now line.now) }
+    {
+        add_group_open(out)?;
+        add_title(out, line)?;
+        self.add_shapes(out, line)?;
+        add_group_closed(out)
+    }
+}

@@ -1,0 +1,611 @@
+// What a line makes of all that is known, and what is drawn for it.
+ghost use Rattle.std.specs.Prelude.{◌≡◌, ◌++◌, ◌&&◌, OnOk};
+ghost use Rattle.trace_page.specs.Scene.{begun, blank, drawn, lane_of, one_more, opened, opening, place, put, same_bool, together};
+ghost use Rattle.trace_page.specs.Spans.{changed, held_more};
+ghost use Rattle.trace_page.specs.Steps.{agent_from, all_due, answered, asking, called, came, carried, closed, counted, created, died, done, due, event_taken, exited, finished, given_up, granted, has_waited, is_call, is_past, is_shown, left, may_wait, met, met_thread, owner_of, parked, sent, set, settled, shown_answer, told, waited, with_agent, woken};
+
+use crate::scene::{Kind, Lane, Moment, Scene, Setting, Shape, Span, Way};
+use crate::spans::{Change, add_bars, add_kept, level_of, monitor_at, top_level};
+use lwp_types::NoMemory;
+use std::alloc::Global;
+use trace_lines::{Entry, Gain, NOBODY, Verb};
+
+fn one_more(n: u64) -> u64
+    ensures { result ≡ one_more n }
+{
+    n.saturating_add(1)
+}
+
+fn together(one: Moment, other: Moment) -> bool
+    ensures { result ≡ together one other }
+{
+    one.call == other.call && one.late == other.late
+}
+
+/// The place of a thread or an agent among the lanes; behind them all, where it isn't there.
+pub fn place(id: u64, lanes: &[Lane]) -> usize
+    ensures { result ≡ place id lanes.now }
+{
+    for (i, lane) in lanes.iter().enumerate() {
+        if lane.id == id {
+            return i;
+        }
+    }
+    lanes.len()
+}
+
+fn blank(id: u64, event: u64, now: Moment) -> Lane
+    ensures { result ≡ blank id event now }
+{
+    Lane {
+        id,
+        event,
+        verb: Verb::Other,
+        target: NOBODY,
+        suspended: false,
+        since: now,
+        waits: false,
+    }
+}
+
+fn owner_of(reg: u64, settings: &[Setting]) -> u64
+    ensures { result ≡ owner_of reg settings.now }
+{
+    for setting in settings {
+        if setting.reg == reg {
+            return setting.tid;
+        }
+    }
+    NOBODY
+}
+
+// The last lane that is an agent of this event.
+fn agent_of(event: u64, lanes: &[Lane]) -> u64
+    ensures { result ≡ agent_from 18446744073709551615 event lanes.now }
+{
+    let mut found = NOBODY;
+    for lane in lanes {
+        if lane.event == event {
+            found = lane.id;
+        }
+    }
+    found
+}
+
+/// Whether a call of this kind may wait.
+pub fn may_wait(verb: Verb) -> bool
+    ensures { result ≡ may_wait verb }
+{
+    match verb {
+        Verb::Send | Verb::Receive | Verb::Enter | Verb::Wait | Verb::Join => true,
+        Verb::Create
+        | Verb::Destroy
+        | Verb::Suspend
+        | Verb::Resume
+        | Verb::CondEnter
+        | Verb::MonExit
+        | Verb::MonBreak
+        | Verb::Agent
+        | Verb::OnExit
+        | Verb::Other => false,
+    }
+}
+
+fn has_waited(lane: Lane, now: Moment) -> bool
+    ensures { result ≡ has_waited lane now }
+{
+    lane.waits && !together(lane.since, now)
+}
+
+fn add_waited(out: &mut Vec<Shape>, lane: Lane, now: Moment) -> Result<(), NoMemory>
+    ensures { OnOk result (out.new.items ≡ out.old.items ++ waited lane now) }
+{
+    if has_waited(lane, now) && may_wait(lane.verb) {
+        out.push(Shape::Wait { lane, to: now })?;
+    }
+    Ok(())
+}
+
+fn add_woken(out: &mut Vec<Shape>, lane: Lane, caller: u64, now: Moment) -> Result<(), NoMemory>
+    ensures { OnOk result (out.new.items ≡ out.old.items ++ woken lane caller now) }
+{
+    if has_waited(lane, now) && caller != lane.id {
+        out.push(Shape::Arrow {
+            way: Way::Wake,
+            from: caller,
+            left: now,
+            to: lane.id,
+            at: now,
+        })?;
+    }
+    Ok(())
+}
+
+fn add_due(out: &mut Vec<Shape>, at: Moment, lane: Lane) -> Result<(), NoMemory>
+    ensures { OnOk result (out.new.items ≡ out.old.items ++ due at lane) }
+{
+    if lane.waits && may_wait(lane.verb) {
+        out.push(Shape::Wait { lane, to: at })?;
+        out.push(Shape::Due { lane, at })?;
+    }
+    Ok(())
+}
+
+fn add_all_due(out: &mut Vec<Shape>, at: Moment, lanes: &[Lane]) -> Result<(), NoMemory>
+    ensures { OnOk result (out.new.items ≡ out.old.items ++ all_due at lanes.now) }
+{
+    for lane in lanes {
+        add_due(out, at, *lane)?;
+    }
+    Ok(())
+}
+
+fn is_call(entry: Entry) -> bool
+    ensures { result ≡ is_call entry }
+{
+    match entry {
+        Entry::Called {
+            tid: _,
+            verb: _,
+            target: _,
+            suspended: _,
+        } => true,
+        _ => false,
+    }
+}
+
+impl Scene {
+    /// Before the first line. The calls behind `base`, up to `last`, are to be drawn.
+    pub fn new(alloc: Global, base: u64, last: u64) -> Scene
+        ensures { result ≡ opening base last }
+    {
+        Scene {
+            base,
+            last,
+            more: false,
+            time: Moment {
+                call: 0,
+                late: false,
+            },
+            caller: NOBODY,
+            events: 0,
+            closings: 0,
+            lanes: Vec::new(alloc),
+            spans: Vec::new(alloc),
+            settings: Vec::new(alloc),
+            shapes: Vec::new(alloc),
+        }
+    }
+
+    fn lane_of(&self, id: u64) -> Lane
+        ensures { result ≡ lane_of self.now id }
+    {
+        let i = place(id, &self.lanes);
+        if i < self.lanes.len() {
+            self.lanes[i]
+        } else {
+            blank(id, 0, self.time)
+        }
+    }
+
+    fn put(&mut self, lane: Lane)
+        ensures { self.new ≡ put lane self.old }
+    {
+        let i = place(lane.id, &self.lanes);
+        if i < self.lanes.len() {
+            self.lanes[i] = lane;
+        }
+    }
+
+    fn draw(&mut self, shape: Shape) -> Result<(), NoMemory>
+        ensures { OnOk result (self.new ≡ drawn shape self.old) }
+    {
+        self.shapes.push(shape)?;
+        Ok(())
+    }
+
+    fn begin(&mut self, span: Span) -> Result<(), NoMemory>
+        ensures { OnOk result (self.new ≡ begun span self.old) }
+    {
+        self.spans.push(span)?;
+        Ok(())
+    }
+
+    // A lane more, which lives from now on.
+    fn open(&mut self, id: u64, event: u64, owner: u64) -> Result<(), NoMemory>
+        ensures { OnOk result (self.new ≡ opened id event owner self.old) }
+    {
+        self.lanes.push(blank(id, event, self.time))?;
+        self.begin(Span {
+            tid: id,
+            kind: Kind::Life,
+            of: owner,
+            since: self.time,
+            level: 0,
+        })
+    }
+
+    fn meet(&mut self, id: u64, event: u64, owner: u64) -> Result<(), NoMemory>
+        ensures { OnOk result (self.new ≡ met id event owner self.old) }
+    {
+        if place(id, &self.lanes) < self.lanes.len() {
+            return Ok(());
+        }
+        self.open(id, event, owner)
+    }
+
+    fn change(&mut self, change: Change) -> Result<(), NoMemory>
+        ensures { OnOk result (self.new ≡ changed change self.old) }
+    {
+        add_bars(&mut self.shapes, change, self.time, &self.spans)?;
+        let mut kept = Vec::new(*self.spans.allocator());
+        add_kept(&mut kept, change, &self.spans)?;
+        self.spans = kept;
+        Ok(())
+    }
+
+    fn count(&mut self, tid: u64)
+        ensures { self.new ≡ counted tid self.old }
+    {
+        self.time = Moment {
+            call: one_more(self.time.call),
+            late: false,
+        };
+        self.caller = tid;
+    }
+
+    fn ask(&mut self, tid: u64, verb: Verb, target: u64, suspended: bool)
+        ensures { self.new ≡ asking tid verb target suspended self.old }
+    {
+        let lane = Lane {
+            verb,
+            target,
+            suspended,
+            since: self.time,
+            waits: true,
+            ..self.lane_of(tid)
+        };
+        self.put(lane);
+    }
+
+    fn give_up(&mut self, tid: u64, verb: Verb) -> Result<(), NoMemory>
+        ensures { OnOk result (self.new ≡ given_up tid verb self.old) }
+    {
+        match verb {
+            Verb::Wait => {
+                let level = top_level(tid, &self.spans);
+                let mon = monitor_at(tid, level, &self.spans);
+                self.change(Change::GivesUp { tid, mon })
+            }
+            Verb::Create
+            | Verb::Destroy
+            | Verb::Suspend
+            | Verb::Resume
+            | Verb::Join
+            | Verb::Send
+            | Verb::Receive
+            | Verb::Enter
+            | Verb::CondEnter
+            | Verb::MonExit
+            | Verb::MonBreak
+            | Verb::Agent
+            | Verb::OnExit
+            | Verb::Other => Ok(()),
+        }
+    }
+
+    fn call(&mut self, tid: u64, verb: Verb, target: u64, suspended: bool) -> Result<(), NoMemory>
+        ensures { OnOk result (self.new ≡ called tid verb target suspended self.old) }
+    {
+        self.count(tid);
+        self.meet(tid, 0, NOBODY)?;
+        let at = self.time;
+        self.ask(tid, verb, target, suspended);
+        self.draw(Shape::Tick { tid, at })?;
+        self.give_up(tid, verb)
+    }
+
+    // What comes to a lane with its answer.
+    fn show_coming(&mut self, lane: Lane, gain: Gain) -> Result<(), NoMemory>
+        ensures { OnOk result (self.new ≡ record self.old { shapes = self.old.shapes ++ came lane gain self.old }) }
+    {
+        let now = self.time;
+        match gain {
+            Gain::Letter(from) => {
+                let left = self.lane_of(from).since;
+                self.draw(Shape::Arrow {
+                    way: Way::Letter,
+                    from,
+                    left,
+                    to: lane.id,
+                    at: now,
+                })
+            }
+            Gain::Reply => self.draw(Shape::Arrow {
+                way: Way::Reply,
+                from: self.caller,
+                left: now,
+                to: lane.id,
+                at: now,
+            }),
+            Gain::Value(_) | Gain::Thread(_) | Gain::Refused | Gain::Other => {
+                add_woken(&mut self.shapes, lane, self.caller, now)
+            }
+        }
+    }
+
+    fn show_answer(&mut self, lane: Lane, gain: Gain) -> Result<(), NoMemory>
+        ensures { OnOk result (self.new ≡ shown_answer lane gain self.old) }
+    {
+        add_waited(&mut self.shapes, lane, self.time)?;
+        self.show_coming(lane, gain)
+    }
+
+    fn park(&mut self, suspended: bool, id: u64) -> Result<(), NoMemory>
+        ensures { OnOk result (self.new ≡ parked suspended id self.old) }
+    {
+        if !suspended {
+            return Ok(());
+        }
+        self.begin(Span {
+            tid: id,
+            kind: Kind::Parked,
+            of: NOBODY,
+            since: self.time,
+            level: 0,
+        })
+    }
+
+    fn create(&mut self, lane: Lane, gain: Gain) -> Result<(), NoMemory>
+        ensures { OnOk result (self.new ≡ created lane gain self.old) }
+    {
+        match gain {
+            Gain::Thread(id) => {
+                self.meet(id, 0, NOBODY)?;
+                self.park(lane.suspended, id)
+            }
+            Gain::Value(_) | Gain::Letter(_) | Gain::Reply | Gain::Refused | Gain::Other => Ok(()),
+        }
+    }
+
+    fn add_agent(&mut self, lane: Lane, gain: Gain) -> Result<(), NoMemory>
+        ensures { OnOk result (self.new ≡ with_agent lane gain self.old) }
+    {
+        match gain {
+            Gain::Thread(id) => self.meet(id, lane.target, lane.id),
+            Gain::Value(_) | Gain::Letter(_) | Gain::Reply | Gain::Refused | Gain::Other => Ok(()),
+        }
+    }
+
+    fn set(&mut self, lane: Lane, gain: Gain) -> Result<(), NoMemory>
+        ensures { OnOk result (self.new ≡ set lane gain self.old) }
+    {
+        match gain {
+            Gain::Value(reg) => {
+                self.settings.push(Setting { reg, tid: lane.id })?;
+                Ok(())
+            }
+            Gain::Thread(_) | Gain::Letter(_) | Gain::Reply | Gain::Refused | Gain::Other => Ok(()),
+        }
+    }
+
+    fn leave(&mut self, tid: u64, mon: u64) -> Result<(), NoMemory>
+        ensures { OnOk result (self.new ≡ left tid mon self.old) }
+    {
+        let level = level_of(tid, mon, &self.spans);
+        self.change(Change::Leaves { tid, level })
+    }
+
+    fn hold(&mut self, tid: u64, mon: u64) -> Result<(), NoMemory>
+        ensures { OnOk result (self.new ≡ begun (held_more tid mon self.old) self.old) }
+    {
+        let level = one_more(top_level(tid, &self.spans));
+        self.begin(Span {
+            tid,
+            kind: Kind::Held,
+            of: mon,
+            since: self.time,
+            level,
+        })
+    }
+
+    fn grant(&mut self, lane: Lane, verb: Verb, gain: Gain) -> Result<(), NoMemory>
+        ensures { OnOk result (self.new ≡ granted lane verb gain self.old) }
+    {
+        match verb {
+            Verb::Create => self.create(lane, gain),
+            Verb::Agent => self.add_agent(lane, gain),
+            Verb::OnExit => self.set(lane, gain),
+            Verb::Destroy => self.change(Change::Dies { tid: lane.target }),
+            Verb::Suspend => self.park(true, lane.target),
+            Verb::Resume => self.change(Change::Resumes { tid: lane.target }),
+            Verb::Enter | Verb::CondEnter => self.hold(lane.id, lane.target),
+            Verb::MonExit => self.leave(lane.id, lane.target),
+            Verb::MonBreak => self.change(Change::Breaks { mon: lane.target }),
+            Verb::Wait => {
+                let now = self.time;
+                self.change(Change::Wakes { tid: lane.id, now })
+            }
+            Verb::Join | Verb::Send | Verb::Receive | Verb::Other => Ok(()),
+        }
+    }
+
+    fn settle(&mut self, lane: Lane, gain: Gain) -> Result<(), NoMemory>
+        ensures { OnOk result (self.new ≡ settled lane gain self.old) }
+    {
+        match gain {
+            Gain::Refused => self.change(Change::Stays { tid: lane.id }),
+            Gain::Value(_) | Gain::Thread(_) | Gain::Letter(_) | Gain::Reply | Gain::Other => {
+                self.grant(lane, lane.verb, gain)
+            }
+        }
+    }
+
+    fn answer(&mut self, tid: u64, gain: Gain) -> Result<(), NoMemory>
+        ensures { OnOk result (self.new ≡ answered tid gain self.old) }
+    {
+        self.meet(tid, 0, NOBODY)?;
+        let lane = self.lane_of(tid);
+        self.show_answer(lane, gain)?;
+        self.put(Lane {
+            waits: false,
+            ..lane
+        });
+        self.settle(lane, gain)
+    }
+
+    fn carry_out(&mut self, tid: u64, verb: Verb, target: u64) -> Result<(), NoMemory>
+        ensures { OnOk result (self.new ≡ carried tid verb target self.old) }
+    {
+        match verb {
+            Verb::MonExit => self.leave(tid, target),
+            Verb::MonBreak => self.change(Change::Breaks { mon: target }),
+            Verb::Resume => self.change(Change::Resumes { tid: target }),
+            Verb::Create
+            | Verb::Destroy
+            | Verb::Suspend
+            | Verb::Join
+            | Verb::Send
+            | Verb::Receive
+            | Verb::Enter
+            | Verb::CondEnter
+            | Verb::Wait
+            | Verb::Agent
+            | Verb::OnExit
+            | Verb::Other => Ok(()),
+        }
+    }
+
+    fn exit(&mut self, reg: u64, verb: Verb, target: u64, refused: bool) -> Result<(), NoMemory>
+        ensures { OnOk result (self.new ≡ exited reg verb target refused self.old) }
+    {
+        let tid = owner_of(reg, &self.settings);
+        let at = self.time;
+        self.draw(Shape::Exit { tid, at })?;
+        if refused {
+            return Ok(());
+        }
+        self.carry_out(tid, verb, target)
+    }
+
+    fn die(&mut self, tid: u64) -> Result<(), NoMemory>
+        ensures { OnOk result (self.new ≡ died tid self.old) }
+    {
+        self.meet(tid, 0, NOBODY)?;
+        let lane = self.lane_of(tid);
+        let at = self.time;
+        add_waited(&mut self.shapes, lane, at)?;
+        self.put(Lane {
+            waits: false,
+            ..lane
+        });
+        self.draw(Shape::Death { tid, at })?;
+        self.change(Change::Dies { tid })
+    }
+
+    fn send(&mut self, id: u64)
+        ensures { self.new ≡ sent id self.old }
+    {
+        let lane = Lane {
+            since: self.time,
+            ..self.lane_of(id)
+        };
+        self.put(lane);
+    }
+
+    fn take(&mut self, event: u64, client: u64, seq: u64) -> Result<(), NoMemory>
+        ensures { OnOk result (self.new ≡ event_taken event client seq self.old) }
+    {
+        let agent = agent_of(event, &self.lanes);
+        let nth = self.events;
+        self.time = Moment {
+            late: true,
+            ..self.time
+        };
+        self.events = one_more(nth);
+        let at = self.time;
+        self.draw(Shape::Event {
+            client,
+            seq,
+            nth,
+            agent,
+            at,
+        })?;
+        self.send(agent);
+        Ok(())
+    }
+
+    fn close(&mut self) -> Result<(), NoMemory>
+        ensures { OnOk result (self.new ≡ closed self.old) }
+    {
+        let nth = self.closings;
+        let at = self.time;
+        self.closings = one_more(nth);
+        self.draw(Shape::Closing { nth, at })
+    }
+
+    #[tactic(auto, unfolding(crate::specs::Steps::done))]
+    fn act(&mut self, entry: Entry) -> Result<(), NoMemory>
+        ensures { OnOk result (self.new ≡ done entry self.old) }
+    {
+        match entry {
+            Entry::Called {
+                tid,
+                verb,
+                target,
+                suspended,
+            } => self.call(tid, verb, target, suspended),
+            Entry::Answered { tid, gain } => self.answer(tid, gain),
+            Entry::Exited {
+                reg,
+                verb,
+                target,
+                refused,
+            } => self.exit(reg, verb, target, refused),
+            Entry::Died { tid } => self.die(tid),
+            Entry::Event { event, client, seq } => self.take(event, client, seq),
+            Entry::Closing => self.close(),
+        }
+    }
+
+    fn is_past(&self, entry: Entry) -> bool
+        ensures { result ≡ is_past entry self.now }
+    {
+        self.more || (is_call(entry) && self.time.call == self.last)
+    }
+
+    /// What a line tells is known now.
+    #[tactic(auto, unfolding(crate::specs::Steps::told))]
+    pub fn tell(&mut self, entry: Entry) -> Result<(), NoMemory>
+        ensures { OnOk result (self.new ≡ told entry self.old) }
+    {
+        self.shapes.clear();
+        if self.is_past(entry) {
+            self.more = true;
+            return Ok(());
+        }
+        self.act(entry)
+    }
+
+    /// Whether the last line is drawn.
+    #[tactic(auto, unfolding(crate::specs::Steps::is_shown))]
+    pub fn is_shown(&self) -> bool
+        ensures { result ≡ is_shown self.now }
+    {
+        !self.more && (self.base == 0 || self.base < self.time.call)
+    }
+
+    /// All is told: what goes on still is to be drawn.
+    #[tactic(auto, unfolding(crate::specs::Steps::finished))]
+    pub fn finish(&mut self) -> Result<(), NoMemory>
+        ensures { OnOk result (self.new ≡ finished self.old) }
+    {
+        self.time = Moment {
+            call: one_more(self.time.call),
+            late: false,
+        };
+        self.shapes.clear();
+        self.change(Change::Ends)?;
+        add_all_due(&mut self.shapes, self.time, &self.lanes)
+    }
+}

@@ -1,0 +1,9 @@
+use Rattle.std.proofs.Common.{◌≡◌}
+use Rattle.trace_view.specs.View.{ReadSoFar}
+use Rattle.trace_view.proofs.streams.read_all.Given as goal
+
+abbrev pub invariant-loop : goal.invariant-loop
+invariant-loop g l = record {
+  read : ReadSoFar (g.S.Source.left l.initial.source) (g.S.Source.left l.source) l.text.items;
+  same : g.S.Source.faults l.source ≡ g.S.Source.faults l.initial.source;
+}

@@ -1,0 +1,89 @@
+-- What the program comes to, with all that it meets outside.
+use Rattle.lwp_types.specs.Streams.{AppendsPrefix, Rose, appended}
+use Rattle.std.specs.Fmt.{decimal}
+use Rattle.std.specs.Prelude.{List, None, Option, Some, [], codes, ℕ, ◌++◌, ◌≡◌}
+use Rattle.trace_page.specs.Page.{bad_line, page, whole_lines}
+use Rattle.trace_view.specs.declared.showing.ViewEnd.{ViewEnd}
+use Rattle.trace_view.specs.declared.showing.ViewEnd.TheVariants as end
+use Rattle.trace_view.specs.declared.words.Window.{Window}
+
+-- a source or a sink before and after: what it tells, and its count of faults
+pub record Stream : Type 0 where
+  pub old : Option (List ℕ)
+  pub new : Option (List ℕ)
+  pub faults_old : ℕ
+  pub faults_new : ℕ
+
+-- no fault came
+abbrev pub IsFaultless : Stream → Type 0
+IsFaultless stream = stream.faults_new ≡ stream.faults_old
+
+-- nothing was written
+abbrev pub IsQuiet : Stream → Type 0
+IsQuiet sink = (sink.new ≡ sink.old) × IsFaultless sink
+
+-- these bytes were read, and they are all that there were; where nothing is told, some bytes
+abbrev pub HasRead : Option (List ℕ) → Option (List ℕ) → List ℕ → Type 0
+HasRead None new text = new ≡ None
+HasRead (Some told) new text = (told ≡ text) × (new ≡ Some [])
+
+-- what was read and what is left are what there was
+abbrev pub ReadSoFar : Option (List ℕ) → Option (List ℕ) → List ℕ → Type 0
+ReadSoFar None left bytes = left ≡ None
+ReadSoFar (Some told) left bytes = (rest : List ℕ) × (left ≡ Some rest) × (told ≡ bytes ++ rest)
+
+-- the source was read to its end, and this holds of what it held
+abbrev pub Says : Stream → (List ℕ → Type 0) → Type 0
+Says source says = IsFaultless source × ((text : List ℕ) × HasRead source.old source.new text × says text)
+
+-- the page of a trace was written
+abbrev pub IsShown : Window → Stream → List ℕ → Type 0
+IsShown window sink text =
+    (bad_line text ≡ None) × (sink.new ≡ appended sink.old (page window.base window.last (whole_lines text))) × IsFaultless sink
+
+-- the first bytes of the page were written
+abbrev pub IsCut : Window → Stream → List ℕ → Type 0
+IsCut window sink text =
+    (bad_line text ≡ None) × AppendsPrefix sink.old sink.new (page window.base window.last (whole_lines text)) × Rose sink.faults_old sink.faults_new
+
+-- what each end says, where so many calls are asked for
+abbrev pub EndSays : Window → Stream → Stream → ViewEnd → Type 0
+EndSays window source sink end.Shown = Says source (IsShown window sink)
+EndSays window source sink end.Usage = ⊥
+EndSays window source sink end.ReadFault = Rose source.faults_old source.faults_new × IsQuiet sink
+EndSays window source sink end.WriteFault = Says source (IsCut window sink)
+EndSays window source sink (end.Line n) = Says source (λ text. bad_line text ≡ Some n) × IsQuiet sink
+EndSays window source sink end.NoMemory = IsFaultless source × IsQuiet sink
+
+-- the words are no command, and nothing was read or written
+pub record IsUsage (source sink : Stream) (e : ViewEnd) : Type 0 where
+  pub end : e ≡ end.Usage
+  pub unread : source.new ≡ source.old
+  pub faultless : IsFaultless source
+  pub quiet : IsQuiet sink
+
+-- what the program's words come to
+abbrev pub ViewSays : Option Window → Stream → Stream → ViewEnd → Type 0
+ViewSays None source sink e = IsUsage source sink e
+ViewSays (Some window) source sink e = EndSays window source sink e
+
+-- the status of an end
+abbrev pub status_of : ViewEnd → ℕ
+status_of end.Shown = 0
+status_of end.Usage = 100
+status_of end.ReadFault = 101
+status_of end.WriteFault = 102
+status_of (end.Line n) = 103
+status_of end.NoMemory = 106
+
+unfoldable pub line_front : List ℕ
+line_front = codes "lwpview: trace line "
+
+-- what is said of an end on standard error
+abbrev pub fault_text : ViewEnd → List ℕ
+fault_text end.Shown = []
+fault_text end.Usage = codes "lwpview: usage: [FROM TO]\n"
+fault_text end.ReadFault = codes "lwpview: read fault\n"
+fault_text end.WriteFault = codes "lwpview: write fault\n"
+fault_text (end.Line n) = line_front ++ (decimal n ++ codes "\n")
+fault_text end.NoMemory = codes "lwpview: no memory\n"
