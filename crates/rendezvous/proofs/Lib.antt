@@ -1,2 +1,4 @@
 pub mod KeptLemmas
 pub mod First
+pub mod Only
+pub mod Found

@@ -5,21 +5,22 @@ ghost use Rattle.lwp_types.specs.First.{FindsFirst};
 ghost use Rattle.lwp_types.specs.Letters.{as_received, is_open, is_to, received_from, senders_to, unreceived};
 ghost use Rattle.rendezvous.specs.Mailbag.{IsOnePerSender, empty_mail, first_to, forgotten, has_letter_of, popped, posted, refusal, reserved, taken};
 
-use crate::letters::{first_to, mark_received, received_from, senders_to, take_out, unreceived};
+use crate::letters::{answer, pop_to, receive, senders_to, take_out};
 use lwp_types::{IdList, Letter, LwpErr, NoMemory, Tid};
 use std::alloc::Global;
+use std::collections::VecDeque;
 use std::marker::Model;
 
 /// Letters that aren't replied to, in the order of their sending: at most one of each sender.
 #[derive(Drop)]
 pub struct Mail {
-    letters: Vec<Letter>,
+    letters: VecDeque<Letter>,
     // How many letters there may be with no more memory.
     places: usize,
 }
 
 impl Model for Mail {
-    ghost use Rattle.std.specs.Prelude.{vec_capacity};
+    ghost use Rattle.std.specs.VecDeque.{deque_capacity};
     ghost use Rattle.rendezvous.specs.Mailbag.{Mailbag};
     ghost use Rattle.rendezvous.specs.Kept.{IsKept};
 
@@ -27,7 +28,7 @@ impl Model for Mail {
 
     ghost view = { λ m. record { letters = m.letters.items; places = m.places } };
 
-    ghost invariant = { λ m. IsKept (record { letters = m.letters.items; places = m.places }) (vec_capacity m.letters) };
+    ghost invariant = { λ m. IsKept (record { letters = m.letters.items; places = m.places }) (deque_capacity m.letters) };
 }
 
 impl Mail {
@@ -36,7 +37,7 @@ impl Mail {
         ensures { result ≡ empty_mail }
     {
         Mail {
-            letters: Vec::new(alloc),
+            letters: VecDeque::new(alloc),
             places: 0,
         }
     }
@@ -61,7 +62,7 @@ impl Mail {
         requires room { length self.old.letters < self.old.places }
         ensures { self.new ≡ posted self.old letter }
     {
-        self.letters.push_reserved(letter);
+        self.letters.push_back_reserved(letter);
     }
 
     /// The thread receives the first letter that it hasn't received yet, of the named sender or of any. The letter stays,
@@ -71,12 +72,7 @@ impl Mail {
         ensures after { self.new ≡ taken self.old to from }
         ensures first { FindsFirst (λ letter. is_to to letter && is_open from letter) self.old.letters (unreceived self.old.letters to from) }
     {
-        let letter = unreceived(&self.letters, to, from)?;
-        mark_received(&mut self.letters, letter.from);
-        Some(Letter {
-            received: true,
-            ..letter
-        })
+        receive(&mut self.letters, to, from)
     }
 
     /// `to` replies to the letter of `from` with so many bytes, and the letter goes. It must have received it, and the
@@ -86,12 +82,7 @@ impl Mail {
         ensures ok { OnOk result (self.new ≡ forgotten self.old from) }
         ensures err { OnErr result (self.new ≡ self.old) }
     {
-        let letter = received_from(&self.letters, to, from).ok_or(LwpErr::NoWait)?;
-        if len > usize::from(letter.room) {
-            return Err(LwpErr::InvalidArg);
-        }
-        take_out(&mut self.letters, from);
-        Ok(())
+        answer(&mut self.letters, to, from, len)
     }
 
     /// The sender's letter goes, received or not. Where there is none, nothing happens.
@@ -107,9 +98,7 @@ impl Mail {
         ensures after { self.new ≡ popped self.old to }
         ensures first { FindsFirst (is_to to) self.old.letters (first_to self.old.letters to) }
     {
-        let letter = first_to(&self.letters, to)?;
-        take_out(&mut self.letters, letter.from);
-        Some(letter.from)
+        pop_to(&mut self.letters, to)
     }
 
     /// Who sent the letters to the thread, received or not, in the order of their sending.
