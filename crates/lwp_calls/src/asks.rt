@@ -4,7 +4,7 @@ ghost use Rattle.std.specs.List.{list_all};
 ghost use Rattle.death_cleanup.specs.Comes.{CameTo};
 ghost use Rattle.death_cleanup.specs.Ties.{InStep, LawfulParts};
 ghost use Rattle.death_cleanup.specs.View.{state_of};
-ghost use Rattle.lwp_types.specs.Choice.{is_eligible_in, is_over};
+ghost use Rattle.lwp_types.specs.Choice.{is_eligible_in};
 ghost use Rattle.lwp_types.specs.Letters.{receivers_of};
 ghost use Rattle.lwp_types.specs.State.{is_not_blocked, is_thread, numbers, priority_in, still};
 ghost use Rattle.lwp_types.specs.Unblock.{blocked};
@@ -95,13 +95,6 @@ pub fn next_count(ids: &Registry<Kind>) -> usize
     ids.len() + 1
 }
 
-/// Whether nobody may run, and whoever is left is a server.
-pub fn is_over(parts: &Parts) -> bool
-    ensures { result ≡ is_over (state_of parts.now) }
-{
-    parts.sched.current().is_none() && all_serve(parts)
-}
-
 // Whether the pod may end while it lives: an agent, or a thread that is a server.
 fn serves(kind: &Kind) -> bool
     ensures { result ≡ serves kind.now }
@@ -112,8 +105,8 @@ fn serves(kind: &Kind) -> bool
     }
 }
 
-// Whether all threads are servers.
-fn all_serve(parts: &Parts) -> bool
+/// Whether all threads are servers.
+pub fn all_serve(parts: &Parts) -> bool
     ensures { result ≡ list_all (λ row. row.flags.server) (state_of parts.now).threads }
 {
     for i in 0..parts.ids.len() {

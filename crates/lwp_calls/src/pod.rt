@@ -5,7 +5,8 @@ ghost use Rattle.exc_stack.specs.Stack.{one_frame};
 ghost use Rattle.death_cleanup.specs.Ties.{InStep, LawfulParts};
 ghost use Rattle.death_cleanup.specs.View.{state_of};
 ghost use Rattle.lwp_types.specs.Agents.{armed, deliver};
-ghost use Rattle.lwp_types.specs.Choice.{is_eligible_in, is_over};
+ghost use Rattle.lwp_types.specs.Choice.{is_eligible_in};
+ghost use Rattle.pod_sched.specs.Schedule.{choice};
 ghost use Rattle.lwp_types.specs.Lawful.{Lawful};
 ghost use Rattle.lwp_types.specs.State.{is_id, opening};
 ghost use Rattle.lwp_types.specs.Step.{case_of, step, end_effects, ends, own_effects};
@@ -13,7 +14,7 @@ ghost use Rattle.lwp_calls.specs.Asks.{asks_memory};
 ghost use Rattle.lwp_calls.specs.Comes.{ComesTo, IsAsBefore};
 ghost use Rattle.lwp_calls.specs.Pod.{ForgetsTheDead, RunsExitsOnce, current_of, ending_of, is_refusal};
 
-use crate::asks::is_over;
+use crate::asks::all_serve;
 use crate::letters::post;
 use crate::{agent_calls, letters, lives, locks, marks, numbers, turns, waits};
 use agents::Agents;
@@ -45,6 +46,8 @@ pub enum PodEnd {
 pub struct Pod {
     parts: Parts,
     alloc: Global,
+    // Who is next by the scheduler, which is asked once a step.
+    next: Option<Tid>,
 }
 
 impl Model for Pod {
@@ -52,13 +55,14 @@ impl Model for Pod {
     ghost use Rattle.death_cleanup.specs.View.{state_of};
     ghost use Rattle.lwp_types.specs.Lawful.{Lawful};
     ghost use Rattle.lwp_types.specs.State.{State};
+    ghost use Rattle.pod_sched.specs.Schedule.{choice};
     ghost use Rattle.std.specs.Prelude.{None, ◌≡◌};
 
     ghost Value = { State };
 
     ghost view = { λ p. state_of p.parts };
 
-    ghost invariant = { λ p. Lawful (state_of p.parts) None × InStep p.parts × (p.parts.dying ≡ None) };
+    ghost invariant = { λ p. Lawful (state_of p.parts) None × InStep p.parts × (p.parts.dying ≡ None) × (p.next ≡ choice p.parts.sched) };
 }
 
 // What a thread has that begins.
@@ -123,7 +127,8 @@ impl Pod {
         ensures { IfOk result (λ pod. pod ≡ opening params) }
     {
         let parts = first_parts(alloc, params)?;
-        Ok(Pod { parts, alloc })
+        let next = parts.sched.current();
+        Ok(Pod { parts, alloc, next })
     }
 
     /// The thread whose turn it is. It stays in its place while it makes its call.
@@ -134,7 +139,7 @@ impl Pod {
         if self.parts.ended {
             return None;
         }
-        self.parts.sched.current()
+        self.next
     }
 
     /// Why it is nobody's turn, if so.
@@ -144,7 +149,7 @@ impl Pod {
         if self.parts.ended {
             return Some(PodEnd::Ended(self.parts.exit as u8));
         }
-        match self.parts.sched.current() {
+        match self.next {
             None => Some(PodEnd::Idle),
             Some(_) => None,
         }
@@ -182,7 +187,7 @@ impl Pod {
         effects.push(Effect::Called { tid, call });
         match carry_out(&mut self.parts, self.alloc, tid, &call, effects) {
             Ok(own) => {
-                finish(&mut self.parts, tid, own, effects);
+                self.next = finish(&mut self.parts, tid, own, effects);
                 Ok(())
             }
             Err(no_memory) => {
@@ -202,6 +207,7 @@ impl Pod {
     {
         effects.clear();
         deliver(&mut self.parts, event, text, effects);
+        self.next = self.parts.sched.current();
     }
 }
 
@@ -260,8 +266,9 @@ fn carry_out(
     }
 }
 
-// The caller's answer, if it has one now; and the pod ends, if nobody is left to run and nobody is worth waiting for.
-fn finish(parts: &mut Parts, tid: Tid, own: Option<Answer>, effects: &mut Effects)
+// The caller's answer, if it has one now; and the pod ends, if nobody is left to run and nobody is worth waiting for. The answer
+// is who is next by the scheduler.
+fn finish(parts: &mut Parts, tid: Tid, own: Option<Answer>, effects: &mut Effects) -> Option<Tid>
     requires step { InStep parts.old }
     requires alone { parts.old.dying ≡ None }
     requires room { length effects.old < 2046 }
@@ -270,14 +277,17 @@ fn finish(parts: &mut Parts, tid: Tid, own: Option<Answer>, effects: &mut Effect
     ensures effects { effects.new ≡ effects.old ++ (own_effects tid own ++ end_effects (state_of parts.old)) }
     ensures step { InStep parts.new }
     ensures still_alone { parts.new.dying ≡ None }
+    ensures next { result ≡ choice parts.new.sched }
 {
     if let Some(answer) = own {
         effects.push(Effect::Answered { tid, answer });
     }
-    parts.ended = parts.ended || is_over(parts);
+    let next = parts.sched.current();
+    parts.ended = parts.ended || (next.is_none() && all_serve(parts));
     if parts.ended {
         effects.push(Effect::Ended {
             status: parts.exit as u8,
         });
     }
+    next
 }

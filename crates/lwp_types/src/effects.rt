@@ -35,7 +35,7 @@ fn push_free<T: Drop>(items: &mut VecDeque<T>, item: T)
     ensures after { items.new.items ≡ items.old.items ++ item ∷ [] }
     ensures places { deque_capacity items.new ≡ deque_capacity items.old }
 {
-    let _ = items.push_back(item);
+    items.push_back_reserved(item);
 }
 
 impl Effects {

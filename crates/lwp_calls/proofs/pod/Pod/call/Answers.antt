@@ -1,7 +1,9 @@
 use Rattle.death_cleanup.specs.View.{state_of}
+use Rattle.lwp_calls.proofs.Agree.{choice-same}
 use Rattle.lwp_calls.proofs.Pods.{few_status, refusal-leaves, stepped, told}
 use Rattle.lwp_calls.proofs.pod.Pod.call.Goals as goal
 use Rattle.lwp_calls.specs.Pod.{ForgetsTheDead, RunsExitsOnce, current_of}
+use Rattle.lwp_types.specs.Choice as machine
 use Rattle.lwp_types.specs.State.{State}
 use Rattle.lwp_types.specs.Step.{step}
 use Rattle.lwp_types.specs.declared.call.Effect.{Effect}
@@ -9,58 +11,68 @@ use Rattle.lwp_types.specs.declared.call.Effect.TheVariants as effect
 use Rattle.pod_laws.proofs.Died.{the_dead_are_forgotten}
 use Rattle.pod_laws.proofs.EveryStep.{Lawful-step}
 use Rattle.pod_laws.proofs.OnceCalls.{exits_run_once}
-use Rattle.std.proofs.Common.{List, Some, [], ap, subst, sym, ◌++◌, ◌∙◌, ◌∷◌, ◌≡◌}
+use Rattle.pod_sched.specs.Schedule as sched
+use Rattle.std.proofs.Common.{List, None, Some, [], ap, subst, sym, ◌++◌, ◌∙◌, ◌∷◌, ◌≡◌}
 
-pub finish-requires-clause-status : goal.finish-requires-clause-status
-finish-requires-clause-status c =
+pub finish-self-inside-requires-clause-status : goal.finish-self-inside-requires-clause-status
+finish-self-inside-requires-clause-status c =
     let turn : current_of (state_of c.self.inside.parts) ≡ Some c.unwrap-tid.result = (rw (← c.self.view_is) at (sym c.current.ensures.value ∙ c.unwrap-tid.ensures)) in
     few_status (state_of c.self.inside.parts) c.self.invariant.0 c.args.call c.unwrap-tid.result turn c.carry_out.new.parts c.in-Ok.ensures.ok.came.state
 
 pub invariant_of-self : goal.invariant_of-self
 invariant_of-self c =
     let turn : current_of (state_of c.self.inside.parts) ≡ Some c.unwrap-tid.result = (rw (← c.self.view_is) at (sym c.current.ensures.value ∙ c.unwrap-tid.ensures)) in
-    let after : state_of c.finish.new.parts ≡ (step (state_of c.self.inside.parts) c.args.call).after = c.finish.ensures.after ∙ sym (stepped (state_of c.self.inside.parts) c.self.invariant.0 c.args.call c.unwrap-tid.result turn c.carry_out.new.parts c.in-Ok.ensures.ok.came.state) in
-    (rw after (Lawful-step (state_of c.self.inside.parts) c.self.invariant.0 c.args.call), c.finish.ensures.step, c.finish.ensures.still_alone)
+    let after : state_of c.finish-self-inside.new.parts ≡ (step (state_of c.self.inside.parts) c.args.call).after = c.finish-self-inside.ensures.after ∙ sym (stepped (state_of c.self.inside.parts) c.self.invariant.0 c.args.call c.unwrap-tid.result turn c.carry_out.new.parts c.in-Ok.ensures.ok.came.state) in
+    (rw after (Lawful-step (state_of c.self.inside.parts) c.self.invariant.0 c.args.call), c.finish-self-inside.ensures.step, c.finish-self-inside.ensures.still_alone, c.finish-self-inside.ensures.next)
+
+pub invariant_of-self-in-Err : goal.invariant_of-self-in-Err
+invariant_of-self-in-Err c =
+    let as_before = c.in-Err.ensures.err in
+    let same : state_of c.carry_out.new.parts ≡ state_of c.self.inside.parts = as_before.state in
+    let alone : c.carry_out.new.parts.dying ≡ None = as_before.dying ∙ c.self.invariant.2 in
+    let next : c.self.inside.next ≡ sched.choice c.carry_out.new.parts.sched =
+    c.self.invariant.3 ∙ sym (choice-same c.self.inside.parts c.self.invariant.1.tied c.self.invariant.2) ∙ ap machine.choice (sym same) ∙ choice-same c.carry_out.new.parts as_before.step.tied alone in
+    (rw same c.self.invariant.0, as_before.step, alone, next)
 
 pub returns-in-Ok-clause-after : goal.returns-in-Ok-clause-after
 returns-in-Ok-clause-after c =
     let turn : current_of (state_of c.self.inside.parts) ≡ Some c.unwrap-tid.result = (rw (← c.self.view_is) at (sym c.current.ensures.value ∙ c.unwrap-tid.ensures)) in
-    let after : state_of c.finish.new.parts ≡ (step (state_of c.self.inside.parts) c.args.call).after = c.finish.ensures.after ∙ sym (stepped (state_of c.self.inside.parts) c.self.invariant.0 c.args.call c.unwrap-tid.result turn c.carry_out.new.parts c.in-Ok.ensures.ok.came.state) in
+    let after : state_of c.finish-self-inside.new.parts ≡ (step (state_of c.self.inside.parts) c.args.call).after = c.finish-self-inside.ensures.after ∙ sym (stepped (state_of c.self.inside.parts) c.self.invariant.0 c.args.call c.unwrap-tid.result turn c.carry_out.new.parts c.in-Ok.ensures.ok.came.state) in
     rw (← c.self.view_is) after
 
 pub returns-in-Ok-clause-effects : goal.returns-in-Ok-clause-effects
 returns-in-Ok-clause-effects c =
     let turn : current_of (state_of c.self.inside.parts) ≡ Some c.unwrap-tid.result = (rw (← c.self.view_is) at (sym c.current.ensures.value ∙ c.unwrap-tid.ensures)) in
-    let effects : c.finish.new.effects ≡ (step (state_of c.self.inside.parts) c.args.call).effects =
-    c.finish.ensures.effects ∙ told (state_of c.self.inside.parts) c.self.invariant.0 c.args.call c.unwrap-tid.result turn c.carry_out.new.parts c.in-Ok.ensures.ok.came.state c.in-Ok.own c.push.new.self c.carry_out.new.effects c.in-Ok.ensures.ok.own c.in-Ok.ensures.ok.came.effects (c.push.ensures ∙ ap (λ (es : List Effect). es ++ effect.Called c.unwrap-tid.result c.args.call ∷ []) c.clear.ensures) in
+    let effects : c.finish-self-inside.new.effects ≡ (step (state_of c.self.inside.parts) c.args.call).effects =
+    c.finish-self-inside.ensures.effects ∙ told (state_of c.self.inside.parts) c.self.invariant.0 c.args.call c.unwrap-tid.result turn c.carry_out.new.parts c.in-Ok.ensures.ok.came.state c.in-Ok.own c.push.new.self c.carry_out.new.effects c.in-Ok.ensures.ok.own c.in-Ok.ensures.ok.came.effects (c.push.ensures ∙ ap (λ (es : List Effect). es ++ effect.Called c.unwrap-tid.result c.args.call ∷ []) c.clear.ensures) in
     rw (← c.self.view_is) effects
 
 pub returns-in-Ok-clause-lawful : goal.returns-in-Ok-clause-lawful
 returns-in-Ok-clause-lawful c =
     let turn : current_of (state_of c.self.inside.parts) ≡ Some c.unwrap-tid.result = (rw (← c.self.view_is) at (sym c.current.ensures.value ∙ c.unwrap-tid.ensures)) in
-    let after : state_of c.finish.new.parts ≡ (step (state_of c.self.inside.parts) c.args.call).after = c.finish.ensures.after ∙ sym (stepped (state_of c.self.inside.parts) c.self.invariant.0 c.args.call c.unwrap-tid.result turn c.carry_out.new.parts c.in-Ok.ensures.ok.came.state) in
+    let after : state_of c.finish-self-inside.new.parts ≡ (step (state_of c.self.inside.parts) c.args.call).after = c.finish-self-inside.ensures.after ∙ sym (stepped (state_of c.self.inside.parts) c.self.invariant.0 c.args.call c.unwrap-tid.result turn c.carry_out.new.parts c.in-Ok.ensures.ok.came.state) in
     rw after (Lawful-step (state_of c.self.inside.parts) c.self.invariant.0 c.args.call)
 
 pub returns-in-Ok-clause-refused : goal.returns-in-Ok-clause-refused
 returns-in-Ok-clause-refused c =
     let turn : current_of (state_of c.self.inside.parts) ≡ Some c.unwrap-tid.result = (rw (← c.self.view_is) at (sym c.current.ensures.value ∙ c.unwrap-tid.ensures)) in
-    let after : state_of c.finish.new.parts ≡ (step (state_of c.self.inside.parts) c.args.call).after = c.finish.ensures.after ∙ sym (stepped (state_of c.self.inside.parts) c.self.invariant.0 c.args.call c.unwrap-tid.result turn c.carry_out.new.parts c.in-Ok.ensures.ok.came.state) in
+    let after : state_of c.finish-self-inside.new.parts ≡ (step (state_of c.self.inside.parts) c.args.call).after = c.finish-self-inside.ensures.after ∙ sym (stepped (state_of c.self.inside.parts) c.self.invariant.0 c.args.call c.unwrap-tid.result turn c.carry_out.new.parts c.in-Ok.ensures.ok.came.state) in
     rw (← c.self.view_is) (λ refused. after ∙ refusal-leaves (state_of c.self.inside.parts) c.self.invariant.0 c.args.call c.unwrap-tid.result turn refused)
 
 pub returns-in-Ok-clause-dead : goal.returns-in-Ok-clause-dead
 returns-in-Ok-clause-dead c =
     let turn : current_of (state_of c.self.inside.parts) ≡ Some c.unwrap-tid.result = (rw (← c.self.view_is) at (sym c.current.ensures.value ∙ c.unwrap-tid.ensures)) in
-    let after : state_of c.finish.new.parts ≡ (step (state_of c.self.inside.parts) c.args.call).after = c.finish.ensures.after ∙ sym (stepped (state_of c.self.inside.parts) c.self.invariant.0 c.args.call c.unwrap-tid.result turn c.carry_out.new.parts c.in-Ok.ensures.ok.came.state) in
-    let effects : c.finish.new.effects ≡ (step (state_of c.self.inside.parts) c.args.call).effects =
-    c.finish.ensures.effects ∙ told (state_of c.self.inside.parts) c.self.invariant.0 c.args.call c.unwrap-tid.result turn c.carry_out.new.parts c.in-Ok.ensures.ok.came.state c.in-Ok.own c.push.new.self c.carry_out.new.effects c.in-Ok.ensures.ok.own c.in-Ok.ensures.ok.came.effects (c.push.ensures ∙ ap (λ (es : List Effect). es ++ effect.Called c.unwrap-tid.result c.args.call ∷ []) c.clear.ensures) in
+    let after : state_of c.finish-self-inside.new.parts ≡ (step (state_of c.self.inside.parts) c.args.call).after = c.finish-self-inside.ensures.after ∙ sym (stepped (state_of c.self.inside.parts) c.self.invariant.0 c.args.call c.unwrap-tid.result turn c.carry_out.new.parts c.in-Ok.ensures.ok.came.state) in
+    let effects : c.finish-self-inside.new.effects ≡ (step (state_of c.self.inside.parts) c.args.call).effects =
+    c.finish-self-inside.ensures.effects ∙ told (state_of c.self.inside.parts) c.self.invariant.0 c.args.call c.unwrap-tid.result turn c.carry_out.new.parts c.in-Ok.ensures.ok.came.state c.in-Ok.own c.push.new.self c.carry_out.new.effects c.in-Ok.ensures.ok.own c.in-Ok.ensures.ok.came.effects (c.push.ensures ∙ ap (λ (es : List Effect). es ++ effect.Called c.unwrap-tid.result c.args.call ∷ []) c.clear.ensures) in
     let there : ForgetsTheDead (step (state_of c.self.inside.parts) c.args.call).after (step (state_of c.self.inside.parts) c.args.call).effects = the_dead_are_forgotten (state_of c.self.inside.parts) c.self.invariant.0 c.args.call in
-    subst (λ (s : State). ForgetsTheDead s c.finish.new.effects) (sym after) (subst (λ (es : List Effect). ForgetsTheDead (step (state_of c.self.inside.parts) c.args.call).after es) (sym effects) there)
+    subst (λ (s : State). ForgetsTheDead s c.finish-self-inside.new.effects) (sym after) (subst (λ (es : List Effect). ForgetsTheDead (step (state_of c.self.inside.parts) c.args.call).after es) (sym effects) there)
 
 pub returns-in-Ok-clause-exits : goal.returns-in-Ok-clause-exits
 returns-in-Ok-clause-exits c =
     let turn : current_of (state_of c.self.inside.parts) ≡ Some c.unwrap-tid.result = (rw (← c.self.view_is) at (sym c.current.ensures.value ∙ c.unwrap-tid.ensures)) in
-    let after : state_of c.finish.new.parts ≡ (step (state_of c.self.inside.parts) c.args.call).after = c.finish.ensures.after ∙ sym (stepped (state_of c.self.inside.parts) c.self.invariant.0 c.args.call c.unwrap-tid.result turn c.carry_out.new.parts c.in-Ok.ensures.ok.came.state) in
-    let effects : c.finish.new.effects ≡ (step (state_of c.self.inside.parts) c.args.call).effects =
-    c.finish.ensures.effects ∙ told (state_of c.self.inside.parts) c.self.invariant.0 c.args.call c.unwrap-tid.result turn c.carry_out.new.parts c.in-Ok.ensures.ok.came.state c.in-Ok.own c.push.new.self c.carry_out.new.effects c.in-Ok.ensures.ok.own c.in-Ok.ensures.ok.came.effects (c.push.ensures ∙ ap (λ (es : List Effect). es ++ effect.Called c.unwrap-tid.result c.args.call ∷ []) c.clear.ensures) in
+    let after : state_of c.finish-self-inside.new.parts ≡ (step (state_of c.self.inside.parts) c.args.call).after = c.finish-self-inside.ensures.after ∙ sym (stepped (state_of c.self.inside.parts) c.self.invariant.0 c.args.call c.unwrap-tid.result turn c.carry_out.new.parts c.in-Ok.ensures.ok.came.state) in
+    let effects : c.finish-self-inside.new.effects ≡ (step (state_of c.self.inside.parts) c.args.call).effects =
+    c.finish-self-inside.ensures.effects ∙ told (state_of c.self.inside.parts) c.self.invariant.0 c.args.call c.unwrap-tid.result turn c.carry_out.new.parts c.in-Ok.ensures.ok.came.state c.in-Ok.own c.push.new.self c.carry_out.new.effects c.in-Ok.ensures.ok.own c.in-Ok.ensures.ok.came.effects (c.push.ensures ∙ ap (λ (es : List Effect). es ++ effect.Called c.unwrap-tid.result c.args.call ∷ []) c.clear.ensures) in
     let there : RunsExitsOnce (state_of c.self.inside.parts) c.args.call (step (state_of c.self.inside.parts) c.args.call).after (step (state_of c.self.inside.parts) c.args.call).effects = exits_run_once (state_of c.self.inside.parts) c.self.invariant.0 c.args.call in
-    rw (← c.self.view_is) (subst (λ (s : State). RunsExitsOnce (state_of c.self.inside.parts) c.args.call s c.finish.new.effects) (sym after) (subst (λ (es : List Effect). RunsExitsOnce (state_of c.self.inside.parts) c.args.call (step (state_of c.self.inside.parts) c.args.call).after es) (sym effects) there))
+    rw (← c.self.view_is) (subst (λ (s : State). RunsExitsOnce (state_of c.self.inside.parts) c.args.call s c.finish-self-inside.new.effects) (sym after) (subst (λ (es : List Effect). RunsExitsOnce (state_of c.self.inside.parts) c.args.call (step (state_of c.self.inside.parts) c.args.call).after es) (sym effects) there))

@@ -4,7 +4,7 @@ use Rattle.pod_laws.proofs.EveryStep.{Lawful-deliver}
 use Rattle.std.proofs.Common.{◌∙◌}
 
 pub invariant_of-self : goal.invariant_of-self
-invariant_of-self c = (rw c.deliver.ensures.state (Lawful-deliver (state_of c.self.inside.parts) c.self.invariant.0 c.args.event (rw (← c.self.view_is) at c.requires) c.args.text), c.deliver.ensures.step, c.deliver.ensures.dying ∙ c.self.invariant.2)
+invariant_of-self c = (rw c.deliver.ensures.state (Lawful-deliver (state_of c.self.inside.parts) c.self.invariant.0 c.args.event (rw (← c.self.view_is) at c.requires) c.args.text), c.deliver.ensures.step, c.deliver.ensures.dying ∙ c.self.invariant.2, c.current-self-inside.ensures.value)
 
 pub returns-clause-lawful : goal.returns-clause-lawful
 returns-clause-lawful c = rw c.deliver.ensures.state (Lawful-deliver (state_of c.self.inside.parts) c.self.invariant.0 c.args.event (rw (← c.self.view_is) at c.requires) c.args.text)
