@@ -4,3 +4,4 @@ pub mod Steps
 pub mod Shapes
 pub mod Frame
 pub mod Page
+pub mod Titles

@@ -8,10 +8,12 @@
 #![tactic(auto)]
 
 mod frame;
+mod laws;
 mod page;
 mod scene;
 mod shapes;
 mod spans;
 mod steps;
 
+pub use laws::{lines_are_titles, texts_are_plain};
 pub use page::{PageErr, add_page};
