@@ -1,3 +1,3 @@
 pub mod ConditionTable
-pub mod Kept
 pub mod Machine
+pub mod Waits

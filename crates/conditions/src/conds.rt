@@ -6,10 +6,11 @@ ghost use Rattle.conditions.specs.ConditionTable.{created, destroyed, destroyed_
 
 use crate::WaitRec;
 use crate::rows::{list, row_of, take_out, take_out_of};
-use crate::waits::{first_best, first_on, forget, has_wait, set_prio, tids_of, wait_of};
+use crate::waits::{is_waited, rec_of};
 use lwp_types::{Cid, CondRow, IdList, Mid, NoMemory, Tid};
 use std::alloc::Global;
 use std::marker::Model;
+use waiting_list::{Waiting, WaitingList};
 
 // How many conditions may live at once.
 const MOST_LIVE: usize = 256;
@@ -21,21 +22,17 @@ pub struct Conds {
     rows: Vec<CondRow>,
     births: u64,
     limit: u64,
-    waits: Vec<WaitRec>,
-    // How many may wait with no more memory.
-    places: usize,
+    waits: WaitingList,
 }
 
 impl Model for Conds {
-    ghost use Rattle.std.specs.Prelude.{vec_capacity};
+    ghost use Rattle.std.specs.Prelude.{map};
     ghost use Rattle.conditions.specs.ConditionTable.{ConditionTable};
-    ghost use Rattle.conditions.specs.Kept.{IsKept};
+    ghost use Rattle.conditions.specs.Waits.{wait_in};
 
     ghost Value = { ConditionTable };
 
-    ghost view = { λ s. record { conditions = s.rows.items; births = s.births; limit = s.limit; waits = s.waits.items; places = s.places } };
-
-    ghost invariant = { λ s. IsKept (record { conditions = s.rows.items; births = s.births; limit = s.limit; waits = s.waits.items; places = s.places }) (vec_capacity s.waits) };
+    ghost view = { λ s. record { conditions = s.rows.items; births = s.births; limit = s.limit; waits = map wait_in s.waits.waiting; places = s.waits.places } };
 }
 
 impl Conds {
@@ -48,8 +45,7 @@ impl Conds {
             rows: Vec::new(alloc),
             births: 0,
             limit: births,
-            waits: Vec::new(alloc),
-            places: 0,
+            waits: WaitingList::new(alloc),
         }
     }
 
@@ -59,12 +55,7 @@ impl Conds {
         ensures err { OnErr result (self.new ≡ self.old) }
         ensures has_room { n ≤ self.old.places → IsOk result }
     {
-        if n <= self.places {
-            return Ok(());
-        }
-        self.waits.reserve(n - self.waits.len())?;
-        self.places = n;
-        Ok(())
+        self.waits.reserve(n)
     }
 
     /// A condition of the monitor, or None where none may be born.
@@ -94,17 +85,17 @@ impl Conds {
     pub fn waited(&self, cond: Cid) -> bool
         ensures { result ≡ is_waited_in self.now.waits cond }
     {
-        has_wait(&self.waits, cond)
+        is_waited(&self.waits, cond)
     }
 
     /// Whether somebody waits on a condition of the monitor.
     pub fn waited_of(&self, mon: Mid) -> bool
         ensures { result ≡ has_waits self.now mon }
     {
-        let waits = self.waits.as_slice();
+        let waits = &self.waits;
         self.rows
             .iter()
-            .any(|row| row.mon == mon && has_wait(waits, row.number))
+            .any(|row| row.mon == mon && is_waited(waits, row.number))
     }
 
     /// Ends a condition that nobody waits on.
@@ -130,7 +121,12 @@ impl Conds {
         requires room { length self.old.waits < self.old.places }
         ensures { self.new ≡ waited self.old wait }
     {
-        self.waits.push_reserved(wait);
+        self.waits.join(Waiting {
+            what: wait.cond.number,
+            tid: wait.tid,
+            prio: wait.prio,
+            depth: wait.depth,
+        });
     }
 
     /// Wakes the one to notify, if anybody waits on the condition.
@@ -139,9 +135,9 @@ impl Conds {
         ensures after { self.new ≡ woken self.old result }
         ensures first_best { FindsBest (λ w. w.prio) (waits_on self.old cond) result }
     {
-        let wait = first_best(&self.waits, cond)?;
-        forget(&mut self.waits, wait.tid);
-        Some(wait)
+        let next = self.waits.best(cond.number)?;
+        self.waits.leave(next.tid);
+        Some(rec_of(next))
     }
 
     /// Wakes the one that came first. To wake all that wait on the condition, it is called until it answers None.
@@ -149,9 +145,9 @@ impl Conds {
         ensures value { result ≡ first_wait self.old cond }
         ensures after { self.new ≡ woken self.old result }
     {
-        let wait = first_on(&self.waits, cond)?;
-        forget(&mut self.waits, wait.tid);
-        Some(wait)
+        let next = self.waits.first(cond.number)?;
+        self.waits.leave(next.tid);
+        Some(rec_of(next))
     }
 
     /// Wakes the thread, if it waits on the condition.
@@ -159,30 +155,30 @@ impl Conds {
         ensures value { result ≡ wait_of self.old cond tid }
         ensures after { self.new ≡ woken self.old result }
     {
-        let wait = wait_of(&self.waits, cond, tid)?;
-        forget(&mut self.waits, wait.tid);
-        Some(wait)
+        let next = self.waits.found(cond.number, tid)?;
+        self.waits.leave(next.tid);
+        Some(rec_of(next))
     }
 
     /// Gives the thread's wait, if it has one, a priority. The wait keeps its place.
     pub fn requeue(&mut self, tid: Tid, prio: u32)
         ensures { self.new ≡ requeued self.old tid prio }
     {
-        set_prio(&mut self.waits, tid, prio);
+        self.waits.set_prio(tid, prio);
     }
 
     /// Forgets the thread's wait, if it has one.
     pub fn forget(&mut self, tid: Tid)
         ensures { self.new ≡ forgotten self.old tid }
     {
-        forget(&mut self.waits, tid);
+        self.waits.leave(tid);
     }
 
     /// The threads that wait on the condition, in the order of their arrival.
     pub fn waiters(&self, cond: Cid) -> Result<IdList, NoMemory>
         ensures { IfOk result (λ ids. ids ≡ map (λ w. w.tid) (waits_on self.now cond)) }
     {
-        tids_of(self.alloc, &self.waits, cond)
+        self.waits.tids(cond.number)
     }
 
     /// The live conditions, in birth order.

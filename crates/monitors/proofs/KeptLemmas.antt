@@ -7,7 +7,7 @@ use Rattle.lwp_types.specs.State.{times_in}
 use Rattle.lwp_types.specs.declared.rows.Lock.{Lock}
 use Rattle.monitors.proofs.Room.{length-locks-le, length-locks-lt}
 use Rattle.monitors.specs.Kept.{IsKept}
-use Rattle.monitors.specs.MonitorTable.{MonitorTable, destroyed, forgotten, freed, is_free, is_live, next_request, with_grant, without_request}
+use Rattle.monitors.specs.MonitorTable.{MonitorTable, destroyed, freed, is_free, is_live, next_request, with_grant}
 use Rattle.monitors.specs.declared.requests.EntryRequest.{EntryRequest}
 use Rattle.std.proofs.Common.{List, None, Option, Some, [], ap, arith, eqb, false, inl, inr, is_none, length, refl, reverse, sym, true, ℕ, ◌++◌, ◌+◌, ◌<◌, ◌∙◌, ◌∷◌, ◌≡◌, ◌≤◌}
 use Rattle.std.proofs.lemmas.Bool.{cases_eq, eq-eqb, eqb-true, ne_eqb}
@@ -37,13 +37,13 @@ module _ (s : MonitorTable) (m : ℕ) where
       by_lock None e = absurd (omega (arith, some, count_not_found (is_lock m) s.locks e))
       by_lock (Some lock) e = refl
 
-module _ {s : MonitorTable} {lock_room request_room : ℕ} (was : IsKept s lock_room request_room) where
-  -- the same locks of the same monitors, and as many requests as fit
-  kept_requests : (rs : List EntryRequest) → length rs ≤ s.places → IsKept (record s { requests = rs }) lock_room request_room
-  kept_requests rs fits = record { held_once = was.held_once; held_live = was.held_live; locks_fit = was.locks_fit; fits = fits; requests_fit = was.requests_fit }
+module _ {s : MonitorTable} {lock_room : ℕ} (was : IsKept s lock_room) where
+  -- the same locks of the same monitors, whoever waits
+  pub kept_requests : (rs : List EntryRequest) → IsKept (record s { requests = rs }) lock_room
+  kept_requests rs = record { held_once = was.held_once; held_live = was.held_live; locks_fit = was.locks_fit }
 
-  kept_locks : (locks : List Lock) → ((m : ℕ) → locks_on locks m ≤ 1) → ((m : ℕ) → locks_on locks m ≤ times_in s.monitors m) → IsKept (record s { locks = locks }) lock_room request_room
-  kept_locks locks once live = record { held_once = once; held_live = live; locks_fit = was.locks_fit; fits = was.fits; requests_fit = was.requests_fit }
+  kept_locks : (locks : List Lock) → ((m : ℕ) → locks_on locks m ≤ 1) → ((m : ℕ) → locks_on locks m ≤ times_in s.monitors m) → IsKept (record s { locks = locks }) lock_room
+  kept_locks locks once live = record { held_once = once; held_live = live; locks_fit = was.locks_fit }
 
   pub length-kept_locks : length s.locks ≤ length s.monitors
   length-kept_locks = length-locks-le s.locks s.monitors was.held_once was.held_live
@@ -52,19 +52,17 @@ module _ {s : MonitorTable} {lock_room request_room : ℕ} (was : IsKept s lock_
   pub is_live-held : (m : ℕ) → is_free s m ≡ false → is_live s m ≡ true
   is_live-held m taken = any_counted (λ k. eqb k m) s.monitors (omega (arith, held_not_free s m taken, was.held_live m))
 
-  pub IsKept-created : (births room : ℕ) → length s.monitors + 1 ≤ room → IsKept (record s { monitors = s.monitors ++ s.births ∷ []; births = births }) room request_room
+  pub IsKept-created : (births room : ℕ) → length s.monitors + 1 ≤ room → IsKept (record s { monitors = s.monitors ++ s.births ∷ []; births = births }) room
   IsKept-created births room more = record {
     held_once = was.held_once;
     held_live = λ m. omega (arith, was.held_live m, count-push (λ k. eqb k m) s.monitors s.births);
     locks_fit = omega (arith, more, length_push s.monitors s.births);
-    fits = was.fits;
-    requests_fit = was.requests_fit;
   }
 
-  pub IsKept-roomier : (room : ℕ) → length s.monitors ≤ room → IsKept s room request_room
-  IsKept-roomier room more = record { held_once = was.held_once; held_live = was.held_live; locks_fit = more; fits = was.fits; requests_fit = was.requests_fit }
+  pub IsKept-roomier : (room : ℕ) → length s.monitors ≤ room → IsKept s room
+  IsKept-roomier room more = record { held_once = was.held_once; held_live = was.held_live; locks_fit = more }
 
-  pub IsKept-destroyed : (m : ℕ) → is_free s m ≡ true → IsKept (destroyed s m) lock_room request_room
+  pub IsKept-destroyed : (m : ℕ) → is_free s m ≡ true → IsKept (destroyed s m) lock_room
   IsKept-destroyed m free = record {
     held_once = was.held_once;
     held_live = λ k. elim (cases_eq k m) [
@@ -72,11 +70,9 @@ module _ {s : MonitorTable} {lock_room request_room : ℕ} (was : IsKept s lock_
       | inr differs ↦ omega (arith, was.held_live k, times-without_other m k s.monitors differs)
     ];
     locks_fit = omega (arith, was.locks_fit, length-failed (λ k. eqb k m) s.monitors);
-    fits = was.fits;
-    requests_fit = was.requests_fit;
   }
 
-  pub IsKept-freed : (m : ℕ) → IsKept (freed s m) lock_room request_room
+  pub IsKept-freed : (m : ℕ) → IsKept (freed s m) lock_room
   IsKept-freed m = kept_locks (without_lock m s.locks) (λ k. omega (arith, was.held_once k, fewer k)) (λ k. omega (arith, was.held_live k, fewer k))
     where
       fewer : (k : ℕ) → locks_on (without_lock m s.locks) k ≤ locks_on s.locks k
@@ -91,21 +87,18 @@ module _ {s : MonitorTable} {lock_room request_room : ℕ} (was : IsKept s lock_
   not_free-last t lock last =
       not_free-held s lock.mon (omega (arith, count_found_by (is_owned_by t) (is_lock lock.mon) (reverse s.locks) lock last (eq-eqb lock.mon lock.mon refl), count-reverse (is_lock lock.mon) s.locks))
 
-  pub IsKept-deepened : (m depth : ℕ) → IsKept (record s { locks = with_depth m depth s.locks }) lock_room request_room
+  pub IsKept-deepened : (m depth : ℕ) → IsKept (record s { locks = with_depth m depth s.locks }) lock_room
   IsKept-deepened m depth = kept_locks (with_depth m depth s.locks) (λ k. omega (arith, was.held_once k, as_many k)) (λ k. omega (arith, was.held_live k, as_many k))
     where
       as_many : (k : ℕ) → locks_on (with_depth m depth s.locks) k ≡ locks_on s.locks k
       as_many k = count-map (is_lock k) (depth_set m depth) s.locks
-
-  pub IsKept-forgotten : (t : ℕ) → IsKept (forgotten s t) lock_room request_room
-  IsKept-forgotten t = kept_requests (without_request t s.requests) (omega (arith, was.fits, length-failed (λ r. eqb r.tid t) s.requests))
 
   module _ (m : ℕ) (live : is_live s m ≡ true) (free : is_free s m ≡ true) where
     -- there is room for the lock of a live monitor that is free
     pub room_free : length s.locks < lock_room
     room_free = omega (arith, was.locks_fit, length-locks-lt s.locks s.monitors was.held_once was.held_live m (held_free s m free) (count_any (λ k. eqb k m) s.monitors live))
 
-    pub IsKept-taken : (lock : Lock) → lock.mon ≡ m → IsKept (record s { locks = s.locks ++ lock ∷ [] }) lock_room request_room
+    pub IsKept-taken : (lock : Lock) → lock.mon ≡ m → IsKept (record s { locks = s.locks ++ lock ∷ [] }) lock_room
     IsKept-taken lock its = kept_locks (s.locks ++ lock ∷ []) (λ k. omega (arith, once k)) (λ k. omega (arith, alive k))
       where
         more : (k : ℕ) → locks_on (s.locks ++ lock ∷ []) k ≡ locks_on s.locks k + one (is_lock k lock)
@@ -129,8 +122,8 @@ module _ {s : MonitorTable} {lock_room request_room : ℕ} (was : IsKept s lock_
           | inr differs ↦ omega (arith, elsewhere k differs, was.held_live k)
         ]
 
-    pub IsKept-granted : (r : EntryRequest) → next_request s m ≡ Some r → IsKept (with_grant s (Some r)) lock_room request_room
+    pub IsKept-granted : (r : EntryRequest) → next_request s m ≡ Some r → IsKept (with_grant s (Some r)) lock_room
     IsKept-granted r next =
         let its : r.mon ≡ m = eqb-true r.mon m (best_passes (λ r. r.prio) (λ r. eqb r.mon m) s.requests r next) in
         let taken = IsKept-taken (record { mon = r.mon; owner = r.tid; depth = r.depth }) its in
-        record { held_once = taken.held_once; held_live = taken.held_live; locks_fit = was.locks_fit; fits = (IsKept-forgotten r.tid).fits; requests_fit = was.requests_fit }
+        record { held_once = taken.held_once; held_live = taken.held_live; locks_fit = was.locks_fit }

@@ -1,3 +1,4 @@
 pub mod KeptLemmas
 pub mod Room
 pub mod Machine
+pub mod Lines

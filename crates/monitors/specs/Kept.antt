@@ -4,10 +4,8 @@ use Rattle.lwp_types.specs.State.{times_in}
 use Rattle.monitors.specs.MonitorTable.{MonitorTable}
 use Rattle.std.specs.Prelude.{length, ℕ, ◌≤◌}
 
--- each held monitor is live and held once, each live one has room for its lock, and as many may wait as there are places
-pub record IsKept (s : MonitorTable) (lock_room request_room : ℕ) : Type 0 where
+-- each held monitor is live and held once, and each live one has room for its lock
+pub record IsKept (s : MonitorTable) (lock_room : ℕ) : Type 0 where
   pub held_once : (m : ℕ) → locks_on s.locks m ≤ 1
   pub held_live : (m : ℕ) → locks_on s.locks m ≤ times_in s.monitors m
   pub locks_fit : length s.monitors ≤ lock_room
-  pub fits : length s.requests ≤ s.places
-  pub requests_fit : s.places ≤ request_room

@@ -1,3 +1,4 @@
 pub mod MonitorTable
 pub mod Kept
 pub mod Machine
+pub mod Requests

@@ -5,13 +5,12 @@ ghost use Rattle.lwp_types.specs.Locks.{depth_in, is_owned_by_other, is_owner};
 ghost use Rattle.lwp_types.specs.Release.{last_lock, lock_of, locks_on};
 ghost use Rattle.monitors.specs.MonitorTable.{created, destroyed, empty_table, entered, exited, forgotten, freed, granted, has_request, is_free, is_live, is_unwanted, last_release, last_released, may_enter, newborn, next_owner, next_request, owner_after, owner_of, released, requested, requests_of, requeued, reserved};
 
-use crate::EntryRequest;
 use crate::live::{has, list, take_out};
 use crate::locks::{depth_of, free, last_lock, lock_of, set_depth};
-use crate::requests::{first_best, forget, set_prio, tids_of};
 use lwp_types::{IdList, Lock, Mid, NoMemory, Tid};
 use std::alloc::Global;
 use std::marker::Model;
+use waiting_list::{Waiting, WaitingList};
 
 // How many monitors may live at once.
 const MOST_LIVE: usize = 256;
@@ -24,21 +23,20 @@ pub struct Monitors {
     births: u64,
     limit: u64,
     locks: Vec<Lock>,
-    requests: Vec<EntryRequest>,
-    // How many requests there may be with no more memory.
-    places: usize,
+    requests: WaitingList,
 }
 
 impl Model for Monitors {
-    ghost use Rattle.std.specs.Prelude.{vec_capacity};
+    ghost use Rattle.std.specs.Prelude.{map, vec_capacity};
     ghost use Rattle.monitors.specs.MonitorTable.{MonitorTable};
     ghost use Rattle.monitors.specs.Kept.{IsKept};
+    ghost use Rattle.monitors.specs.Requests.{request_of};
 
     ghost Value = { MonitorTable };
 
-    ghost view = { λ s. record { monitors = s.live.items; births = s.births; limit = s.limit; locks = s.locks.items; requests = s.requests.items; places = s.places } };
+    ghost view = { λ s. record { monitors = s.live.items; births = s.births; limit = s.limit; locks = s.locks.items; requests = map request_of s.requests.waiting; places = s.requests.places } };
 
-    ghost invariant = { λ s. IsKept (record { monitors = s.live.items; births = s.births; limit = s.limit; locks = s.locks.items; requests = s.requests.items; places = s.places }) (vec_capacity s.locks) (vec_capacity s.requests) };
+    ghost invariant = { λ s. IsKept (record { monitors = s.live.items; births = s.births; limit = s.limit; locks = s.locks.items; requests = map request_of s.requests.waiting; places = s.requests.places }) (vec_capacity s.locks) };
 }
 
 impl Monitors {
@@ -52,8 +50,7 @@ impl Monitors {
             births: 0,
             limit: births,
             locks: Vec::new(alloc),
-            requests: Vec::new(alloc),
-            places: 0,
+            requests: WaitingList::new(alloc),
         }
     }
 
@@ -63,12 +60,7 @@ impl Monitors {
         ensures err { OnErr result (self.new ≡ self.old) }
         ensures has_room { n ≤ self.old.places → IsOk result }
     {
-        if n <= self.places {
-            return Ok(());
-        }
-        self.requests.reserve(n - self.requests.len())?;
-        self.places = n;
-        Ok(())
+        self.requests.reserve(n)
     }
 
     /// A monitor that nobody holds, or None where none may be born. What is done to it later takes no memory.
@@ -153,8 +145,8 @@ impl Monitors {
         requires room { length self.old.requests < self.old.places }
         ensures { self.new ≡ requested self.old (record { mon = mon; tid = tid; prio = prio; depth = depth }) }
     {
-        self.requests.push_reserved(EntryRequest {
-            mon,
+        self.requests.join(Waiting {
+            what: mon.number,
             tid,
             prio,
             depth,
@@ -204,10 +196,10 @@ impl Monitors {
         ensures after { self.new ≡ granted self.old mon }
         ensures first_best { FindsBest (λ r. r.prio) (requests_of self.old mon) (next_request self.old mon) }
     {
-        let next = first_best(&self.requests, mon)?;
-        forget(&mut self.requests, next.tid);
+        let next = self.requests.best(mon.number)?;
+        self.requests.leave(next.tid);
         self.locks.push_reserved(Lock {
-            mon: next.mon,
+            mon: Mid { number: next.what },
             owner: next.tid,
             depth: next.depth,
         });
@@ -226,14 +218,14 @@ impl Monitors {
     pub fn requeue(&mut self, tid: Tid, prio: u32)
         ensures { self.new ≡ requeued self.old tid prio }
     {
-        set_prio(&mut self.requests, tid, prio);
+        self.requests.set_prio(tid, prio);
     }
 
     /// Forgets the thread's request, if it has one.
     pub fn forget(&mut self, tid: Tid)
         ensures { self.new ≡ forgotten self.old tid }
     {
-        forget(&mut self.requests, tid);
+        self.requests.leave(tid);
     }
 
     /// Takes from the thread the monitor that it acquired last. The answer is that monitor, and who holds it then.
@@ -250,7 +242,7 @@ impl Monitors {
     pub fn waiters(&self, mon: Mid) -> Result<IdList, NoMemory>
         ensures { IfOk result (λ ids. ids ≡ map (λ r. r.tid) (requests_of self.now mon)) }
     {
-        tids_of(self.alloc, &self.requests, mon)
+        self.requests.tids(mon.number)
     }
 
     /// The live monitors, in birth order.

@@ -1,5 +1,8 @@
-use Rattle.conditions.proofs.KeptLemmas.{IsKept-forgotten}
+use Rattle.conditions.proofs.Lines.{left-line}
 use Rattle.conditions.proofs.conds.Conds.forget.Goals as goal
+use Rattle.std.proofs.Common.{ap}
 
-pub invariant_of-self : goal.invariant_of-self
-invariant_of-self c = rw (c.forget.ensures.items, c.forget.ensures.capacity) (IsKept-forgotten c.self.invariant c.args.tid)
+pub returns : goal.returns
+returns c =
+    let s = c.self.inside in
+    rw (← c.self.view_is, c.leave.ensures) (ap (λ us. record { conditions = s.rows.items; births = s.births; limit = s.limit; waits = us; places = s.waits.places }) (left-line c.args.tid s.waits.waiting))

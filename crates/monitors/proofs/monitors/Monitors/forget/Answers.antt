@@ -1,5 +1,8 @@
-use Rattle.monitors.proofs.KeptLemmas.{IsKept-forgotten}
+use Rattle.monitors.proofs.Lines.{left-line}
 use Rattle.monitors.proofs.monitors.Monitors.forget.Goals as goal
+use Rattle.std.proofs.Common.{ap}
 
-pub invariant_of-self : goal.invariant_of-self
-invariant_of-self c = rw (c.forget.ensures.items, c.forget.ensures.capacity) (IsKept-forgotten c.self.invariant c.args.tid)
+pub returns : goal.returns
+returns c =
+    let s = c.self.inside in
+    rw (← c.self.view_is, c.leave.ensures) (ap (λ rs. record { monitors = s.live.items; births = s.births; limit = s.limit; locks = s.locks.items; requests = rs; places = s.requests.places }) (left-line c.args.tid s.requests.waiting))

@@ -1,9 +1,25 @@
-use Rattle.lwp_types.specs.FirstLaws.{finds_best}
-use Rattle.monitors.proofs.KeptLemmas.{IsKept-granted, room_free}
+use Rattle.lwp_types.specs.FirstLaws.{best_passes, finds_best}
+use Rattle.monitors.proofs.KeptLemmas.{IsKept-taken, room_free}
+use Rattle.monitors.proofs.Lines.{left-line, next-line}
 use Rattle.monitors.proofs.monitors.Monitors.grant.Goals as goal
-use Rattle.monitors.specs.MonitorTable.{requests_of}
+use Rattle.monitors.specs.MonitorTable.{requests_of, with_grant}
+use Rattle.monitors.specs.Requests.{request_of}
 use Rattle.monitors.specs.declared.requests.EntryRequest.{EntryRequest}
-use Rattle.std.proofs.Common.{arith, sym}
+use Rattle.std.proofs.Common.{[], ap, arith, map, sym, ◌++◌, ◌∙◌, ◌∷◌}
+use Rattle.std.proofs.lemmas.Bool.{eqb-true}
+use Rattle.std.specs.Prelude.{option_map}
+use Rattle.waiting_list.specs.Line.{is_for}
+
+pub returns-in_err-next-clause-value : goal.returns-in_err-next-clause-value
+returns-in_err-next-clause-value c =
+    let none = next-line c.args.mon c.self.inside.requests.waiting ∙ ap (λ o. option_map request_of o) (sym (rw c.mon.view_is at c.in_err-next.ensures)) in
+    rw (← c.self.view_is) (c.from_residual.ensures ∙ ap (λ o. option_map (λ (r : EntryRequest). r.tid) o) (sym none))
+
+pub returns-in_err-next-clause-after : goal.returns-in_err-next-clause-after
+returns-in_err-next-clause-after c =
+    let s = c.self.inside in
+    let none = next-line c.args.mon s.requests.waiting ∙ ap (λ o. option_map request_of o) (sym (rw c.mon.view_is at c.in_err-next.ensures)) in
+    rw (← c.self.view_is) (ap (λ o. with_grant (record { monitors = s.live.items; births = s.births; limit = s.limit; locks = s.locks.items; requests = map request_of s.requests.waiting; places = s.requests.places }) o) (sym none))
 
 pub returns-in_err-next-clause-first_best : goal.returns-in_err-next-clause-first_best
 returns-in_err-next-clause-first_best c = finds_best {A = EntryRequest} (λ r. r.prio) (requests_of c.args.self.now c.args.mon)
@@ -14,9 +30,24 @@ push_reserved-requires c =
 
 pub invariant_of-self : goal.invariant_of-self
 invariant_of-self c =
-    let next = sym (rw c.deref.ensures.value at c.in_ok-next.ensures) in
-    rw (c.push_reserved.ensures.items, c.push_reserved.ensures.capacity, c.forget.ensures.items, c.forget.ensures.capacity)
-    (IsKept-granted c.self.invariant c.args.mon (rw (← c.self.view_is) at c.requires.live) (rw (← c.self.view_is) at c.requires.free) c.in_ok-next.next next)
+    let next = c.in_ok-next.next in
+    let its = eqb-true next.what c.args.mon (best_passes (λ w. w.prio) (is_for c.args.mon) c.self.inside.requests.waiting next (sym (rw c.mon.view_is at c.in_ok-next.ensures))) in
+    let kept = IsKept-taken c.self.invariant c.args.mon (rw (← c.self.view_is) at c.requires.live) (rw (← c.self.view_is) at c.requires.free) (record { mon = next.what; owner = next.tid; depth = next.depth }) its in
+    rw (c.push_reserved.ensures.items, c.push_reserved.ensures.capacity) (record { held_once = kept.held_once; held_live = kept.held_live; locks_fit = kept.locks_fit })
+
+pub returns-clause-value : goal.returns-clause-value
+returns-clause-value c =
+    let some = next-line c.args.mon c.self.inside.requests.waiting ∙ ap (λ o. option_map request_of o) (sym (rw c.mon.view_is at c.in_ok-next.ensures)) in
+    rw (← c.self.view_is) (ap (λ o. option_map (λ (r : EntryRequest). r.tid) o) (sym some))
+
+pub returns-clause-after : goal.returns-clause-after
+returns-clause-after c =
+    let s = c.self.inside in
+    let next = c.in_ok-next.next in
+    let some = next-line c.args.mon s.requests.waiting ∙ ap (λ o. option_map request_of o) (sym (rw c.mon.view_is at c.in_ok-next.ensures)) in
+    rw (← c.self.view_is, c.push_reserved.ensures.items, c.leave.ensures)
+    (ap (λ rs. record { monitors = s.live.items; births = s.births; limit = s.limit; locks = s.locks.items ++ record { mon = next.what; owner = next.tid; depth = next.depth } ∷ []; requests = rs; places = s.requests.places }) (left-line next.tid s.requests.waiting)
+    ∙ ap (λ o. with_grant (record { monitors = s.live.items; births = s.births; limit = s.limit; locks = s.locks.items; requests = map request_of s.requests.waiting; places = s.requests.places }) o) (sym some))
 
 pub returns-clause-first_best : goal.returns-clause-first_best
 returns-clause-first_best c = finds_best {A = EntryRequest} (λ r. r.prio) (requests_of c.args.self.now c.args.mon)

@@ -1,0 +1,7 @@
+-- How waits stand in a line. No public clause cites this module.
+use Rattle.conditions.specs.declared.waits.WaitRec.{WaitRec}
+use Rattle.waiting_list.specs.declared.rows.Waiting.{Waiting}
+
+-- whoever waits there waits on the condition of that number
+abbrev pub wait_in : Waiting → WaitRec
+wait_in w = record { cond = w.what; tid = w.tid; prio = w.prio; depth = w.depth }

@@ -1,0 +1,3 @@
+pub mod Only
+pub mod LevelLaws
+pub mod LineLaws

@@ -1,0 +1,16 @@
+//! Threads that wait in the order of their arrival, each for one thing, and the first of the greatest priority among those
+//! that wait for the same.
+//!
+//! The contract of each call is one equation on the list of those that wait (`specs/Line.antt`). Only `reserve` takes memory.
+//! What they wait for is a number, of a monitor or of a condition. The crate stands on `lwp_types` alone.
+#![tactic(auto)]
+
+mod levels;
+mod line;
+mod rows;
+
+pub use line::WaitingList;
+pub use rows::Waiting;
+
+#[cfg(test)]
+mod tests;
