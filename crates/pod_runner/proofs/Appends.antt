@@ -1,9 +1,9 @@
 -- Appending to what is told.
-use Rattle.std.proofs.Common.{◌≡◌, ℕ, ◌+◌, ◌-◌, arith, length-append, length-drop, List, [], ◌++◌, length, take, drop, None, Some, ap, ◌∙◌, sym, refl, append_assoc, append-nil}
+use Rattle.std.proofs.Common.{◌≡◌, ℕ, ◌+◌, ◌-◌, arith, length-append, length-drop, List, [], ◌++◌, length, take, drop, None, Some, ap, ◌∙◌, sym, refl, append_assoc}
 use Rattle.std.proofs.Math.Seq.{take-add, take-append-add, take-length}
 use Rattle.pod_runner.specs.Run.{AppendsCut, Writes, WritesCut, WritesPart}
 use Rattle.std.specs.Prelude.{Option, Result, OnErr, Ok, Err}
-use Rattle.lwp_types.specs.Streams.{appended, AppendsPrefix}
+use Rattle.lwp_types.specs.Streams.{appended}
 
 pub appended-append : (w : Option (List ℕ)) (a b : List ℕ) → appended (appended w a) b ≡ appended w (a ++ b)
 appended-append None a b = refl

@@ -1,18 +1,17 @@
 -- What each part of an eager session does: it goes on, and comes nearer to its end.
-use Rattle.std.proofs.Common.{◌≡◌, ◌≤◌, ◌<◌, ℕ, zero, suc, ◌+◌, ◌-◌, List, [], ◌∷◌, Bool, true, false, cond, None, Some, ap, ◌∙◌, refl, sym, subst, ◌++◌, append-nil, append_assoc, length, take, drop, length-append, inl, inr, arith}
-use Rattle.std.specs.Prelude.{Option, is_some, not, ◌&&◌, ◌||◌, ◌⊎◌, nat_le}
+use Rattle.std.proofs.Common.{◌≡◌, ◌≤◌, ◌<◌, ℕ, zero, suc, ◌+◌, ◌-◌, List, [], ◌∷◌, Bool, true, false, cond, None, Some, ap, ◌∙◌, refl, sym, subst, ◌++◌, append-nil, append_assoc, length, drop, length-append, inl, inr, arith}
+use Rattle.std.specs.Prelude.{Option, is_some, ◌&&◌, ◌||◌, ◌⊎◌, nat_le}
 use Rattle.std.specs.List.{fold, list_any, slice_get}
 use Rattle.std.proofs.lemmas.Bool.Decides.{nat_tests}
 use Rattle.std.proofs.lemmas.List.Sums.{sum_by-set}
 use Rattle.event_gate.specs.Shelves.{Shelf, bare, first_left, left_in_all, moved, shelf_of, taken_from}
 use Rattle.lwp_types.specs.Agents.{armed}
 use Rattle.lwp_types.specs.Choice.{choice}
-use Rattle.lwp_types.specs.State.{State}
 use Rattle.lwp_types.specs.declared.call.Line.{Line}
 use Rattle.trace_text.specs.declared.ends.Halt.{Halt}
 use Rattle.trace_text.specs.declared.ends.Halt.TheVariants as halts
 use Rattle.pod_runner.specs.Eager.{IsFirstPart, Plan, Planned, advanced, boundary, finished, has_choice, offered, offered_by, one_call, plan_over, round, state_of, taken_line, to_the_end, took_of}
-use Rattle.pod_runner.specs.Over.{can_take, events, halt_if, is_wanted, over}
+use Rattle.pod_runner.specs.Over.{can_take, events, halt_if, is_wanted}
 use Rattle.pod_runner.specs.Session.{move, taken}
 
 -- ---- lines left

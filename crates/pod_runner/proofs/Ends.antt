@@ -1,13 +1,12 @@
 -- Where a run stands, and whether its session is over.
 use Rattle.std.proofs.Common.{◌≡◌, ◌≢◌, ◌≤◌, ℕ, ◌+◌, List, Bool, true, false, cond, None, Some, ap, ◌∙◌, refl, sym, length, inl, inr, arith}
 use Rattle.std.specs.Prelude.{Option, is_some, nat_le, nat_lt, ◌⊎◌}
-use Rattle.std.specs.List.{fold, list_any}
 use Rattle.std.proofs.lemmas.Bool.Decides.{nat_tests}
 use Rattle.event_gate.specs.Shelves.{Shelf}
 use Rattle.lwp_types.specs.Choice.{choice}
 use Rattle.lwp_types.specs.State.{State}
-use Rattle.pod_runner.specs.Eager.{Plan, Planned, advanced, boundary, has_choice, one_call, plan_over, round, state_of}
-use Rattle.pod_runner.specs.Over.{can_take, events, halt_if, is_wanted, over}
+use Rattle.pod_runner.specs.Eager.{Plan, Planned, advanced, boundary, one_call, plan_over, round, state_of}
+use Rattle.pod_runner.specs.Over.{halt_if, is_wanted, over}
 use Rattle.pod_runner.specs.Phase.{phase_by, phase_of}
 use Rattle.pod_runner.specs.declared.phase.Phase.TheVariants as phase
 use Rattle.trace_text.specs.declared.ends.Halt.{Halt}

@@ -1,6 +1,6 @@
 -- A delivery leaves whoever may run in the order, and ends no pod.
-use Rattle.std.proofs.Common.{◌≡◌, ℕ, List, [], ◌∷◌, ◌++◌, Bool, true, false, cond, None, Some, ap, ◌∙◌, refl, sym, subst}
-use Rattle.std.specs.Prelude.{Option, is_some, nat_le, nat_lt}
+use Rattle.std.proofs.Common.{◌≡◌, ℕ, List, [], ◌∷◌, ◌++◌, Bool, true, false, cond, None, Some, refl}
+use Rattle.std.specs.Prelude.{Option, is_some, nat_le}
 use Rattle.std.specs.List.{fold}
 use Rattle.event_gate.specs.Shelves.{first_left}
 use Rattle.lwp_types.specs.Agents.{armed, deliver, deliver_to, event_agent}
@@ -11,7 +11,7 @@ use Rattle.lwp_types.specs.Unblock.{unblock}
 use Rattle.lwp_types.specs.declared.call.Line.{Line}
 use Rattle.lwp_types.specs.declared.rows.AgentRow.{AgentRow}
 use Rattle.lwp_types.specs.declared.rows.Letter.{Letter}
-use Rattle.pod_runner.specs.Eager.{Plan, Planned, boundary, offered, offered_by, state_of, taken_line, took_of}
+use Rattle.pod_runner.specs.Eager.{Plan, Planned, boundary, offered, offered_by, state_of, taken_line}
 use Rattle.pod_runner.specs.Over.{events}
 use Rattle.pod_runner.specs.Phase.{phase_by, phase_of}
 use Rattle.pod_runner.specs.Session.{taken}

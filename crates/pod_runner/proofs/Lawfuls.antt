@@ -1,13 +1,13 @@
 -- Every state of a session is lawful.
-use Rattle.std.proofs.Common.{◌≡◌, ◌≤◌, ℕ, zero, suc, ◌+◌, List, [], ◌∷◌, Bool, true, false, None, Some, refl}
+use Rattle.std.proofs.Common.{◌≤◌, ℕ, zero, suc, List, [], ◌∷◌, Bool, true, false, None, Some}
 use Rattle.std.specs.Prelude.{Option, IsTrue, MatchBool, reverse, if◌then◌else◌, ◌==◌}
 use Rattle.lwp_types.specs.Choice.{choice}
 use Rattle.lwp_types.specs.Lawful.{Lawful}
-use Rattle.lwp_types.specs.Names.{Names, polled_as}
+use Rattle.lwp_types.specs.Names.{polled_as}
 use Rattle.lwp_types.specs.Poll.{Polled}
 use Rattle.pod_laws.proofs.EveryStep.{Lawful-deliver, Lawful-step}
 use Rattle.pod_laws.proofs.Opening.{Lawful-opening}
-use Rattle.pod_runner.specs.Due.{AllDue, CallsDue, IsDefined, TakeDue, is_call_due, is_take_due}
+use Rattle.pod_runner.specs.Due.{AllDue, IsDefined, TakeDue, is_call_due, is_take_due}
 use Rattle.pod_runner.specs.Laws.{SessionsAreLawful}
 use Rattle.pod_runner.specs.Play.{calls_made, play, played, with_take}
 use Rattle.pod_runner.specs.Session.{Live, Session, Setting, call_step, called, move, move_by, move_row, row_of, take_step, taken}

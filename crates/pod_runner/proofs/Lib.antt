@@ -1,3 +1,4 @@
+pub mod Rising
 pub mod RowLemmas
 pub mod Appends
 pub mod Plays

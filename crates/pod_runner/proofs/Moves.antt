@@ -1,6 +1,6 @@
 -- One call of a session, by what was found.
 use Rattle.std.proofs.Common.{◌≡◌, ℕ, ◌<◌, ◌≤◌, List, [], length, None, Some, sym, ap, ◌∙◌, refl, arith, inl, inr, true, false, Bool}
-use Rattle.std.specs.Prelude.{Option, slice_get, IsTrue, if◌then◌else◌}
+use Rattle.std.specs.Prelude.{Option, slice_get, if◌then◌else◌}
 use Rattle.std.proofs.lemmas.Option.{slice_get_past, slice_get_cases}
 use Rattle.lwp_calls.specs.Pod.{current_of}
 use Rattle.lwp_types.specs.Agents.{deliver}

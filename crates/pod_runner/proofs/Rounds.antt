@@ -1,19 +1,18 @@
 -- What a run, a gate and a sink come to together, part by part.
-use Rattle.std.proofs.Common.{◌≢◌, ◌≡◌, ◌≤◌, ◌<◌, ℕ, zero, suc, ◌+◌, ◌-◌, List, [], ◌∷◌, Bool, true, false, cond, None, Some, ap, ◌∙◌, refl, sym, subst, ◌++◌, length, length-append, take, inl, inr, arith}
+use Rattle.std.proofs.Common.{◌≢◌, ◌≡◌, ◌≤◌, ◌<◌, ℕ, zero, suc, ◌+◌, ◌-◌, List, [], ◌∷◌, true, false, None, Some, ap, ◌∙◌, refl, sym, subst, ◌++◌, length, length-append, take, arith}
 use Rattle.std.proofs.Math.Seq.{take-append_seam, take-length}
-use Rattle.std.specs.Prelude.{Option, Result, Ok, Err, OnOk, OnErr, IsErrAnd, IsErrOf}
+use Rattle.std.specs.Prelude.{Option, Result, Ok, Err, OnOk, OnErr, IsErrAnd}
 use Rattle.std.specs.List.{fold, range_with_len}
 use Rattle.std.proofs.lemmas.List.Sums.{fold-append}
 use Rattle.event_gate.specs.Shelves.{Shelf, first_left, left_in_all, taken_from}
 use Rattle.lwp_types.specs.Agents.{armed}
 use Rattle.lwp_types.specs.Poll.{Next}
-use Rattle.lwp_types.specs.Streams.{Rose, appended}
 use Rattle.lwp_types.specs.declared.call.Line.{Line}
 use Rattle.pod_runner.specs.Does.{Does}
 use Rattle.pod_runner.specs.Due.{IsDefined}
-use Rattle.pod_runner.specs.Eager.{IsFirstPart, Plan, Planned, advanced, boundary, finished, has_choice, offered, one_call, opening_plan, plan_over, plan_whole, round, state_of, taken_line}
-use Rattle.pod_runner.specs.Phase.{phase_by, phase_of}
-use Rattle.pod_runner.specs.Run.{Broke, EndsAt, GoesOn, IsNew, Played, Stream, Tells, Writes, WritesCut, WritesPart, Wrote, but_last, plan_now, planned_of, session_of, phase_now, setting_of, stepped, took_now, trace_before, trace_of, with_call, with_took}
+use Rattle.pod_runner.specs.Eager.{IsFirstPart, Plan, Planned, advanced, boundary, finished, offered, one_call, opening_plan, plan_over, plan_whole, round, state_of}
+use Rattle.pod_runner.specs.Phase.{phase_of}
+use Rattle.pod_runner.specs.Run.{Broke, GoesOn, IsNew, Played, Stream, Tells, WritesPart, Wrote, but_last, plan_now, planned_of, session_of, phase_now, setting_of, stepped, took_now, trace_before, trace_of, with_call, with_took}
 use Rattle.pod_runner.specs.Session.{Made, Move, Session, call_step, extended, take_step}
 use Rattle.pod_runner.specs.Play.{play}
 use Rattle.pod_runner.specs.Trace.{lines}
@@ -23,11 +22,10 @@ use Rattle.trace_text.specs.declared.ends.Halt.TheVariants as halts
 use Rattle.pod_runner.specs.declared.phase.RunErr.{RunErr}
 use Rattle.pod_runner.specs.declared.phase.RunErr.TheVariants as fails
 use Rattle.pod_runner.specs.declared.session.Took.{Took}
-use Rattle.pod_runner.proofs.Appends.{writes_same}
-use Rattle.pod_runner.specs.Over.{events, halt_if, is_wanted, over}
+use Rattle.pod_runner.specs.Over.{events}
 use Rattle.pod_runner.proofs.Kept.{boundary-turn}
 use Rattle.pod_runner.proofs.Plays.{LastBy-of, play-call, play-take, play-zero}
-use Rattle.pod_runner.proofs.Ends.{idle-advanced, idle-on, idle-round, idle-stuck, over-turn, turn-round}
+use Rattle.pod_runner.proofs.Ends.{idle-on, idle-round, idle-stuck, turn-round}
 use Rattle.pod_runner.proofs.Eagers.{call-grows, falls, finished-grows, finished-over, finished-round, first-same, first-then, offered-grows, to_do, offered-some, offered-unable, offered-unarmed, serves-grow, taken_from-none}
 
 -- ---- what is told

@@ -2,10 +2,8 @@
 use Rattle.std.proofs.Common.{◌≡◌, ◌≤◌, ℕ, ◌+◌, List, [], ◌∷◌, ◌++◌, Bool, true, false, cond, None, Some, ap, ◌∙◌, sym, refl, arith}
 use Rattle.std.specs.Prelude.{Option, Ok, IsTrue, is_some, not, option_map, ◌&&◌, nat_lt}
 use Rattle.std.proofs.lemmas.Bool.Decides.{nat_tests}
-use Rattle.lwp_calls.specs.Pod.{current_of}
 use Rattle.lwp_types.specs.Choice.{choice}
 use Rattle.lwp_types.specs.State.{State}
-use Rattle.lwp_types.specs.declared.call.Line.{Line}
 use Rattle.pod_runner.specs.Due.{IsDefined, is_call_due}
 use Rattle.pod_runner.specs.Parts.{Moves}
 use Rattle.pod_runner.specs.Phase.{phase_by, phase_of}

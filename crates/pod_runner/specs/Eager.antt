@@ -9,7 +9,7 @@ use Rattle.trace_text.specs.declared.ends.Halt.{Halt}
 use Rattle.pod_runner.specs.Session.{Made, Session, Setting, call_step, opening_session, take_step}
 use Rattle.pod_runner.specs.declared.session.Took.{Took}
 use Rattle.std.specs.List.{fold}
-use Rattle.std.specs.Prelude.{Bool, List, None, Option, Some, [], false, if◌then◌else◌, is_some, suc, true, zero, ℕ, ◌++◌, ◌+◌, ◌∷◌, ◌≡◌, ◌≤◌}
+use Rattle.std.specs.Prelude.{Bool, List, None, Option, Some, [], false, is_some, suc, true, zero, ℕ, ◌++◌, ◌+◌, ◌∷◌, ◌≡◌, ◌≤◌}
 
 -- how far such a session has come
 pub record Plan (B : Type 0) : Type 0 where

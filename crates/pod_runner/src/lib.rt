@@ -15,6 +15,7 @@ mod live;
 mod parts;
 mod phase;
 mod playing;
+mod row_list;
 mod rows;
 mod session;
 mod written;

@@ -7,9 +7,10 @@ ghost use Rattle.pod_runner.specs.Phase.{phase_of};
 ghost use Rattle.pod_runner.specs.Polls.{place_of};
 ghost use Rattle.pod_runner.specs.Session.{move, row_opened, taken};
 
-use crate::rows::{open, place, poll_at, proc_of, settle};
+use crate::row_list::RowList;
+use crate::rows::{proc_of, settle};
 use crate::written::set_lines;
-use crate::{Phase, Row, Took};
+use crate::{Phase, Took};
 use lwp_calls::{Pod, PodEnd};
 use lwp_types::{Body, Effects, Env, NoMemory, PodParams, Program, Text, Tid};
 use std::alloc::Global;
@@ -18,7 +19,7 @@ use std::alloc::Global;
 #[derive(Drop)]
 pub(crate) struct Parts<B> {
     pub(crate) pod: Pod,
-    pub(crate) rows: Vec<Row<B>>,
+    pub(crate) rows: RowList<B>,
     pub(crate) env: Env,
     pub(crate) effects: Effects,
 }
@@ -40,8 +41,8 @@ impl<B: Body> Parts<B> {
         requires procs { 1 ≤ params.procs }
         ensures { IfOk result (λ parts. live_of parts ≡ record { state = opening params; rows = row_opened 0 (slice_get (P.bodies program.now) 0); names = env }) }
     {
-        let mut rows = Vec::new(alloc);
-        open(&mut rows, program, 0, Tid { number: 0 })?;
+        let mut rows = RowList::new(alloc);
+        rows.open(program, 0, Tid { number: 0 })?;
         let effects = Effects::new(alloc)?;
         let pod = Pod::new(alloc, params)?;
         Ok(Parts {
@@ -90,7 +91,7 @@ impl<B: Body> Parts<B> {
         self.pod
             .deliver(took.event, took.line.text, &mut self.effects);
         set_lines(out, &self.effects, Some(&took.line), names)?;
-        settle(&mut self.rows, program, None, &mut self.effects)?;
+        settle(&mut self.rows, program, None, &self.effects)?;
         Ok(())
     }
 
@@ -109,7 +110,7 @@ impl<B: Body> Parts<B> {
         match self.pod.current() {
             None => Ok(()),
             Some(tid) => {
-                let i = place(&self.rows, tid);
+                let i = self.rows.place(tid);
                 if i < self.rows.len() {
                     self.make_call(program, names, tid, i, out)
                 } else {
@@ -128,17 +129,16 @@ impl<B: Body> Parts<B> {
         out: &mut Vec<u8>,
     ) -> Result<(), NoMemory>
         requires current { current_of self.old.pod ≡ Some tid }
-        requires place { i ≡ place_of tid self.old.rows.items }
-        requires within { i < length self.old.rows.items }
+        requires place { i ≡ place_of tid self.old.rows }
+        requires within { i < length self.old.rows }
         ensures { OnOk result (Moves names.now None (move B.next (P.bodies program.now) (live_of self.old)) (live_of self.new) out.new.items) }
     {
         self.env.set_me(tid);
-        let alloc = *self.rows.allocator();
-        let call = poll_at(alloc, &mut self.rows, i, &mut self.env)?;
+        let call = self.rows.poll_at(i, &mut self.env)?;
         let born = proc_of(&call);
         self.pod.call(call, &mut self.effects)?;
         set_lines(out, &self.effects, None, names)?;
-        settle(&mut self.rows, program, born, &mut self.effects)?;
+        settle(&mut self.rows, program, born, &self.effects)?;
         Ok(())
     }
 }

@@ -1,4 +1,4 @@
-use Rattle.std.proofs.Common.{◌≡◌, ◌∙◌, sym, Ok, Err}
+use Rattle.std.proofs.Common.{◌∙◌, sym, Ok, Err}
 use Rattle.pod_runner.specs.Eager.{round}
 use Rattle.pod_runner.proofs.Rounds.{does-call, does-err, does-idle, does-idle-lines, does-turn, does-turn-call, due-still, over-on, over-stuck, stream}
 use Rattle.pod_runner.proofs.drive.go_round.Goals as goal

@@ -1,5 +1,5 @@
 use Rattle.std.proofs.Common.{◌∙◌, sym, rules}
-use Rattle.pod_runner.proofs.Rounds.{does-none, does-take, does-unarmed, stream}
+use Rattle.pod_runner.proofs.Rounds.{does-none, does-take, stream}
 use Rattle.pod_runner.proofs.drive.serve.Goals as goal
 
 pub returns-in-Some : goal.returns-in-Some

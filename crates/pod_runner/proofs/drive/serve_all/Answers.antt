@@ -1,5 +1,5 @@
-use Rattle.std.proofs.Common.{arith, rules}
-use Rattle.pod_runner.proofs.Rounds.{events-begin, events-end, events-more, events-part, stream}
+use Rattle.std.proofs.Common.{arith}
+use Rattle.pod_runner.proofs.Rounds.{events-end, events-more, events-part, stream}
 use Rattle.pod_runner.proofs.drive.serve_all.Goals as goal
 
 pub loop-event-preserved : goal.loop-event-preserved

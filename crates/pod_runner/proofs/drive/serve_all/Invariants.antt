@@ -1,7 +1,7 @@
-use Rattle.std.proofs.Common.{◌≡◌, ◌≤◌, ◌-◌, Ok}
+use Rattle.std.proofs.Common.{◌-◌, Ok}
 use Rattle.std.specs.List.{fold, range_with_len}
 use Rattle.pod_runner.specs.Does.{Does}
-use Rattle.pod_runner.specs.Eager.{Plan, Planned, offered}
+use Rattle.pod_runner.specs.Eager.{Plan, offered}
 use Rattle.pod_runner.proofs.Rounds.{stream}
 use Rattle.pod_runner.proofs.drive.serve_all.Given as goal
 

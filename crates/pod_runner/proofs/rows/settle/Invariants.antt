@@ -1,11 +1,8 @@
-use Rattle.std.proofs.Common.{◌≡◌, length}
+use Rattle.std.proofs.Common.{◌≡◌, drop}
 use Rattle.pod_runner.specs.Session.{settled}
 use Rattle.pod_runner.proofs.rows.settle.Given as goal
 
-abbrev pub invariant-loop-effect : goal.invariant-loop-effect
-invariant-loop-effect g l =
+abbrev pub invariant-loop-i : goal.invariant-loop-i
+invariant-loop-i g l =
     let bodies = g.P.Program.bodies l.program in
-    settled bodies l.born l.effects l.rows.items ≡ settled bodies l.born l.initial.effects l.initial.rows.items
-
-abbrev pub decreases-loop-effect : goal.decreases-loop-effect
-decreases-loop-effect g l = length l.effects
+    settled bodies l.born (drop l.i l.effects) l.rows ≡ settled bodies l.born l.effects l.initial.rows

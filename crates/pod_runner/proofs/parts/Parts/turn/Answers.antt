@@ -7,6 +7,6 @@ use Rattle.pod_runner.proofs.parts.Parts.turn.Goals as goal
 
 pub returns-else-i-len : goal.returns-else-i-len
 returns-else-i-len g c =
-    let past : length c.args.self.now.rows.items ≤ place_of c.in-Some.tid c.args.self.now.rows.items = search rules in
+    let past : length c.args.self.now.rows ≤ place_of c.in-Some.tid c.args.self.now.rows = search rules in
     let turn : current_of c.args.self.now.pod ≡ Some c.in-Some.tid = sym c.current.ensures.value ∙ c.in-Some.is in
     moves_none g.B.Body.next (g.P.Program.bodies c.args.program.now) c.args.names.now (live_of c.args.self.now) c.in-Some.tid c.clear.new.self.items (chosen_from c.args.self.now.pod c.in-Some.tid turn) past c.clear.ensures.items

@@ -1,4 +1,4 @@
-use Rattle.std.proofs.Common.{◌≡◌, ◌+◌, ◌++◌, ◌∷◌, ◌∙◌, [], List, ℕ, false, true, refl, rules}
+use Rattle.std.proofs.Common.{◌≡◌, ◌++◌, ◌∷◌, ◌∙◌, [], List, ℕ, false, true, refl}
 use Rattle.lwp_types.specs.Names.{null_names}
 use Rattle.pod_runner.specs.Parts.{live_of}
 use Rattle.pod_runner.specs.Play.{play}

@@ -1,9 +1,8 @@
-use Rattle.std.proofs.Common.{◌≡◌, ◌+◌, ◌++◌, ◌∷◌, ◌∙◌, [], List, ℕ, false, true, refl, rules}
+use Rattle.std.proofs.Common.{◌≡◌, ◌+◌, ◌∙◌, List, ℕ, false, true}
 use Rattle.lwp_types.specs.Names.{null_names}
 use Rattle.pod_runner.specs.Parts.{live_of}
 use Rattle.pod_runner.specs.Play.{play}
 use Rattle.pod_runner.specs.Session.{Setting}
-use Rattle.pod_runner.specs.declared.session.Took.{Took}
 use Rattle.pod_runner.proofs.Turns.{called-step, keeps-call, made-call, told-fault, told-ok}
 use Rattle.pod_runner.proofs.playing.Run.turn.Goals as goal
 
