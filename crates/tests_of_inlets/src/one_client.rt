@@ -1,9 +1,9 @@
 ghost use Rattle.std.specs.Prelude.{◌≡◌, ◌+◌, ◌≤◌, [], length};
 ghost use denote.Param.Send.{IsSync};
 
-use lanes::{LanePass, LanePoster, LaneTaker, lane_post_all, open_lane};
 use crossbeam_utils::atomic::AtomicCell;
 use event_gate::{Bell, Inlet, NoGate, PostGate};
+use lanes::{LanePass, LanePoster, LaneTaker, lane_post_all, open_lane};
 use lwp_types::{Line, NoMemory, Text};
 use std::alloc::Global;
 use std::snapshot::Snapshot;

@@ -1,8 +1,10 @@
 ghost use Rattle.std.specs.Prelude.{◌≡◌, ◌+◌, ◌≤◌, [], All, IfOk, length};
 ghost use denote.Param.Send.{IsSync};
 
-use event_gate::{Bell, Gate, ListGate, NoGate, PostEnd, PostGate, Poster, Taker, open_port, post_all};
 use crossbeam_utils::atomic::AtomicCell;
+use event_gate::{
+    Bell, Gate, ListGate, NoGate, PostEnd, PostGate, Poster, Taker, open_port, post_all,
+};
 use lwp_types::{Line, NoMemory, Text};
 use std::alloc::Global;
 use std::snapshot::Snapshot;

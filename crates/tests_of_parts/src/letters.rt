@@ -1,7 +1,7 @@
 ghost use Rattle.std.specs.Prelude.{◌≡◌, false};
 
-use rendezvous::Mail;
 use lwp_types::{Letter, LwpErr, Text, Tid};
+use rendezvous::Mail;
 use std::test::Fail;
 
 const A: Tid = Tid { number: 0 };

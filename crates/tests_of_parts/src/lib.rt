@@ -21,4 +21,6 @@ mod scheduler;
 #[cfg(test)]
 mod stacks;
 #[cfg(test)]
+mod waiting;
+#[cfg(test)]
 mod waits;

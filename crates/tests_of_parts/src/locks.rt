@@ -1,5 +1,5 @@
-use monitors::Monitors;
 use lwp_types::{IdList, Tid};
+use monitors::Monitors;
 use std::test::Fail;
 
 const A: Tid = Tid { number: 1 };

@@ -1,8 +1,8 @@
 ghost use Rattle.std.specs.Prelude.{◌≡◌, ◌<◌};
 ghost use Rattle.pod_sched.specs.Schedule.{choice};
 
-use pod_sched::{Sched, Steps};
 use lwp_types::Tid;
+use pod_sched::{Sched, Steps};
 use std::alloc::Global;
 use std::marker::Brand;
 use std::sync::ledger::{Blank, Ledger};

@@ -4,9 +4,9 @@ ghost use Rattle.death_cleanup.specs.Example.{thread};
 ghost use Rattle.death_cleanup.specs.Ties.{LawfulParts};
 ghost use Rattle.stale_ids.specs.Register.{inserted};
 
-use death_cleanup::{Kind, Parts, ThreadRec, die};
 use agents::Agents;
 use conditions::{Conds, WaitRec};
+use death_cleanup::{Kind, Parts, ThreadRec, die};
 use exc_stack::ExcStack;
 use lwp_types::{
     Answer, Block, Cid, Effect, Effects, ExitCall, Flags, Letter, LwpErr, Mid, NoMemory, Text, Tid,

@@ -1,11 +1,11 @@
 ghost use Rattle.std.specs.Prelude.{◌≡◌, false, IfOk};
 
-use pod_runner::{Phase, Run, RunErr, lines_of, run, write_all};
 use event_gate::ListGate;
 use lwp_types::{
     Answer, Body, Call, Effect, Effects, Env, Line, MemSink, NoMemory, PodParams, Program, Text,
     Tid,
 };
+use pod_runner::{Phase, Run, RunErr, lines_of, run, write_all};
 use std::alloc::Global;
 use std::test::Fail;
 use trace_text::Halt;

@@ -1,8 +1,8 @@
-use script_body::ScriptBody;
 use lwp_types::{
     Answer, Body, Call, Env, ExitCall, Flags, Func, LwpErr, Mode, NULL_TID, NoMemory, Pattern,
     Sequence, Text, Tid,
 };
+use script_body::ScriptBody;
 use script_text::{NameList, Names, Proc, Script, Stmt, Test, Texts, Who};
 use std::alloc::Global;
 use std::test::Fail;

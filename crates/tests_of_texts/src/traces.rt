@@ -1,6 +1,6 @@
-use trace_text::*;
 use lwp_types::{Answer, Effect, Effects, Flags, Func, LwpErr, Mode, Pattern, Tid};
 use std::test::Fail;
+use trace_text::*;
 
 #[test]
 fn writes_the_lines_of_a_step(rt: HostRuntime) -> Result<(), Fail> {

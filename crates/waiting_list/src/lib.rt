@@ -11,6 +11,3 @@ mod rows;
 
 pub use line::WaitingList;
 pub use rows::Waiting;
-
-#[cfg(test)]
-mod tests;

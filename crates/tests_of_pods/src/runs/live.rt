@@ -2,9 +2,9 @@
 ghost use Rattle.std.specs.Prelude.{◌≡◌, ◌≤◌, [], All, IfOk, length};
 
 use crate::runs::{TRACE, start};
-use pod_runner::{Live, RunErr, run_live};
 use event_gate::{Bell, NoGate, Poster, open_port, post_all};
 use lwp_types::{MemSink, Text};
+use pod_runner::{Live, RunErr, run_live};
 use std::alloc::Global;
 use std::sync::Wait;
 use std::test::*;

@@ -1,8 +1,8 @@
 ghost use Rattle.std.specs.Prelude.{◌≡◌};
 
-use crate::{Waiting, WaitingList};
 use lwp_types::{IdList, Tid};
 use std::test::Fail;
+use waiting_list::{Waiting, WaitingList};
 
 fn waiting(what: u64, thread: u64, prio: u32) -> Waiting
     ensures { result ≡ record { what = what; tid = thread; prio = prio; depth = 1 } }
