@@ -16,11 +16,11 @@ colours = codes ":root{color-scheme:light dark;--paper:#fff;--ink:#1c1c1c;--soft
 
 -- how the page is laid out
 unfoldable pub layout : List ℕ
-layout = codes "body{margin:0;padding:8px;display:flex;flex-direction:column;background:var(--paper);color:var(--ink);font:13px sans-serif}\n.more{order:-1;margin:4px 0}\n.key{height:76px;width:900px;flex:none}\n.page{display:grid;grid-template-columns:120px auto;min-width:max-content}\n.run{grid-area:1/2}\n.names{grid-area:1/1;position:sticky;left:0;width:120px;background:var(--paper);border-right:1px solid var(--line)}\nsvg{display:block;fill:var(--ink)}\ng{pointer-events:bounding-box}\n"
+layout = codes "body{margin:0;padding:8px;display:flex;flex-direction:column;background:var(--paper);color:var(--ink);font:13px sans-serif}\n.more{order:-1;margin:4px 0}\n.key{height:76px;width:900px;flex:none}\n.page{display:grid;grid-template-columns:120px auto;min-width:max-content}\n.run{grid-area:1/2}\n.names{grid-area:1/1;position:sticky;left:0;width:120px;background:var(--paper);border-right:1px solid var(--line)}\nsvg{display:block;fill:var(--ink)}\n"
 
 -- how marks look
 unfoldable pub marks : List ℕ
-marks = codes "text{font:12px sans-serif}\n.name{font-weight:bold}\n.number,.event{font-size:10px;fill:var(--soft);text-anchor:middle}\n.tag{font-size:7px;fill:var(--ink)}\n.end{font-weight:bold}\n.due{font-weight:bold;fill:var(--monitor)}\n.life{fill:var(--line);opacity:.7}\n.held{fill:var(--held);stroke:var(--edge);stroke-width:.8}\n.reply,.letter,.monitor,.condition,.death,.suspended{stroke-width:1}\n"
+marks = codes "text{font:12px sans-serif}\n.name{font-weight:bold}\n.number,.event{font-size:10px;fill:var(--soft);text-anchor:middle}\n.tag{font-size:7px;fill:var(--ink)}\n.end{font-weight:bold}\n.due{font-weight:bold;fill:var(--monitor)}\n.life{fill:var(--line);opacity:.7;pointer-events:none}\n.held{fill:var(--held);stroke:var(--edge);stroke-width:.8}\n.reply,.letter,.monitor,.condition,.death,.suspended{stroke-width:1}\n"
 
 -- how waits look: by colour and by pattern
 unfoldable pub waits : List ℕ
@@ -36,7 +36,7 @@ patterns = codes "<svg class='key' viewBox='0 0 900 76'>\n<defs><pattern id='p-r
 
 -- arrow heads and signs
 unfoldable pub signs : List ℕ
-signs = codes "<marker id='a-sent' viewBox='0 0 8 8' refX='7' refY='4' markerWidth='6' markerHeight='6' orient='auto'><path d='M0 0L8 4L0 8z'/></marker><marker id='a-replied' viewBox='0 0 8 8' refX='7' refY='4' markerWidth='6' markerHeight='6' orient='auto'><path d='M0 0L8 4L0 8z'/></marker><marker id='a-woken' viewBox='0 0 8 8' refX='7' refY='4' markerWidth='6' markerHeight='6' orient='auto'><path d='M0 0L8 4L0 8z'/></marker><g id='tick'><rect x='-1' y='2' width='2' height='16'/></g><g id='exit'><path class='sign' d='M0 4L5 10L0 16L-5 10z'/></g><g id='death'><path class='sign' d='M-5 5L5 15M-5 15L5 5'/></g></defs>\n"
+signs = codes "<marker id='a-sent' viewBox='0 0 8 8' refX='7' refY='4' markerWidth='6' markerHeight='6' orient='auto'><path d='M0 0L8 4L0 8z'/></marker><marker id='a-replied' viewBox='0 0 8 8' refX='7' refY='4' markerWidth='6' markerHeight='6' orient='auto'><path d='M0 0L8 4L0 8z'/></marker><marker id='a-woken' viewBox='0 0 8 8' refX='7' refY='4' markerWidth='6' markerHeight='6' orient='auto'><path d='M0 0L8 4L0 8z'/></marker><g id='tick'><rect x='-4' y='0' width='8' height='20' fill='transparent'/><rect x='-1' y='2' width='2' height='16'/></g><g id='exit'><path class='sign' d='M0 4L5 10L0 16L-5 10z'/></g><g id='death'><path class='sign' d='M-5 5L5 15M-5 15L5 5'/></g></defs>\n"
 
 -- the legend: what is waited for
 unfoldable pub key_waits : List ℕ

@@ -27,14 +27,14 @@ fn colours() -> &'static [u8]
 fn layout() -> &'static [u8]
     ensures { result.now ≡ layout }
 {
-    b"body{margin:0;padding:8px;display:flex;flex-direction:column;background:var(--paper);color:var(--ink);font:13px sans-serif}\n.more{order:-1;margin:4px 0}\n.key{height:76px;width:900px;flex:none}\n.page{display:grid;grid-template-columns:120px auto;min-width:max-content}\n.run{grid-area:1/2}\n.names{grid-area:1/1;position:sticky;left:0;width:120px;background:var(--paper);border-right:1px solid var(--line)}\nsvg{display:block;fill:var(--ink)}\ng{pointer-events:bounding-box}\n"
+    b"body{margin:0;padding:8px;display:flex;flex-direction:column;background:var(--paper);color:var(--ink);font:13px sans-serif}\n.more{order:-1;margin:4px 0}\n.key{height:76px;width:900px;flex:none}\n.page{display:grid;grid-template-columns:120px auto;min-width:max-content}\n.run{grid-area:1/2}\n.names{grid-area:1/1;position:sticky;left:0;width:120px;background:var(--paper);border-right:1px solid var(--line)}\nsvg{display:block;fill:var(--ink)}\n"
 }
 
 #[tactic(auto, unfolding(crate::specs::Frame::marks))]
 fn marks() -> &'static [u8]
     ensures { result.now ≡ marks }
 {
-    b"text{font:12px sans-serif}\n.name{font-weight:bold}\n.number,.event{font-size:10px;fill:var(--soft);text-anchor:middle}\n.tag{font-size:7px;fill:var(--ink)}\n.end{font-weight:bold}\n.due{font-weight:bold;fill:var(--monitor)}\n.life{fill:var(--line);opacity:.7}\n.held{fill:var(--held);stroke:var(--edge);stroke-width:.8}\n.reply,.letter,.monitor,.condition,.death,.suspended{stroke-width:1}\n"
+    b"text{font:12px sans-serif}\n.name{font-weight:bold}\n.number,.event{font-size:10px;fill:var(--soft);text-anchor:middle}\n.tag{font-size:7px;fill:var(--ink)}\n.end{font-weight:bold}\n.due{font-weight:bold;fill:var(--monitor)}\n.life{fill:var(--line);opacity:.7;pointer-events:none}\n.held{fill:var(--held);stroke:var(--edge);stroke-width:.8}\n.reply,.letter,.monitor,.condition,.death,.suspended{stroke-width:1}\n"
 }
 
 #[tactic(auto, unfolding(crate::specs::Frame::waits))]
@@ -62,7 +62,7 @@ fn patterns() -> &'static [u8]
 fn signs() -> &'static [u8]
     ensures { result.now ≡ signs }
 {
-    b"<marker id='a-sent' viewBox='0 0 8 8' refX='7' refY='4' markerWidth='6' markerHeight='6' orient='auto'><path d='M0 0L8 4L0 8z'/></marker><marker id='a-replied' viewBox='0 0 8 8' refX='7' refY='4' markerWidth='6' markerHeight='6' orient='auto'><path d='M0 0L8 4L0 8z'/></marker><marker id='a-woken' viewBox='0 0 8 8' refX='7' refY='4' markerWidth='6' markerHeight='6' orient='auto'><path d='M0 0L8 4L0 8z'/></marker><g id='tick'><rect x='-1' y='2' width='2' height='16'/></g><g id='exit'><path class='sign' d='M0 4L5 10L0 16L-5 10z'/></g><g id='death'><path class='sign' d='M-5 5L5 15M-5 15L5 5'/></g></defs>\n"
+    b"<marker id='a-sent' viewBox='0 0 8 8' refX='7' refY='4' markerWidth='6' markerHeight='6' orient='auto'><path d='M0 0L8 4L0 8z'/></marker><marker id='a-replied' viewBox='0 0 8 8' refX='7' refY='4' markerWidth='6' markerHeight='6' orient='auto'><path d='M0 0L8 4L0 8z'/></marker><marker id='a-woken' viewBox='0 0 8 8' refX='7' refY='4' markerWidth='6' markerHeight='6' orient='auto'><path d='M0 0L8 4L0 8z'/></marker><g id='tick'><rect x='-4' y='0' width='8' height='20' fill='transparent'/><rect x='-1' y='2' width='2' height='16'/></g><g id='exit'><path class='sign' d='M0 4L5 10L0 16L-5 10z'/></g><g id='death'><path class='sign' d='M-5 5L5 15M-5 15L5 5'/></g></defs>\n"
 }
 
 #[tactic(auto, unfolding(crate::specs::Frame::key_waits))]
