@@ -7,13 +7,14 @@ use Rattle.live_clients.proofs.Served.{is_client}
 use Rattle.live_clients.proofs.Ties.{IsSame, for_kept, known_again, out_kept}
 use Rattle.live_clients.specs.Ends.{AnyPosting, IsEnd, IsTakenIn, passed_of}
 use Rattle.live_clients.specs.Served.{EachInlet, Hears, clients_of, texts_of}
-use Rattle.live_clients.specs.Ties.{AreTied, IsKnown, IsOut, IsWork}
+use Rattle.live_clients.specs.Ties.{AreTied, IsKnown, IsOut, IsWork, any_intake}
+use Rattle.live_clients.specs.declared.inlet.AnyInlet.{AnyInlet}
 use Rattle.live_clients.specs.declared.outside.Client.{Client}
 use Rattle.live_clients.specs.declared.poster.AnyEnd.{AnyEnd}
-use Rattle.std.proofs.Common.{Bool, List, [], ap, arith, eqb, false, get_or-set_other, get_or-set_same, length, length-append, length-set, ne_eqb, refl, set, slice_index_or, subst, sym, true, true≢false, ℕ, ◌&&◌, ◌+◌, ◌++◌, ◌<◌, ◌∙◌, ◌∷◌, ◌≡◌, ◌≢◌, ⊎_elim}
+use Rattle.std.proofs.Common.{Bool, List, [], ap, arith, eqb, false, get_or-set_other, get_or-set_same, length, length-append, length-set, map, ne_eqb, refl, set, slice_index_or, subst, sym, true, true≢false, ℕ, ◌&&◌, ◌+◌, ◌++◌, ◌<◌, ◌∙◌, ◌∷◌, ◌≡◌, ◌≢◌, ⊎_elim}
 use Rattle.std.proofs.Math.Seq.{get_or-append_seam}
 use Rattle.std.proofs.lemmas.Bool.{cases_order}
-use Rattle.std.proofs.lemmas.List.{get_or_append_left}
+use Rattle.std.proofs.lemmas.List.{get_or-map, get_or_append_left, length-map}
 
 -- both of two flags
 first_of_both : (a b : Bool) → (a && b) ≡ true → a ≡ true
@@ -159,3 +160,7 @@ hears_on first second third a b = (
       let u : Intake = slice_index_or third k d in
       b.1 k d (let s = a.0 in omega (arith, s, lt)) ∙ ap (λ (t : Intake). record t { known = u.known }) x,
 )
+
+-- the inlet that was looked up, as a runner's end
+pub at_place : (xs : List AnyInlet) (k : ℕ) (x : AnyInlet) → k < length (map any_intake xs) → x ≡ slice_index_or xs k x → (d : Intake) → slice_index_or (map any_intake xs) k d ≡ any_intake x
+at_place xs k x lt e d = let size = length-map xs any_intake in get_or-map any_intake xs k x d (omega (arith, size, lt)) ∙ ap any_intake (sym e)

@@ -153,15 +153,6 @@ no_client events e c other = ⊎_elim
     (λ (n : is_noted c (clients_of events e) ≡ false). n)
     (bool_cases (is_noted c (clients_of events e)))
 
-pub open_begins : (events : List ℕ) (texts : List (List (List ℕ))) (seats : List (Option Seat)) → length seats ≡ length events → All (λ e. (1 ≤ e) × (e ≤ 31)) events → AreOpen events texts 1 [] seats
-open_begins events texts seats size sound = record {
-  low = λ k d lt. absurd (omega (arith, lt));
-  rise = λ i j d low high. absurd (omega (arith, high));
-  new = λ k d lt. absurd (omega (arith, lt));
-  size = size;
-  seated = λ c d low small. let s = (sound c 0 low).0 in absurd (omega (arith, s, small));
-}
-
 seat_kept : (events : List ℕ) (texts : List (List (List ℕ))) (inlets : List Intake) (t : Intake) (c : ℕ) (seat : Option Seat) → HasSeat events texts inlets c seat → HasSeat events texts (inlets ++ t ∷ []) c seat
 seat_kept events texts inlets t c seat h =
     let size : length (inlets ++ t ∷ []) ≡ length inlets + 1 = length-append inlets (t ∷ []) in
@@ -253,11 +244,6 @@ open_for events texts inlets seats h sound = record {
       let seat = h.seated k None lt (omega (arith, s)) in
       (seat.index, seat.inside, λ u. seat.event u ∙ sym zero_is);
 }
-
-pub all_fresh : (events : List ℕ) (inlets : List Intake) → All (λ t. t ≡ fresh t.place t.event (clients_of events t.event)) inlets → All (λ t. t ≡ fresh t.place t.event t.noted) inlets
-all_fresh events inlets h = λ k d lt.
-    let t : Intake = slice_index_or inlets k d in
-    h k d lt ∙ ap (fresh t.place t.event) (sym (ap (λ (u : Intake). u.noted) (h k d lt)))
 
 -- ---- the threads
 

@@ -1,16 +1,10 @@
-use Rattle.event_gate.specs.Inlet.{Intake}
-use Rattle.live_clients.proofs.Back.{end_fits, hears, inside_of, tied_back}
+use Rattle.live_clients.proofs.Back.{at_place, end_fits, hears, inside_of, tied_back}
 use Rattle.live_clients.proofs.outside.Outside.take_back.Goals as goal
 use Rattle.live_clients.specs.Served.{EachInlet, Hears}
 use Rattle.live_clients.specs.Ends.{passed_of}
 use Rattle.live_clients.specs.Ties.{AreTied, all_texts, any_intake, events_of, intakes}
-use Rattle.live_clients.specs.declared.inlet.AnyInlet.{AnyInlet}
-use Rattle.std.proofs.Common.{List, ap, arith, length, map, slice_index_or, subst, sym, ℕ, ◌&&◌, ◌<◌, ◌∙◌, ◌≡◌}
-use Rattle.std.proofs.lemmas.List.{get_or-map, length-map, map-set}
-
--- the inlet that was looked up, as a runner's end
-at_place : (xs : List AnyInlet) (k : ℕ) (x : AnyInlet) → k < length (map any_intake xs) → x ≡ slice_index_or xs k x → (d : Intake) → slice_index_or (map any_intake xs) k d ≡ any_intake x
-at_place xs k x lt e d = let size = length-map xs any_intake in get_or-map any_intake xs k x d (omega (arith, size, lt)) ∙ ap any_intake (sym e)
+use Rattle.std.proofs.Common.{subst, sym, ◌&&◌}
+use Rattle.std.proofs.lemmas.List.{map-set}
 
 pub take_in-requires-clause-place : goal.take_in-requires-clause-place
 take_in-requires-clause-place g c =

@@ -1,0 +1,6 @@
+use Rattle.live_clients.proofs.tests.drain.Given as goal
+use Rattle.live_clients.specs.Ties.{IsTied}
+use Rattle.std.proofs.Common.{vec_len, ◌≡◌}
+
+abbrev pub invariant-loop-place : goal.invariant-loop-place
+invariant-loop-place g l = IsTied l.outside × (vec_len l.outside.inlets ≡ vec_len l.fn.outside.inlets)

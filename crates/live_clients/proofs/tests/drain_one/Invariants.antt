@@ -1,0 +1,9 @@
+use Rattle.live_clients.proofs.tests.drain_one.Given as goal
+use Rattle.live_clients.specs.Served.{Gave}
+use Rattle.live_clients.specs.Ties.{any_intake}
+
+abbrev pub invariant-loop : goal.invariant-loop
+invariant-loop g l =
+    (goal.iterator-loop g).can_next l.iterator'
+    × (goal.iterator-loop g).is_finite l.iterator'
+    × Gave (any_intake l.fn.inlet) (any_intake l.inlet)

@@ -1,0 +1,8 @@
+use Rattle.live_clients.proofs.tests.take_beside.Given as goal
+use Rattle.live_clients.specs.Ties.{IsTied}
+
+abbrev pub invariant-loop : goal.invariant-loop
+invariant-loop g l =
+    (goal.iterator-loop g).can_next l.iterator'
+    × (goal.iterator-loop g).is_finite l.iterator'
+    × IsTied l.outside

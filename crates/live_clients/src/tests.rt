@@ -1,0 +1,182 @@
+ghost use Rattle.live_clients.specs.Served.{Gave};
+ghost use Rattle.live_clients.specs.Ties.{IsTied, any_intake};
+ghost use Rattle.std.specs.Prelude.{All, IfOk, OnOk, length, ◌+◌, ◌≡◌, ◌≤◌};
+ghost use denote.Param.Send.{IsSync};
+
+use crate::{AnyInlet, Outside, draws_keep_ties};
+use crossbeam_utils::atomic::AtomicCell;
+use event_gate::{Bell, Inlet, PostGate};
+use lwp_types::{NoMemory, Text};
+use std::alloc::Global;
+use std::sync::Wait;
+use std::test::*;
+use std::thread::{self, Scope, Threads};
+
+// The gate of one client, which tells whether another has asked it.
+#[derive(Drop)]
+struct Own<'a> {
+    client: u8,
+    strange: &'a AtomicCell<bool>,
+}
+
+impl PostGate for Own<'_> {
+    fn before(&mut self, client: u8, _seq: u32) {
+        if client != self.client {
+            self.strange.store(true);
+        }
+    }
+}
+
+fn three_gates<'a>(alloc: Global, strange: &'a AtomicCell<bool>) -> Result<Vec<Own<'a>>, NoMemory>
+    ensures { IfOk result (λ v. length v.items ≡ 3) }
+{
+    let mut gates = Vec::with_capacity(alloc, 3)?;
+    gates.push(Own { client: 0, strange })?;
+    gates.push(Own { client: 1, strange })?;
+    gates.push(Own { client: 2, strange })?;
+    Ok(gates)
+}
+
+// How many lines came, by client, and whether each came in its place, from the inlet of its client's event.
+#[derive(Drop)]
+struct Tally {
+    counts: [u32; 3],
+    in_order: bool,
+}
+
+// Takes all lines that are there.
+fn drain_one<R: Wait>(rt: &R, inlet: &mut AnyInlet, tally: &mut Tally)
+    ensures { Gave (any_intake inlet.old) (any_intake inlet.new) }
+{
+    let event = inlet.event();
+    for _ in rt.forever() {
+        let Some(line) = inlet.take(rt) else { return };
+        let client = usize::from(line.client);
+        if client >= 3 || line.seq != tally.counts[client] || event != [7u8, 5, 7][client] {
+            tally.in_order = false;
+        } else {
+            tally.counts[client] = tally.counts[client].wrapping_add(1);
+        }
+    }
+    unreachable!()
+}
+
+fn drain<'s, R: Wait>(rt: &R, outside: &mut Outside<'s>, tally: &mut Tally)
+    requires { IsTied outside.old }
+    ensures { IsTied outside.new }
+{
+    draws_keep_ties();
+    for place in 0..outside.inlets.len() {
+        drain_one(rt, &mut outside.inlets[place], tally);
+    }
+}
+
+// What the inlets say in the end: of each its event, and how many lines of its clients are left; 9 where a pass is missing.
+fn last_words(inlets: &[AnyInlet]) -> [(u8, u32); 2] {
+    let mut words = [(0u8, 9u32); 2];
+    for (word, inlet) in words.iter_mut().zip(inlets) {
+        let left = inlet
+            .left(0)
+            .saturating_add(inlet.left(1))
+            .saturating_add(inlet.left(2));
+        *word = (inlet.event(), if inlet.told() { left } else { 9 });
+    }
+    words
+}
+
+// What came of it, whether all was posted, and what the inlets said.
+#[derive(Drop)]
+struct Harvest {
+    tally: Tally,
+    all: bool,
+    words: [(u8, u32); 2],
+}
+
+// Lines are taken until all clients have left the bell, and the rest when their threads have ended.
+fn take_beside<'s, R: Threads + Wait>(rt: &R, outside: &mut Outside<'s>, bell: &Bell) -> Harvest
+    requires { IsTied outside.old }
+{
+    let mut tally = Tally {
+        counts: [0; 3],
+        in_order: true,
+    };
+    for _ in rt.forever() {
+        drain(rt, outside, &mut tally);
+        if bell.gone(rt) == 3 {
+            break;
+        }
+        bell.park(rt);
+    }
+    let first = outside.close(rt);
+    drain(rt, outside, &mut tally);
+    let all = outside.close(rt) && first;
+    let words = last_words(&outside.inlets);
+    Harvest { tally, all, words }
+}
+
+fn start_and_take<'s, E, R: Threads + Wait + Sync>(
+    scope: &Scope<'s, E>,
+    rt: &'s R,
+    alloc: Global,
+    texts: &'s [Vec<Text>],
+    gates: Vec<Own<'s>>,
+    bell: &'s Bell,
+) -> Result<Harvest, NoMemory>
+    requires texts { (length texts.now ≡ 3) × All (λ ts. length ts.items ≤ 20000) texts.now }
+    requires gates { length gates.items ≡ 3 }
+{
+    let mut outside = Outside::start(scope, rt, alloc, &[7, 5, 7], texts, gates, bell)?;
+    Ok(take_beside(rt, &mut outside, bell))
+}
+
+fn run_three<R: Threads + Wait + Sync>(
+    rt: &R,
+    alloc: Global,
+    texts: &[Vec<Text>],
+    strange: &AtomicCell<bool>,
+) -> Result<Harvest, NoMemory>
+    requires { (length texts.now ≡ 3) × All (λ ts. length ts.items ≤ 20000) texts.now }
+{
+    let gates = three_gates(alloc, strange)?;
+    let bell = Bell::new();
+    let bell = &bell;
+    thread::scope(
+        thread::scope_env(),
+        rt,
+        move |scope| -> Result<Harvest, NoMemory>
+            requires { IsSync R.row × (length gates.items ≡ 3) × (length texts.now ≡ 3) × All (λ ts. length ts.items ≤ 20000) texts.now }
+        { start_and_take(scope, rt, alloc, texts, gates, bell) },
+    )
+}
+
+// So many lines of one more client.
+fn add_texts(alloc: Global, all: &mut Vec<Vec<Text>>, lines: usize) -> Result<(), NoMemory>
+    requires lines { lines ≤ 20000 }
+    requires before { All (λ ts. length ts.items ≤ 20000) all.old.items }
+    ensures { OnOk result ((length all.new.items ≡ length all.old.items + 1) × All (λ ts. length ts.items ≤ 20000) all.new.items) }
+{
+    let texts = Vec::from_elem(alloc, Text::empty(), lines)?;
+    all.push(texts)?;
+    Ok(())
+}
+
+fn three_texts(alloc: Global) -> Result<Vec<Vec<Text>>, NoMemory>
+    ensures { IfOk result (λ v. (length v.items ≡ 3) × All (λ ts. length ts.items ≤ 20000) v.items) }
+{
+    let mut texts = Vec::new(alloc);
+    add_texts(alloc, &mut texts, 300)?;
+    add_texts(alloc, &mut texts, 200)?;
+    add_texts(alloc, &mut texts, 100)?;
+    Ok(texts)
+}
+
+#[test]
+fn each_line_comes_once_and_in_order(rt: HostRuntime) -> Result<(), Fail> {
+    let texts = three_texts(rt.alloc()).map_err(|_| "no memory")?;
+    let strange = AtomicCell::new(false);
+    let harvest = run_three(&rt, rt.alloc(), &texts, &strange).map_err(|_| "no memory")?;
+    assert_eq!(rt; harvest.tally.counts, [300, 200, 100]);
+    assert!(rt; harvest.tally.in_order && harvest.all && !strange.load());
+    assert_eq!(rt; harvest.words, [(5, 0), (7, 0)]);
+    Ok(())
+}
