@@ -16,6 +16,3 @@ mod poster;
 pub use inlet::AnyInlet;
 pub use laws::{closed_are_served, draws_keep_ties};
 pub use outside::Outside;
-
-#[cfg(test)]
-mod tests;

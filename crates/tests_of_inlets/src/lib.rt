@@ -8,3 +8,5 @@
 mod one_client;
 #[cfg(test)]
 mod ports;
+#[cfg(test)]
+mod three_clients;

@@ -1,4 +1,4 @@
-use Rattle.live_clients.proofs.tests.drain_one.Given as goal
+use Rattle.tests_of_inlets.proofs.three_clients.drain_one.Given as goal
 use Rattle.live_clients.specs.Served.{Gave}
 use Rattle.live_clients.specs.Ties.{any_intake}
 

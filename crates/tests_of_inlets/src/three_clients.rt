@@ -3,9 +3,9 @@ ghost use Rattle.live_clients.specs.Ties.{IsTied, any_intake};
 ghost use Rattle.std.specs.Prelude.{All, IfOk, OnOk, length, ◌+◌, ◌≡◌, ◌≤◌};
 ghost use denote.Param.Send.{IsSync};
 
-use crate::{AnyInlet, Outside, draws_keep_ties};
 use crossbeam_utils::atomic::AtomicCell;
 use event_gate::{Bell, Inlet, PostGate};
+use live_clients::{AnyInlet, Outside, draws_keep_ties};
 use lwp_types::{NoMemory, Text};
 use std::alloc::Global;
 use std::sync::Wait;

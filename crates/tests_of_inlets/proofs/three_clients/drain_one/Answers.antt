@@ -1,5 +1,5 @@
 use Rattle.live_clients.proofs.Draining.{gave_none, gave_nothing}
-use Rattle.live_clients.proofs.tests.drain_one.Goals as goal
+use Rattle.tests_of_inlets.proofs.three_clients.drain_one.Goals as goal
 use Rattle.live_clients.specs.Ties.{any_intake}
 
 pub loop-init : goal.loop-init

@@ -1,4 +1,4 @@
-use Rattle.live_clients.proofs.tests.add_texts.Goals as goal
+use Rattle.tests_of_inlets.proofs.three_clients.add_texts.Goals as goal
 use Rattle.std.proofs.Common.{All, [], ap, arith, length, length-append, subst, sym, ◌∙◌, ◌∷◌, ◌≤◌}
 use Rattle.std.proofs.lemmas.List.Elements.{All-push}
 

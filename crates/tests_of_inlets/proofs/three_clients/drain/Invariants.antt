@@ -1,4 +1,4 @@
-use Rattle.live_clients.proofs.tests.drain.Given as goal
+use Rattle.tests_of_inlets.proofs.three_clients.drain.Given as goal
 use Rattle.live_clients.specs.Ties.{IsTied}
 use Rattle.std.proofs.Common.{vec_len, ◌≡◌}
 

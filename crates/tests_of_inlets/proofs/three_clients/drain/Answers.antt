@@ -1,7 +1,7 @@
 use Rattle.live_clients.proofs.Back.{at_place}
 use Rattle.live_clients.proofs.Draining.{one_gave}
 use Rattle.live_clients.proofs.Ties.{draws_keep_ties}
-use Rattle.live_clients.proofs.tests.drain.Goals as goal
+use Rattle.tests_of_inlets.proofs.three_clients.drain.Goals as goal
 use Rattle.live_clients.specs.Served.{EachInlet, Gave}
 use Rattle.live_clients.specs.Ties.{all_texts, any_intake, events_of, intakes}
 use Rattle.std.proofs.Common.{arith, length, map, set, subst, sym, ◌<◌}

@@ -1,4 +1,4 @@
-use Rattle.live_clients.proofs.tests.take_beside.Given as goal
+use Rattle.tests_of_inlets.proofs.three_clients.take_beside.Given as goal
 use Rattle.live_clients.specs.Ties.{IsTied}
 
 abbrev pub invariant-loop : goal.invariant-loop
