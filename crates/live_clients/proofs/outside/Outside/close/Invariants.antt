@@ -1,0 +1,10 @@
+use Rattle.live_clients.proofs.outside.Outside.close.Given as goal
+use Rattle.live_clients.specs.Served.{EachInlet, Hears}
+use Rattle.live_clients.specs.Ties.{IsSameOutside, IsTied, intakes}
+use Rattle.std.proofs.Common.{length}
+
+abbrev pub invariant-loop-client : goal.invariant-loop-client
+invariant-loop-client g l = IsTied l.self × IsSameOutside l.fn.self l.self × EachInlet Hears (intakes l.fn.self) (intakes l.self)
+
+abbrev pub decreases-loop-client : goal.decreases-loop-client
+decreases-loop-client g l = length l.self.out.items

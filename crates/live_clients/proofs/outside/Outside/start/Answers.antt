@@ -1,0 +1,88 @@
+use Rattle.event_gate.specs.Inlet.{Intake}
+use Rattle.live_clients.proofs.Seats.{all_out, first_seat, later_seats, no_vacant, open_for, out_more, out_of_seat, seat_ready}
+use Rattle.live_clients.proofs.outside.Outside.start.Goals as goal
+use Rattle.live_clients.specs.Ends.{IsReady, posting_of}
+use Rattle.live_clients.specs.Opening.{HasSeat, HaveSeatsFrom}
+use Rattle.live_clients.specs.Served.{texts_of}
+use Rattle.live_clients.specs.Ties.{IsOut, IsWork, any_intake}
+use Rattle.live_clients.specs.declared.outside.Client.{Client}
+use Rattle.std.proofs.Common.{List, [], ap, arith, length, map, slice_index_or, subst, suc, sym, vec_len, ℕ, ◌∙◌, ◌≡◌, ◌≤◌}
+use Rattle.std.proofs.lemmas.List.{get_or-map, length-map}
+use Rattle.std.proofs.lemmas.List.Elements.{All-map}
+
+pub unreachable-requires : goal.unreachable-requires
+unreachable-requires g c =
+    let events : List ℕ = c.args.events.now in
+    let texts : List (List (List ℕ)) = map (λ v. v.items) c.args.texts.now in
+    let inlets : List Intake = map any_intake c.in_ok-inlets.field-0.inlets.items in
+    let n : ℕ = vec_len c.loop-seat.out in
+    let seats = subst (HaveSeatsFrom events texts inlets n) c.in-Some.ensures.steps.0 c.loop-seat.invariant.2 in
+    no_vacant events texts inlets n (subst (HasSeat events texts inlets n) c.in_default.is (first_seat events texts inlets n c.in-Some.seat c.next.new.self.rest.items seats))
+
+pub start_client-requires-after_bounds : goal.start_client-requires-after_bounds
+start_client-requires-after_bounds g c κs within =
+    let events : List ℕ = c.args.events.now in
+    let texts : List (List (List ℕ)) = map (λ v. v.items) c.args.texts.now in
+    let inlets : List Intake = map any_intake c.in_ok-inlets.field-0.inlets.items in
+    let n : ℕ = vec_len c.loop-seat.out in
+    let h = c.loop-seat.invariant in
+    let h3 = h.3 in
+    let seats = subst (HaveSeatsFrom events texts inlets n) c.in-Some.ensures.steps.0 h.2 in
+    let seat = subst (HasSeat events texts inlets n) c.in-Some-seat.is (first_seat events texts inlets n c.in-Some.seat c.next.new.self.rest.items seats) in
+    let rest : length c.loop-seat.seat-iterator.rest.items ≡ suc (length c.next.new.self.rest.items) = ap length c.in-Some.ensures.steps.0 in
+    let as_many = c.requires.texts in
+    let len = c.len.ensures in
+    let at : texts_of texts n ≡ c.index-texts-len.result.items =
+    ap (texts_of texts) (sym len) ∙ get_or-map (λ v. v.items) c.args.texts.now c.len.result _ [] (omega (arith, h3, rest, as_many, len)) ∙ ap (λ v. v.items) (sym c.index-texts-len.is) in
+    subst (λ (ts : List (List ℕ)). IsReady (posting_of c.in-Some-seat.seat.poster).place (posting_of c.in-Some-seat.seat.poster).client ts (posting_of c.in-Some-seat.seat.poster)) at
+    (seat_ready events texts inlets n c.in-Some-seat.seat seat)
+
+pub loop-seat-preserved : goal.loop-seat-preserved
+loop-seat-preserved g c =
+    let events : List ℕ = c.args.events.now in
+    let texts : List (List (List ℕ)) = map (λ v. v.items) c.args.texts.now in
+    let inlets : List Intake = map any_intake c.in_ok-inlets.field-0.inlets.items in
+    let n : ℕ = vec_len c.loop-seat.out in
+    let h = c.loop-seat.invariant in
+    let h3 = h.3 in
+    let h4 = h.4 in
+    let h5 = h.5 in
+    let seats = subst (HaveSeatsFrom events texts inlets n) c.in-Some.ensures.steps.0 h.2 in
+    let seat = subst (HasSeat events texts inlets n) c.in-Some-seat.is (first_seat events texts inlets n c.in-Some.seat c.next.new.self.rest.items seats) in
+    let rest : length c.loop-seat.seat-iterator.rest.items ≡ suc (length c.next.new.self.rest.items) = ap length c.in-Some.ensures.steps.0 in
+    let gates : length c.loop-seat.gates.rest.items ≡ suc (length c.next-in-loop-seat.new.self.rest.items) = ap length c.in-Some-next.ensures.items in
+    let as_many = c.requires.texts in
+    let len = c.len.ensures in
+    let more = c.push_reserved.ensures.len in
+    let room = c.push_reserved.ensures.capacity in
+    let size = c.loop-seat.out.ok.0 in
+    let at : texts_of texts n ≡ c.index-texts-len.result.items =
+    ap (texts_of texts) (sym len) ∙ get_or-map (λ v. v.items) c.args.texts.now c.len.result _ [] (omega (arith, h3, rest, as_many, len)) ∙ ap (λ v. v.items) (sym c.index-texts-len.is) in
+    let client : Client = c.start_client.result in
+    let work = subst (λ (ts : List (List ℕ)). IsWork (posting_of c.in-Some-seat.seat.poster).place (posting_of c.in-Some-seat.seat.poster).client ts client.work) (sym at) c.start_client.ensures.work in
+    let last : IsOut events texts inlets n client = out_of_seat events texts inlets n c.in-Some-seat.seat client seat c.start_client.ensures.inlet work in (
+      tt,
+      tt,
+      subst (λ (m : ℕ). HaveSeatsFrom events texts inlets m c.next.new.self.rest.items) (sym more) (later_seats events texts inlets n c.in-Some.seat c.next.new.self.rest.items seats),
+      omega (arith, h3, rest, more),
+      omega (arith, h4, rest, gates),
+      omega (arith, h5, room),
+      (λ b d lt. subst (λ (xs : List Client). IsOut events texts inlets b (slice_index_or xs b d)) (sym c.push_reserved.ensures.items)
+          (out_more events texts inlets c.loop-seat.out.items client (λ k e low. h.6 k e (omega (arith, low, size))) (subst (λ (m : ℕ). IsOut events texts inlets m client) size last) b d (omega (arith, lt, more, size)))),
+    )
+
+pub returns-clause-tied : goal.returns-clause-tied
+returns-clause-tied g c =
+    let events : List ℕ = c.args.events.now in
+    let texts : List (List (List ℕ)) = map (λ v. v.items) c.args.texts.now in
+    let inlets : List Intake = map any_intake c.in_ok-inlets.field-0.inlets.items in
+    let h = c.loop-seat.invariant in
+    let h3 = h.3 in
+    let size = c.loop-seat.out.ok.0 in
+    let rest = c.loop-seat.seat-iterator.rest.ok.0 in
+    let none = c.in-None.ensures.steps.0 in
+    all_out events texts inlets c.loop-seat.out.items (open_for events texts inlets c.in_ok-inlets.field-0.seats.items c.in_ok-inlets.ensures c.requires.events)
+    (length-map c.args.texts.now (λ v. v.items) ∙ c.requires.texts)
+    (All-map (λ ts. length ts ≤ 20000) (λ v. v.items) c.args.texts.now c.requires.few)
+    (omega (arith, h3, size, rest, none))
+    (λ b d lt. h.6 b d (omega (arith, lt, size)))

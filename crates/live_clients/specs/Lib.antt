@@ -1,0 +1,5 @@
+pub mod Ends
+pub mod Inlets
+pub mod Served
+pub mod Opening
+pub mod Ties

@@ -1,0 +1,67 @@
+-- What inlets have of the lines that clients post, once all of these have posted.
+use Rattle.event_gate.specs.Inlet.{Intake, IsInletTaken, IsInletTold}
+use Rattle.event_gate.specs.Port.{IsNumbered, of, told_of}
+use Rattle.event_gate.specs.Shelves.{event_of}
+use Rattle.event_gate.specs.Texts.{lines_from}
+use Rattle.lwp_types.specs.declared.call.Line.{Line}
+use Rattle.std.specs.List.{All, AllPairs, HoldsAt, SomeIndex, filter, range_with_len, slice_index_or}
+use Rattle.std.specs.Prelude.{Bool, List, [], ◌++◌, eqb, length, take, true, ℕ, ◌<◌, ◌≡◌, ◌≤◌, ◌+◌}
+
+-- the clients that post to an event, in order
+abbrev pub clients_of : List ℕ → ℕ → List ℕ
+clients_of events e = filter (λ c. eqb (event_of events c) e) (range_with_len 0 (length events))
+
+-- the texts of a client
+abbrev pub texts_of : List (List (List ℕ)) → ℕ → List (List ℕ)
+texts_of texts c = slice_index_or texts c []
+
+-- the events rise, from 1 to 31
+abbrev pub EventsRise : List Intake → Type 0
+EventsRise inlets = All (λ t. (1 ≤ t.event) × (t.event ≤ 31)) inlets × AllPairs (λ t u. t.event < u.event) inlets
+
+-- some inlet has the event
+abbrev pub HasEvent : List Intake → ℕ → Type 0
+HasEvent inlets e = SomeIndex inlets (λ k. HoldsAt (λ t. t.event ≡ e) inlets k)
+
+-- there is an inlet of each event that has a client, for just the clients of this event
+pub record AreFor (events : List ℕ) (inlets : List Intake) : Type 0 where
+  pub rise : EventsRise inlets
+  pub clients : All (λ t. t.noted ≡ clients_of events t.event) inlets
+  pub found : All (HasEvent inlets) events
+
+-- so it is of each inlet, before and after, in its place
+abbrev pub EachInlet : (Intake → Intake → Type 0) → List Intake → List Intake → Type 0
+EachInlet R before after = (length after ≡ length before)
+    × ((k : ℕ) (d : Intake) → k < length before → R (slice_index_or before k d) (slice_index_or after k d))
+
+-- an inlet gave lines, and so often none
+pub record Gave (t u : Intake) : Type 0 where
+  pub lines : List Line
+  pub nothing : ℕ
+  pub after : u ≡ record t { taken = t.taken ++ lines; finds = t.finds + nothing }
+
+-- more is known of what its clients have posted in all
+abbrev pub Hears : Intake → Intake → Type 0
+Hears t u = u ≡ record t { known = u.known }
+
+-- What an inlet has of a client of its event: the client posted the first of its texts, and all of them where `all` is true. The lines
+-- taken are the first of these, and then come the rest.
+pub record HasLines (client : ℕ) (texts : List (List ℕ)) (all : Bool) (t : Intake) : Type 0 where
+  pub count : ℕ
+  pub posted : told_of client t.known ≡ lines_from client 0 (take count texts)
+  pub whole : all ≡ true → take count texts ≡ texts
+  pub rest : List Line
+  pub lines : of client t.taken ++ rest ≡ lines_from client 0 (take count texts)
+  pub done : IsInletTaken t → rest ≡ []
+
+-- All passes came back to the inlet. It has given lines of clients of its event alone, each client's in order.
+pub record IsServed (events : List ℕ) (texts : List (List (List ℕ))) (all : Bool) (t : Intake) : Type 0 where
+  pub told : IsInletTold t
+  pub mine : All (λ line. (line.client < length events) × (event_of events line.client ≡ t.event)) t.taken
+  pub lines : (c : ℕ) → c < length events → event_of events c ≡ t.event → HasLines c (texts_of texts c) all t
+  pub numbered : (c : ℕ) → IsNumbered 0 (of c t.taken)
+
+-- so it is of each inlet, and each client's event has one
+pub record AreServed (events : List ℕ) (texts : List (List (List ℕ))) (all : Bool) (inlets : List Intake) : Type 0 where
+  pub are_for : AreFor events inlets
+  pub served : All (IsServed events texts all) inlets

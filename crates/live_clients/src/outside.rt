@@ -1,0 +1,179 @@
+// The inlets of a pod and the threads that post to them.
+ghost use Rattle.live_clients.specs.Ends.{IsEnd, IsReady, posting_of};
+ghost use Rattle.live_clients.specs.Ties.{IsWork};
+ghost use Rattle.std.specs.Prelude.{◌≡◌};
+
+use crate::inlet::AnyInlet;
+use crate::opening::{Opened, Seat, open_all};
+use crate::poster::{AnyEnd, AnyPoster, post_any};
+use event_gate::{Bell, PostGate};
+use lwp_types::{NoMemory, Text};
+use std::alloc::Global;
+use std::snapshot::Snapshot;
+use std::sync::Wait;
+use std::thread::{Promise, PromisedHandle, Scope, Threads};
+
+/// What a client's thread will bring back.
+#[derive(Drop)]
+pub(crate) struct Owes {
+    pub(crate) poster: Snapshot<AnyPoster>,
+    pub(crate) texts: Snapshot<Vec<Text>>,
+}
+
+impl Promise<AnyEnd> for Owes {
+    ghost kept_by = { λ p e. IsEnd (posting_of p.poster.value).place (posting_of p.poster.value).client p.texts.value.items e };
+}
+
+/// What a client's thread does there, or did here, where none could be started.
+#[derive(Drop)]
+pub(crate) enum Work {
+    There(PromisedHandle<AnyEnd, Owes>),
+    Here(AnyEnd),
+}
+
+impl Work {
+    ghost use Rattle.std.specs.Prelude.{List, ℕ};
+
+    // What came of it, once its thread has ended.
+    fn end<R: Threads>(self, rt: &R) -> AnyEnd
+        ensures { (place : List ℕ) (client : ℕ) (texts : List (List ℕ)) → IsWork place client texts self → IsEnd place client texts result }
+    {
+        match self {
+            Work::There(handle) => handle.join(rt),
+            Work::Here(end) => end,
+        }
+    }
+}
+
+/// A client whose pass is still out.
+#[derive(Drop)]
+pub(crate) struct Client {
+    /// The place of its inlet.
+    pub(crate) inlet: usize,
+    pub(crate) work: Work,
+}
+
+// Starts the thread of a client. Where none can be started, the client's lines are posted here and now.
+fn start_client<'s, E, G: PostGate + 's, R: Threads + Wait + Sync>(
+    scope: &Scope<'s, E>,
+    rt: &'s R,
+    seat: Seat,
+    gate: G,
+    texts: &'s Vec<Text>,
+    bell: &'s Bell,
+) -> Client
+    requires { IsReady (posting_of seat.poster).place (posting_of seat.poster).client texts.now.items (posting_of seat.poster) }
+    ensures inlet { result.inlet ≡ seat.inlet }
+    ensures work { IsWork (posting_of seat.poster).place (posting_of seat.poster).client texts.now.items result.work }
+{
+    let Seat { inlet, poster } = seat;
+    let promise = Owes {
+        poster: Snapshot::of(&poster),
+        texts: Snapshot::of(texts),
+    };
+    let started = scope.spawn_with(
+        promise,
+        move || -> AnyEnd
+            requires { IsReady (posting_of poster).place (posting_of poster).client texts.now.items (posting_of poster) }
+            ensures { IsEnd (posting_of poster).place (posting_of poster).client texts.entry.now.items result }
+        { post_any(rt, poster, gate, texts.as_slice(), bell) },
+    );
+    let work = match started {
+        Ok(handle) => Work::There(handle),
+        Err(refused) => Work::Here((refused.value)()),
+    };
+    Client { inlet, work }
+}
+
+/// The inlets of a pod, and the threads that post to them.
+#[derive(Drop)]
+pub struct Outside<'s> {
+    /// One of each event that has a client, by rising event.
+    pub inlets: Vec<AnyInlet>,
+    // The event and the texts of each client.
+    pub(crate) events: &'s [u8],
+    pub(crate) texts: &'s [Vec<Text>],
+    // The first clients. The passes of the others have been taken in.
+    pub(crate) out: Vec<Client>,
+    // Whether those have posted all their lines.
+    pub(crate) all: bool,
+}
+
+impl<'s> Outside<'s> {
+    ghost use Rattle.event_gate.specs.Shelves.{event_of};
+    ghost use Rattle.live_clients.specs.Inlets.{fresh};
+    ghost use Rattle.live_clients.specs.Served.{AreServed, EachInlet, Hears};
+    ghost use Rattle.live_clients.specs.Ties.{AreTied, IsClosed, IsSameOutside, IsTied, all_texts, events_of, intakes};
+    ghost use Rattle.std.specs.Prelude.{All, IfOk, [], length, map, ◌++◌, ◌∷◌, ◌≤◌};
+
+    /// Opens an inlet for each event that has a client, and starts a thread for each client, which posts its texts. The rings and
+    /// the leaving of each are heard at the bell. Client c has gate c.
+    pub fn start<E, G: PostGate + 's, R: Threads + Wait + Sync>(
+        scope: &Scope<'s, E>,
+        rt: &'s R,
+        alloc: Global,
+        events: &'s [u8],
+        texts: &'s [Vec<Text>],
+        gates: Vec<G>,
+        bell: &'s Bell,
+    ) -> Result<Outside<'s>, NoMemory>
+        requires clients { length events.now ≤ 16 }
+        requires events { All (λ e. (1 ≤ e) × (e ≤ 31)) events.now }
+        requires texts { length texts.now ≡ length events.now }
+        requires few { All (λ ts. length ts.items ≤ 20000) texts.now }
+        requires gates { length events.now ≤ length gates.items }
+        ensures tied { IfOk result IsTied }
+        ensures events { IfOk result (λ o. events_of o ≡ events.now) }
+        ensures texts { IfOk result (λ o. all_texts o ≡ map (λ v. v.items) texts.now) }
+        ensures fresh { IfOk result (λ o. All (λ t. t ≡ fresh t.place t.event t.noted) (intakes o)) }
+    {
+        let Opened { inlets, seats } = open_all(rt, alloc, events, texts)?;
+        let mut out = Vec::with_capacity(alloc, events.len())?;
+        let mut gates = gates.into_iter();
+        for seat in seats {
+            let Some(seat) = seat else { unreachable!() };
+            let Some(gate) = gates.next() else {
+                unreachable!()
+            };
+            let texts = &texts[out.len()];
+            out.push_reserved(start_client(scope, rt, seat, gate, texts, bell));
+        }
+        Ok(Outside {
+            inlets,
+            events,
+            texts,
+            out,
+            all: true,
+        })
+    }
+
+    /// Joins each thread that is still out, and takes in its pass. Answers whether all clients have posted all their lines. It may
+    /// be called again, after more lines were taken.
+    pub fn close<R: Threads + Wait>(&mut self, rt: &R) -> bool
+        requires { IsTied self.old }
+        ensures tied { IsTied self.new }
+        ensures same { IsSameOutside self.old self.new }
+        ensures inlets { EachInlet Hears (intakes self.old) (intakes self.new) }
+        ensures closed { IsClosed self.new }
+        ensures served { AreServed (events_of self.new) (all_texts self.new) result (intakes self.new) }
+    {
+        while let Some(client) = self.out.pop() {
+            self.take_back(rt, client);
+        }
+        self.all
+    }
+
+    // Takes in the pass of the client behind all that are out, when its thread has ended.
+    fn take_back<R: Threads + Wait>(&mut self, rt: &R, client: Client)
+        requires { AreTied (events_of self.old) (all_texts self.old) self.old.all (self.old.out.items ++ client ∷ []) (intakes self.old) }
+        ensures tied { IsTied self.new }
+        ensures same { IsSameOutside self.old self.new }
+        ensures out { self.new.out.items ≡ self.old.out.items }
+        ensures inlets { EachInlet Hears (intakes self.old) (intakes self.new) }
+    {
+        let Client { inlet, work } = client;
+        let AnyEnd { pass, all } = work.end(rt);
+        self.inlets[inlet].take_in(rt, pass);
+        self.all &= all;
+    }
+}

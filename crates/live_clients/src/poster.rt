@@ -1,0 +1,54 @@
+// A client's end of a lane or of a port, and what its thread does.
+ghost use Rattle.live_clients.specs.Ends.{IsEnd, IsReady, posting_of};
+
+use event_gate::{Bell, PostEnd, PostGate, PostPass, Poster, post_all};
+use lanes::{LanePass, LanePoster, lane_post_all};
+use lwp_types::Text;
+use std::sync::Wait;
+
+/// A client's end of a lane or of a port.
+#[derive(Drop)]
+pub(crate) enum AnyPoster {
+    Lane(LanePoster),
+    Port(Poster),
+}
+
+/// What a client has posted, for good.
+#[derive(Drop)]
+pub(crate) enum AnyPass {
+    Lane(LanePass),
+    Port(PostPass),
+}
+
+/// What a client has posted, and whether that is all of its lines.
+#[derive(Drop)]
+pub(crate) struct AnyEnd {
+    pub(crate) pass: AnyPass,
+    pub(crate) all: bool,
+}
+
+/// Posts the texts in order, until a post is refused, which can't be on a lane. Then the poster leaves.
+pub(crate) fn post_any<G: PostGate, R: Wait>(
+    rt: &R,
+    poster: AnyPoster,
+    gate: G,
+    texts: &[Text],
+    bell: &Bell,
+) -> AnyEnd
+    requires { IsReady (posting_of poster).place (posting_of poster).client texts.now (posting_of poster) }
+    ensures { IsEnd (posting_of poster).place (posting_of poster).client texts.now result }
+{
+    match poster {
+        AnyPoster::Lane(poster) => AnyEnd {
+            pass: AnyPass::Lane(lane_post_all(rt, poster, gate, texts, bell)),
+            all: true,
+        },
+        AnyPoster::Port(poster) => {
+            let PostEnd { pass, all } = post_all(rt, poster, gate, texts, bell);
+            AnyEnd {
+                pass: AnyPass::Port(pass),
+                all,
+            }
+        }
+    }
+}
