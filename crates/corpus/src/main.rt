@@ -30,11 +30,13 @@ use row::{Row, row_of};
 use std::alloc::Global;
 use std::io::{ErrorKind, Write};
 use std::process::ExitCode;
+use std::sync::Wait;
+use std::thread::Threads;
 use std::{fs, io};
 use verdict::{Verdict, compare, ending};
 
 fn main(rt: HostRuntime) -> ExitCode {
-    match print_rows(&rt) {
+    match print_rows(&rt, &rt) {
         Ok(true) => ExitCode::SUCCESS,
         Ok(false) | Err(_) => ExitCode::FAILURE,
     }
@@ -45,12 +47,12 @@ fn io_error(_: NoMemory) -> io::Error {
 }
 
 // Prints a line for each row, and answers whether all are the same.
-fn print_rows(rt: &HostRuntime) -> io::Result<bool> {
+fn print_rows<R: Threads + Wait + Sync>(rt: &HostRuntime, threads: &R) -> io::Result<bool> {
     let table = fs::read_to_string(rt, "rows")?;
     let mut all_same = true;
     for line in table.lines() {
         let same = match row_of(rt.alloc(), line).map_err(io_error)? {
-            Some(row) => print_row(rt, &row)?,
+            Some(row) => print_row(rt, threads, &row)?,
             None => {
                 println!(rt; "{line}: no row")?;
                 false
@@ -62,12 +64,16 @@ fn print_rows(rt: &HostRuntime) -> io::Result<bool> {
 }
 
 // Runs a row, prints its line, and answers whether it is the same.
-fn print_row(rt: &HostRuntime, row: &Row<'_>) -> io::Result<bool> {
+fn print_row<R: Threads + Wait + Sync>(
+    rt: &HostRuntime,
+    threads: &R,
+    row: &Row<'_>,
+) -> io::Result<bool> {
     let (Ok(script), Ok(wanted)) = (fs::read(rt, row.script), fs::read(rt, row.text)) else {
         println!(rt; "{}: a file is missing", row.name)?;
         return Ok(false);
     };
-    let outcome = outcome_of(rt.alloc(), row, script.as_slice()).map_err(io_error)?;
+    let outcome = outcome_of(rt.alloc(), threads, row, script.as_slice()).map_err(io_error)?;
     let text = compared(row, outcome.text.as_slice(), wanted.len());
     let said = compare(outcome.status, text, row.status, wanted.as_slice());
     print_verdict(rt, row.name, &said)?;
@@ -75,11 +81,16 @@ fn print_row(rt: &HostRuntime, row: &Row<'_>) -> io::Result<bool> {
 }
 
 // What comes of a row.
-fn outcome_of(alloc: Global, row: &Row<'_>, script: &[u8]) -> Result<Outcome, NoMemory> {
+fn outcome_of<R: Threads + Wait + Sync>(
+    alloc: Global,
+    threads: &R,
+    row: &Row<'_>,
+    script: &[u8],
+) -> Result<Outcome, NoMemory> {
     if row.text.ends_with(".damages") {
-        damaged_sessions(alloc, &row.words, script)
+        damaged_sessions(threads, alloc, &row.words, script)
     } else {
-        session(alloc, &row.words, script)
+        session(threads, alloc, &row.words, script)
     }
 }
 

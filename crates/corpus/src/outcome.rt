@@ -1,8 +1,10 @@
 // What the program makes of its words and a script.
 use crate::damage::{Damage, damaged};
-use lwp_serve::{fault_text, top};
+use lwp_serve::{fault_text, no_gates, top};
 use lwp_types::{MemSink, MemSource, NoMemory};
 use std::alloc::Global;
+use std::sync::Wait;
+use std::thread::Threads;
 
 // A trace has room for so many bytes, of which the sink takes at most so many at once.
 const ROOM: usize = 4_194_304;
@@ -17,10 +19,16 @@ pub struct Outcome {
 }
 
 /// The session of these words, over streams in memory of which none fails.
-pub fn session(alloc: Global, words: &Vec<String>, script: &[u8]) -> Result<Outcome, NoMemory> {
+pub fn session<R: Threads + Wait + Sync>(
+    rt: &R,
+    alloc: Global,
+    words: &Vec<String>,
+    script: &[u8],
+) -> Result<Outcome, NoMemory> {
     let mut source = MemSource::new(script.to_vec(alloc)?, Vec::new(alloc));
     let mut sink = MemSink::new(alloc, ROOM, PER_CALL, Vec::new(alloc))?;
-    let session = top(alloc, words, &mut source, &mut sink);
+    let gates = no_gates(alloc)?;
+    let session = top(rt, alloc, words, &mut source, &mut sink, gates);
     let mut text = sink.bytes().to_vec(alloc)?;
     text.extend_from_slice(fault_text(alloc, &session.end)?.as_slice())?;
     Ok(Outcome {
@@ -30,14 +38,15 @@ pub fn session(alloc: Global, words: &Vec<String>, script: &[u8]) -> Result<Outc
 }
 
 // Runs the script so damaged, and adds what came of it.
-fn add_damaged(
+fn add_damaged<R: Threads + Wait + Sync>(
+    rt: &R,
     alloc: Global,
     words: &Vec<String>,
     script: &[u8],
     damage: Damage,
     all: &mut Outcome,
 ) -> Result<(), NoMemory> {
-    let one = session(alloc, words, damaged(alloc, script, damage)?.as_slice())?;
+    let one = session(rt, alloc, words, damaged(alloc, script, damage)?.as_slice())?;
     let status = one.status;
     let head = format!(in alloc; "{damage}: {status}\n")?;
     all.status = all.status.max(status);
@@ -48,7 +57,8 @@ fn add_damaged(
 
 /// The sessions of a script cut at each length and with each byte zeroed, one behind the other, each headed by its damage and
 /// its status; the status is the greatest of theirs.
-pub fn damaged_sessions(
+pub fn damaged_sessions<R: Threads + Wait + Sync>(
+    rt: &R,
     alloc: Global,
     words: &Vec<String>,
     script: &[u8],
@@ -58,10 +68,10 @@ pub fn damaged_sessions(
         text: Vec::new(alloc),
     };
     for count in 0..=script.len() {
-        add_damaged(alloc, words, script, Damage::Cut(count), &mut all)?;
+        add_damaged(rt, alloc, words, script, Damage::Cut(count), &mut all)?;
     }
     for count in 0..script.len() {
-        add_damaged(alloc, words, script, Damage::Zero(count), &mut all)?;
+        add_damaged(rt, alloc, words, script, Damage::Zero(count), &mut all)?;
     }
     Ok(all)
 }

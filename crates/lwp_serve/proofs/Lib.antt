@@ -5,3 +5,7 @@ pub mod HistoryLaws
 pub mod LineLaws
 pub mod PlanLaws
 pub mod MakeLaws
+pub mod LeftLaws
+pub mod ClientLaws
+pub mod BesideLaws
+pub mod LiveLaws

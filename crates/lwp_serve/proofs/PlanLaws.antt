@@ -5,8 +5,8 @@ use Rattle.lwp_serve.proofs.HistoryLaws.{counts_left, part_history, whole_histor
 use Rattle.lwp_serve.specs.Bodies.{bodies_of, body_next}
 use Rattle.lwp_serve.specs.declared.body.ThreadBody.{ThreadBody}
 use Rattle.lwp_serve.specs.History.{lines_left, pairs_of}
-use Rattle.lwp_serve.specs.Outcome.{HasRead}
-use Rattle.lwp_serve.specs.Plan.{AreDue, EndSays, IsBroken, IsFaultless, IsPart, IsStopped, IsWhole, ReadSays, Refuses, RunSays, Says, Stream, lines_after, lines_before, opening_names, opening_run, session_at}
+use Rattle.lwp_serve.specs.Outcome.{HasRead, outcome_of, status_of}
+use Rattle.lwp_serve.specs.Plan.{AreDue, EndsBy, Holds, IsBroken, IsFaultless, IsNotRead, IsOf, IsPart, IsQuiet, IsRead, IsStopped, IsWhole, ReadSays, Refuses, RunSays, Says, Stream, lines_after, lines_before, opening_names, opening_run, session_at}
 use Rattle.lwp_serve.specs.Posted.{IsPosted}
 use Rattle.lwp_serve.specs.Reading.{IsReadOut, IsReadPart, IsReadUp}
 use Rattle.lwp_serve.specs.Planned.{calls_of, halt_of, plan_of, planned_of, setting_of, stock_of, takes_of, trace_of}
@@ -48,11 +48,11 @@ use Rattle.std.proofs.lemmas.List.Concat.{flat_map-append}
 
 -- ---- what is told
 
-appended-nil : (w : Option (List ℕ)) → appended w [] ≡ w
+pub appended-nil : (w : Option (List ℕ)) → appended w [] ≡ w
 appended-nil None = refl
 appended-nil (Some told) = ap (λ x. Some x) (append-nil told)
 
-appended-append : (w : Option (List ℕ)) (a b : List ℕ) → appended (appended w a) b ≡ appended w (a ++ b)
+pub appended-append : (w : Option (List ℕ)) (a b : List ℕ) → appended (appended w a) b ≡ appended w (a ++ b)
 appended-append None a b = refl
 appended-append (Some told) a b = ap (λ x. Some x) (append_assoc told a b)
 
@@ -90,7 +90,7 @@ pub record Plays (script : Script) (turns : ℕ) (r : Played Script) : Type 0 wh
   pub names : r.names ≡ opening_names script
   pub turns_same : r.turns ≡ turns
 
-plays : (script : Script) (turns : ℕ) (o r : Played Script) → o ≡ opening_run script turns → GoesOn o r → Plays script turns r
+pub plays : (script : Script) (turns : ℕ) (o r : Played Script) → o ≡ opening_run script turns → GoesOn o r → Plays script turns r
 plays script turns o r h g = record {
   program = g.program ∙ ap (λ (x : Played Script). x.program) h;
   params = g.params ∙ ap (λ (x : Played Script). x.params) h;
@@ -98,7 +98,7 @@ plays script turns o r h g = record {
   turns_same = g.turns ∙ ap (λ (x : Played Script). x.turns) h;
 }
 
-setting-is : (script : Script) (turns : ℕ) (r : Played Script) → Plays script turns r → run.setting_of body_next bodies_of r ≡ setting_of script
+pub setting-is : (script : Script) (turns : ℕ) (r : Played Script) → Plays script turns r → run.setting_of body_next bodies_of r ≡ setting_of script
 setting-is script turns r h =
     ap (λ (p : Script). the_setting p r.params r.names) h.program
     ∙ ap (λ (p : PodParams). the_setting script p r.names) h.params
@@ -107,16 +107,16 @@ setting-is script turns r h =
     the_setting : Script → PodParams → Names → Setting ThreadBody
     the_setting p params names = record { next = body_next; bodies = bodies_of p; params = params; names = names }
 
-session-is : (script : Script) (turns : ℕ) (r : Played Script) → Plays script turns r → run.session_of body_next bodies_of r ≡ session_at script r.takes r.calls
+pub session-is : (script : Script) (turns : ℕ) (r : Played Script) → Plays script turns r → run.session_of body_next bodies_of r ≡ session_at script r.takes r.calls
 session-is script turns r h = ap (λ (s : Setting ThreadBody). play s r.takes r.calls) (setting-is script turns r h)
 
-lines-is : (script : Script) (turns : ℕ) (r : Played Script) → Plays script turns r → run.trace_of body_next bodies_of proc_names r ≡ lines_after script r.takes r.calls
+pub lines-is : (script : Script) (turns : ℕ) (r : Played Script) → Plays script turns r → run.trace_of body_next bodies_of proc_names r ≡ lines_after script r.takes r.calls
 unfolding lines_after
 lines-is script turns r h =
     ap (λ p. lines (proc_names p) (run.session_of body_next bodies_of r).steps) h.program
     ∙ ap (λ (s : Sessions.Session ThreadBody). lines (proc_names script) s.steps) (session-is script turns r h)
 
-before-is : (script : Script) (turns : ℕ) (r : Played Script) → Plays script turns r → run.trace_before body_next bodies_of proc_names r ≡ lines_before script r.takes r.calls
+pub before-is : (script : Script) (turns : ℕ) (r : Played Script) → Plays script turns r → run.trace_before body_next bodies_of proc_names r ≡ lines_before script r.takes r.calls
 unfolding lines_before
 before-is script turns r h =
     ap (λ p. lines (proc_names p) (but_last (run.session_of body_next bodies_of r).steps)) h.program
@@ -124,7 +124,7 @@ before-is script turns r h =
 
 -- ---- where it began
 
-no-lines : (procs : List (List ℕ)) (s : Setting ThreadBody) → lines procs (play s [] 0).steps ≡ []
+pub no-lines : (procs : List (List ℕ)) (s : Setting ThreadBody) → lines procs (play s [] 0).steps ≡ []
 unfolding play
 no-lines procs s = refl
 
@@ -308,11 +308,6 @@ same-verdict told = elim (cases_lt 16777216 (length told)) [
   | inr short ↦ ap verdict (take_all 16777217 told (omega (arith, short)))
 ]
 
--- what the source had left spells this script, if it tells
-abbrev pub Holds : Option (List ℕ) → Script → Type 0
-Holds None script = Unit {0}
-Holds (Some told) script = Spells told script
-
 pub holds-of : (left : Option (List ℕ)) (bytes : List ℕ) (script : Script) → HasRead left bytes → Spells bytes script → Holds left script
 holds-of None bytes script read spells = tt
 holds-of (Some told) bytes script read spells = rw (sym (short-read told (rw (sym read) spells.1.short)), sym read) spells
@@ -340,26 +335,66 @@ out-of source script h up = by_told source.old h up
 part-of-up : (old new : Option (List ℕ)) → IsReadUp old new → IsReadPart old new
 part-of-up old new up = (16777217, omega arith, up)
 
-pub read-of : (turns : ℕ) (source sink : Stream) (session : Session) (script : Script) (e : SessionEnd) → Holds source.old script → IsReadUp source.old source.new
-    → RunSays turns script sink session e → ReadSays source e
-read-of turns source sink session script (end.Ended status) h up s = out-of source script h up
-read-of turns source sink session script end.Stuck h up s = out-of source script h up
-read-of turns source sink session script end.Spent h up s = out-of source script h up
-read-of turns source sink session script end.WriteFault h up s = out-of source script h up
-read-of turns source sink session script end.NoMemory h up s = part-of-up source.old source.new up
-read-of turns source sink session script end.Usage h up s = s
-read-of turns source sink session script end.ReadFault h up s = absurd s
-read-of turns source sink session script (end.Script line reason) h up s = absurd s
-
 -- ---- what the end says
 
-pub says-of : (turns : ℕ) (source sink : Stream) (session : Session) (script : Script) (e : SessionEnd) → Holds source.old script → IsFaultless source
-    → RunSays turns script sink session e → EndSays turns source sink session e
-says-of turns source sink session script (end.Ended status) h f s = (f, says-all source.old script (λ (x : Script). RunSays turns x sink session (end.Ended status)) h s)
-says-of turns source sink session script end.Stuck h f s = (f, says-all source.old script (λ (x : Script). RunSays turns x sink session end.Stuck) h s)
-says-of turns source sink session script end.Spent h f s = (f, says-all source.old script (λ (x : Script). RunSays turns x sink session end.Spent) h s)
-says-of turns source sink session script end.WriteFault h f s = (f, says-all source.old script (λ (x : Script). RunSays turns x sink session end.WriteFault) h s)
-says-of turns source sink session script end.NoMemory h f s = inr (f, says-all source.old script (λ (x : Script). RunSays turns x sink session end.NoMemory) h s)
-says-of turns source sink session script end.Usage h f s = s
-says-of turns source sink session script end.ReadFault h f s = absurd s
-says-of turns source sink session script (end.Script line reason) h f s = absurd s
+-- an end of a script that was read
+abbrev pub IsRanEnd : SessionEnd → Type 0
+IsRanEnd end.Usage = ⊥
+IsRanEnd end.ReadFault = ⊥
+IsRanEnd (end.Script line reason) = ⊥
+IsRanEnd _ = Unit {0}
+
+pub read-of : (source : Stream) (script : Script) (e : SessionEnd) → IsRead source script → IsRanEnd e → ReadSays source e
+read-of source script (end.Ended status) h r = out-of source script h.holds h.up
+read-of source script end.Stuck h r = out-of source script h.holds h.up
+read-of source script end.Spent h r = out-of source script h.holds h.up
+read-of source script end.WriteFault h r = out-of source script h.holds h.up
+read-of source script end.NoMemory h r = part-of-up source.old source.new h.up
+read-of source script end.Usage h r = r
+read-of source script end.ReadFault h r = absurd r
+read-of source script (end.Script line reason) h r = absurd r
+
+pub says-of : (ran : Script → SessionEnd → Type 0) (source sink : Stream) (session : Session) (script : Script) (e : SessionEnd) → IsRead source script → IsRanEnd e
+    → ran script e → EndsBy ran source sink session e
+says-of ran source sink session script (end.Ended status) h r s = (h.faultless, says-all source.old script (λ (x : Script). ran x (end.Ended status)) h.holds s)
+says-of ran source sink session script end.Stuck h r s = (h.faultless, says-all source.old script (λ (x : Script). ran x end.Stuck) h.holds s)
+says-of ran source sink session script end.Spent h r s = (h.faultless, says-all source.old script (λ (x : Script). ran x end.Spent) h.holds s)
+says-of ran source sink session script end.WriteFault h r s = (h.faultless, says-all source.old script (λ (x : Script). ran x end.WriteFault) h.holds s)
+says-of ran source sink session script end.NoMemory h r s = inr (h.faultless, says-all source.old script (λ (x : Script). ran x end.NoMemory) h.holds s)
+says-of ran source sink session script end.Usage h r s = r
+says-of ran source sink session script end.ReadFault h r s = absurd r
+says-of ran source sink session script (end.Script line reason) h r s = absurd r
+
+-- a session of a script that was read
+pub session-of : (ran : Script → SessionEnd → Type 0) (source sink : Stream) (session : Session) (script : Script) → IsRead source script → session.status ≡ status_of session.end
+    → IsRanEnd session.end → ran script session.end → IsOf ran source sink session
+session-of ran source sink session script h status r s =
+    record { status = status; read = read-of source script session.end h r; says = says-of ran source sink session script session.end h r s }
+
+-- a session for which none was read
+not-read-by : (ran : Script → SessionEnd → Type 0) (source sink : Stream) (e : SessionEnd) → IsQuiet sink → IsNotRead source e → IsOf ran source sink (outcome_of e [] 0)
+not-read-by ran source sink end.ReadFault quiet h =
+    record { status = refl; read = h.1; says = (h.0, record { quiet = quiet; taken = refl; calls = refl }) }
+not-read-by ran source sink end.NoMemory quiet h =
+    record { status = refl; read = h.1; says = inl (h.0, record { quiet = quiet; taken = refl; calls = refl }) }
+not-read-by ran source sink (end.Script line reason) quiet h =
+    record { status = refl; read = h.2; says = (h.0, h.1, record { quiet = quiet; taken = refl; calls = refl }) }
+not-read-by ran source sink (end.Ended status) quiet h = absurd h
+not-read-by ran source sink end.Stuck quiet h = absurd h
+not-read-by ran source sink end.Spent quiet h = absurd h
+not-read-by ran source sink end.WriteFault quiet h = absurd h
+not-read-by ran source sink end.Usage quiet h = absurd h
+
+pub not-read : (ran : Script → SessionEnd → Type 0) (source sink : Stream) (e : SessionEnd) (session : Session) → session ≡ outcome_of e [] 0 → IsQuiet sink → IsNotRead source e → IsOf ran source sink session
+not-read ran source sink e session is quiet h = subst (λ (x : Session). IsOf ran source sink x) (sym is) (not-read-by ran source sink e quiet h)
+
+-- a plan ends so only where a script was read
+pub plan-ran : (turns : ℕ) (script : Script) (sink : Stream) (session : Session) (e : SessionEnd) → RunSays turns script sink session e → IsRanEnd e
+plan-ran turns script sink session (end.Ended status) s = tt
+plan-ran turns script sink session end.Stuck s = tt
+plan-ran turns script sink session end.Spent s = tt
+plan-ran turns script sink session end.WriteFault s = tt
+plan-ran turns script sink session end.NoMemory s = tt
+plan-ran turns script sink session end.Usage s = s
+plan-ran turns script sink session end.ReadFault s = s
+plan-ran turns script sink session (end.Script line reason) s = s

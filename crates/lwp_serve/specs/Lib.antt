@@ -6,6 +6,9 @@ pub mod Outcome
 pub mod Reading
 pub mod BodyLaws
 pub mod Plan
+pub mod Clients
+pub mod Live
+pub mod Beside
 pub mod Make
 pub mod Words
 pub mod Texts

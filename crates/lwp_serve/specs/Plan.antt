@@ -2,6 +2,7 @@
 use Rattle.lwp_serve.specs.Outcome.{end_of, status_of}
 use Rattle.lwp_serve.specs.History.{counts_from, pairs_of, taken_as}
 use Rattle.lwp_serve.specs.Planned.{calls_of, halt_of, plan_of, setting_of, takes_of, trace_of}
+use Rattle.lwp_serve.specs.Posted.{IsPosted}
 use Rattle.lwp_serve.specs.Reading.{IsReadOut, IsReadPart, IsReadUp}
 use Rattle.lwp_serve.specs.declared.session.Session.{Session}
 use Rattle.lwp_serve.specs.declared.session.SessionEnd.{SessionEnd}
@@ -164,14 +165,14 @@ RunSays turns script sink session _ = ⊥
 abbrev pub SourceSays : Stream → (Script → Type 0) → Type 0
 SourceSays source says = IsFaultless source × Says source.old says
 
--- what each end says: a script was read, and run as far as this; or else nothing was written, and there is a cause
-abbrev pub EndSays : ℕ → Stream → Stream → Session → SessionEnd → Type 0
-EndSays turns source sink session end.Usage = ⊥
-EndSays turns source sink session end.ReadFault = IsFaulty source × IsUnread sink session
-EndSays turns source sink session (end.Script line reason) = IsFaultless source × Refuses source.old line reason × IsUnread sink session
-EndSays turns source sink session end.NoMemory =
-    IsFaultless source × IsUnread sink session ⊎ SourceSays source (λ script. RunSays turns script sink session end.NoMemory)
-EndSays turns source sink session e = SourceSays source (λ script. RunSays turns script sink session e)
+-- what each end says: a script was read, and this holds of it; or else nothing was written, and there is a cause
+abbrev pub EndsBy : (Script → SessionEnd → Type 0) → Stream → Stream → Session → SessionEnd → Type 0
+EndsBy ran source sink session end.Usage = ⊥
+EndsBy ran source sink session end.ReadFault = IsFaulty source × IsUnread sink session
+EndsBy ran source sink session (end.Script line reason) = IsFaultless source × Refuses source.old line reason × IsUnread sink session
+EndsBy ran source sink session end.NoMemory =
+    IsFaultless source × IsUnread sink session ⊎ SourceSays source (λ script. ran script end.NoMemory)
+EndsBy ran source sink session e = SourceSays source (λ script. ran script e)
 
 -- how far each end has read the source: to its end for a script that was run; for bytes that are none, to their end too, unless they
 -- are too many; and never further than one byte past what a script may have
@@ -187,11 +188,36 @@ pub record IsPlayed (turns : ℕ) (script : Script) (sink : Stream) (session : S
   pub status : session.status ≡ status_of session.end
   pub says : RunSays turns script sink session session.end
 
--- what a session of `plan` says, with so many turns allowed
-pub record IsPlan (turns : ℕ) (source sink : Stream) (session : Session) : Type 0 where
+-- what a session says, where it says this of the script that was read
+pub record IsOf (ran : Script → SessionEnd → Type 0) (source sink : Stream) (session : Session) : Type 0 where
   pub status : session.status ≡ status_of session.end
   pub read : ReadSays source session.end
-  pub says : EndSays turns source sink session session.end
+  pub says : EndsBy ran source sink session session.end
+
+-- what a session of `plan` says, with so many turns allowed
+abbrev pub IsPlan : ℕ → Stream → Stream → Session → Type 0
+IsPlan turns source sink session = IsOf (λ script. RunSays turns script sink session) source sink session
+
+-- ---- a script is read, or it isn't
+
+-- what the source had left spells this script, if it tells
+abbrev pub Holds : Option (List ℕ) → Script → Type 0
+Holds None script = Unit {0}
+Holds (Some told) script = Spells told script
+
+-- a script was read
+pub record IsRead (source : Stream) (script : Script) : Type 0 where
+  pub holds : Holds source.old script
+  pub faultless : IsFaultless source
+  pub up : IsReadUp source.old source.new
+  pub posted : IsPosted script
+
+-- none was read, and a session ends so
+abbrev pub IsNotRead : Stream → SessionEnd → Type 0
+IsNotRead source end.ReadFault = IsFaulty source × IsReadPart source.old source.new
+IsNotRead source end.NoMemory = IsFaultless source × IsReadPart source.old source.new
+IsNotRead source (end.Script line reason) = IsFaultless source × Refuses source.old line reason × IsReadUp source.old source.new
+IsNotRead source _ = ⊥
 
 -- ---- a run of a script before its first call
 

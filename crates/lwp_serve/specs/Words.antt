@@ -1,4 +1,5 @@
 -- What the program's words ask for.
+use Rattle.lwp_serve.specs.Live.{IsLive}
 use Rattle.lwp_serve.specs.Make.{IsMake}
 use Rattle.lwp_serve.specs.Outcome.{outcome_of}
 use Rattle.lwp_serve.specs.Plan.{IsPlan, IsQuiet, Stream}
@@ -10,11 +11,11 @@ use Rattle.script_maker.specs.Order.{IsAllowed, order_at}
 use Rattle.script_text.specs.Words.{number_at}
 use Rattle.std.specs.Prelude.{Bool, List, None, Option, Some, [], bytes_eq, codes, if◌then◌else◌, nat_le, option_map, ℕ, ◌&&◌, ◌∷◌, ◌≡◌, ◌≤◌}
 
--- how many calls a plan allows, where nobody says so
-abbrev pub plan_turns : ℕ
-plan_turns = 100000
+-- how many calls a plan or a run allows, where nobody says so
+abbrev pub turns_unsaid : ℕ
+turns_unsaid = 100000
 
--- a number of calls that a plan may allow
+-- a number of calls that a plan or a run may allow
 abbrev pub is_allowed : ℕ → Bool
 is_allowed n = nat_le 1 n && nat_le n 1000000
 
@@ -27,6 +28,10 @@ turns_by (Some n) = if is_allowed n then Some n else None
 abbrev pub turns_of : List ℕ → Option ℕ
 turns_of word = turns_by (number_at word)
 
+-- the word of a run
+abbrev pub is_run : List ℕ → Bool
+is_run word = bytes_eq word (codes "run")
+
 -- the word of a plan
 abbrev pub is_plan : List ℕ → Bool
 is_plan word = bytes_eq word (codes "plan")
@@ -35,23 +40,35 @@ is_plan word = bytes_eq word (codes "plan")
 abbrev pub is_make : List ℕ → Bool
 is_make word = bytes_eq word (codes "make")
 
--- the command of these words, if they are one: `plan`, and behind it perhaps how many calls; or `make`, and what is to be made
+-- the command of a word and of a number of calls: `run` or `plan`
+abbrev pub command_by : List ℕ → ℕ → Option Command
+command_by word turns = if is_run word then Some (command.Run turns) else if is_plan word then Some (command.Plan turns) else None
+
+-- the same, if there is a number
+abbrev pub command_if : List ℕ → Option ℕ → Option Command
+command_if word None = None
+command_if word (Some turns) = command_by word turns
+
+-- the command of these words, if they are one: `run` or `plan`, and behind it perhaps how many calls; or `make`, and what is to be
+-- made
 abbrev pub command_of : List (List ℕ) → Option Command
 command_of [] = None
-command_of (word ∷ []) = if is_plan word then Some (command.Plan plan_turns) else None
-command_of (word ∷ turns ∷ []) = if is_plan word then option_map command.Plan (turns_of turns) else None
+command_of (word ∷ []) = command_by word turns_unsaid
+command_of (word ∷ turns ∷ []) = command_if word (turns_of turns)
 command_of (word ∷ seed ∷ threads ∷ []) = None
 command_of (word ∷ seed ∷ threads ∷ lines ∷ []) = if is_make word then option_map command.Make (order_at seed threads lines) else None
 command_of (word ∷ seed ∷ threads ∷ lines ∷ other ∷ words) = None
 
 -- what it asks for may be had
 abbrev pub MayBe : Command → Type 0
+MayBe (command.Run turns) = (1 ≤ turns) × (turns ≤ 1000000)
 MayBe (command.Plan turns) = (1 ≤ turns) × (turns ≤ 1000000)
 MayBe (command.Make order) = IsAllowed order.threads order.lines
 
--- What a session of these words says: a plan's; or that of what is made, which reads nothing; or else that they are no command, and
+-- What a session of these words says: a run's or a plan's; or that of what is made, which reads nothing; or else that they are no command, and
 -- then nothing was read or written.
 abbrev pub TopSays : Option Command → Stream → Stream → Session → Type 0
 TopSays None source sink session = (session ≡ outcome_of end.Usage [] 0) × IsQuiet source × IsQuiet sink
+TopSays (Some (command.Run turns)) source sink session = IsLive turns source sink session
 TopSays (Some (command.Plan turns)) source sink session = IsPlan turns source sink session
 TopSays (Some (command.Make order)) source sink session = IsQuiet source × IsMake order.seed order.threads order.lines sink session

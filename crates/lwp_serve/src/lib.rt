@@ -10,10 +10,15 @@
 //! runs of `pod_runner`, the scripts of `script_maker` and the sink of `byte_count`.
 #![tactic(auto)]
 
+mod beside;
 mod body;
+mod clients;
 mod command;
+mod gates;
 mod lines;
+mod live;
 mod make;
+mod opening;
 mod plan;
 mod program;
 mod session;
@@ -22,6 +27,8 @@ mod texts;
 
 pub use body::ThreadBody;
 pub use command::top;
+pub use gates::no_gates;
+pub use live::run_main;
 pub use make::make_main;
 pub use plan::plan_main;
 pub use program::ScriptProgram;

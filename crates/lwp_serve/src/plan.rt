@@ -1,7 +1,6 @@
 // A script is read, and run with all lines in place.
 ghost use Rattle.std.specs.Prelude.{◌≡◌, ◌≤◌, IfOk, OnOk, OnErr, IsErrOf};
 ghost use Rattle.lwp_types.specs.Streams.{Rose};
-ghost use Rattle.lwp_serve.specs.Outcome.{outcome_of};
 ghost use Rattle.lwp_serve.specs.Planned.{stock_of};
 ghost use Rattle.lwp_serve.specs.Posted.{IsPosted};
 ghost use Rattle.script_text.specs.Limits.{IsWithinLimits};
@@ -9,37 +8,15 @@ ghost use Rattle.lwp_serve.specs.Plan.{IsBroken, IsPart, IsPlan, IsPlayed, IsSto
 
 use crate::body::ThreadBody;
 use crate::lines::{counts_left, stock};
+use crate::opening::{read_whole, session_of, start};
 use crate::program::ScriptProgram;
 use crate::session::{Session, SessionEnd, end_of};
-use crate::source::{ReadFailure, read_all};
 use event_gate::ListGate;
-use lwp_types::{Env, NoMemory, PodParams, Sink, Source};
+use lwp_types::{Sink, Source};
 use pod_runner::{Run, RunErr, run, write_all};
-use script_text::{ReadErr, Script, ScriptReader};
+use script_text::Script;
 use std::alloc::Global;
 use trace_text::{Halt, end_lines};
-
-// A run of a script, before its first call.
-fn start<'s>(
-    alloc: Global,
-    script: &'s Script,
-    turns: u64,
-) -> Result<Run<ThreadBody<'s>, ScriptProgram<'s>>, NoMemory>
-    requires { IsWithinLimits script.now }
-    ensures { IfOk result (λ run. run ≡ opening_run script.now turns) }
-{
-    let procs = (script.procs.len() + script.natives.len()) as u32;
-    let params = PodParams {
-        maxpri: script.maxpri,
-        births: script.births,
-        procs,
-    };
-    let threads = script.names.threads.len() as u32;
-    let mons = script.names.mons.len() as u32;
-    let conds = script.names.conds.len() as u32;
-    let env = Env::new(alloc, threads, mons, conds)?;
-    Run::new(alloc, params, ScriptProgram::new(alloc, script), env, turns)
-}
 
 // A run over a gate goes on to its end, and then what stands behind its lines is written.
 fn run_out<'s, K: Sink>(
@@ -70,14 +47,6 @@ fn run_out<'s, K: Sink>(
     }
 }
 
-// The session of a run that has ended so.
-fn session_of<'s>(end: SessionEnd, played: Run<ThreadBody<'s>, ScriptProgram<'s>>) -> Session
-    ensures { result ≡ outcome_of end played.entry.takes played.entry.calls }
-{
-    let calls = played.calls();
-    Session::new(end, played.into_takes(), calls)
-}
-
 /// The session of a script, with so many turns allowed and all lines in place.
 pub fn play_script<K: Sink>(alloc: Global, turns: u64, script: &Script, sink: &mut K) -> Session
     requires within { IsWithinLimits script.now }
@@ -97,8 +66,7 @@ pub fn play_script<K: Sink>(alloc: Global, turns: u64, script: &Script, sink: &m
     }
 }
 
-/// Reads a script to its end and runs it, all lines in place, with so many turns allowed. Nothing is written before all is
-/// read, and of what is read only a buffer and the reader are kept.
+/// Reads a script to its end and runs it, all lines in place, with so many turns allowed. Nothing is written before all is read.
 pub fn plan_main<S: Source, K: Sink>(
     alloc: Global,
     turns: u64,
@@ -110,17 +78,8 @@ pub fn plan_main<S: Source, K: Sink>(
     ensures { IsPlan turns (record { old = S.left source.old; new = S.left source.new; faults_old = S.faults source.old; faults_new = S.faults source.new })
         (record { old = K.written sink.old; new = K.written sink.new; faults_old = K.faults sink.old; faults_new = K.faults sink.new }) result }
 {
-    let mut reader = ScriptReader::new(alloc);
-    match read_all(&mut reader, source) {
-        Ok(()) => {}
-        Err(ReadFailure::Fault) => return Session::unread(alloc, SessionEnd::ReadFault),
-        Err(ReadFailure::NoMemory) => return Session::unread(alloc, SessionEnd::NoMemory),
-    }
-    match reader.finish() {
+    match read_whole(alloc, source) {
         Ok(script) => play_script(alloc, turns, &script, sink),
-        Err(ReadErr::NoMemory) => Session::unread(alloc, SessionEnd::NoMemory),
-        Err(ReadErr::Bad { line, reason }) => {
-            Session::unread(alloc, SessionEnd::Script { line, reason })
-        }
+        Err(end) => Session::unread(alloc, end),
     }
 }

@@ -1,10 +1,12 @@
 ghost use Rattle.std.specs.Prelude.{◌≤◌};
 
-use crate::{SessionEnd, fault_text, make_main, plan_main, top};
+use crate::{SessionEnd, fault_text, make_main, no_gates, plan_main, top};
 use lwp_types::{MemSink, MemSource, NoMemory};
 use script_text::Reason;
 use std::alloc::Global;
+use std::sync::Wait;
 use std::test::Fail;
+use std::thread::Threads;
 
 const SCRIPT: &[u8] =
     b"lwp 1\npod 1\nclient 0 5\nproc main\nagent g 5\nrecv g wait\nreply g ok\npost 0 hi\n";
@@ -188,14 +190,19 @@ fn a_summary_that_is_not_written_leaves_its_session(rt: HostRuntime) -> Result<(
 }
 
 // The status of a session of these words.
-fn status_of_words(alloc: Global, words: &[&str]) -> Result<u8, NoMemory> {
+fn status_of_words<R: Threads + Wait + Sync>(
+    rt: &R,
+    alloc: Global,
+    words: &[&str],
+) -> Result<u8, NoMemory> {
     let mut strings = Vec::new(alloc);
     for word in words {
         strings.push(word.to_string(alloc)?)?;
     }
     let mut source = MemSource::new(SCRIPT.to_vec(alloc)?, Vec::new(alloc));
     let mut sink = MemSink::new(alloc, 4096, 4096, Vec::new(alloc))?;
-    Ok(top(alloc, &strings, &mut source, &mut sink).status)
+    let gates = no_gates(alloc)?;
+    Ok(top(rt, alloc, &strings, &mut source, &mut sink, gates).status)
 }
 
 #[test]
@@ -205,10 +212,13 @@ fn the_words_are_a_command(rt: HostRuntime) -> Result<(), Fail> {
         (["plan"].as_slice(), 0),
         (&["plan", "4"], 0),
         (&["plan", ""], 100),
+        (&["run"], 0),
+        (&["run", "3"], 105),
+        (&["run", "0"], 100),
         (&["make", "7", "2", "3"], 0),
         (&["make", "7", "0", "3"], 100),
     ] {
-        assert_eq!(rt; status_of_words(alloc, words)?, status);
+        assert_eq!(rt; status_of_words(&rt, alloc, words)?, status);
     }
     Ok(())
 }

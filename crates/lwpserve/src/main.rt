@@ -2,7 +2,7 @@
 //! what sums it up.
 //!
 //! All that it does is `lwp_serve::top`, on the standard streams; no contract can say what those hold. What is written is gathered,
-//! and goes out 64 KiB at a time. What went wrong is said on standard error, and the exit status is the session's.
+//! and goes out 64 KiB at a time; but on `run` the lines of each step go out at once. What went wrong is said on standard error, and the exit status is the session's.
 #![tactic(auto)]
 
 mod streams;
@@ -11,16 +11,18 @@ ghost use Rattle.std.specs.Prelude.{◌≡◌, ◌≢◌};
 ghost use Rattle.std.specs.IoError.{error_kind};
 ghost use Rattle.lwp_serve.specs.declared.session.SessionEnd.TheVariants.{NoMemory, Usage, WriteFault};
 
-use lwp_serve::{Session, SessionEnd, fault_text, top};
+use lwp_serve::{Session, SessionEnd, fault_text, no_gates, top};
 use lwp_types::Failed;
 use std::io::{ErrorKind, Write};
 use std::process::ExitCode;
+use std::sync::Wait;
+use std::thread::Threads;
 use std::{env, io};
-use streams::{StdSink, StdSource};
+use streams::{GATHERED, StdSink, StdSource};
 
 fn main(rt: HostRuntime) -> ExitCode {
     let session = match words(&rt) {
-        Ok(words) => session_of(&rt, &words),
+        Ok(words) => session_of(&rt, &rt, &words),
         Err(error) => Session::unread(rt.alloc(), end_without_words(&error)),
     };
     if let Ok(text) = fault_text(rt.alloc(), &session.end) {
@@ -29,16 +31,31 @@ fn main(rt: HostRuntime) -> ExitCode {
     ExitCode::from(session.status)
 }
 
-// The session of these words, on the standard streams.
-fn session_of(rt: &HostRuntime, words: &Vec<String>) -> Session {
-    let Ok(mut sink) = StdSink::new(rt.alloc(), rt.stdout()) else {
+// The session of these words, on the standard streams, with threads for those that post.
+fn session_of<R: Threads + Wait + Sync>(
+    rt: &HostRuntime,
+    threads: &R,
+    words: &Vec<String>,
+) -> Session {
+    let (Ok(mut sink), Ok(gates)) = (
+        StdSink::new(rt.alloc(), rt.stdout(), gathered(words)),
+        no_gates(rt.alloc()),
+    ) else {
         return Session::unread(rt.alloc(), SessionEnd::NoMemory);
     };
     let mut source = StdSource::new(rt.stdin());
-    let session = top(rt.alloc(), words, &mut source, &mut sink);
+    let session = top(threads, rt.alloc(), words, &mut source, &mut sink, gates);
     match sink.finish() {
         Ok(()) => session,
         Err(Failed) => broken(session),
+    }
+}
+
+// How many bytes are gathered: none on `run`, where somebody may be waiting for the lines of each step.
+fn gathered(words: &Vec<String>) -> usize {
+    match words.as_slice() {
+        [word, ..] if word.as_bytes() == b"run".as_slice() => 0,
+        _ => GATHERED,
     }
 }
 

@@ -8,8 +8,8 @@ use std::alloc::Global;
 use std::io;
 use std::io::{BufWriter, ErrorKind, Read, Stdin, Stdout, Write};
 
-// So many bytes are gathered before they are written.
-const GATHERED: usize = 65_536;
+/// So many bytes are gathered before they are written, where nobody waits for them.
+pub const GATHERED: usize = 65_536;
 
 /// Standard input. It tells nothing of its bytes, and counts the reads that failed.
 #[derive(Drop)]
@@ -18,7 +18,7 @@ pub struct StdSource {
     faults: u64,
 }
 
-/// Standard output, to which bytes are written 64 KiB at a time; `finish` writes the rest. It tells nothing of its bytes, and
+/// Standard output, to which bytes are written as many at a time as are gathered; `finish` writes the rest. It tells nothing of its bytes, and
 /// counts the writes that failed.
 #[derive(Drop)]
 pub struct StdSink {
@@ -35,9 +35,9 @@ impl StdSource {
 impl StdSink {
     ghost use Rattle.lwp_types.specs.Streams.{HasCause};
 
-    /// Takes the memory for all that it will ever gather.
-    pub fn new(alloc: Global, stdout: Stdout) -> io::Result<StdSink> {
-        let stdout = BufWriter::with_capacity(alloc, GATHERED, stdout)?;
+    /// Takes the memory for all that it will ever gather. Where that is nothing, each write goes out at once.
+    pub fn new(alloc: Global, stdout: Stdout, gathered: usize) -> io::Result<StdSink> {
+        let stdout = BufWriter::with_capacity(alloc, gathered, stdout)?;
         Ok(StdSink { stdout, faults: 0 })
     }
 
@@ -198,7 +198,7 @@ mod tests {
         let mut buf = [0u8; 4];
         // A test is given nothing to read.
         assert_eq!(rt; StdSource::new(rt.stdin()).read(&mut buf), Ok(0));
-        let mut sink = StdSink::new(rt.alloc(), rt.stdout())?;
+        let mut sink = StdSink::new(rt.alloc(), rt.stdout(), GATHERED)?;
         assert_eq!(rt; sink.write(b""), Ok(0));
         assert_eq!(rt; sink.finish(), Ok(()));
         Ok(())
