@@ -35,6 +35,3 @@ pub use program::ScriptProgram;
 pub use session::{Session, SessionEnd, Taken, TakenLines};
 pub use source::SCRIPT_MAX;
 pub use texts::fault_text;
-
-#[cfg(test)]
-mod tests;

@@ -1,6 +1,6 @@
 ghost use Rattle.std.specs.Prelude.{◌≤◌};
 
-use crate::{SessionEnd, fault_text, make_main, no_gates, plan_main, top};
+use lwp_serve::{SessionEnd, fault_text, make_main, no_gates, plan_main, top};
 use lwp_types::{MemSink, MemSource, NoMemory};
 use script_text::Reason;
 use std::alloc::Global;
