@@ -188,7 +188,7 @@ fn is_replayed<R: Threads + Wait + Sync>(
     )
 }
 
-// Main serves three clients of two events, while a thread beside it makes some two hundred calls.
+// Main serves three clients of two events, while a thread beside it makes over a hundred calls.
 const SERVED: &[u8] =
     b"lwp 1\npod 1\nclient 0 5\nclient 1 5\nclient 2 6\nproc main\ncreate w long 1 -\nagent g 5\nagent h 6\n\
 call serve\ncall serve\ncall serve\ncall serve\ncall serve\ncall serve\n\
