@@ -1,2 +1,4 @@
 pub mod PageLaws
 pub mod TitleLaws
+pub mod Readings
+pub mod NestingLaws

@@ -5,3 +5,4 @@ pub mod Shapes
 pub mod Frame
 pub mod Page
 pub mod Titles
+pub mod Nesting

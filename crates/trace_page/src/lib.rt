@@ -15,5 +15,5 @@ mod shapes;
 mod spans;
 mod steps;
 
-pub use laws::{lines_are_titles, texts_are_plain};
+pub use laws::{elements_are_closed, lines_are_titles, some_are_closed, texts_are_plain};
 pub use page::{PageErr, add_page};

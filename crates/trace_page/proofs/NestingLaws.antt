@@ -1,0 +1,453 @@
+-- The elements of a page are closed: what each of its parts makes of a reader.
+use Rattle.lwp_types.specs.Names.{null_id}
+use Rattle.std.proofs.Common.{List, [], ap, eqb, refl, true, ℕ, ◌%◌, ◌++◌, ◌∷◌, ◌≡◌}
+use Rattle.std.specs.Fmt.{decimal}
+use Rattle.std.specs.List.{list_all}
+use Rattle.std.specs.Prelude.{IsTrue, codes}
+use Rattle.trace_lines.specs.declared.entry.Verb.{Verb}
+use Rattle.trace_lines.specs.declared.entry.Verb.TheVariants as verb
+use Rattle.trace_page.proofs.Readings.{Brings, Keeps, Plain, both, in_value, keeps_each, keeps_either, none, nothing, number, on, text_keeps}
+use Rattle.trace_page.proofs.TitleLaws.{texts_are_plain}
+use Rattle.trace_page.specs.Frame.{colours, end_text, event_open, event_words, head, head_key, head_style, height_open, key_marks, key_waits, layout, marks, more_closed, more_open, more_text, name_closed, name_text, name_words, names_closed, names_open, names_text, page_closed, patterns, signs, size_closed, size_text, tail, waits, ways, width_open}
+use Rattle.trace_page.specs.Frame as frame
+use Rattle.trace_page.specs.Nesting.{Outside, Quoted, at, is_closed, is_nested, read, read_on}
+use Rattle.trace_page.specs.Page.{groups, page, shown, told_all, told_line}
+use Rattle.trace_page.specs.Scene.{Seen, opening}
+use Rattle.trace_page.specs.Shapes.{arrow_text, band_text, bar_text, closed, closing_text, due_text, escaped, event_text, group_closed, group_open, group_text, height_text, held_text, label_closed, label_open, label_text, letter_text, line_text, move_text, named_text, number_text, path_open, path_text, posted_text, rect_open, rect_text, shape_text, shapes_text, sign_open, tag_text, tick_text, title_text, use_open, use_text, wait_class, wait_text, waits_text, wanted_text, way_class, width_text, x_of, x_text, y_of, y_text}
+use Rattle.trace_page.specs.Steps.{finished, is_shown}
+use Rattle.trace_page.specs.Titles.{is_plain}
+use Rattle.trace_page.specs.declared.scene.Kind.{Kind}
+use Rattle.trace_page.specs.declared.scene.Kind.TheVariants as kind
+use Rattle.trace_page.specs.declared.scene.Lane.{Lane}
+use Rattle.trace_page.specs.declared.scene.Moment.{Moment}
+use Rattle.trace_page.specs.declared.scene.Shape.{Shape}
+use Rattle.trace_page.specs.declared.scene.Shape.TheVariants as shape
+use Rattle.trace_page.specs.declared.scene.Span.{Span}
+use Rattle.trace_page.specs.declared.scene.Way.{Way}
+use Rattle.trace_page.specs.declared.scene.Way.TheVariants as way
+
+-- ---- the parts of an element that has nothing inside
+
+-- these bytes begin an element of this name, up to a value of its first attribute
+record Begins (name bytes : List ℕ) : Type 0 where
+  begins : (names : List (List ℕ)) → Brings (at Outside names) bytes (at (Quoted 39) (name ∷ names))
+
+-- these end a value and begin another
+record Goes (bytes : List ℕ) : Type 0 where
+  goes : (names : List (List ℕ)) → Brings (at (Quoted 39) names) bytes (at (Quoted 39) names)
+
+behind_front : {name front text : List ℕ} → Begins name front → Plain text → Begins name (front ++ text)
+behind_front h k = record { begins = λ names. on (h.begins names) (in_value k) }
+
+behind_name : {front text : List ℕ} → Goes front → Plain text → Goes (front ++ text)
+behind_name h k = record { goes = λ names. on (h.goes names) (in_value k) }
+
+further : {front back : List ℕ} → Goes front → Goes back → Goes (front ++ back)
+further h k = record { goes = λ names. on (h.goes names) (k.goes names) }
+
+sign_begins : {sign : List ℕ} → Plain sign → Begins (codes "use") (sign_open sign)
+unfolding read read_on sign_open use_open
+sign_begins plain = behind_front {front = codes "<use href='"} (record { begins = λ names. record { so = refl } }) plain
+
+rect_begins : {class : List ℕ} → Plain class → Begins (codes "rect") (rect_open class)
+unfolding read read_on rect_open
+rect_begins plain = behind_front {front = codes "<rect class='"} (record { begins = λ names. record { so = refl } }) plain
+
+path_begins : {class : List ℕ} → Plain class → Begins (codes "path") (path_open class)
+unfolding read read_on path_open
+path_begins plain = behind_front {front = codes "<path class='"} (record { begins = λ names. record { so = refl } }) plain
+
+label_begins : {class : List ℕ} → Plain class → Begins (codes "text") (label_open class)
+unfolding read read_on label_open
+label_begins plain = behind_front {front = codes "<text class='"} (record { begins = λ names. record { so = refl } }) plain
+
+x_goes : (x : ℕ) → Goes (x_text x)
+unfolding read read_on x_text
+x_goes x = behind_name {front = codes "' x='"} (record { goes = λ names. record { so = refl } }) (number x)
+
+y_goes : (y : ℕ) → Goes (y_text y)
+unfolding read read_on y_text
+y_goes y = behind_name {front = codes "' y='"} (record { goes = λ names. record { so = refl } }) (number y)
+
+width_goes : (width : ℕ) → Goes (width_text width)
+unfolding read read_on width_text
+width_goes width = behind_name {front = codes "' width='"} (record { goes = λ names. record { so = refl } }) (number width)
+
+height_goes : (height : ℕ) → Goes (height_text height)
+unfolding read read_on height_text
+height_goes height = behind_name {front = codes "' height='"} (record { goes = λ names. record { so = refl } }) (number height)
+
+digits_go : (n : ℕ) → Goes (decimal n)
+digits_go n = record { goes = λ names. in_value (number n) }
+
+move_goes : (x y : ℕ) → Goes (move_text x y)
+unfolding read read_on move_text
+move_goes x y = further {front = codes "' d='M"} (record { goes = λ names. record { so = refl } }) (further (digits_go x) (further {front = codes " "} (record { goes = λ names. record { so = refl } }) (digits_go y)))
+
+line_goes : (x y : ℕ) → Goes (line_text x y)
+unfolding read read_on line_text
+line_goes x y = further {front = codes "L"} (record { goes = λ names. record { so = refl } }) (further (digits_go x) (further {front = codes " "} (record { goes = λ names. record { so = refl } }) (digits_go y)))
+
+closes : (name : List ℕ) (names : List (List ℕ)) → Brings (at (Quoted 39) (name ∷ names)) closed (at Outside names)
+unfolding read read_on closed
+closes name names = record { so = refl }
+
+-- ---- elements
+
+use_keeps : {sign : List ℕ} → Plain sign → (x y : ℕ) → Keeps (use_text sign x y)
+unfolding use_text
+use_keeps plain x y = record {
+  keeps = λ names.
+      let inside : List (List ℕ) = codes "use" ∷ names in
+      on ((sign_begins plain).begins names) (on ((x_goes x).goes inside) (on ((y_goes y).goes inside) (closes (codes "use") names)));
+}
+
+rect_keeps : {class : List ℕ} → Plain class → (x y width height : ℕ) → Keeps (rect_text class x y width height)
+unfolding rect_text
+rect_keeps plain x y width height = record {
+  keeps = λ names.
+      let inside : List (List ℕ) = codes "rect" ∷ names in
+      on ((rect_begins plain).begins names) (on ((x_goes x).goes inside) (on ((y_goes y).goes inside) (on ((width_goes width).goes inside) (on ((height_goes height).goes inside) (closes (codes "rect") names)))));
+}
+
+path_keeps : {class : List ℕ} → Plain class → (x y to_x to_y : ℕ) → Keeps (path_text class x y to_x to_y)
+unfolding path_text
+path_keeps plain x y to_x to_y = record {
+  keeps = λ names.
+      let inside : List (List ℕ) = codes "path" ∷ names in
+      on ((path_begins plain).begins names) (on ((move_goes x y).goes inside) (on ((line_goes to_x to_y).goes inside) (closes (codes "path") names)));
+}
+
+-- a label is open behind its front
+label_opens : {class : List ℕ} → Plain class → (x y : ℕ) (names : List (List ℕ)) → Brings (at Outside names) (label_text class x y) (at Outside (codes "text" ∷ names))
+unfolding read read_on label_text
+label_opens plain x y names =
+    let inside : List (List ℕ) = codes "text" ∷ names in
+    on ((label_begins plain).begins names) (on ((x_goes x).goes inside) (on ((y_goes y).goes inside) (record { so = refl })))
+
+label_closes : (names : List (List ℕ)) → Brings (at Outside (codes "text" ∷ names)) label_closed (at Outside names)
+unfolding read read_on label_closed
+label_closes names = record { so = refl }
+
+label_keeps : {class words : List ℕ} → Plain class → (x y : ℕ) → Keeps words → Keeps (label_text class x y ++ (words ++ label_closed))
+label_keeps plain x y words = record { keeps = λ names. on (label_opens plain x y names) (on (words.keeps (codes "text" ∷ names)) (label_closes names)) }
+
+-- ---- shapes
+
+-- plain words keep a reader
+words : (text : List ℕ) → list_all is_plain text ≡ true → Keeps text
+words text h = text_keeps (record { plain = h })
+
+line_keeps : (text : List ℕ) → Keeps (escaped text)
+line_keeps text = text_keeps (record { plain = texts_are_plain text })
+
+number_keeps : (n : ℕ) → Keeps (decimal n)
+number_keeps n = text_keeps (number n)
+
+number_text_keeps : (s : Seen) (at : Moment) → Keeps (number_text s at)
+unfolding number_text
+number_text_keeps s at = keeps_either (eqb (at.call % 10) 0) (label_keeps (record { plain = refl }) (x_of s at) 12 (number_keeps at.call)) none
+
+tick_keeps : (s : Seen) (tid : ℕ) (at : Moment) → Keeps (tick_text s tid at)
+unfolding tick_text
+tick_keeps s tid at = both (use_keeps (record { plain = refl }) (x_of s at) (y_of s tid)) (number_text_keeps s at)
+
+wait_is_plain : (v : Verb) → Plain (wait_class v)
+unfolding wait_class
+wait_is_plain verb.Send = record { plain = refl }
+wait_is_plain verb.Receive = record { plain = refl }
+wait_is_plain verb.Enter = record { plain = refl }
+wait_is_plain verb.Wait = record { plain = refl }
+wait_is_plain verb.Join = record { plain = refl }
+wait_is_plain verb.Create = record { plain = refl }
+wait_is_plain verb.Destroy = record { plain = refl }
+wait_is_plain verb.Suspend = record { plain = refl }
+wait_is_plain verb.Resume = record { plain = refl }
+wait_is_plain verb.CondEnter = record { plain = refl }
+wait_is_plain verb.MonExit = record { plain = refl }
+wait_is_plain verb.MonBreak = record { plain = refl }
+wait_is_plain verb.Agent = record { plain = refl }
+wait_is_plain verb.OnExit = record { plain = refl }
+wait_is_plain verb.Other = record { plain = refl }
+
+wait_keeps : (s : Seen) (lane : Lane) (to : Moment) → Keeps (wait_text s lane to)
+unfolding wait_text
+wait_keeps s lane to = rect_keeps (wait_is_plain lane.verb) _ _ _ _
+
+tag_keeps : (x y mon : ℕ) → Keeps (tag_text x y mon)
+unfolding tag_text
+tag_keeps x y mon = record { keeps = λ names. on (label_opens (record { plain = refl }) x y names) (on ((words (codes "m") refl).keeps _) (on ((number_keeps mon).keeps _) (label_closes names))) }
+
+held_keeps : (s : Seen) (span : Span) (to : Moment) → Keeps (held_text s span to)
+unfolding held_text
+held_keeps s span to = both (rect_keeps (record { plain = refl }) _ _ _ _) (tag_keeps _ _ _)
+
+band_keeps : (s : Seen) {class : List ℕ} → Plain class → (down height : ℕ) (span : Span) (to : Moment) → Keeps (band_text s class down height span to)
+unfolding band_text
+band_keeps s plain down height span to = rect_keeps plain _ _ _ _
+
+bar_keeps : (s : Seen) (k : Kind) (span : Span) (to : Moment) → Keeps (bar_text s k span to)
+unfolding bar_text
+bar_keeps s kind.Life span to = band_keeps s (record { plain = refl }) 9 2 span to
+bar_keeps s kind.Parked span to = band_keeps s (record { plain = refl }) 4 6 span to
+bar_keeps s kind.Held span to = held_keeps s span to
+bar_keeps s kind.Given span to = none
+
+way_is_plain : (w : Way) → Plain (way_class w)
+unfolding way_class
+way_is_plain way.Letter = record { plain = refl }
+way_is_plain way.Reply = record { plain = refl }
+way_is_plain way.Wake = record { plain = refl }
+
+arrow_keeps : (s : Seen) (w : Way) (from : ℕ) (left : Moment) (to : ℕ) (at : Moment) → Keeps (arrow_text s w from left to at)
+unfolding arrow_text
+arrow_keeps s w from left to at = path_keeps (way_is_plain w) _ _ _ _
+
+posted_keeps : (client seq : ℕ) → Keeps (posted_text client seq)
+unfolding posted_text
+posted_keeps client seq = both (number_keeps client) (both (words (codes ":") refl) (number_keeps seq))
+
+event_keeps : (s : Seen) (client seq nth agent : ℕ) (at : Moment) → Keeps (event_text s client seq nth agent at)
+unfolding event_text
+event_keeps s client seq nth agent at = record {
+  keeps = λ names.
+      on (label_opens (record { plain = refl }) _ _ names) (on ((posted_keeps client seq).keeps _) (on (label_closes names) ((path_keeps (record { plain = refl }) _ _ _ _).keeps names)));
+}
+
+closing_keeps : (s : Seen) (line : List ℕ) (nth : ℕ) (at : Moment) → Keeps (closing_text s line nth at)
+unfolding closing_text
+closing_keeps s line nth at = label_keeps (record { plain = refl }) _ _ (line_keeps line)
+
+wanted_keeps : (v : Verb) → Keeps (wanted_text v)
+unfolding wanted_text
+wanted_keeps verb.Send = text_keeps (record { plain = refl })
+wanted_keeps verb.Receive = text_keeps (record { plain = refl })
+wanted_keeps verb.Enter = text_keeps (record { plain = refl })
+wanted_keeps verb.Wait = text_keeps (record { plain = refl })
+wanted_keeps verb.Join = text_keeps (record { plain = refl })
+wanted_keeps verb.Create = text_keeps (record { plain = refl })
+wanted_keeps verb.Destroy = text_keeps (record { plain = refl })
+wanted_keeps verb.Suspend = text_keeps (record { plain = refl })
+wanted_keeps verb.Resume = text_keeps (record { plain = refl })
+wanted_keeps verb.CondEnter = text_keeps (record { plain = refl })
+wanted_keeps verb.MonExit = text_keeps (record { plain = refl })
+wanted_keeps verb.MonBreak = text_keeps (record { plain = refl })
+wanted_keeps verb.Agent = text_keeps (record { plain = refl })
+wanted_keeps verb.OnExit = text_keeps (record { plain = refl })
+wanted_keeps verb.Other = text_keeps (record { plain = refl })
+
+letter_keeps : (v : Verb) → Keeps (letter_text v)
+unfolding letter_text
+letter_keeps verb.Enter = text_keeps (record { plain = refl })
+letter_keeps verb.Wait = text_keeps (record { plain = refl })
+letter_keeps verb.Send = text_keeps (record { plain = refl })
+letter_keeps verb.Receive = text_keeps (record { plain = refl })
+letter_keeps verb.Join = text_keeps (record { plain = refl })
+letter_keeps verb.Create = text_keeps (record { plain = refl })
+letter_keeps verb.Destroy = text_keeps (record { plain = refl })
+letter_keeps verb.Suspend = text_keeps (record { plain = refl })
+letter_keeps verb.Resume = text_keeps (record { plain = refl })
+letter_keeps verb.CondEnter = text_keeps (record { plain = refl })
+letter_keeps verb.MonExit = text_keeps (record { plain = refl })
+letter_keeps verb.MonBreak = text_keeps (record { plain = refl })
+letter_keeps verb.Agent = text_keeps (record { plain = refl })
+letter_keeps verb.OnExit = text_keeps (record { plain = refl })
+letter_keeps verb.Other = text_keeps (record { plain = refl })
+
+named_keeps : (v : Verb) (target : ℕ) → Keeps (named_text v target)
+unfolding named_text
+named_keeps v target = keeps_either (eqb target null_id) none (both (letter_keeps v) (number_keeps target))
+
+waits_keep : (v : Verb) (target : ℕ) → Keeps (waits_text v target)
+unfolding waits_text
+waits_keep v target = both (words (codes "waits for ") refl) (both (wanted_keeps v) (named_keeps v target))
+
+due_keeps : (s : Seen) (lane : Lane) (at : Moment) → Keeps (due_text s lane at)
+unfolding due_text
+due_keeps s lane at = label_keeps (record { plain = refl }) _ _ (waits_keep lane.verb lane.target)
+
+shape_keeps : (s : Seen) (line : List ℕ) (x : Shape) → Keeps (shape_text s line x)
+unfolding shape_text
+shape_keeps s line (shape.Tick tid at) = tick_keeps s tid at
+shape_keeps s line (shape.Wait lane to) = wait_keeps s lane to
+shape_keeps s line (shape.Bar span to) = bar_keeps s span.kind span to
+shape_keeps s line (shape.Arrow way from left to at) = arrow_keeps s way from left to at
+shape_keeps s line (shape.Exit tid at) = use_keeps (record { plain = refl }) _ _
+shape_keeps s line (shape.Death tid at) = use_keeps (record { plain = refl }) _ _
+shape_keeps s line (shape.Event client seq nth agent at) = event_keeps s client seq nth agent at
+shape_keeps s line (shape.Closing nth at) = closing_keeps s line nth at
+shape_keeps s line (shape.Due lane at) = due_keeps s lane at
+
+shapes_keep : (s : Seen) (line : List ℕ) (xs : List Shape) → Keeps (shapes_text s line xs)
+shapes_keep s line xs = keeps_each (λ x. shape_text s line x) (shape_keeps s line) xs
+
+-- ---- groups
+
+title_keeps : (line : List ℕ) → Keeps (title_text line)
+unfolding read read_on title_text
+title_keeps line = record {
+  keeps = λ names.
+      on {via = at Outside (codes "title" ∷ names)} {xs = codes "<title>"} (record { so = refl }) (on {ys = codes "</title>"} ((line_keeps line).keeps _) (record { so = refl }));
+}
+
+group_opens : (names : List (List ℕ)) → Brings (at Outside names) group_open (at Outside (codes "g" ∷ names))
+unfolding read read_on group_open
+group_opens names = record { so = refl }
+
+group_closes : (names : List (List ℕ)) → Brings (at Outside (codes "g" ∷ names)) group_closed (at Outside names)
+unfolding read read_on group_closed
+group_closes names = record { so = refl }
+
+group_keeps : (s : Seen) (line : List ℕ) → Keeps (group_text s line)
+unfolding group_text
+group_keeps s line = record { keeps = λ names. on (group_opens names) (on ((title_keeps line).keeps _) (on ((shapes_keep s line s.shapes).keeps _) (group_closes names))) }
+
+shown_keeps : (s : Seen) (line : List ℕ) → Keeps (shown s line)
+unfolding shown
+shown_keeps s line = keeps_either (is_shown s) (group_keeps s line) none
+
+groups_keep : (s : Seen) (lines : List (List ℕ)) → Keeps (groups s lines)
+groups_keep s [] = none
+groups_keep s (l ∷ ls) = both (shown_keeps (told_line l s) l) (groups_keep (told_line l s) ls)
+
+-- ---- around the picture
+
+-- the elements that are open in the page's style, in its body, and where the picture is drawn
+abbrev in_style : List (List ℕ)
+in_style = codes "style" ∷ codes "head" ∷ codes "html" ∷ []
+
+abbrev in_body : List (List ℕ)
+in_body = codes "body" ∷ codes "html" ∷ []
+
+abbrev in_picture : List (List ℕ)
+in_picture = codes "svg" ∷ codes "div" ∷ in_body
+
+opening_brings : Brings (at Outside []) frame.opening (at Outside in_style)
+unfolding read read_on frame.opening
+opening_brings = record { so = refl }
+
+colours_keep : Keeps colours
+unfolding colours
+colours_keep = text_keeps (record { plain = refl })
+
+layout_keeps : Keeps layout
+unfolding layout
+layout_keeps = text_keeps (record { plain = refl })
+
+marks_keep : Keeps marks
+unfolding marks
+marks_keep = text_keeps (record { plain = refl })
+
+waits_style_keeps : Keeps waits
+unfolding waits
+waits_style_keeps = text_keeps (record { plain = refl })
+
+ways_bring : Brings (at Outside in_style) ways (at Outside in_body)
+unfolding read read_on ways
+ways_bring = record { so = refl }
+
+-- the legend, and the definitions in it
+abbrev in_key : List (List ℕ)
+in_key = codes "svg" ∷ in_body
+
+patterns_bring : Brings (at Outside in_body) patterns (at Outside (codes "defs" ∷ in_key))
+unfolding read read_on patterns
+patterns_bring = record { so = refl }
+
+signs_bring : Brings (at Outside (codes "defs" ∷ in_key)) signs (at Outside in_key)
+unfolding read read_on signs
+signs_bring = record { so = refl }
+
+key_waits_bring : Brings (at Outside in_key) key_waits (at Outside in_key)
+unfolding read read_on key_waits
+key_waits_bring = record { so = refl }
+
+key_marks_bring : Brings (at Outside in_key) key_marks (at Outside in_picture)
+unfolding read read_on key_marks
+key_marks_bring = record { so = refl }
+
+head_brings : Brings (at Outside []) head (at Outside in_picture)
+unfolding head head_style head_key
+head_brings =
+    on (on opening_brings (on (colours_keep.keeps _) (on (layout_keeps.keeps _) (on (marks_keep.keeps _) (on (waits_style_keeps.keeps _) ways_bring)))))
+    (on patterns_bring (on signs_bring (on key_waits_bring key_marks_bring)))
+
+event_open_keeps : Keeps event_open
+unfolding event_open
+event_open_keeps = text_keeps (record { plain = refl })
+
+event_words_keep : (event : ℕ) → Keeps (event_words event)
+unfolding event_words
+event_words_keep event = keeps_either (eqb event 0) none (both event_open_keeps (number_keeps event))
+
+name_words_keep : (lane : Lane) → Keeps (name_words lane)
+unfolding name_words
+name_words_keep lane = both (words (codes "t") refl) (both (number_keeps lane.id) (event_words_keep lane.event))
+
+name_closes : (names : List (List ℕ)) → Brings (at Outside (codes "text" ∷ names)) name_closed (at Outside names)
+unfolding read read_on name_closed
+name_closes names = record { so = refl }
+
+name_keeps : (s : Seen) (lane : Lane) → Keeps (name_text s lane)
+unfolding name_text
+name_keeps s lane = record { keeps = λ names. on (label_opens (record { plain = refl }) _ _ names) (on ((name_words_keep lane).keeps _) (name_closes names)) }
+
+names_open_brings : Brings (at Outside in_picture) names_open (at Outside in_picture)
+unfolding read read_on names_open
+names_open_brings = record { so = refl }
+
+names_closed_brings : Brings (at Outside in_picture) names_closed (at Outside in_body)
+unfolding read read_on names_closed
+names_closed_brings = record { so = refl }
+
+names_bring : (s : Seen) → Brings (at Outside in_picture) (names_text s) (at Outside in_body)
+unfolding names_text
+names_bring s = on names_open_brings (on ((keeps_each (λ lane. name_text s lane) (name_keeps s) s.lanes).keeps _) names_closed_brings)
+
+-- the size stands in a style of its own
+width_opens : Brings (at Outside in_body) width_open (at Outside (codes "style" ∷ in_body))
+unfolding read read_on width_open
+width_opens = record { so = refl }
+
+height_open_keeps : Keeps height_open
+unfolding height_open
+height_open_keeps = text_keeps (record { plain = refl })
+
+size_closes : Brings (at Outside (codes "style" ∷ in_body)) size_closed (at Outside in_body)
+unfolding read read_on size_closed
+size_closes = record { so = refl }
+
+size_brings : (s : Seen) → Brings (at Outside in_body) (size_text s) (at Outside in_body)
+unfolding size_text
+size_brings s = on width_opens (on ((number_keeps _).keeps _) (on (height_open_keeps.keeps _) (on ((number_keeps _).keeps _) size_closes)))
+
+more_opens : (names : List (List ℕ)) → Brings (at Outside names) more_open (at Outside (codes "p" ∷ names))
+unfolding read read_on more_open
+more_opens names = record { so = refl }
+
+more_closes : (names : List (List ℕ)) → Brings (at Outside (codes "p" ∷ names)) more_closed (at Outside names)
+unfolding read read_on more_closed
+more_closes names = record { so = refl }
+
+more_keeps : (s : Seen) → Keeps (more_text s)
+unfolding more_text
+more_keeps s = keeps_either s.more (record { keeps = λ names. on (more_opens names) (on ((number_keeps s.last).keeps _) (more_closes names)) }) none
+
+end_keeps : (s : Seen) → Keeps (end_text s)
+unfolding end_text
+end_keeps s = record { keeps = λ names. on (group_opens names) (on ((shapes_keep s [] s.shapes).keeps _) (group_closes names)) }
+
+page_closes : Brings (at Outside in_body) page_closed (at Outside [])
+unfolding read read_on page_closed
+page_closes = record { so = refl }
+
+tail_brings : (s : Seen) → Brings (at Outside in_picture) (tail s) (at Outside [])
+unfolding tail
+tail_brings s = on ((end_keeps s).keeps _) (on (names_bring s) (on (size_brings s) (on ((more_keeps s).keeps _) page_closes)))
+
+page_brings : (base last : ℕ) (lines : List (List ℕ)) → Brings (at Outside []) (page base last lines) (at Outside [])
+page_brings base last lines = on head_brings (on ((groups_keep (opening base last) lines).keeps _) (tail_brings (finished (told_all (opening base last) lines))))
+
+pub elements_are_closed : (base last : ℕ) (lines : List (List ℕ)) → IsTrue (is_nested (page base last lines))
+unfolding is_nested
+elements_are_closed base last lines = ap (λ r. is_closed r.place r.names) (page_brings base last lines).so

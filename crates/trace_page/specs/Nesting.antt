@@ -1,0 +1,90 @@
+-- Whether the elements of a page are closed, each within the one around it. A page is read once, byte by byte.
+use Rattle.std.specs.List.{fold}
+use Rattle.std.specs.Prelude.{Bool, List, [], codes, false, if◌then◌else◌, nat_le, true, ℕ, ◌&&◌, ◌++◌, ◌==◌, ◌||◌, ◌∷◌}
+use Rattle.std.specs.Str.{bytes_eq}
+
+-- where a reader of a page is
+pub data Place : Type 0 where
+  -- in the text outside of all tags
+  Outside : Place
+  -- behind a `<`
+  Begun : Place
+  -- in the name of a tag that opens an element, and in that of one that closes it; so much of the name was read
+  Opening : List ℕ → Place
+  Closing : List ℕ → Place
+  -- in a tag, behind its name or behind a value
+  Inside : Place
+  -- behind the space before an attribute, in the attribute's name, and behind its `=`
+  Spaced : Place
+  Attribute : Place
+  Equals : Place
+  -- in a value, which ends with this quote
+  Quoted : ℕ → Place
+  -- behind the `/` of an element that has nothing inside
+  Slashed : Place
+  -- in `<!DOCTYPE html>`
+  Declared : Place
+  -- behind something that is out of place
+  Lost : Place
+
+-- a reader, and the names of the elements that are open around it, the innermost first
+pub record Reader : Type 0 where
+  pub place : Place
+  pub names : List (List ℕ)
+
+abbrev pub at : Place → List (List ℕ) → Reader
+at place names = record { place = place; names = names }
+
+abbrev pub is_letter : ℕ → Bool
+is_letter b = (nat_le 97 b && nat_le b 122) || (nat_le 65 b && nat_le b 90)
+
+-- an element of this name has no end
+abbrev pub is_void : List ℕ → Bool
+is_void name = bytes_eq name (codes "meta")
+
+-- behind the `>` of a tag that opens the innermost element
+abbrev pub opened : List (List ℕ) → Reader
+opened [] = at Lost []
+opened (name ∷ names) = at Outside (if is_void name then names else name ∷ names)
+
+-- behind the `>` of a tag that closes an element of this name: the innermost has to be one
+abbrev pub closed : List ℕ → List (List ℕ) → Reader
+closed name [] = at Lost []
+closed name (innermost ∷ names) = if bytes_eq innermost name then at Outside names else at Lost names
+
+-- behind the `/>` of the innermost element
+abbrev pub ended : List (List ℕ) → Reader
+ended [] = at Lost []
+ended (name ∷ names) = at Outside names
+
+-- a byte in a tag, behind its name or behind a value
+abbrev pub inside : ℕ → List (List ℕ) → Reader
+inside b names = if b == 62 then opened names else at (if b == 47 then Slashed else if b == 32 then Spaced else Lost) names
+
+-- a reader has read a byte more; 60 and 62 are angle brackets, 34 and 39 quotes, and the others are /, !, =, - and a space
+unfoldable pub read : Place → List (List ℕ) → ℕ → Reader
+read Outside names b = at (if b == 60 then Begun else if b == 62 then Lost else Outside) names
+read Begun names b = at (if b == 47 then Closing [] else if b == 33 then Declared else if is_letter b then Opening (b ∷ []) else Lost) names
+read (Opening name) names b = if is_letter b then at (Opening (name ++ b ∷ [])) names else inside b (name ∷ names)
+read (Closing name) names b = if b == 62 then closed name names else at (if is_letter b then Closing (name ++ b ∷ []) else Lost) names
+read Inside names b = inside b names
+read Spaced names b = at (if is_letter b then Attribute else Lost) names
+read Attribute names b = at (if b == 61 then Equals else if is_letter b || (b == 45) then Attribute else Lost) names
+read Equals names b = at (if (b == 34) || (b == 39) then Quoted b else Lost) names
+read (Quoted quote) names b = at (if b == quote then Inside else Quoted quote) names
+read Slashed names b = if b == 62 then ended names else at Lost names
+read Declared names b = at (if b == 62 then Outside else if is_letter b || (b == 32) then Declared else Lost) names
+read Lost names b = at Lost names
+
+-- behind all these bytes
+unfoldable pub read_on : Reader → List ℕ → Reader
+read_on reader bytes = fold (λ r b. read r.place r.names b) reader bytes
+
+-- all is closed
+abbrev pub is_closed : Place → List (List ℕ) → Bool
+is_closed Outside [] = true
+is_closed place names = false
+
+-- each element of a page is closed, and those in it before
+unfoldable pub is_nested : List ℕ → Bool
+is_nested page = let r = read_on (at Outside []) page in is_closed r.place r.names
