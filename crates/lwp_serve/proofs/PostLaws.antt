@@ -4,21 +4,22 @@ use Rattle.event_gate.specs.Port.{IsNumbered, of}
 use Rattle.lwp_serve.specs.Posted.{IsPosted}
 use Rattle.lwp_types.specs.declared.call.Line.{Line}
 use Rattle.script_text.proofs.TrackLaws.{fold_push}
-use Rattle.script_text.proofs.WordLemmas.{both}
-use Rattle.script_text.specs.Grammar.{AllStand, IsLine, IsPhrase, SlotFits, SpelledBy, Spells, declared_of, follows, keeps_rule, phrase_text, posted_of, spelling, stage_of}
+use Rattle.script_lines.proofs.WordLemmas.{both}
+use Rattle.script_text.specs.Grammar.{AllStand, SpelledBy, Spells, declared_of, follows, keeps_rule, posted_of, spelling, stage_of}
+use Rattle.script_lines.specs.Line.{IsLine, IsPhrase, SlotFits, phrase_text}
 use Rattle.script_text.specs.Meaning.{added, added_at, draft_of, empty_draft, entered, named, places_of, raised, script_of}
-use Rattle.script_text.specs.Phrase.{Phrase}
+use Rattle.script_lines.specs.Phrase.{Phrase}
 use Rattle.script_text.specs.Script.{line_of}
-use Rattle.script_text.specs.Table.{role_of, slots_of}
+use Rattle.script_lines.specs.Table.{role_of, slots_of}
 use Rattle.script_text.specs.declared.draft.Draft.{Draft}
 use Rattle.script_text.specs.declared.draft.Places.{Places}
 use Rattle.script_text.specs.declared.reader.Declared.{Declared}
 use Rattle.script_text.specs.declared.script.Post.{Post}
 use Rattle.script_text.specs.declared.script.Script.{Script}
-use Rattle.script_text.specs.declared.table.Op.{Op}
-use Rattle.script_text.specs.declared.table.Op.TheVariants as op
-use Rattle.script_text.specs.declared.table.Role.{Role}
-use Rattle.script_text.specs.declared.table.Role.TheVariants as role
+use Rattle.script_lines.specs.declared.table.Op.{Op}
+use Rattle.script_lines.specs.declared.table.Op.TheVariants as op
+use Rattle.script_lines.specs.declared.table.Role.{Role}
+use Rattle.script_lines.specs.declared.table.Role.TheVariants as role
 use Rattle.std.specs.List.{AllByRecursion}
 use Rattle.std.specs.Prelude.{All}
 use Rattle.std.proofs.Common.{List, [], ap, append_assoc, arith, length, length-append, map, nat_lt, refl, slice_index_or, subst, suc, sym, true, zero, ℕ, ⊎_elim, ◌++◌, ◌+◌, ◌<◌, ◌∙◌, ◌∷◌, ◌≡◌, ◌≢◌, ◌≤◌}

@@ -8,7 +8,7 @@ use Rattle.lwp_serve.specs.declared.command.Command.TheVariants as command
 use Rattle.lwp_serve.specs.declared.session.Session.{Session}
 use Rattle.lwp_serve.specs.declared.session.SessionEnd.TheVariants as end
 use Rattle.script_maker.specs.Order.{IsAllowed, order_at}
-use Rattle.script_text.specs.Words.{number_at}
+use Rattle.script_lines.specs.Words.{number_at}
 use Rattle.std.specs.Prelude.{Bool, List, None, Option, Some, [], bytes_eq, codes, if◌then◌else◌, nat_le, option_map, ℕ, ◌&&◌, ◌∷◌, ◌≡◌, ◌≤◌}
 
 -- how many calls a plan or a run allows, where nobody says so

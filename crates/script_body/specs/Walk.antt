@@ -3,11 +3,11 @@ use Rattle.lwp_types.specs.Poll.{is_refused}
 use Rattle.lwp_types.specs.declared.call.Answer.{Answer}
 use Rattle.script_body.specs.declared.walk.At.{At}
 use Rattle.script_text.specs.declared.script.Stmt.{Stmt}
-use Rattle.script_text.specs.declared.script.Test.{Test}
+use Rattle.script_lines.specs.declared.table.Test.{Test}
 use Rattle.std.specs.Prelude.{Bool, List, [], false, not, pos, true, ℕ, ◌+◌, ◌==◌, ◌||◌, ◌∷◌}
 use Rattle.lwp_types.specs.declared.call.Answer.TheVariants as answer
 use Rattle.script_text.specs.declared.script.Stmt.TheVariants as stmt
-use Rattle.script_text.specs.declared.script.Test.TheVariants as test
+use Rattle.script_lines.specs.declared.table.Test.TheVariants as test
 
 -- the answer is this value
 abbrev pub is_value : ℕ → Answer → Bool

@@ -5,8 +5,9 @@ use Rattle.std.specs.List.{AllByRecursion, list_all}
 use Rattle.std.proofs.lemmas.Bool.{cases_lt}
 use Rattle.std.proofs.lemmas.List.Concat.{flat_map-append}
 use native.Mathlib.Nat.{suc-mul}
-use Rattle.script_text.specs.Phrase.{Phrase}
-use Rattle.script_text.specs.Grammar.{phrase_text, ended, spelling}
+use Rattle.script_lines.specs.Phrase.{Phrase}
+use Rattle.script_lines.specs.Line.{phrase_text, ended}
+use Rattle.script_text.specs.Grammar.{spelling}
 use Rattle.script_maker.specs.Made.{each}
 
 pub both : (a b : Bool) → (a && b) ≡ true → (a ≡ true) × (b ≡ true)

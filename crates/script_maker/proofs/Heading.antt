@@ -6,12 +6,13 @@ use Rattle.std.specs.List.{AllByRecursion, list_all}
 use Rattle.std.proofs.lemmas.Bool.{ne_eqb, leb-true, eqb-true}
 use Rattle.std.proofs.lemmas.List.{append-nil}
 use Rattle.std.proofs.lemmas.List.Sums.{fold-append}
-use Rattle.script_text.specs.declared.table.Role.TheVariants as role
-use Rattle.script_text.specs.declared.table.Op.TheVariants as op
-use Rattle.script_text.specs.Phrase.{Phrase}
-use Rattle.script_text.specs.Words.{is_name}
-use Rattle.script_text.specs.Grammar.{built_text, spelling, blank, IsLine, follows, declared_of, is_declared}
-use Rattle.script_text.specs.Reading.{flags_by}
+use Rattle.script_lines.specs.declared.table.Role.TheVariants as role
+use Rattle.script_lines.specs.declared.table.Op.TheVariants as op
+use Rattle.script_lines.specs.Phrase.{Phrase}
+use Rattle.script_lines.specs.Words.{is_name}
+use Rattle.script_lines.specs.Line.{built_text, blank, IsLine}
+use Rattle.script_text.specs.Grammar.{spelling, follows, declared_of, is_declared}
+use Rattle.script_lines.specs.Reading.{flags_by}
 use Rattle.script_text.specs.Meaning.{added, empty_draft, draft_of}
 use Rattle.script_maker.specs.declared.script.ClientLine.{ClientLine}
 use Rattle.script_maker.specs.declared.script.ClientLine.TheVariants as line

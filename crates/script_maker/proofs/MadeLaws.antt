@@ -6,8 +6,9 @@ use Rattle.std.proofs.lemmas.List.Sums.{fold-append}
 use Rattle.script_text.specs.declared.draft.Draft.{Draft}
 use Rattle.script_text.specs.declared.reader.Declared.{Declared}
 use Rattle.script_text.specs.declared.script.Proc.{Proc}
-use Rattle.script_text.specs.Phrase.{Phrase}
-use Rattle.script_text.specs.Grammar.{spelling, IsLine, is_declared, declared_of, SpelledBy}
+use Rattle.script_lines.specs.Phrase.{Phrase}
+use Rattle.script_text.specs.Grammar.{spelling, is_declared, declared_of, SpelledBy}
+use Rattle.script_lines.specs.Line.{IsLine}
 use Rattle.script_text.specs.Meaning.{added, closed, empty_draft, draft_of, script_of}
 use Rattle.script_maker.specs.declared.script.ClientLine.TheVariants as line
 use Rattle.script_maker.specs.Laws.{MadeSpells}

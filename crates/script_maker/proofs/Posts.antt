@@ -14,11 +14,12 @@ use Rattle.std.proofs.lemmas.Nat.{mod_below}
 use Rattle.std.proofs.lemmas.Str.Parse.{IsNumeralModel, numerals_by_fold}
 use Rattle.lwp_types.specs.TextFields.{is_printable, is_text}
 use Rattle.script_text.specs.declared.reader.Declared.{Declared}
-use Rattle.script_text.specs.declared.table.Role.TheVariants as role
-use Rattle.script_text.specs.Phrase.{Phrase}
-use Rattle.script_text.specs.Words.{value_after}
+use Rattle.script_lines.specs.declared.table.Role.TheVariants as role
+use Rattle.script_lines.specs.Phrase.{Phrase}
+use Rattle.script_lines.specs.Words.{value_after}
 use Rattle.trace_text.specs.Lines.{spaced}
-use Rattle.script_text.specs.Grammar.{spelling, IsLine, follows}
+use Rattle.script_text.specs.Grammar.{spelling, follows}
+use Rattle.script_lines.specs.Line.{IsLine}
 use Rattle.script_text.specs.Meaning.{raised}
 use Rattle.script_maker.specs.Draws.{next, drawn}
 use Rattle.script_maker.specs.declared.script.ClientLine.TheVariants as line

@@ -9,10 +9,10 @@ use Rattle.script_text.specs.declared.stage.Stage.{Stage}
 use Rattle.script_text.specs.declared.stage.Stage.TheVariants as stages
 use Rattle.script_text.specs.declared.script.Proc.{Proc}
 use Rattle.script_text.specs.declared.script.Stmt.{Stmt}
-use Rattle.script_text.specs.declared.table.Role.{Role}
-use Rattle.script_text.specs.declared.table.Role.TheVariants as role
-use Rattle.script_text.specs.Phrase.{Phrase}
-use Rattle.script_text.specs.Table.{role_of}
+use Rattle.script_lines.specs.declared.table.Role.{Role}
+use Rattle.script_lines.specs.declared.table.Role.TheVariants as role
+use Rattle.script_lines.specs.Phrase.{Phrase}
+use Rattle.script_lines.specs.Table.{role_of}
 use Rattle.script_text.specs.Grammar.{stage_after, stage_of, declares, declared_of, nothing, posted_of, may_stand_at, AllStand}
 use Rattle.script_text.specs.Meaning.{raised, grown, statement_of, named, places_of, added_at, added, entered, empty_draft, draft_of}
 use Rattle.script_maker.proofs.Gathered.{both}

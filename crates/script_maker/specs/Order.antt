@@ -1,7 +1,7 @@
 -- What is to be made, by three words.
 use Rattle.std.specs.Prelude.{ℕ, ◌≤◌, ◌^◌, ◌&&◌, nat_lt, nat_le, List, Option, Some, None, option_map, option_and_then, if◌then◌else◌}
 use Rattle.std.specs.Str.{all_ascii_digits}
-use Rattle.script_text.specs.Words.{is_misshapen, value_after, number_at}
+use Rattle.script_lines.specs.Words.{is_misshapen, value_after, number_at}
 use Rattle.script_maker.specs.declared.order.Order.{Order}
 
 -- from 1 to 16 clients, and from 1 to 10,000 lines of each

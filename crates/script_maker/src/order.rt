@@ -1,7 +1,7 @@
 // What is to be made, by three words.
 ghost use Rattle.std.specs.Prelude.{◌≡◌, IfSome};
 ghost use Rattle.script_maker.specs.Order.{IsAllowed, long_value_of, seed_at, count_at, order_at};
-ghost use Rattle.script_text.specs.Words.{is_misshapen};
+ghost use Rattle.script_lines.specs.Words.{is_misshapen};
 
 use script_text::number_at;
 

@@ -3,12 +3,12 @@ use Rattle.std.proofs.Common.{◌≡◌, ℕ, ◌<◌, ◌≤◌, Bool, true, fa
 use Rattle.std.specs.List.{AllByRecursion}
 use Rattle.std.proofs.lemmas.Bool.{ne_eqb}
 use Rattle.std.proofs.lemmas.List.{get_or_append_left}
-use Rattle.script_text.specs.declared.table.Op.{Op}
-use Rattle.script_text.specs.declared.table.Op.TheVariants as op
-use Rattle.script_text.specs.declared.table.Role.{Role}
-use Rattle.script_text.specs.declared.table.Role.TheVariants as role
-use Rattle.script_text.specs.declared.table.Whom.{Whom}
-use Rattle.script_text.specs.declared.table.Whom.TheVariants as whom
+use Rattle.script_lines.specs.declared.table.Op.{Op}
+use Rattle.script_lines.specs.declared.table.Op.TheVariants as op
+use Rattle.script_lines.specs.declared.table.Role.{Role}
+use Rattle.script_lines.specs.declared.table.Role.TheVariants as role
+use Rattle.script_lines.specs.declared.table.Whom.{Whom}
+use Rattle.script_lines.specs.declared.table.Whom.TheVariants as whom
 use Rattle.script_text.specs.declared.draft.Draft.{Draft}
 use Rattle.script_text.specs.declared.draft.Places.{Places}
 use Rattle.script_text.specs.declared.script.ExitStmt.TheVariants as exit
@@ -16,10 +16,10 @@ use Rattle.script_text.specs.declared.script.Names.{Names}
 use Rattle.script_text.specs.declared.script.NativeKind.TheVariants as native
 use Rattle.script_text.specs.declared.script.Stmt.{Stmt}
 use Rattle.script_text.specs.declared.script.Stmt.TheVariants as stmt
-use Rattle.script_text.specs.Phrase.{Phrase}
-use Rattle.script_text.specs.Words.{is_name}
-use Rattle.script_text.specs.Table.{role_of, slots_of, says}
-use Rattle.script_text.specs.Grammar.{WhoFits, SourceFits, BuiltFits, SlotFits, IsLine, blank, copy_slots}
+use Rattle.script_lines.specs.Phrase.{Phrase}
+use Rattle.script_lines.specs.Words.{is_name}
+use Rattle.script_lines.specs.Table.{role_of, slots_of, says}
+use Rattle.script_lines.specs.Line.{WhoFits, SourceFits, BuiltFits, SlotFits, IsLine, blank, copy_slots}
 use Rattle.script_text.specs.Meaning.{enter, place, place_of, named, spoken, places_of, who_of, from_of, statement_of, native_kind, entered, added_at, added}
 use Rattle.script_text.specs.Printing.{proc_line, with_who, with_source, stmt_line, client_line, native_as}
 use Rattle.script_text.specs.Track.{name_at}

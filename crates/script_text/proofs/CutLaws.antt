@@ -2,7 +2,7 @@
 use Rattle.std.proofs.Common.{◌≡◌, ◌<◌, ◌-◌, ◌+◌, arith, ℕ, zero, suc, true, false, cond, eqb, fold, List, [], ◌∷◌, ◌++◌, length, take, take_all, drop, refl, sym, ap, ◌∙◌}
 use Rattle.std.proofs.lemmas.List.{length-drop}
 use Rattle.memchr.specs.Find.{Nowhere, NoneBefore, Passes, is_byte}
-use Rattle.script_text.specs.Words.{reach}
+use Rattle.script_lines.specs.Words.{reach}
 use Rattle.script_text.specs.Pieces.{IsTail}
 use Rattle.script_text.specs.Spelling.{onto_first, cut}
 use Rattle.script_text.specs.Track.{start, step}

@@ -5,14 +5,15 @@ use Rattle.std.specs.List.{AllByRecursion}
 use Rattle.std.proofs.lemmas.Bool.{eqb-true, ltb-true, ltb-false}
 use Rattle.std.proofs.lemmas.List.{append-nil}
 use Rattle.lwp_types.specs.TextFields.{is_printable}
-use Rattle.script_text.specs.Phrase.{Phrase}
+use Rattle.script_lines.specs.Phrase.{Phrase}
 use Rattle.script_text.specs.declared.reader.Declared.{Declared}
 use Rattle.script_text.specs.declared.reason.Reason.{Reason}
 use Rattle.script_text.specs.declared.reason.Reason.TheVariants as reason
 use Rattle.script_text.specs.declared.script.Script.{Script}
-use Rattle.script_text.specs.Reading.{phrase_at}
+use Rattle.script_lines.specs.Reading.{phrase_at}
 use Rattle.script_text.specs.Meaning.{script_of}
-use Rattle.script_text.specs.Grammar.{phrase_text, IsLine, may_stand, is_declared, AllStand}
+use Rattle.script_lines.specs.Line.{phrase_text, IsLine}
+use Rattle.script_text.specs.Grammar.{may_stand, is_declared, AllStand}
 use Rattle.script_text.specs.Spelling.{cut, reason_at, judge_said, judge, at_line, read_on, declared_in, finish, verdict}
 use Rattle.script_text.specs.Laws.{AreGood, IsBadLine, IsFirstBad, IsBlamed}
 use Rattle.script_text.proofs.ScriptLaws.{judge_again, judge_found, read_found, verdict_long, verdict_short}

@@ -1,11 +1,11 @@
 -- What a reader answers at the end is the verdict on the lines.
 use Rattle.std.proofs.Common.{◌≡◌, ℕ, suc, ◌+◌, ◌≤◌, true, false, ◌&&◌, cond, List, [], ◌∷◌, ◌++◌, length, fold, Option, Some, None, Result, Ok, Err, refl, sym, ap, subst, ◌∙◌, arith}
 use Rattle.lwp_types.specs.TextFields.{is_printable}
-use Rattle.script_text.specs.declared.table.Op.{Op}
-use Rattle.script_text.specs.declared.table.Op.TheVariants as op
-use Rattle.script_text.specs.declared.table.Role.{Role}
-use Rattle.script_text.specs.declared.table.Role.TheVariants as role
-use Rattle.script_text.specs.Phrase.{Phrase}
+use Rattle.script_lines.specs.declared.table.Op.{Op}
+use Rattle.script_lines.specs.declared.table.Op.TheVariants as op
+use Rattle.script_lines.specs.declared.table.Role.{Role}
+use Rattle.script_lines.specs.declared.table.Role.TheVariants as role
+use Rattle.script_lines.specs.Phrase.{Phrase}
 use Rattle.script_text.specs.declared.reader.Declared.{Declared}
 use Rattle.script_text.specs.declared.stage.Stage.{Stage}
 use Rattle.script_text.specs.declared.stage.Stage.TheVariants as stages
@@ -15,14 +15,14 @@ use Rattle.script_text.specs.declared.draft.Draft.{Draft}
 use Rattle.script_text.specs.declared.reader.Mention.{Mention}
 use Rattle.script_text.specs.declared.reader.Reader.{Reader}
 use Rattle.script_text.specs.declared.script.Script.{Script}
-use Rattle.script_text.specs.Table.{role_of, starts, starts_any}
-use Rattle.script_text.specs.Reading.{phrase_at}
+use Rattle.script_lines.specs.Table.{role_of, starts, starts_any}
+use Rattle.script_lines.specs.Reading.{phrase_at}
 use Rattle.script_text.specs.Grammar.{follows, keeps_rule, declared_of, posted_of, nothing, has, stage_after, stage_of, may_stand, is_declared}
 use Rattle.script_text.specs.Meaning.{added}
 use Rattle.script_text.specs.Spelling.{reason_behind, reason_at, judge_said, judge, at_line, read_on, noted, declared_in, finish, verdict_by}
 use Rattle.script_text.specs.Track.{judge_told, judge_alone, mention_of, took, judged, knows, step, start, first_missing, answer_by, answer_at}
-use Rattle.script_text.proofs.WordLemmas.{both}
-use Rattle.script_text.proofs.PhraseLaws.{phrase_found}
+use Rattle.script_lines.proofs.WordLemmas.{both}
+use Rattle.script_lines.proofs.PhraseLaws.{phrase_found}
 use Rattle.script_text.proofs.SaidLaws.{said_declares, starting_word}
 use Rattle.script_text.proofs.TrackLaws.{fold_push, first_undeclared, undeclared_push, Tracks, tracks_more}
 

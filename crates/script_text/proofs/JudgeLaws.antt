@@ -1,9 +1,9 @@
 -- A line that says something is judged by where it stands.
 use Rattle.std.proofs.Common.{◌≡◌, ℕ, true, false, cond, List, Option, Some, None, Ok, Err, refl, ap, ◌∙◌}
 use Rattle.std.specs.Prelude.{is_some}
-use Rattle.script_text.specs.Phrase.{Phrase}
+use Rattle.script_lines.specs.Phrase.{Phrase}
 use Rattle.script_text.specs.Grammar.{may_stand_at}
-use Rattle.script_text.specs.Reading.{phrase_at}
+use Rattle.script_lines.specs.Reading.{phrase_at}
 use Rattle.script_text.specs.Spelling.{reason_of}
 use Rattle.script_text.specs.Track.{judge_told, judged, taken, took}
 use Rattle.script_text.specs.declared.reader.Declared.{Declared}
@@ -11,7 +11,7 @@ use Rattle.script_text.specs.declared.reason.Reason.{Reason}
 use Rattle.script_text.specs.declared.reason.Reason.TheVariants as reason
 use Rattle.script_text.specs.declared.stage.Stage.{Stage}
 use Rattle.script_text.specs.declared.reader.Reader.{Reader}
-use Rattle.script_text.proofs.SaidLaws.{said_is_printable}
+use Rattle.script_lines.proofs.PrintableLaws.{said_is_printable}
 
 none_there : {A : Type 0} (o : Option A) → is_some o ≡ false → o ≡ None
 none_there None e = refl

@@ -1,5 +1,3 @@
-pub mod WordLemmas
-pub mod PhraseLaws
 pub mod SaidLaws
 pub mod TextLaws
 pub mod TrackLaws

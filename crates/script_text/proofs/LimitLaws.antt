@@ -4,10 +4,10 @@ use Rattle.std.specs.Prelude.{IfOk, option_to_list}
 use Rattle.std.specs.List.{AllByRecursion}
 use Rattle.std.proofs.lemmas.Bool.{leb-true}
 use Rattle.std.proofs.lemmas.List.{append-nil}
-use Rattle.script_text.specs.declared.table.Op.{Op}
-use Rattle.script_text.specs.declared.table.Op.TheVariants as op
-use Rattle.script_text.specs.declared.table.Role.{Role}
-use Rattle.script_text.specs.declared.table.Role.TheVariants as role
+use Rattle.script_lines.specs.declared.table.Op.{Op}
+use Rattle.script_lines.specs.declared.table.Op.TheVariants as op
+use Rattle.script_lines.specs.declared.table.Role.{Role}
+use Rattle.script_lines.specs.declared.table.Role.TheVariants as role
 use Rattle.script_text.specs.declared.stage.Stage.{Stage}
 use Rattle.script_text.specs.declared.stage.Stage.TheVariants as stages
 use Rattle.script_text.specs.declared.draft.Draft.{Draft}
@@ -17,12 +17,13 @@ use Rattle.script_text.specs.declared.reason.ReadErr.{ReadErr}
 use Rattle.script_text.specs.declared.script.Proc.{Proc}
 use Rattle.script_text.specs.declared.script.Script.{Script}
 use Rattle.script_text.specs.declared.script.Stmt.{Stmt}
-use Rattle.script_text.specs.Phrase.{Phrase}
-use Rattle.script_text.specs.Table.{role_of, slots_of}
-use Rattle.script_text.specs.Grammar.{phrase_text, SlotFits, IsPhrase, IsLine, declared_of, posted_of, opened, stage_after, stage_of, follows, keeps_rule, may_stand, AllStand, spelling, SpelledBy, Spells}
+use Rattle.script_lines.specs.Phrase.{Phrase}
+use Rattle.script_lines.specs.Table.{role_of, slots_of}
+use Rattle.script_lines.specs.Line.{phrase_text, SlotFits, IsPhrase, IsLine}
+use Rattle.script_text.specs.Grammar.{declared_of, posted_of, opened, stage_after, stage_of, follows, keeps_rule, may_stand, AllStand, spelling, SpelledBy, Spells}
 use Rattle.script_text.specs.Limits.{IsWithinLimits}
 use Rattle.script_text.specs.Meaning.{contains_name, is_some_text, enter, statement_of, grown, pushed, native_kind, empty_draft, named, places_of, entered, added_at, added, draft_of, script_of}
-use Rattle.script_text.proofs.WordLemmas.{both}
+use Rattle.script_lines.proofs.WordLemmas.{both}
 use Rattle.script_text.proofs.TrackLaws.{fold_push, stage_push}
 
 -- ---- Counts.

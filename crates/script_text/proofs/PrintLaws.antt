@@ -4,10 +4,10 @@ use Rattle.std.specs.Prelude.{◌⊎◌, is_some, option_to_list}
 use Rattle.std.specs.List.{flat_map, AllByRecursion}
 use Rattle.std.proofs.lemmas.Bool.{eqb-true}
 use Rattle.std.proofs.lemmas.List.{append-nil}
-use Rattle.script_text.specs.declared.table.Op.{Op}
-use Rattle.script_text.specs.declared.table.Op.TheVariants as op
-use Rattle.script_text.specs.declared.table.Role.{Role}
-use Rattle.script_text.specs.declared.table.Role.TheVariants as role
+use Rattle.script_lines.specs.declared.table.Op.{Op}
+use Rattle.script_lines.specs.declared.table.Op.TheVariants as op
+use Rattle.script_lines.specs.declared.table.Role.{Role}
+use Rattle.script_lines.specs.declared.table.Role.TheVariants as role
 use Rattle.script_text.specs.declared.stage.Stage.{Stage}
 use Rattle.script_text.specs.declared.stage.Stage.TheVariants as stages
 use Rattle.script_text.specs.declared.draft.Draft.{Draft}
@@ -17,12 +17,13 @@ use Rattle.script_text.specs.declared.script.Names.{Names}
 use Rattle.script_text.specs.declared.script.Proc.{Proc}
 use Rattle.script_text.specs.declared.script.Script.{Script}
 use Rattle.script_text.specs.declared.script.Stmt.{Stmt}
-use Rattle.script_text.specs.Phrase.{Phrase}
-use Rattle.script_text.specs.Table.{role_of, slots_of}
-use Rattle.script_text.specs.Grammar.{phrase_text, IsLine, blank, copy_slots, opened, stage_after, stage_of, follows, declares, declared_of, nothing, keeps_rule, may_stand_at, AllStand, ended, spelling, SpelledBy, Spells}
+use Rattle.script_lines.specs.Phrase.{Phrase}
+use Rattle.script_lines.specs.Table.{role_of, slots_of}
+use Rattle.script_lines.specs.Line.{phrase_text, IsLine, blank, copy_slots, ended}
+use Rattle.script_text.specs.Grammar.{opened, stage_after, stage_of, follows, declares, declared_of, nothing, keeps_rule, may_stand_at, AllStand, spelling, SpelledBy, Spells}
 use Rattle.script_text.specs.Meaning.{named, places_of, statement_of, grown, raised, pushed, entered, added_at, added, empty_draft, draft_of, script_of, closed}
 use Rattle.script_text.specs.Printing.{number_line, stmt_line, limit_lines, client_line, client_lines, native_line, proc_lines, post_line, body_lines, lines_of, printed}
-use Rattle.script_text.proofs.WordLemmas.{both}
+use Rattle.script_lines.proofs.WordLemmas.{both}
 use Rattle.script_text.proofs.TrackLaws.{fold_push, stage_push, declared_push}
 use Rattle.script_text.proofs.BackLaws.{Later, later_all, later_entered, later_step, backs, SaidBy, said}
 

@@ -5,21 +5,23 @@ use Rattle.std.specs.List.{flat_map, AllByRecursion}
 use Rattle.std.proofs.lemmas.Bool.{leb-true, le-ltb, ltb-false, ne_eqb, eqb-false, eqb-true}
 use Rattle.std.proofs.lemmas.List.{append-nil}
 use Rattle.lwp_types.specs.TextFields.{is_printable}
-use Rattle.script_text.specs.Phrase.{Phrase}
+use Rattle.script_lines.specs.Phrase.{Phrase}
 use Rattle.script_text.specs.declared.reader.Declared.{Declared}
 use Rattle.script_text.specs.declared.reason.Reason.{Reason}
 use Rattle.script_text.specs.declared.reason.Reason.TheVariants as reason
 use Rattle.script_text.specs.declared.reason.ReadErr.{ReadErr}
 use Rattle.script_text.specs.declared.reason.ReadErr.TheVariants as err
 use Rattle.script_text.specs.declared.script.Script.{Script}
-use Rattle.script_text.specs.Table.{role_of}
-use Rattle.script_text.specs.Reading.{phrase_at}
+use Rattle.script_lines.specs.Table.{role_of}
+use Rattle.script_lines.specs.Reading.{phrase_at}
 use Rattle.script_text.specs.Meaning.{script_of}
-use Rattle.script_text.specs.Grammar.{phrase_text, IsLine, declares, declared_of, nothing, may_stand, is_declared, AllStand, ended, spelling, SpelledBy, Spells}
+use Rattle.script_lines.specs.Line.{phrase_text, IsLine, ended}
+use Rattle.script_text.specs.Grammar.{declares, declared_of, nothing, may_stand, is_declared, AllStand, spelling, SpelledBy, Spells}
 use Rattle.script_text.specs.Spelling.{onto_first, cut, reason_at, judge_said, judge, at_line, read_on, noted, declared_in, finish, verdict_by, verdict, Gives, IsReadAs}
-use Rattle.script_text.proofs.WordLemmas.{both}
-use Rattle.script_text.proofs.PhraseLaws.{phrase_found, phrase_again, phrase_needed}
-use Rattle.script_text.proofs.SaidLaws.{phrase_is_printable, said_declares}
+use Rattle.script_lines.proofs.WordLemmas.{both}
+use Rattle.script_lines.proofs.PhraseLaws.{phrase_found, phrase_again, phrase_needed}
+use Rattle.script_lines.proofs.PrintableLaws.{phrase_is_printable}
+use Rattle.script_text.proofs.SaidLaws.{said_declares}
 use Rattle.script_text.proofs.TrackLaws.{fold_push}
 
 abbrev pub AllDeclared : Declared → List Phrase → Type 0

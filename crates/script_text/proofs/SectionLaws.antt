@@ -4,9 +4,10 @@ use Rattle.std.specs.List.{flat_map}
 use Rattle.std.proofs.lemmas.List.{append-nil}
 use Rattle.std.specs.Prelude.{codes}
 use Rattle.std.specs.Fmt.{decimal}
-use Rattle.script_text.specs.declared.table.Op.TheVariants as op
-use Rattle.script_text.specs.Grammar.{phrase_text, ended, spelling}
-use Rattle.script_text.specs.Phrase.{Phrase}
+use Rattle.script_lines.specs.declared.table.Op.TheVariants as op
+use Rattle.script_lines.specs.Line.{phrase_text, ended}
+use Rattle.script_text.specs.Grammar.{spelling}
+use Rattle.script_lines.specs.Phrase.{Phrase}
 use Rattle.script_text.specs.Printing.{number_line, limit_lines, client_lines, native_line, proc_lines, post_line, body_lines, printed}
 use Rattle.script_text.specs.declared.script.Names.{Names}
 use Rattle.script_text.specs.declared.script.Native.{Native}

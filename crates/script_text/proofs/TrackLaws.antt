@@ -4,21 +4,22 @@ use Rattle.std.specs.List.{AllByRecursion}
 use Rattle.std.specs.Str.{bytes_eq}
 use Rattle.std.proofs.lemmas.List.{get_or_append_left}
 use Rattle.std.proofs.lemmas.Slice.Eq.{bytes_eq-Decides}
-use Rattle.script_text.specs.declared.table.Op.{Op}
-use Rattle.script_text.specs.declared.table.Op.TheVariants as op
-use Rattle.script_text.specs.declared.table.Role.{Role}
-use Rattle.script_text.specs.declared.table.Role.TheVariants as role
-use Rattle.script_text.specs.Phrase.{Phrase}
+use Rattle.script_lines.specs.declared.table.Op.{Op}
+use Rattle.script_lines.specs.declared.table.Op.TheVariants as op
+use Rattle.script_lines.specs.declared.table.Role.{Role}
+use Rattle.script_lines.specs.declared.table.Role.TheVariants as role
+use Rattle.script_lines.specs.Phrase.{Phrase}
 use Rattle.script_text.specs.declared.reader.Declared.{Declared}
 use Rattle.script_text.specs.declared.draft.Places.{Places}
 use Rattle.script_text.specs.declared.stage.Stage.{Stage}
 use Rattle.script_text.specs.declared.stage.Stage.TheVariants as stages
 use Rattle.script_text.specs.declared.draft.Draft.{Draft}
 use Rattle.script_text.specs.declared.reader.Mention.{Mention}
-use Rattle.script_text.specs.Words.{is_name}
-use Rattle.script_text.proofs.WordLemmas.{name_is_text}
-use Rattle.script_text.specs.Table.{role_of, slots_of, starts, starts_any}
-use Rattle.script_text.specs.Grammar.{SlotFits, IsPhrase, stage_after, stage_of, declares, declared_of, nothing, has, is_declared}
+use Rattle.script_lines.specs.Words.{is_name}
+use Rattle.script_lines.proofs.WordLemmas.{name_is_text}
+use Rattle.script_lines.specs.Table.{role_of, slots_of, starts, starts_any}
+use Rattle.script_lines.specs.Line.{SlotFits, IsPhrase}
+use Rattle.script_text.specs.Grammar.{stage_after, stage_of, declares, declared_of, nothing, has, is_declared}
 use Rattle.script_text.specs.Meaning.{contains_name, is_some_text, place, place_of, places_of, named, enter, added_at, added, entered, empty_draft, draft_of}
 use Rattle.script_text.specs.Track.{name_at, mention_of, first_missing}
 

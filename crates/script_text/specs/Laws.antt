@@ -2,8 +2,9 @@
 use Rattle.std.specs.Prelude.{◌≡◌, ◌≢◌, ◌↔◌, ◌⊎◌, ◌<◌, ℕ, suc, true, List, [], ◌∷◌, ◌++◌, length, map, Ok, Err, IsTrue, if◌then◌else◌}
 use Rattle.std.specs.List.{AllByRecursion}
 use Rattle.lwp_types.specs.TextFields.{is_printable}
-use Rattle.script_text.specs.Phrase.{Phrase}
-use Rattle.script_text.specs.Grammar.{phrase_text, IsLine, AllStand, may_stand, is_declared, Spells}
+use Rattle.script_lines.specs.Phrase.{Phrase}
+use Rattle.script_lines.specs.Line.{phrase_text, IsLine}
+use Rattle.script_text.specs.Grammar.{AllStand, may_stand, is_declared, Spells}
 use Rattle.script_text.specs.Meaning.{script_of}
 use Rattle.script_text.specs.Printing.{printed}
 use Rattle.script_text.specs.Spelling.{cut, declared_in, reason_at, verdict}

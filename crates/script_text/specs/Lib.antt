@@ -1,12 +1,9 @@
 pub mod Script
-pub mod Words
-pub mod Table
-pub mod Phrase
 pub mod Parts
 pub mod Meaning
 pub mod Grammar
 pub mod Limits
-pub mod Reading
+pub mod Declaring
 pub mod Spelling
 pub mod Track
 pub mod Pieces

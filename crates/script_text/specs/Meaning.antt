@@ -3,8 +3,8 @@ use Rattle.std.specs.Prelude.{ℕ, zero, suc, Bool, false, not, ◌&&◌, ◌==�
 use Rattle.std.specs.List.{list_any}
 use Rattle.std.specs.Str.{bytes_eq}
 use Rattle.lwp_types.specs.TextFields.{is_text}
-use Rattle.script_text.specs.Phrase.{Phrase}
-use Rattle.script_text.specs.Table.{role_of, says}
+use Rattle.script_lines.specs.Phrase.{Phrase}
+use Rattle.script_lines.specs.Table.{role_of, says}
 use Rattle.script_text.specs.declared.draft.Draft.{Draft}
 use Rattle.script_text.specs.declared.draft.Places.{Places}
 use Rattle.script_text.specs.declared.script.ExitStmt.{ExitStmt}
@@ -14,16 +14,16 @@ use Rattle.script_text.specs.declared.script.Proc.{Proc}
 use Rattle.script_text.specs.declared.script.Script.{Script}
 use Rattle.script_text.specs.declared.script.Stmt.{Stmt}
 use Rattle.script_text.specs.declared.script.Who.{Who}
-use Rattle.script_text.specs.declared.table.Op.{Op}
-use Rattle.script_text.specs.declared.table.Role.{Role}
-use Rattle.script_text.specs.declared.table.Whom.{Whom}
+use Rattle.script_lines.specs.declared.table.Op.{Op}
+use Rattle.script_lines.specs.declared.table.Role.{Role}
+use Rattle.script_lines.specs.declared.table.Whom.{Whom}
 use Rattle.script_text.specs.declared.script.ExitStmt.TheVariants as exit
 use Rattle.script_text.specs.declared.script.NativeKind.TheVariants as native
 use Rattle.script_text.specs.declared.script.Stmt.TheVariants as stmt
 use Rattle.script_text.specs.declared.script.Who.TheVariants as who
-use Rattle.script_text.specs.declared.table.Op.TheVariants as op
-use Rattle.script_text.specs.declared.table.Role.TheVariants as role
-use Rattle.script_text.specs.declared.table.Whom.TheVariants as whom
+use Rattle.script_lines.specs.declared.table.Op.TheVariants as op
+use Rattle.script_lines.specs.declared.table.Role.TheVariants as role
+use Rattle.script_lines.specs.declared.table.Whom.TheVariants as whom
 
 -- ---- Names and their numbers.
 

@@ -14,12 +14,13 @@ use Rattle.script_text.specs.declared.script.Stmt.{Stmt}
 use Rattle.script_text.specs.declared.script.Stmt.TheVariants as stmt
 use Rattle.script_text.specs.declared.script.Who.{Who}
 use Rattle.script_text.specs.declared.script.Who.TheVariants as who
-use Rattle.script_text.specs.declared.table.Op.{Op}
-use Rattle.script_text.specs.declared.table.Op.TheVariants as op
-use Rattle.script_text.specs.declared.table.Whom.{Whom}
-use Rattle.script_text.specs.declared.table.Whom.TheVariants as whom
-use Rattle.script_text.specs.Phrase.{Phrase}
-use Rattle.script_text.specs.Grammar.{blank, spelling}
+use Rattle.script_lines.specs.declared.table.Op.{Op}
+use Rattle.script_lines.specs.declared.table.Op.TheVariants as op
+use Rattle.script_lines.specs.declared.table.Whom.{Whom}
+use Rattle.script_lines.specs.declared.table.Whom.TheVariants as whom
+use Rattle.script_lines.specs.Phrase.{Phrase}
+use Rattle.script_lines.specs.Line.{blank}
+use Rattle.script_text.specs.Grammar.{spelling}
 use Rattle.script_text.specs.Script.{text_at}
 use Rattle.script_text.specs.Track.{name_at}
 

@@ -9,9 +9,9 @@ use Rattle.script_text.specs.declared.reader.Declared.{Declared}
 use Rattle.script_text.specs.declared.reader.Mention.{Mention}
 use Rattle.script_text.specs.declared.reader.Reader.{Reader}
 use Rattle.script_text.specs.declared.script.Script.{Script}
-use Rattle.script_text.specs.Phrase.{Phrase}
-use Rattle.script_text.specs.Table.{role_of, starts, starts_any}
-use Rattle.script_text.specs.Reading.{phrase_at}
+use Rattle.script_lines.specs.Phrase.{Phrase}
+use Rattle.script_lines.specs.Table.{role_of, starts, starts_any}
+use Rattle.script_lines.specs.Reading.{phrase_at}
 use Rattle.script_text.specs.Grammar.{has, nothing, stage_after, may_stand_at}
 use Rattle.script_text.specs.Meaning.{place_of, added, empty_draft, closed}
 use Rattle.script_text.specs.Spelling.{reason_of, noted, whole}

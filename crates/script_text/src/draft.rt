@@ -4,11 +4,10 @@ ghost use Rattle.script_text.specs.Meaning.{named, spoken, places_of, who_of, fr
 
 use crate::counts::Counts;
 use crate::names::NameList;
-use crate::phrase::Phrase;
-use crate::table::{Op, Role, Whom};
 use crate::texts::Texts;
 use crate::{ExitStmt, Names, Native, NativeKind, Post, Proc, Script, Stmt, Who};
 use lwp_types::{NoMemory, Sequence};
+use script_lines::{Op, Phrase, Role, Whom};
 use std::alloc::Global;
 
 /// The script of the lines so far, the procedure to which the next statement goes, and how many lines each client has posted.
@@ -253,7 +252,7 @@ fn native_kind(event: u8, store: u32) -> NativeKind
 }
 
 impl Draft {
-    ghost use Rattle.script_text.specs.Table.{role_of};
+    ghost use Rattle.script_lines.specs.Table.{role_of};
     ghost use Rattle.script_text.specs.Meaning.{empty_draft, added_at, added, entered, closed};
 
     /// No lines.

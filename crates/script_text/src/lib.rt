@@ -1,19 +1,18 @@
 //! Scripts as bytes.
 //!
-//! A script is read line by line, in whatever pieces its bytes come. Its grammar is a table of rows and the text of a line as a
-//! function of what it says; `Spells text script` says which texts are which scripts, and `verdict text` gives the script of a
+//! A script is read line by line, in whatever pieces its bytes come. What a line says is a matter of `script_lines`;
+//! `Spells text script` says which texts are which scripts, and `verdict text` gives the script of a
 //! text, or its first bad line with the first reason that fits. The reader answers the verdict, so it reads a script exactly
 //! where one is spelt. A text spells one script at most, and a pod can be made for each.
 //!
-//! The crate stands on the words of `lwp_types`, on `trace_text` for what scripts and traces write alike, and on the search for a
-//! byte of `memchr`.
+//! The crate stands on the words of `lwp_types`, on `script_lines` for single lines, on `trace_text` for what scripts and traces
+//! write alike, and on the search for a byte of `memchr`.
 #![tactic(auto)]
 
 mod counts;
 mod draft;
 mod laws;
 mod names;
-mod phrase;
 mod pieces;
 mod printing;
 mod reader;
@@ -21,9 +20,7 @@ mod reading;
 mod reason;
 mod script;
 mod stage;
-mod table;
 mod texts;
-mod words;
 
 pub use laws::{first_bad_is_blamed, one_script, printed_is_spelt, spelt_is_verdict};
 pub use names::NameList;
@@ -31,6 +28,6 @@ pub use pieces::ScriptReader;
 pub use printing::print_script;
 pub use reading::read_script;
 pub use reason::{ReadErr, Reason};
-pub use script::{ExitStmt, Names, Native, NativeKind, Post, Proc, Script, Stmt, Test, Who};
+pub use script::{ExitStmt, Names, Native, NativeKind, Post, Proc, Script, Stmt, Who};
+pub use script_lines::{Test, number_at};
 pub use texts::Texts;
-pub use words::number_at;

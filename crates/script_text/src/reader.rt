@@ -1,9 +1,10 @@
 // A reader that takes one line after another.
 ghost use Rattle.std.specs.Prelude.{◌≡◌, ◌++◌, OnOk, option_map, Some};
 ghost use Rattle.lwp_types.specs.TextFields.{is_printable};
-ghost use Rattle.script_text.specs.Phrase.{Phrase as AnyPhrase};
-ghost use Rattle.script_text.specs.Table.{role_of};
-ghost use Rattle.script_text.specs.Reading.{phrase_at, only_name, spaced_word, proc_on, native_on};
+ghost use Rattle.script_lines.specs.Phrase.{Phrase as AnyPhrase};
+ghost use Rattle.script_lines.specs.Table.{role_of};
+ghost use Rattle.script_lines.specs.Reading.{phrase_at};
+ghost use Rattle.script_text.specs.Declaring.{only_name, spaced_word, proc_on, native_on};
 ghost use Rattle.script_text.specs.Grammar.{has, keeps_rule, may_stand_at};
 ghost use Rattle.script_text.specs.Spelling.{Gives, word_reason, reason_behind, reason_of, noted};
 ghost use Rattle.script_text.specs.Track.{mention_of, first_missing};
@@ -12,12 +13,10 @@ use crate::Script;
 use crate::counts::Counts;
 use crate::draft::Draft;
 use crate::names::NameList;
-use crate::phrase::{Phrase, phrase_at};
 use crate::reason::{ReadErr, Reason};
 use crate::stage::Stage;
-use crate::table::Role;
-use crate::words::{is_name, is_printable, reach};
 use lwp_types::{NoMemory, Sequence, Text};
+use script_lines::{Phrase, Role, is_name, is_printable, phrase_at, reach};
 use std::alloc::Global;
 
 /// A line that starts a procedure, the number of the procedure's name, and whether a built-in one will do.

@@ -2,6 +2,7 @@
 use crate::names::NameList;
 use crate::texts::Texts;
 use lwp_types::{Flags, Func, Mode, Pattern, Sequence};
+use script_lines::Test;
 
 /// Whom a statement speaks of: a name, the thread itself, thread 0, the sender of the letter received last, nobody.
 #[derive(Clone, Copy)]
@@ -11,16 +12,6 @@ pub enum Who {
     First,
     Sender,
     Nobody,
-}
-
-/// When a `skip` passes over the next statement: the last answer was neither a refusal nor a catch, was a refusal, was a
-/// catch, was this value.
-#[derive(Clone, Copy)]
-pub enum Test {
-    Fine,
-    Refused,
-    Caught,
-    Value(u32),
 }
 
 /// What an exit procedure is to do.

@@ -3,7 +3,7 @@ ghost use Rattle.std.specs.Prelude.{◌≡◌};
 ghost use Rattle.script_text.specs.Grammar.{opened, stage_after, follows};
 ghost use Rattle.script_text.specs.Spelling.{breaks_again};
 
-use crate::table::Role;
+use script_lines::Role;
 
 /// What the lines so far have come to.
 #[derive(Clone, Copy, PartialEq, Eq)]

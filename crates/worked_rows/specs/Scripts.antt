@@ -3,7 +3,7 @@ use Rattle.trace_text.specs.declared.ends.Halt.TheVariants.{Ended}
 use Rattle.std.specs.Prelude.{None, Some, [], codes, ◌++◌, ◌∷◌}
 use Rattle.worked_rows.specs.Words.{Row, limited, longest_x, named, plain, pod, procedure, speaking}
 use Rattle.script_text.specs.declared.script.Who.TheVariants as who
-use Rattle.script_text.specs.declared.script.Test.TheVariants as test
+use Rattle.script_lines.specs.declared.table.Test.TheVariants as test
 use Rattle.script_text.specs.declared.script.ExitStmt.TheVariants as exit_stmt
 use Rattle.script_text.specs.declared.script.Stmt.TheVariants as stmt
 use Rattle.lwp_types.specs.declared.call.Mode.TheVariants as mode

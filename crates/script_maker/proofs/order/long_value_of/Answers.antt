@@ -1,7 +1,7 @@
 use Rattle.std.proofs.Common.{◌≡◌, ℕ, suc, ◌+◌, ◌-◌, ◌*◌, ◌^◌, ◌<◌, ◌≤◌, Bool, true, false, ◌&&◌, ltb, List, [], ◌∷◌, length, get_or, drop, None, refl, ap, arith, drop-cons}
 use Rattle.std.specs.Str.{all_ascii_digits}
 use Rattle.std.proofs.lemmas.Bool.{le-ltb}
-use Rattle.script_text.specs.Words.{value_after}
+use Rattle.script_lines.specs.Words.{value_after}
 use Rattle.script_maker.specs.Order.{long_value_of}
 use Rattle.script_maker.proofs.order.long_value_of.Goals as goal
 

@@ -1,6 +1,6 @@
 use Rattle.std.proofs.Common.{◌≡◌, ◌<◌, ◌^◌, drop}
 use Rattle.std.specs.Str.{all_ascii_digits}
-use Rattle.script_text.specs.Words.{value_after}
+use Rattle.script_lines.specs.Words.{value_after}
 use Rattle.script_maker.proofs.order.long_value_of.Given as goal
 
 abbrev pub invariant-loop-b : goal.invariant-loop-b

@@ -1,6 +1,0 @@
-use Rattle.std.proofs.Common.{◌≡◌, drop}
-use Rattle.script_text.specs.Table.{op_in}
-use Rattle.script_text.proofs.table.among.Given as goal
-
-abbrev pub invariant-loop-op : goal.invariant-loop-op
-invariant-loop-op l = op_in (drop l.op-index l.ops) l.key ≡ op_in l.ops l.key
