@@ -1,9 +1,11 @@
 // The agents.
-ghost use Rattle.std.specs.Prelude.{◌≡◌, ◌<◌, ◌≤◌, false, length, option_map, IsOk, IsTrue, IfOk, OnOk, OnErr};
+ghost use Rattle.std.specs.Prelude.{◌≡◌, ◌<◌, ◌≤◌, false, length, option_map, IfNone, IfSome, IsOk, IsTrue, IfOk, OnOk, OnErr};
+ghost use Rattle.std.specs.Slice.Scan.{HoldsNowhere, IsFirstPlace};
 ghost use Rattle.lwp_types.specs.Agents.{event_agent, is_armed};
 ghost use Rattle.lwp_types.specs.State.{agent_numbers, agent_of, all_below};
 ghost use Rattle.agents.specs.Roster.{IsInBirthOrder, created, destroyed, first_of, has_agent_for, held, is_listed, no_agents, released, reserved, without_first};
 
+use crate::marks::{has_bit, next_bit, noted};
 use crate::rows::{agent_for, first_of, numbers, row_of, set_holding, take_out};
 use lwp_types::{AgentRow, IdList, NoMemory, Tid};
 use std::alloc::Global;
@@ -15,6 +17,8 @@ pub struct Agents {
     rows: Vec<AgentRow>,
     // How many agents there may be with no more memory.
     places: usize,
+    // The bit of each event says whether the event can be delivered.
+    armed: u32,
 }
 
 impl Model for Agents {
@@ -26,7 +30,7 @@ impl Model for Agents {
 
     ghost view = { λ a. record { agents = a.rows.items; places = a.places } };
 
-    ghost invariant = { λ a. IsKept (record { agents = a.rows.items; places = a.places }) (vec_capacity a.rows) };
+    ghost invariant = { λ a. IsKept (record { agents = a.rows.items; places = a.places }) (vec_capacity a.rows) a.armed };
 }
 
 impl Agents {
@@ -37,6 +41,7 @@ impl Agents {
         Agents {
             rows: Vec::new(alloc),
             places: 0,
+            armed: 0,
         }
     }
 
@@ -69,6 +74,7 @@ impl Agents {
             owner,
             holding: false,
         });
+        self.armed = noted(&self.rows);
     }
 
     /// The event's agent, if it has one.
@@ -89,7 +95,16 @@ impl Agents {
     pub fn armed(&self, event: u8) -> bool
         ensures { result ≡ is_armed self.now.agents event }
     {
-        agent_for(&self.rows, event).is_some_and(|row| !row.holding)
+        has_bit(self.armed, event)
+    }
+
+    /// The first event from `from` on that can be delivered, if there is one below 32.
+    pub fn next_armed(&self, from: u8) -> Option<u8>
+        ensures none { IfNone result (HoldsNowhere (is_armed self.now.agents) from 32) }
+        ensures below { IfSome result (λ event. event < 32) }
+        ensures first { IfSome result (λ event. IsFirstPlace (is_armed self.now.agents) from 32 event) }
+    {
+        next_bit(self.armed, from)
     }
 
     /// The event is delivered: its agent holds the message until the reply.
@@ -99,6 +114,7 @@ impl Agents {
     {
         if let Some(row) = agent_for(&self.rows, event) {
             set_holding(&mut self.rows, row.number, true);
+            self.armed = noted(&self.rows);
         }
     }
 
@@ -108,6 +124,7 @@ impl Agents {
         ensures { self.new ≡ released self.old a }
     {
         set_holding(&mut self.rows, a, false);
+        self.armed = noted(&self.rows);
     }
 
     /// The agent is gone, and its event is free.
@@ -116,6 +133,7 @@ impl Agents {
         ensures { self.new ≡ destroyed self.old a }
     {
         take_out(&mut self.rows, a);
+        self.armed = noted(&self.rows);
     }
 
     /// The oldest agent of the thread is gone; the answer is which. Called until None, it leaves the thread without agents.
@@ -125,6 +143,7 @@ impl Agents {
     {
         let row = first_of(&self.rows, owner)?;
         take_out(&mut self.rows, row.number);
+        self.armed = noted(&self.rows);
         Some(row.number)
     }
 

@@ -7,6 +7,7 @@
 #![tactic(auto)]
 
 mod agents;
+mod marks;
 mod rows;
 
 pub use agents::Agents;
