@@ -3,7 +3,7 @@ ghost use Rattle.std.specs.Prelude.{◌≡◌, ◌++◌, [], OnOk, Some, None};
 ghost use Rattle.trace_text.specs.Lines.{source_text, exit_text, call_text};
 
 use crate::words::{
-    add_flags, add_pattern, add_proc, add_spaced, add_text, add_who, add_word_id, add_word_number,
+    add_flags, add_pattern, add_proc, add_spaced, add_who, add_word, add_word_id, add_word_number,
     add_word_text, add_word_who, add_word_who_text, func_word, mode_word,
 };
 use lwp_types::{Call, ExitCall, Flags, Func, Mode, NoMemory, Pattern, Text, Tid};
@@ -12,7 +12,7 @@ fn add_source(out: &mut Vec<u8>, me: Option<Tid>, from: Option<Tid>) -> Result<(
     ensures { OnOk result (out.new.items ≡ out.old.items ++ source_text me from) }
 {
     match from {
-        None => add_text(out, b"any"),
+        None => add_word(out, b"any"),
         Some(tid) => add_who(out, me, tid),
     }
 }
@@ -21,10 +21,10 @@ pub(crate) fn add_exit(out: &mut Vec<u8>, me: Option<Tid>, call: &ExitCall) -> R
     ensures { OnOk result (out.new.items ≡ out.old.items ++ exit_text me call.now) }
 {
     match call {
-        ExitCall::MonExit { mon } => add_word_id(out, b"monexit ", b"m", mon.number),
-        ExitCall::MonBreak { mon } => add_word_id(out, b"monbreak ", b"m", mon.number),
-        ExitCall::Notify { cond } => add_word_id(out, b"notify ", b"c", cond.number),
-        ExitCall::Broadcast { cond } => add_word_id(out, b"broadcast ", b"c", cond.number),
+        ExitCall::MonExit { mon } => add_word_id(out, b"monexit ", b'm', mon.number),
+        ExitCall::MonBreak { mon } => add_word_id(out, b"monbreak ", b'm', mon.number),
+        ExitCall::Notify { cond } => add_word_id(out, b"notify ", b'c', cond.number),
+        ExitCall::Broadcast { cond } => add_word_id(out, b"broadcast ", b'c', cond.number),
         ExitCall::Reply { to, text } => { add_word_who_text(out, b"reply ", me, *to, text.bytes()) }
         ExitCall::Resume { tid } => add_word_who(out, b"resume ", me, *tid),
         ExitCall::SetExit { code } => add_word_number(out, b"setexit ", *code),
@@ -35,7 +35,7 @@ pub(crate) fn add_exit(out: &mut Vec<u8>, me: Option<Tid>, call: &ExitCall) -> R
 fn add_on_exit(out: &mut Vec<u8>, me: Option<Tid>, call: &ExitCall) -> Result<(), NoMemory>
     ensures { OnOk result (out.new.items ≡ out.old.items ++ call_text [] me (Call.OnExit call.now)) }
 {
-    add_text(out, b"onexit ")?;
+    add_word(out, b"onexit ")?;
     add_exit(out, me, call)
 }
 
@@ -48,10 +48,10 @@ fn add_create(
 ) -> Result<(), NoMemory>
     ensures { OnOk result (out.new.items ≡ out.old.items ++ call_text procs.now None (Call.Create number prio flags)) }
 {
-    add_text(out, b"create ")?;
+    add_word(out, b"create ")?;
     add_proc(out, procs, number)?;
     add_word_number(out, b" ", prio)?;
-    add_text(out, b" ")?;
+    add_word(out, b" ")?;
     add_flags(out, flags)
 }
 
@@ -84,33 +84,33 @@ fn add_receive(
 ) -> Result<(), NoMemory>
     ensures { OnOk result (out.new.items ≡ out.old.items ++ call_text [] me (Call.Recv from mode)) }
 {
-    add_text(out, b"recv ")?;
+    add_word(out, b"recv ")?;
     add_source(out, me, from)?;
-    add_text(out, b" ")?;
-    add_text(out, mode_word(mode))
+    add_word(out, b" ")?;
+    add_word(out, mode_word(mode))
 }
 
 fn add_cond_send(out: &mut Vec<u8>, me: Option<Tid>, cond: u64, tid: Tid) -> Result<(), NoMemory>
     ensures { OnOk result (out.new.items ≡ out.old.items ++ call_text [] me (Call.CvSend cond tid)) }
 {
-    add_word_id(out, b"cvsend ", b"c", cond)?;
+    add_word_id(out, b"cvsend ", b'c', cond)?;
     add_word_who(out, b" ", me, tid)
 }
 
 fn add_handle(out: &mut Vec<u8>, pattern: Pattern, func: Func, arg: u32) -> Result<(), NoMemory>
     ensures { OnOk result (out.new.items ≡ out.old.items ++ call_text [] None (Call.Handle pattern func arg)) }
 {
-    add_text(out, b"handle ")?;
+    add_word(out, b"handle ")?;
     add_pattern(out, pattern)?;
-    add_text(out, b" ")?;
-    add_text(out, func_word(func))?;
+    add_word(out, b" ")?;
+    add_word(out, func_word(func))?;
     add_word_number(out, b" ", arg)
 }
 
 fn add_call_procedure(out: &mut Vec<u8>, procs: &[Text], number: u32) -> Result<(), NoMemory>
     ensures { OnOk result (out.new.items ≡ out.old.items ++ call_text procs.now None (Call.CallProc number)) }
 {
-    add_text(out, b"call ")?;
+    add_word(out, b"call ")?;
     add_proc(out, procs, number)
 }
 
@@ -142,36 +142,36 @@ pub(crate) fn add_call(
         Call::Suspend { tid } => add_word_who(out, b"suspend ", caller, *tid),
         Call::Resume { tid } => add_word_who(out, b"resume ", caller, *tid),
         Call::Join { tid } => add_word_who(out, b"join ", caller, *tid),
-        Call::Me => add_text(out, b"self"),
+        Call::Me => add_word(out, b"self"),
         Call::SetMaxPri { prio } => add_word_number(out, b"setmaxpri ", *prio),
         Call::SetExit { code } => add_word_number(out, b"setexit ", *code),
-        Call::GetExit => add_text(out, b"getexit"),
+        Call::GetExit => add_word(out, b"getexit"),
         Call::PodExit { code } => add_word_number(out, b"podexit ", *code),
-        Call::Threads => add_text(out, b"threads"),
-        Call::Senders => add_text(out, b"senders"),
-        Call::Receivers => add_text(out, b"receivers"),
-        Call::MonCreate => add_text(out, b"moncreate"),
-        Call::MonDestroy { mon } => add_word_id(out, b"mondestroy ", b"m", mon.number),
-        Call::Enter { mon } => add_word_id(out, b"enter ", b"m", mon.number),
-        Call::CondEnter { mon } => add_word_id(out, b"condenter ", b"m", mon.number),
-        Call::MonExit { mon } => add_word_id(out, b"monexit ", b"m", mon.number),
-        Call::MonBreak { mon } => add_word_id(out, b"monbreak ", b"m", mon.number),
-        Call::Monitors => add_text(out, b"monitors"),
-        Call::MonWaiters { mon } => add_word_id(out, b"monwaiters ", b"m", mon.number),
-        Call::CvCreate { mon } => add_word_id(out, b"cvcreate ", b"m", mon.number),
-        Call::CvDestroy { cond } => add_word_id(out, b"cvdestroy ", b"c", cond.number),
-        Call::Wait { cond } => add_word_id(out, b"wait ", b"c", cond.number),
-        Call::Notify { cond } => add_word_id(out, b"notify ", b"c", cond.number),
-        Call::Broadcast { cond } => add_word_id(out, b"broadcast ", b"c", cond.number),
-        Call::Conds => add_text(out, b"conditions"),
-        Call::CvWaiters { cond } => add_word_id(out, b"cvwaiters ", b"c", cond.number),
-        Call::Return => add_text(out, b"return"),
-        Call::Unhandle => add_text(out, b"unhandle"),
+        Call::Threads => add_word(out, b"threads"),
+        Call::Senders => add_word(out, b"senders"),
+        Call::Receivers => add_word(out, b"receivers"),
+        Call::MonCreate => add_word(out, b"moncreate"),
+        Call::MonDestroy { mon } => add_word_id(out, b"mondestroy ", b'm', mon.number),
+        Call::Enter { mon } => add_word_id(out, b"enter ", b'm', mon.number),
+        Call::CondEnter { mon } => add_word_id(out, b"condenter ", b'm', mon.number),
+        Call::MonExit { mon } => add_word_id(out, b"monexit ", b'm', mon.number),
+        Call::MonBreak { mon } => add_word_id(out, b"monbreak ", b'm', mon.number),
+        Call::Monitors => add_word(out, b"monitors"),
+        Call::MonWaiters { mon } => add_word_id(out, b"monwaiters ", b'm', mon.number),
+        Call::CvCreate { mon } => add_word_id(out, b"cvcreate ", b'm', mon.number),
+        Call::CvDestroy { cond } => add_word_id(out, b"cvdestroy ", b'c', cond.number),
+        Call::Wait { cond } => add_word_id(out, b"wait ", b'c', cond.number),
+        Call::Notify { cond } => add_word_id(out, b"notify ", b'c', cond.number),
+        Call::Broadcast { cond } => add_word_id(out, b"broadcast ", b'c', cond.number),
+        Call::Conds => add_word(out, b"conditions"),
+        Call::CvWaiters { cond } => add_word_id(out, b"cvwaiters ", b'c', cond.number),
+        Call::Return => add_word(out, b"return"),
+        Call::Unhandle => add_word(out, b"unhandle"),
         Call::Raise { pattern } => add_word_number(out, b"raise ", *pattern),
         Call::ExcNotify { pattern } => add_word_number(out, b"excnotify ", *pattern),
         Call::Bound { pattern } => add_word_number(out, b"bound ", *pattern),
-        Call::UniqPatt => add_text(out, b"uniqpatt"),
+        Call::UniqPatt => add_word(out, b"uniqpatt"),
         Call::Agent { event } => add_word_number(out, b"agent ", *event),
-        Call::Agents => add_text(out, b"agents"),
+        Call::Agents => add_word(out, b"agents"),
     }
 }

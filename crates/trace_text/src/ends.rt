@@ -2,7 +2,7 @@
 ghost use Rattle.std.specs.Prelude.{◌≡◌, ◌++◌, OnOk, IfOk};
 ghost use Rattle.trace_text.specs.Lines.{halt_text, left_text, left_texts, end_text};
 
-use crate::words::{add_number, add_text, add_word_number};
+use crate::words::{add_number, add_word, add_word_number};
 use lwp_types::NoMemory;
 use std::alloc::Global;
 
@@ -22,11 +22,11 @@ fn add_halt(out: &mut Vec<u8>, halt: &Halt, turns: u64) -> Result<(), NoMemory>
 {
     match halt {
         Halt::Ended(_) => Ok(()),
-        Halt::Stuck => add_text(out, b"stuck\n"),
+        Halt::Stuck => add_word(out, b"stuck\n"),
         Halt::Spent => {
-            add_text(out, b"spent ")?;
+            add_word(out, b"spent ")?;
             add_number(out, turns)?;
-            add_text(out, b"\n")
+            add_word(out, b"\n")
         }
     }
 }
@@ -37,10 +37,10 @@ fn add_left(out: &mut Vec<u8>, client: u64, count: u32) -> Result<(), NoMemory>
     if count == 0 {
         return Ok(());
     }
-    add_text(out, b"left client ")?;
+    add_word(out, b"left client ")?;
     add_number(out, client)?;
     add_word_number(out, b" ", count)?;
-    add_text(out, b"\n")
+    add_word(out, b"\n")
 }
 
 /// The lines behind those of the last step. `turns` is how many calls were allowed, and `left` how many lines of each client are

@@ -4,7 +4,7 @@ ghost use Rattle.trace_text.specs.Lines.{taken_text, delivered_text, line_text, 
 
 use crate::answers::add_answer;
 use crate::calls::{add_call, add_exit};
-use crate::words::{add_id, add_number, add_spaced, add_text, add_word_number};
+use crate::words::{add_id, add_number, add_spaced, add_word, add_word_number};
 use lwp_types::{Answer, Call, Effect, Effects, ExitCall, Line, NoMemory, Text, Tid};
 use std::alloc::Global;
 
@@ -20,24 +20,24 @@ fn add_taken(out: &mut Vec<u8>, event: u8, line: &Line) -> Result<(), NoMemory>
 fn add_called(out: &mut Vec<u8>, procs: &[Text], tid: Tid, call: &Call) -> Result<(), NoMemory>
     ensures { OnOk result (out.new.items ≡ out.old.items ++ line_text procs.now None (Effect.Called tid call.now)) }
 {
-    add_id(out, b"t", tid.number)?;
-    add_text(out, b": ")?;
+    add_id(out, b't', tid.number)?;
+    add_word(out, b": ")?;
     add_call(out, procs, tid, call)
 }
 
 fn add_answered(out: &mut Vec<u8>, tid: Tid, answer: &Answer) -> Result<(), NoMemory>
     ensures { OnOk result (out.new.items ≡ out.old.items ++ line_text [] None (Effect.Answered tid answer.now)) }
 {
-    add_id(out, b"t", tid.number)?;
+    add_id(out, b't', tid.number)?;
     add_answer(out, answer)
 }
 
 fn add_exited(out: &mut Vec<u8>, reg: u64, call: &ExitCall, answer: &Answer) -> Result<(), NoMemory>
     ensures { OnOk result (out.new.items ≡ out.old.items ++ line_text [] None (Effect.Exited 0 reg call.now answer.now)) }
 {
-    add_text(out, b"exit x")?;
+    add_word(out, b"exit x")?;
     add_number(out, reg)?;
-    add_text(out, b" ")?;
+    add_word(out, b" ")?;
     add_exit(out, None, call)?;
     add_answer(out, answer)
 }
@@ -45,8 +45,8 @@ fn add_exited(out: &mut Vec<u8>, reg: u64, call: &ExitCall, answer: &Answer) -> 
 fn add_died(out: &mut Vec<u8>, tid: Tid) -> Result<(), NoMemory>
     ensures { OnOk result (out.new.items ≡ out.old.items ++ line_text [] None (Effect.Died tid)) }
 {
-    add_id(out, b"t", tid.number)?;
-    add_text(out, b" dies")
+    add_id(out, b't', tid.number)?;
+    add_word(out, b" dies")
 }
 
 fn add_delivered(out: &mut Vec<u8>, event: u8, took: Option<&Line>) -> Result<(), NoMemory>

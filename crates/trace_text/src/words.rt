@@ -1,5 +1,5 @@
 // The words that lines are made of. Each function but those that answer a word puts its part at the end of the bytes so far.
-ghost use Rattle.std.specs.Prelude.{◌≡◌, ◌++◌, OnOk};
+ghost use Rattle.std.specs.Prelude.{◌≡◌, ◌++◌, ◌∷◌, [], OnOk};
 ghost use Rattle.std.specs.Fmt.{decimal};
 ghost use Rattle.trace_text.specs.Lines.{spaced, id_text, who_text, proc_text, flags_text, letter_if, mode_text, pattern_text, func_text};
 
@@ -14,6 +14,17 @@ pub fn add_text(out: &mut Vec<u8>, text: &[u8]) -> Result<(), NoMemory>
     Ok(())
 }
 
+// A short word, byte by byte, which costs less than a copy does.
+pub(crate) fn add_word(out: &mut Vec<u8>, word: &[u8]) -> Result<(), NoMemory>
+    ensures { OnOk result (out.new.items ≡ out.old.items ++ word.now) }
+{
+    out.reserve(word.len())?;
+    for i in 0..word.len() {
+        out.push_reserved(word[i]);
+    }
+    Ok(())
+}
+
 /// A text behind a space; nothing, where it is empty.
 pub fn add_spaced(out: &mut Vec<u8>, text: &[u8]) -> Result<(), NoMemory>
     ensures { OnOk result (out.new.items ≡ out.old.items ++ spaced text.now) }
@@ -25,23 +36,34 @@ pub fn add_spaced(out: &mut Vec<u8>, text: &[u8]) -> Result<(), NoMemory>
     Ok(())
 }
 
-/// A number in decimal. It needs no memory but for the bytes so far.
-pub fn add_number(out: &mut Vec<u8>, n: u64) -> Result<(), NoMemory>
+// A number of any length.
+fn add_digits(out: &mut Vec<u8>, n: u64) -> Result<(), NoMemory>
     ensures { OnOk result (out.new.items ≡ out.old.items ++ decimal n) }
 {
     let mut buffer = Buffer::new();
-    out.extend_from_slice(buffer.format(n).as_bytes())?;
-    Ok(())
+    add_word(out, buffer.format(n).as_bytes())
+}
+
+/// A number in decimal. It needs no memory but for the bytes so far.
+#[tactic(auto, using(std::proofs::lemmas::Fmt::decimal_digit))]
+pub fn add_number(out: &mut Vec<u8>, n: u64) -> Result<(), NoMemory>
+    ensures { OnOk result (out.new.items ≡ out.old.items ++ decimal n) }
+{
+    if n < 10 {
+        out.push(b'0' + n as u8)?;
+        return Ok(());
+    }
+    add_digits(out, n)
 }
 
 // A number behind its letter, or `none` for the number that nobody has.
-pub(crate) fn add_id(out: &mut Vec<u8>, letter: &[u8], n: u64) -> Result<(), NoMemory>
-    ensures { OnOk result (out.new.items ≡ out.old.items ++ id_text letter.now n) }
+pub(crate) fn add_id(out: &mut Vec<u8>, letter: u8, n: u64) -> Result<(), NoMemory>
+    ensures { OnOk result (out.new.items ≡ out.old.items ++ id_text (letter ∷ []) n) }
 {
     if n == u64::MAX {
-        return add_text(out, b"none");
+        return add_word(out, b"none");
     }
-    add_text(out, letter)?;
+    out.push(letter)?;
     add_number(out, n)
 }
 
@@ -52,12 +74,12 @@ pub(crate) fn add_who(out: &mut Vec<u8>, me: Option<Tid>, tid: Tid) -> Result<()
     match me {
         Some(caller) => {
             if caller.number == tid.number {
-                add_text(out, b"self")
+                add_word(out, b"self")
             } else {
-                add_id(out, b"t", tid.number)
+                add_id(out, b't', tid.number)
             }
         }
-        None => add_id(out, b"t", tid.number),
+        None => add_id(out, b't', tid.number),
     }
 }
 
@@ -66,7 +88,7 @@ pub(crate) fn add_proc(out: &mut Vec<u8>, procs: &[Text], number: u32) -> Result
 {
     match procs.get(number as usize) {
         Some(name) => add_text(out, name.bytes()),
-        None => add_text(out, b"none"),
+        None => add_word(out, b"none"),
     }
 }
 
@@ -74,7 +96,7 @@ fn add_if(out: &mut Vec<u8>, is_set: bool, letter: &[u8]) -> Result<(), NoMemory
     ensures { OnOk result (out.new.items ≡ out.old.items ++ letter_if is_set letter.now) }
 {
     if is_set {
-        add_text(out, letter)
+        add_word(out, letter)
     } else {
         Ok(())
     }
@@ -85,7 +107,7 @@ pub fn add_flags(out: &mut Vec<u8>, flags: Flags) -> Result<(), NoMemory>
     ensures { OnOk result (out.new.items ≡ out.old.items ++ flags_text flags) }
 {
     if !(flags.suspended || (flags.nolastrites || flags.server)) {
-        return add_text(out, b"-");
+        return add_word(out, b"-");
     }
     add_if(out, flags.suspended, b"s")?;
     add_if(out, flags.nolastrites, b"n")?;
@@ -116,7 +138,7 @@ pub fn add_pattern(out: &mut Vec<u8>, pattern: Pattern) -> Result<(), NoMemory>
     ensures { OnOk result (out.new.items ≡ out.old.items ++ pattern_text pattern) }
 {
     match pattern {
-        Pattern::All => add_text(out, b"all"),
+        Pattern::All => add_word(out, b"all"),
         Pattern::Num(number) => add_number(out, u64::from(number)),
     }
 }
@@ -130,7 +152,7 @@ pub(crate) fn add_word_who(
 ) -> Result<(), NoMemory>
     ensures { OnOk result (out.new.items ≡ out.old.items ++ (word.now ++ who_text me tid)) }
 {
-    add_text(out, word)?;
+    add_word(out, word)?;
     add_who(out, me, tid)
 }
 
@@ -138,12 +160,12 @@ pub(crate) fn add_word_who(
 pub(crate) fn add_word_id(
     out: &mut Vec<u8>,
     word: &[u8],
-    letter: &[u8],
+    letter: u8,
     n: u64,
 ) -> Result<(), NoMemory>
-    ensures { OnOk result (out.new.items ≡ out.old.items ++ (word.now ++ id_text letter.now n)) }
+    ensures { OnOk result (out.new.items ≡ out.old.items ++ (word.now ++ id_text (letter ∷ []) n)) }
 {
-    add_text(out, word)?;
+    add_word(out, word)?;
     add_id(out, letter, n)
 }
 
@@ -151,7 +173,7 @@ pub(crate) fn add_word_id(
 pub(crate) fn add_word_number(out: &mut Vec<u8>, word: &[u8], n: u32) -> Result<(), NoMemory>
     ensures { OnOk result (out.new.items ≡ out.old.items ++ (word.now ++ decimal n)) }
 {
-    add_text(out, word)?;
+    add_word(out, word)?;
     add_number(out, u64::from(n))
 }
 
@@ -159,7 +181,7 @@ pub(crate) fn add_word_number(out: &mut Vec<u8>, word: &[u8], n: u32) -> Result<
 pub(crate) fn add_word_text(out: &mut Vec<u8>, word: &[u8], text: &[u8]) -> Result<(), NoMemory>
     ensures { OnOk result (out.new.items ≡ out.old.items ++ (word.now ++ spaced text.now)) }
 {
-    add_text(out, word)?;
+    add_word(out, word)?;
     add_spaced(out, text)
 }
 
@@ -173,7 +195,7 @@ pub(crate) fn add_word_who_text(
 ) -> Result<(), NoMemory>
     ensures { OnOk result (out.new.items ≡ out.old.items ++ (word.now ++ (who_text me tid ++ spaced text.now))) }
 {
-    add_text(out, word)?;
+    add_word(out, word)?;
     add_who(out, me, tid)?;
     add_spaced(out, text)
 }
