@@ -146,7 +146,8 @@ number_keeps n = text_keeps (number n)
 
 number_text_keeps : (s : Seen) (at : Moment) → Keeps (number_text s at)
 unfolding number_text
-number_text_keeps s at = keeps_either (eqb (at.call % 10) 0) (label_keeps (record { plain = refl }) (x_of s at) 12 (number_keeps at.call)) none
+number_text_keeps s at = keeps_either (eqb (at.call % 10) 0) (record { keeps = λ names.
+    on (label_opens (record { plain = refl }) (x_of s at) 12 names) (on ((number_keeps at.call).keeps _) (on (label_closes names) ((use_keeps (record { plain = refl }) (x_of s at) 16).keeps names))) }) none
 
 tick_keeps : (s : Seen) (tid : ℕ) (at : Moment) → Keeps (tick_text s tid at)
 unfolding tick_text

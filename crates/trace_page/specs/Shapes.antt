@@ -99,9 +99,10 @@ label_text class x y = label_open class ++ (x_text x ++ (y_text y ++ codes "'>")
 
 -- ---- shapes
 
--- each tenth call has its number above
+-- each tenth call has its number above, and a rule from there down through all lanes
 unfoldable pub number_text : Seen → Moment → List ℕ
-number_text s at = if at.call % 10 == 0 then label_text (codes "number") (x_of s at) 12 ++ (decimal at.call ++ label_closed) else []
+number_text s at =
+    if at.call % 10 == 0 then label_text (codes "number") (x_of s at) 12 ++ (decimal at.call ++ (label_closed ++ use_text (codes "#rule") (x_of s at) 16)) else []
 
 unfoldable pub tick_text : Seen → ℕ → Moment → List ℕ
 tick_text s tid at = use_text (codes "#tick") (x_of s at) (y_of s tid) ++ number_text s at

@@ -389,9 +389,11 @@ impl Scene {
         if at.call % 10 != 0 {
             return Ok(());
         }
-        add_label(out, b"number", self.x_of(at), 12)?;
+        let x = self.x_of(at);
+        add_label(out, b"number", x, 12)?;
         add_number(out, at.call)?;
-        add_label_closed(out)
+        add_label_closed(out)?;
+        add_use(out, b"#rule", x, 16)
     }
 
     #[tactic(auto, unfolding(crate::specs::Shapes::tick_text))]
