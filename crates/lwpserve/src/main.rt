@@ -5,8 +5,6 @@
 //! and goes out 64 KiB at a time; but on `run` the lines of each step go out at once. What went wrong is said on standard error, and the exit status is the session's.
 #![tactic(auto)]
 
-mod streams;
-
 ghost use Rattle.std.specs.Prelude.{◌≡◌, ◌≢◌};
 ghost use Rattle.std.specs.IoError.{error_kind};
 ghost use Rattle.lwp_serve.specs.declared.session.SessionEnd.TheVariants.{NoMemory, Usage, WriteFault};
@@ -18,7 +16,7 @@ use std::process::ExitCode;
 use std::sync::Wait;
 use std::thread::Threads;
 use std::{env, io};
-use streams::{GATHERED, StdSink, StdSource};
+use std_streams::{GATHERED, StdSink, StdSource};
 
 fn main(rt: HostRuntime) -> ExitCode {
     let session = match words(&rt) {

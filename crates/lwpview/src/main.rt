@@ -4,8 +4,6 @@
 //! gathered, and goes out 64 KiB at a time. What went wrong is said on standard error.
 #![tactic(auto)]
 
-mod streams;
-
 ghost use Rattle.std.specs.Prelude.{◌≡◌, ◌≢◌};
 ghost use Rattle.std.specs.IoError.{error_kind};
 ghost use Rattle.trace_view.specs.declared.showing.ViewEnd.TheVariants.{NoMemory, Usage};
@@ -14,7 +12,7 @@ use lwp_types::Failed;
 use std::io::{ErrorKind, Write};
 use std::process::ExitCode;
 use std::{env, io};
-use streams::{StdSink, StdSource};
+use std_streams::{GATHERED, StdSink, StdSource};
 use trace_view::{ViewEnd, fault_text, status_of, view};
 
 fn main(rt: HostRuntime) -> ExitCode {
@@ -30,7 +28,7 @@ fn main(rt: HostRuntime) -> ExitCode {
 
 // What these words come to, on the standard streams.
 fn end_of(rt: &HostRuntime, words: &Vec<String>) -> ViewEnd {
-    let Ok(mut sink) = StdSink::new(rt.alloc(), rt.stdout()) else {
+    let Ok(mut sink) = StdSink::new(rt.alloc(), rt.stdout(), GATHERED) else {
         return ViewEnd::NoMemory;
     };
     let mut source = StdSource::new(rt.stdin());

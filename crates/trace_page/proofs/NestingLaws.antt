@@ -4,15 +4,13 @@ use Rattle.std.proofs.Common.{List, [], ap, eqb, refl, true, ℕ, ◌%◌, ◌++
 use Rattle.std.specs.Fmt.{decimal}
 use Rattle.std.specs.List.{list_all}
 use Rattle.std.specs.Prelude.{IsTrue, codes}
-use Rattle.trace_lines.specs.declared.entry.Verb.{Verb}
-use Rattle.trace_lines.specs.declared.entry.Verb.TheVariants as verb
-use Rattle.trace_page.proofs.Readings.{Brings, Keeps, Plain, both, in_value, keeps_each, keeps_either, none, nothing, number, on, text_keeps}
+use Rattle.trace_page.proofs.Readings.{Brings, Keeps, Plain, both, in_value, keeps_each, keeps_either, none, number, on, text_keeps}
 use Rattle.trace_page.proofs.TitleLaws.{texts_are_plain}
 use Rattle.trace_page.specs.Frame.{colours, end_text, event_open, event_words, head, head_key, head_style, height_open, key_marks, key_waits, layout, marks, more_closed, more_open, more_text, name_closed, name_text, name_words, names_closed, names_open, names_text, page_closed, patterns, signs, size_closed, size_text, tail, waits, ways, width_open}
 use Rattle.trace_page.specs.Frame as frame
 use Rattle.trace_page.specs.Nesting.{Outside, Quoted, at, is_closed, is_nested, read, read_on}
 use Rattle.trace_page.specs.Page.{groups, page, shown, told_all, told_line}
-use Rattle.trace_page.specs.Scene.{Seen, opening}
+use Rattle.trace_page.specs.Scene.{Seen, need_of, opening}
 use Rattle.trace_page.specs.Shapes.{arrow_text, band_text, bar_text, closed, closing_text, due_text, escaped, event_text, group_closed, group_open, group_text, height_text, held_text, label_closed, label_open, label_text, letter_text, line_text, move_text, named_text, number_text, path_open, path_text, posted_text, rect_open, rect_text, shape_text, shapes_text, sign_open, tag_text, tick_text, title_text, use_open, use_text, wait_class, wait_text, waits_text, wanted_text, way_class, width_text, x_of, x_text, y_of, y_text}
 use Rattle.trace_page.specs.Steps.{finished, is_shown}
 use Rattle.trace_page.specs.Titles.{is_plain}
@@ -20,6 +18,8 @@ use Rattle.trace_page.specs.declared.scene.Kind.{Kind}
 use Rattle.trace_page.specs.declared.scene.Kind.TheVariants as kind
 use Rattle.trace_page.specs.declared.scene.Lane.{Lane}
 use Rattle.trace_page.specs.declared.scene.Moment.{Moment}
+use Rattle.trace_page.specs.declared.scene.Need.{Need}
+use Rattle.trace_page.specs.declared.scene.Need.TheVariants as need
 use Rattle.trace_page.specs.declared.scene.Shape.{Shape}
 use Rattle.trace_page.specs.declared.scene.Shape.TheVariants as shape
 use Rattle.trace_page.specs.declared.scene.Span.{Span}
@@ -146,33 +146,27 @@ number_keeps n = text_keeps (number n)
 
 number_text_keeps : (s : Seen) (at : Moment) → Keeps (number_text s at)
 unfolding number_text
-number_text_keeps s at = keeps_either (eqb (at.call % 10) 0) (label_keeps (record { plain = refl }) (x_of s at) 12 (number_keeps at.call)) none
+number_text_keeps s at = keeps_either (eqb (at.call % 10) 0) (record {
+  keeps = λ names.
+      on (label_opens (record { plain = refl }) (x_of s at) 12 names) (on ((number_keeps at.call).keeps _) (on (label_closes names) ((use_keeps (record { plain = refl }) (x_of s at) 16).keeps names)));
+}) none
 
 tick_keeps : (s : Seen) (tid : ℕ) (at : Moment) → Keeps (tick_text s tid at)
 unfolding tick_text
 tick_keeps s tid at = both (use_keeps (record { plain = refl }) (x_of s at) (y_of s tid)) (number_text_keeps s at)
 
-wait_is_plain : (v : Verb) → Plain (wait_class v)
+wait_is_plain : (n : Need) → Plain (wait_class n)
 unfolding wait_class
-wait_is_plain verb.Send = record { plain = refl }
-wait_is_plain verb.Receive = record { plain = refl }
-wait_is_plain verb.Enter = record { plain = refl }
-wait_is_plain verb.Wait = record { plain = refl }
-wait_is_plain verb.Join = record { plain = refl }
-wait_is_plain verb.Create = record { plain = refl }
-wait_is_plain verb.Destroy = record { plain = refl }
-wait_is_plain verb.Suspend = record { plain = refl }
-wait_is_plain verb.Resume = record { plain = refl }
-wait_is_plain verb.CondEnter = record { plain = refl }
-wait_is_plain verb.MonExit = record { plain = refl }
-wait_is_plain verb.MonBreak = record { plain = refl }
-wait_is_plain verb.Agent = record { plain = refl }
-wait_is_plain verb.OnExit = record { plain = refl }
-wait_is_plain verb.Other = record { plain = refl }
+wait_is_plain need.Reply = record { plain = refl }
+wait_is_plain need.Letter = record { plain = refl }
+wait_is_plain need.Monitor = record { plain = refl }
+wait_is_plain need.Condition = record { plain = refl }
+wait_is_plain need.Death = record { plain = refl }
+wait_is_plain need.Nothing = record { plain = refl }
 
 wait_keeps : (s : Seen) (lane : Lane) (to : Moment) → Keeps (wait_text s lane to)
 unfolding wait_text
-wait_keeps s lane to = rect_keeps (wait_is_plain lane.verb) _ _ _ _
+wait_keeps s lane to = rect_keeps (wait_is_plain (need_of lane.verb)) _ _ _ _
 
 tag_keeps : (x y mon : ℕ) → Keeps (tag_text x y mon)
 unfolding tag_text
@@ -218,53 +212,35 @@ closing_keeps : (s : Seen) (line : List ℕ) (nth : ℕ) (at : Moment) → Keeps
 unfolding closing_text
 closing_keeps s line nth at = label_keeps (record { plain = refl }) _ _ (line_keeps line)
 
-wanted_keeps : (v : Verb) → Keeps (wanted_text v)
+wanted_keeps : (n : Need) → Keeps (wanted_text n)
 unfolding wanted_text
-wanted_keeps verb.Send = text_keeps (record { plain = refl })
-wanted_keeps verb.Receive = text_keeps (record { plain = refl })
-wanted_keeps verb.Enter = text_keeps (record { plain = refl })
-wanted_keeps verb.Wait = text_keeps (record { plain = refl })
-wanted_keeps verb.Join = text_keeps (record { plain = refl })
-wanted_keeps verb.Create = text_keeps (record { plain = refl })
-wanted_keeps verb.Destroy = text_keeps (record { plain = refl })
-wanted_keeps verb.Suspend = text_keeps (record { plain = refl })
-wanted_keeps verb.Resume = text_keeps (record { plain = refl })
-wanted_keeps verb.CondEnter = text_keeps (record { plain = refl })
-wanted_keeps verb.MonExit = text_keeps (record { plain = refl })
-wanted_keeps verb.MonBreak = text_keeps (record { plain = refl })
-wanted_keeps verb.Agent = text_keeps (record { plain = refl })
-wanted_keeps verb.OnExit = text_keeps (record { plain = refl })
-wanted_keeps verb.Other = text_keeps (record { plain = refl })
+wanted_keeps need.Reply = text_keeps (record { plain = refl })
+wanted_keeps need.Letter = text_keeps (record { plain = refl })
+wanted_keeps need.Monitor = text_keeps (record { plain = refl })
+wanted_keeps need.Condition = text_keeps (record { plain = refl })
+wanted_keeps need.Death = text_keeps (record { plain = refl })
+wanted_keeps need.Nothing = text_keeps (record { plain = refl })
 
-letter_keeps : (v : Verb) → Keeps (letter_text v)
+letter_keeps : (n : Need) → Keeps (letter_text n)
 unfolding letter_text
-letter_keeps verb.Enter = text_keeps (record { plain = refl })
-letter_keeps verb.Wait = text_keeps (record { plain = refl })
-letter_keeps verb.Send = text_keeps (record { plain = refl })
-letter_keeps verb.Receive = text_keeps (record { plain = refl })
-letter_keeps verb.Join = text_keeps (record { plain = refl })
-letter_keeps verb.Create = text_keeps (record { plain = refl })
-letter_keeps verb.Destroy = text_keeps (record { plain = refl })
-letter_keeps verb.Suspend = text_keeps (record { plain = refl })
-letter_keeps verb.Resume = text_keeps (record { plain = refl })
-letter_keeps verb.CondEnter = text_keeps (record { plain = refl })
-letter_keeps verb.MonExit = text_keeps (record { plain = refl })
-letter_keeps verb.MonBreak = text_keeps (record { plain = refl })
-letter_keeps verb.Agent = text_keeps (record { plain = refl })
-letter_keeps verb.OnExit = text_keeps (record { plain = refl })
-letter_keeps verb.Other = text_keeps (record { plain = refl })
+letter_keeps need.Reply = text_keeps (record { plain = refl })
+letter_keeps need.Letter = text_keeps (record { plain = refl })
+letter_keeps need.Monitor = text_keeps (record { plain = refl })
+letter_keeps need.Condition = text_keeps (record { plain = refl })
+letter_keeps need.Death = text_keeps (record { plain = refl })
+letter_keeps need.Nothing = text_keeps (record { plain = refl })
 
-named_keeps : (v : Verb) (target : ℕ) → Keeps (named_text v target)
+named_keeps : (n : Need) (target : ℕ) → Keeps (named_text n target)
 unfolding named_text
-named_keeps v target = keeps_either (eqb target null_id) none (both (letter_keeps v) (number_keeps target))
+named_keeps n target = keeps_either (eqb target null_id) none (both (letter_keeps n) (number_keeps target))
 
-waits_keep : (v : Verb) (target : ℕ) → Keeps (waits_text v target)
+waits_keep : (n : Need) (target : ℕ) → Keeps (waits_text n target)
 unfolding waits_text
-waits_keep v target = both (words (codes "waits for ") refl) (both (wanted_keeps v) (named_keeps v target))
+waits_keep n target = both (words (codes "waits for ") refl) (both (wanted_keeps n) (named_keeps n target))
 
 due_keeps : (s : Seen) (lane : Lane) (at : Moment) → Keeps (due_text s lane at)
 unfolding due_text
-due_keeps s lane at = label_keeps (record { plain = refl }) _ _ (waits_keep lane.verb lane.target)
+due_keeps s lane at = label_keeps (record { plain = refl }) _ _ (waits_keep (need_of lane.verb) lane.target)
 
 shape_keeps : (s : Seen) (line : List ℕ) (x : Shape) → Keeps (shape_text s line x)
 unfolding shape_text

@@ -1,9 +1,9 @@
 -- What a text makes of a reader of a page.
-use Rattle.std.proofs.Common.{Bool, List, [], arith, cond, eqb, false, ltb, refl, suc, true, zero, ℕ, ◌%◌, ◌+◌, ◌/◌, ◌∙◌, ◌++◌, ◌<◌, ◌∷◌, ◌≡◌, ◌&&◌, ◌||◌, not, ap}
+use Rattle.std.proofs.Common.{Bool, List, [], arith, cond, eqb, false, refl, suc, true, zero, ℕ, ◌%◌, ◌+◌, ◌/◌, ◌∙◌, ◌++◌, ◌<◌, ◌∷◌, ◌≡◌, ◌&&◌, ◌||◌, not, ap}
 use Rattle.std.proofs.lemmas.Bool.{lt-ltb, ne_eqb}
 use Rattle.std.proofs.lemmas.List.Sums.{fold-append}
 use Rattle.std.specs.Fmt.{decimal, digit_glyph, digits, digits_onto}
-use Rattle.std.specs.List.{flat_map, fold, list_all}
+use Rattle.std.specs.List.{flat_map, list_all}
 use Rattle.trace_page.specs.Nesting.{Place, Outside, Quoted, Reader, at, read, read_on}
 use Rattle.trace_page.specs.Titles.{is_plain}
 

@@ -1,10 +1,13 @@
 -- What is known of the lines so far.
 use Rattle.lwp_types.specs.Names.{null_id}
 use Rattle.std.specs.Prelude.{Bool, List, [], false, if◌then◌else◌, min, not, slice_index_or, slice_set, suc, true, ℕ, ◌&&◌, ◌++◌, ◌+◌, ◌==◌, ◌^◌, ◌-◌, ◌∷◌}
+use Rattle.trace_lines.specs.declared.entry.Verb.{Verb}
 use Rattle.trace_lines.specs.declared.entry.Verb.TheVariants as verb
 use Rattle.trace_page.specs.declared.scene.Kind.TheVariants as kind
 use Rattle.trace_page.specs.declared.scene.Lane.{Lane}
 use Rattle.trace_page.specs.declared.scene.Moment.{Moment}
+use Rattle.trace_page.specs.declared.scene.Need.{Need}
+use Rattle.trace_page.specs.declared.scene.Need.TheVariants as need
 use Rattle.trace_page.specs.declared.scene.Setting.{Setting}
 use Rattle.trace_page.specs.declared.scene.Shape.{Shape}
 use Rattle.trace_page.specs.declared.scene.Span.{Span}
@@ -58,6 +61,24 @@ together one other = (one.call == other.call) && same_bool one.late other.late
 abbrev pub place : ℕ → List Lane → ℕ
 place id [] = 0
 place id (lane ∷ lanes) = if lane.id == id then 0 else suc (place id lanes)
+
+-- what a call of this kind may wait for
+unfoldable pub need_of : Verb → Need
+need_of verb.Send = need.Reply
+need_of verb.Receive = need.Letter
+need_of verb.Enter = need.Monitor
+need_of verb.Wait = need.Condition
+need_of verb.Join = need.Death
+need_of verb.Create = need.Nothing
+need_of verb.Destroy = need.Nothing
+need_of verb.Suspend = need.Nothing
+need_of verb.Resume = need.Nothing
+need_of verb.CondEnter = need.Nothing
+need_of verb.MonExit = need.Nothing
+need_of verb.MonBreak = need.Nothing
+need_of verb.Agent = need.Nothing
+need_of verb.OnExit = need.Nothing
+need_of verb.Other = need.Nothing
 
 -- a lane that has called nothing yet
 abbrev pub blank : ℕ → ℕ → Moment → Lane

@@ -3,13 +3,13 @@ use Rattle.lwp_types.specs.Names.{null_id}
 use Rattle.std.specs.Fmt.{decimal}
 use Rattle.std.specs.List.{flat_map}
 use Rattle.std.specs.Prelude.{Bool, List, [], codes, false, if◌then◌else◌, min, true, ℕ, ◌%◌, ◌*◌, ◌++◌, ◌+◌, ◌-◌, ◌==◌, ◌∷◌}
-use Rattle.trace_lines.specs.declared.entry.Verb.{Verb}
-use Rattle.trace_lines.specs.declared.entry.Verb.TheVariants as verb
-use Rattle.trace_page.specs.Scene.{Seen, place}
+use Rattle.trace_page.specs.Scene.{Seen, need_of, place}
 use Rattle.trace_page.specs.declared.scene.Kind.{Kind}
 use Rattle.trace_page.specs.declared.scene.Kind.TheVariants as kind
 use Rattle.trace_page.specs.declared.scene.Lane.{Lane}
 use Rattle.trace_page.specs.declared.scene.Moment.{Moment}
+use Rattle.trace_page.specs.declared.scene.Need.{Need}
+use Rattle.trace_page.specs.declared.scene.Need.TheVariants as need
 use Rattle.trace_page.specs.declared.scene.Shape.{Shape}
 use Rattle.trace_page.specs.declared.scene.Shape.TheVariants as shape
 use Rattle.trace_page.specs.declared.scene.Span.{Span}
@@ -99,33 +99,25 @@ label_text class x y = label_open class ++ (x_text x ++ (y_text y ++ codes "'>")
 
 -- ---- shapes
 
--- each tenth call has its number above
+-- each tenth call has its number above, and a rule from there down through all lanes
 unfoldable pub number_text : Seen → Moment → List ℕ
-number_text s at = if at.call % 10 == 0 then label_text (codes "number") (x_of s at) 12 ++ (decimal at.call ++ label_closed) else []
+number_text s at =
+    if at.call % 10 == 0 then label_text (codes "number") (x_of s at) 12 ++ (decimal at.call ++ (label_closed ++ use_text (codes "#rule") (x_of s at) 16)) else []
 
 unfoldable pub tick_text : Seen → ℕ → Moment → List ℕ
 tick_text s tid at = use_text (codes "#tick") (x_of s at) (y_of s tid) ++ number_text s at
 
 -- what a call waits for
-unfoldable pub wait_class : Verb → List ℕ
-wait_class verb.Send = codes "reply"
-wait_class verb.Receive = codes "letter"
-wait_class verb.Enter = codes "monitor"
-wait_class verb.Wait = codes "condition"
-wait_class verb.Join = codes "death"
-wait_class verb.Create = codes "other"
-wait_class verb.Destroy = codes "other"
-wait_class verb.Suspend = codes "other"
-wait_class verb.Resume = codes "other"
-wait_class verb.CondEnter = codes "other"
-wait_class verb.MonExit = codes "other"
-wait_class verb.MonBreak = codes "other"
-wait_class verb.Agent = codes "other"
-wait_class verb.OnExit = codes "other"
-wait_class verb.Other = codes "other"
+unfoldable pub wait_class : Need → List ℕ
+wait_class need.Reply = codes "reply"
+wait_class need.Letter = codes "letter"
+wait_class need.Monitor = codes "monitor"
+wait_class need.Condition = codes "condition"
+wait_class need.Death = codes "death"
+wait_class need.Nothing = codes "other"
 
 unfoldable pub wait_text : Seen → Lane → Moment → List ℕ
-wait_text s lane to = rect_text (wait_class lane.verb) (x_of s lane.since) (y_of s lane.id + 4) (x_of s to - x_of s lane.since) 12
+wait_text s lane to = rect_text (wait_class (need_of lane.verb)) (x_of s lane.since) (y_of s lane.id + 4) (x_of s to - x_of s lane.since) 12
 
 -- how far down the bar of a monitor is: below those that were acquired before, of which three show apart
 unfoldable pub deep : ℕ → ℕ
@@ -168,50 +160,32 @@ unfoldable pub closing_text : Seen → List ℕ → ℕ → Moment → List ℕ
 closing_text s line nth at = label_text (codes "end") (x_of s at + 24) (14 + 14 * min nth 16) ++ (escaped line ++ label_closed)
 
 -- what it waits for, in words
-unfoldable pub wanted_text : Verb → List ℕ
-wanted_text verb.Send = codes "a reply"
-wanted_text verb.Receive = codes "a letter"
-wanted_text verb.Enter = codes "monitor"
-wanted_text verb.Wait = codes "condition"
-wanted_text verb.Join = codes "the death"
-wanted_text verb.Create = codes "nothing"
-wanted_text verb.Destroy = codes "nothing"
-wanted_text verb.Suspend = codes "nothing"
-wanted_text verb.Resume = codes "nothing"
-wanted_text verb.CondEnter = codes "nothing"
-wanted_text verb.MonExit = codes "nothing"
-wanted_text verb.MonBreak = codes "nothing"
-wanted_text verb.Agent = codes "nothing"
-wanted_text verb.OnExit = codes "nothing"
-wanted_text verb.Other = codes "nothing"
+unfoldable pub wanted_text : Need → List ℕ
+wanted_text need.Reply = codes "a reply"
+wanted_text need.Letter = codes "a letter"
+wanted_text need.Monitor = codes "monitor"
+wanted_text need.Condition = codes "condition"
+wanted_text need.Death = codes "the death"
+wanted_text need.Nothing = codes "nothing"
 
 -- the letter of what it names
-unfoldable pub letter_text : Verb → List ℕ
-letter_text verb.Enter = codes " m"
-letter_text verb.Wait = codes " c"
-letter_text verb.Send = codes " of t"
-letter_text verb.Receive = codes " of t"
-letter_text verb.Join = codes " of t"
-letter_text verb.Create = codes " "
-letter_text verb.Destroy = codes " "
-letter_text verb.Suspend = codes " "
-letter_text verb.Resume = codes " "
-letter_text verb.CondEnter = codes " "
-letter_text verb.MonExit = codes " "
-letter_text verb.MonBreak = codes " "
-letter_text verb.Agent = codes " "
-letter_text verb.OnExit = codes " "
-letter_text verb.Other = codes " "
+unfoldable pub letter_text : Need → List ℕ
+letter_text need.Monitor = codes " m"
+letter_text need.Condition = codes " c"
+letter_text need.Reply = codes " of t"
+letter_text need.Letter = codes " of t"
+letter_text need.Death = codes " of t"
+letter_text need.Nothing = codes " "
 
-unfoldable pub named_text : Verb → ℕ → List ℕ
-named_text v target = if target == null_id then [] else letter_text v ++ decimal target
+unfoldable pub named_text : Need → ℕ → List ℕ
+named_text need target = if target == null_id then [] else letter_text need ++ decimal target
 
--- the same of a call
-unfoldable pub waits_text : Verb → ℕ → List ℕ
-waits_text v target = codes "waits for " ++ (wanted_text v ++ named_text v target)
+-- the same with what the call names
+unfoldable pub waits_text : Need → ℕ → List ℕ
+waits_text need target = codes "waits for " ++ (wanted_text need ++ named_text need target)
 
 unfoldable pub due_text : Seen → Lane → Moment → List ℕ
-due_text s lane at = label_text (codes "due") (x_of s at + 6) (y_of s lane.id + 14) ++ (waits_text lane.verb lane.target ++ label_closed)
+due_text s lane at = label_text (codes "due") (x_of s at + 6) (y_of s lane.id + 14) ++ (waits_text (need_of lane.verb) lane.target ++ label_closed)
 
 -- a shape of a line
 unfoldable pub shape_text : Seen → List ℕ → Shape → List ℕ

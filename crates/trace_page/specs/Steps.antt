@@ -7,11 +7,13 @@ use Rattle.trace_lines.specs.declared.entry.Gain.{Gain}
 use Rattle.trace_lines.specs.declared.entry.Gain.TheVariants as gain
 use Rattle.trace_lines.specs.declared.entry.Verb.{Verb}
 use Rattle.trace_lines.specs.declared.entry.Verb.TheVariants as verb
-use Rattle.trace_page.specs.Scene.{Seen, begun, drawn, lane_of, one_more, opened, place, put, together}
+use Rattle.trace_page.specs.Scene.{Seen, begun, drawn, lane_of, need_of, one_more, opened, place, put, together}
 use Rattle.trace_page.specs.Spans.{changed, held_more, last_from, level_from, top_from}
 use Rattle.trace_page.specs.declared.scene.Kind.TheVariants as kind
 use Rattle.trace_page.specs.declared.scene.Lane.{Lane}
 use Rattle.trace_page.specs.declared.scene.Moment.{Moment}
+use Rattle.trace_page.specs.declared.scene.Need.{Need}
+use Rattle.trace_page.specs.declared.scene.Need.TheVariants as need
 use Rattle.trace_page.specs.declared.scene.Setting.{Setting}
 use Rattle.trace_page.specs.declared.scene.Shape.{Shape}
 use Rattle.trace_page.specs.declared.scene.Shape.TheVariants as shape
@@ -61,30 +63,21 @@ called tid v target suspended s =
 
 -- ---- an answer
 
--- a call of this kind may wait
-abbrev pub may_wait : Verb → Bool
-may_wait verb.Send = true
-may_wait verb.Receive = true
-may_wait verb.Enter = true
-may_wait verb.Wait = true
-may_wait verb.Join = true
-may_wait verb.Create = false
-may_wait verb.Destroy = false
-may_wait verb.Suspend = false
-may_wait verb.Resume = false
-may_wait verb.CondEnter = false
-may_wait verb.MonExit = false
-may_wait verb.MonBreak = false
-may_wait verb.Agent = false
-may_wait verb.OnExit = false
-may_wait verb.Other = false
+-- a call that needs this may wait
+abbrev pub may_wait : Need → Bool
+may_wait need.Reply = true
+may_wait need.Letter = true
+may_wait need.Monitor = true
+may_wait need.Condition = true
+may_wait need.Death = true
+may_wait need.Nothing = false
 
 -- it has waited until now
 abbrev pub has_waited : Lane → Moment → Bool
 has_waited lane now = lane.waits && not (together lane.since now)
 
 abbrev pub waited : Lane → Moment → List Shape
-waited lane now = if has_waited lane now && may_wait lane.verb then shape.Wait lane now ∷ [] else []
+waited lane now = if has_waited lane now && may_wait (need_of lane.verb) then shape.Wait lane now ∷ [] else []
 
 -- who has woken it: not itself, and only where it has waited
 abbrev pub woken : Lane → ℕ → Moment → List Shape
@@ -256,7 +249,7 @@ is_shown s = not s.more && ((s.base == 0) || nat_lt s.base s.time.call)
 
 -- who waits still
 abbrev pub due : Moment → Lane → List Shape
-due at lane = if lane.waits && may_wait lane.verb then shape.Wait lane at ∷ (shape.Due lane at ∷ []) else []
+due at lane = if lane.waits && may_wait (need_of lane.verb) then shape.Wait lane at ∷ (shape.Due lane at ∷ []) else []
 
 abbrev pub all_due : Moment → List Lane → List Shape
 all_due at [] = []

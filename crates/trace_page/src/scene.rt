@@ -23,6 +23,17 @@ pub struct Lane {
     pub waits: bool,
 }
 
+/// What a call may wait for.
+#[derive(Clone, Copy)]
+pub enum Need {
+    Reply,
+    Letter,
+    Monitor,
+    Condition,
+    Death,
+    Nothing,
+}
+
 /// What goes on over some time.
 #[derive(Clone, Copy)]
 pub enum Kind {

@@ -3,10 +3,10 @@ ghost use Rattle.std.specs.Prelude.{◌≡◌, ◌≤◌, ◌+◌, ◌++◌, OnO
 ghost use Rattle.std.specs.Fmt.{decimal};
 ghost use Rattle.trace_page.specs.Shapes.{closed, group_closed, group_open, height_text, label_closed, label_open, line_text, move_text, path_open, posted_text, rect_open, sign_open, tag_text, title_text, use_open, waits_text, width_text, x_text, y_text, arrow_text, band_text, bar_text, closing_text, deep, due_text, escaped, escaped_byte, event_text, group_text, half, held_text, label_text, letter_text, named_text, number_text, path_text, rect_text, shape_text, shapes_text, tick_text, use_text, wait_class, wait_text, wanted_text, way_class, x_of, y_of};
 
-use crate::scene::{Kind, Lane, Moment, Scene, Shape, Span, Way};
-use crate::steps::place;
+use crate::scene::{Kind, Lane, Moment, Need, Scene, Shape, Span, Way};
+use crate::steps::{need_of, place};
 use lwp_types::NoMemory;
-use trace_lines::{NOBODY, Verb};
+use trace_lines::NOBODY;
 use trace_text::{add_number, add_text};
 
 // ---- Text of the trace.
@@ -221,25 +221,16 @@ fn deep(level: u64) -> u64
 }
 
 #[tactic(auto, unfolding(crate::specs::Shapes::wait_class))]
-fn wait_class(verb: Verb) -> &'static [u8]
-    ensures { result.now ≡ wait_class verb }
+fn wait_class(need: Need) -> &'static [u8]
+    ensures { result.now ≡ wait_class need }
 {
-    match verb {
-        Verb::Send => b"reply",
-        Verb::Receive => b"letter",
-        Verb::Enter => b"monitor",
-        Verb::Wait => b"condition",
-        Verb::Join => b"death",
-        Verb::Create
-        | Verb::Destroy
-        | Verb::Suspend
-        | Verb::Resume
-        | Verb::CondEnter
-        | Verb::MonExit
-        | Verb::MonBreak
-        | Verb::Agent
-        | Verb::OnExit
-        | Verb::Other => b"other",
+    match need {
+        Need::Reply => b"reply",
+        Need::Letter => b"letter",
+        Need::Monitor => b"monitor",
+        Need::Condition => b"condition",
+        Need::Death => b"death",
+        Need::Nothing => b"other",
     }
 }
 
@@ -255,67 +246,49 @@ fn way_class(way: Way) -> &'static [u8]
 }
 
 #[tactic(auto, unfolding(crate::specs::Shapes::wanted_text))]
-fn wanted(verb: Verb) -> &'static [u8]
-    ensures { result.now ≡ wanted_text verb }
+fn wanted(need: Need) -> &'static [u8]
+    ensures { result.now ≡ wanted_text need }
 {
-    match verb {
-        Verb::Send => b"a reply",
-        Verb::Receive => b"a letter",
-        Verb::Enter => b"monitor",
-        Verb::Wait => b"condition",
-        Verb::Join => b"the death",
-        Verb::Create
-        | Verb::Destroy
-        | Verb::Suspend
-        | Verb::Resume
-        | Verb::CondEnter
-        | Verb::MonExit
-        | Verb::MonBreak
-        | Verb::Agent
-        | Verb::OnExit
-        | Verb::Other => b"nothing",
+    match need {
+        Need::Reply => b"a reply",
+        Need::Letter => b"a letter",
+        Need::Monitor => b"monitor",
+        Need::Condition => b"condition",
+        Need::Death => b"the death",
+        Need::Nothing => b"nothing",
     }
 }
 
 #[tactic(auto, unfolding(crate::specs::Shapes::letter_text))]
-fn letter(verb: Verb) -> &'static [u8]
-    ensures { result.now ≡ letter_text verb }
+fn letter(need: Need) -> &'static [u8]
+    ensures { result.now ≡ letter_text need }
 {
-    match verb {
-        Verb::Enter => b" m",
-        Verb::Wait => b" c",
-        Verb::Send | Verb::Receive | Verb::Join => b" of t",
-        Verb::Create
-        | Verb::Destroy
-        | Verb::Suspend
-        | Verb::Resume
-        | Verb::CondEnter
-        | Verb::MonExit
-        | Verb::MonBreak
-        | Verb::Agent
-        | Verb::OnExit
-        | Verb::Other => b" ",
+    match need {
+        Need::Monitor => b" m",
+        Need::Condition => b" c",
+        Need::Reply | Need::Letter | Need::Death => b" of t",
+        Need::Nothing => b" ",
     }
 }
 
 #[tactic(auto, unfolding(crate::specs::Shapes::named_text))]
-fn add_named(out: &mut Vec<u8>, verb: Verb, target: u64) -> Result<(), NoMemory>
-    ensures { OnOk result (out.new.items ≡ out.old.items ++ named_text verb target) }
+fn add_named(out: &mut Vec<u8>, need: Need, target: u64) -> Result<(), NoMemory>
+    ensures { OnOk result (out.new.items ≡ out.old.items ++ named_text need target) }
 {
     if target == NOBODY {
         return Ok(());
     }
-    add_text(out, letter(verb))?;
+    add_text(out, letter(need))?;
     add_number(out, target)
 }
 
 #[tactic(auto, unfolding(crate::specs::Shapes::waits_text))]
-fn add_waits(out: &mut Vec<u8>, verb: Verb, target: u64) -> Result<(), NoMemory>
-    ensures { OnOk result (out.new.items ≡ out.old.items ++ waits_text verb target) }
+fn add_waits(out: &mut Vec<u8>, need: Need, target: u64) -> Result<(), NoMemory>
+    ensures { OnOk result (out.new.items ≡ out.old.items ++ waits_text need target) }
 {
     add_text(out, b"waits for ")?;
-    add_text(out, wanted(verb))?;
-    add_named(out, verb, target)
+    add_text(out, wanted(need))?;
+    add_named(out, need, target)
 }
 
 #[tactic(auto, unfolding(crate::specs::Shapes::posted_text))]
@@ -389,9 +362,11 @@ impl Scene {
         if at.call % 10 != 0 {
             return Ok(());
         }
-        add_label(out, b"number", self.x_of(at), 12)?;
+        let x = self.x_of(at);
+        add_label(out, b"number", x, 12)?;
         add_number(out, at.call)?;
-        add_label_closed(out)
+        add_label_closed(out)?;
+        add_use(out, b"#rule", x, 16)
     }
 
     #[tactic(auto, unfolding(crate::specs::Shapes::tick_text))]
@@ -410,7 +385,7 @@ impl Scene {
         let width = self.x_of(to).saturating_sub(x);
         add_rect(
             out,
-            wait_class(lane.verb),
+            wait_class(need_of(lane.verb)),
             x,
             self.y_of(lane.id) + 4,
             width,
@@ -521,7 +496,7 @@ impl Scene {
         let x = self.x_of(at) + 6;
         let y = self.y_of(lane.id) + 14;
         add_label(out, b"due", x, y)?;
-        add_waits(out, lane.verb, lane.target)?;
+        add_waits(out, need_of(lane.verb), lane.target)?;
         add_label_closed(out)
     }
 

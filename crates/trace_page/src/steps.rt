@@ -1,10 +1,10 @@
 // What a line makes of all that is known, and what is drawn for it.
 ghost use Rattle.std.specs.Prelude.{◌≡◌, ◌++◌, ◌&&◌, OnOk};
-ghost use Rattle.trace_page.specs.Scene.{begun, blank, drawn, lane_of, one_more, opened, opening, place, put, same_bool, together};
+ghost use Rattle.trace_page.specs.Scene.{begun, blank, drawn, lane_of, need_of, one_more, opened, opening, place, put, same_bool, together};
 ghost use Rattle.trace_page.specs.Spans.{changed, held_more};
 ghost use Rattle.trace_page.specs.Steps.{agent_from, all_due, answered, asking, called, came, carried, closed, counted, created, died, done, due, event_taken, exited, finished, given_up, granted, has_waited, is_call, is_past, is_shown, left, may_wait, met, met_thread, owner_of, parked, sent, set, settled, shown_answer, told, waited, with_agent, woken};
 
-use crate::scene::{Kind, Lane, Moment, Scene, Setting, Shape, Span, Way};
+use crate::scene::{Kind, Lane, Moment, Need, Scene, Setting, Shape, Span, Way};
 use crate::spans::{Change, add_bars, add_kept, level_of, monitor_at, top_level};
 use lwp_types::NoMemory;
 use std::alloc::Global;
@@ -72,12 +72,17 @@ fn agent_of(event: u64, lanes: &[Lane]) -> u64
     found
 }
 
-/// Whether a call of this kind may wait.
-pub fn may_wait(verb: Verb) -> bool
-    ensures { result ≡ may_wait verb }
+/// What a call of this kind may wait for.
+#[tactic(auto, unfolding(crate::specs::Scene::need_of))]
+pub fn need_of(verb: Verb) -> Need
+    ensures { result ≡ need_of verb }
 {
     match verb {
-        Verb::Send | Verb::Receive | Verb::Enter | Verb::Wait | Verb::Join => true,
+        Verb::Send => Need::Reply,
+        Verb::Receive => Need::Letter,
+        Verb::Enter => Need::Monitor,
+        Verb::Wait => Need::Condition,
+        Verb::Join => Need::Death,
         Verb::Create
         | Verb::Destroy
         | Verb::Suspend
@@ -87,7 +92,17 @@ pub fn may_wait(verb: Verb) -> bool
         | Verb::MonBreak
         | Verb::Agent
         | Verb::OnExit
-        | Verb::Other => false,
+        | Verb::Other => Need::Nothing,
+    }
+}
+
+// Whether a call may wait that needs this.
+fn may_wait(need: Need) -> bool
+    ensures { result ≡ may_wait need }
+{
+    match need {
+        Need::Reply | Need::Letter | Need::Monitor | Need::Condition | Need::Death => true,
+        Need::Nothing => false,
     }
 }
 
@@ -100,7 +115,7 @@ fn has_waited(lane: Lane, now: Moment) -> bool
 fn add_waited(out: &mut Vec<Shape>, lane: Lane, now: Moment) -> Result<(), NoMemory>
     ensures { OnOk result (out.new.items ≡ out.old.items ++ waited lane now) }
 {
-    if has_waited(lane, now) && may_wait(lane.verb) {
+    if has_waited(lane, now) && may_wait(need_of(lane.verb)) {
         out.push(Shape::Wait { lane, to: now })?;
     }
     Ok(())
@@ -124,7 +139,7 @@ fn add_woken(out: &mut Vec<Shape>, lane: Lane, caller: u64, now: Moment) -> Resu
 fn add_due(out: &mut Vec<Shape>, at: Moment, lane: Lane) -> Result<(), NoMemory>
     ensures { OnOk result (out.new.items ≡ out.old.items ++ due at lane) }
 {
-    if lane.waits && may_wait(lane.verb) {
+    if lane.waits && may_wait(need_of(lane.verb)) {
         out.push(Shape::Wait { lane, to: at })?;
         out.push(Shape::Due { lane, at })?;
     }

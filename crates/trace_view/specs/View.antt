@@ -1,7 +1,7 @@
 -- What the program comes to, with all that it meets outside.
-use Rattle.lwp_types.specs.Streams.{AppendsPrefix, Rose, appended}
+use Rattle.lwp_types.specs.Streams.{Rose, appended}
 use Rattle.std.specs.Fmt.{decimal}
-use Rattle.std.specs.Prelude.{List, None, Option, Some, [], codes, ℕ, ◌++◌, ◌≡◌}
+use Rattle.std.specs.Prelude.{List, None, Option, Some, [], codes, length, take, ℕ, ◌++◌, ◌<◌, ◌≡◌}
 use Rattle.trace_page.specs.Page.{bad_line, page, whole_lines}
 use Rattle.trace_view.specs.declared.showing.ViewEnd.{ViewEnd}
 use Rattle.trace_view.specs.declared.showing.ViewEnd.TheVariants as end
@@ -32,6 +32,16 @@ abbrev pub ReadSoFar : Option (List ℕ) → Option (List ℕ) → List ℕ → 
 ReadSoFar None left bytes = left ≡ None
 ReadSoFar (Some told) left bytes = (rest : List ℕ) × (left ≡ Some rest) × (told ≡ bytes ++ rest)
 
+-- some bytes were taken from its front, or all, or none
+abbrev pub IsReadPart : Option (List ℕ) → Option (List ℕ) → Type 0
+IsReadPart old new = (bytes : List ℕ) × ReadSoFar old new bytes
+
+-- what is told, with the first of these bytes at its end, and not all
+pub record AppendsPart (old new : Option (List ℕ)) (bytes : List ℕ) : Type 0 where
+  pub kept : ℕ
+  pub told : new ≡ appended old (take kept bytes)
+  pub not_all : kept < length bytes
+
 -- the source was read to its end, and this holds of what it held
 abbrev pub Says : Stream → (List ℕ → Type 0) → Type 0
 Says source says = IsFaultless source × ((text : List ℕ) × HasRead source.old source.new text × says text)
@@ -41,19 +51,19 @@ abbrev pub IsShown : Window → Stream → List ℕ → Type 0
 IsShown window sink text =
     (bad_line text ≡ None) × (sink.new ≡ appended sink.old (page window.base window.last (whole_lines text))) × IsFaultless sink
 
--- the first bytes of the page were written
+-- the first bytes of the page were written, and a write failed before the last
 abbrev pub IsCut : Window → Stream → List ℕ → Type 0
 IsCut window sink text =
-    (bad_line text ≡ None) × AppendsPrefix sink.old sink.new (page window.base window.last (whole_lines text)) × Rose sink.faults_old sink.faults_new
+    (bad_line text ≡ None) × AppendsPart sink.old sink.new (page window.base window.last (whole_lines text)) × Rose sink.faults_old sink.faults_new
 
--- what each end says, where so many calls are asked for
+-- what each end says, where so many calls are asked for; want of memory is the one free answer, and no read or write has failed then
 abbrev pub EndSays : Window → Stream → Stream → ViewEnd → Type 0
 EndSays window source sink end.Shown = Says source (IsShown window sink)
 EndSays window source sink end.Usage = ⊥
-EndSays window source sink end.ReadFault = Rose source.faults_old source.faults_new × IsQuiet sink
+EndSays window source sink end.ReadFault = Rose source.faults_old source.faults_new × IsReadPart source.old source.new × IsQuiet sink
 EndSays window source sink end.WriteFault = Says source (IsCut window sink)
 EndSays window source sink (end.Line n) = Says source (λ text. bad_line text ≡ Some n) × IsQuiet sink
-EndSays window source sink end.NoMemory = IsFaultless source × IsQuiet sink
+EndSays window source sink end.NoMemory = IsFaultless source × IsReadPart source.old source.new × IsQuiet sink
 
 -- the words are no command, and nothing was read or written
 pub record IsUsage (source sink : Stream) (e : ViewEnd) : Type 0 where

@@ -1,7 +1,7 @@
 // Reading all of a source, and writing all of a page.
 ghost use Rattle.std.specs.Prelude.{◌≡◌, IfOk, OnOk, OnErr, IsErrOf};
-ghost use Rattle.lwp_types.specs.Streams.{AppendsPrefix, HasCause, Rose, appended};
-ghost use Rattle.trace_view.specs.View.{HasRead};
+ghost use Rattle.lwp_types.specs.Streams.{HasCause, Rose, appended};
+ghost use Rattle.trace_view.specs.View.{AppendsPart, HasRead, IsReadPart};
 
 use lwp_types::{Failed, NoMemory, Sink, Source};
 use std::alloc::Global;
@@ -39,9 +39,10 @@ impl From<NoMemory> for ReadErr {
     }
 }
 
-/// All bytes of a source.
+/// All bytes of a source; or some of them are gone, and a read failed or memory was wanting.
 pub fn read_all<S: Source>(alloc: Global, source: &mut S) -> Result<Vec<u8>, ReadErr>
     ensures read { IfOk result (λ text. HasRead (S.left source.old) (S.left source.new) text.items) }
+    ensures part { OnErr result (IsReadPart (S.left source.old) (S.left source.new)) }
     ensures same { OnOk result (S.faults source.new ≡ S.faults source.old) }
     ensures fault { IsErrOf result ReadErr.Fault → Rose (S.faults source.old) (S.faults source.new) }
     ensures memory { IsErrOf result ReadErr.NoMemory → S.faults source.new ≡ S.faults source.old }
@@ -58,10 +59,10 @@ pub fn read_all<S: Source>(alloc: Global, source: &mut S) -> Result<Vec<u8>, Rea
     Err(ReadErr::NoMemory)
 }
 
-/// Writes the bytes, or fails after some of them.
+/// Writes the bytes, or fails after some of them, before the last.
 pub fn write_all<K: Sink>(sink: &mut K, bytes: &[u8]) -> Result<(), Failed>
     ensures ok { OnOk result (K.written sink.new ≡ appended (K.written sink.old) bytes.now) }
-    ensures err { OnErr result (AppendsPrefix (K.written sink.old) (K.written sink.new) bytes.now) }
+    ensures err { OnErr result (AppendsPart (K.written sink.old) (K.written sink.new) bytes.now) }
     ensures cause { HasCause (K.faults sink.old) (K.faults sink.new) result }
 {
     let mut done = 0;

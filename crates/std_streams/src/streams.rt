@@ -1,4 +1,4 @@
-// The standard streams of the process, as a source and a sink.
+// Standard input and standard output.
 ghost use Rattle.std.specs.Prelude.{◌≡◌, ◌<◌, ◌≤◌, [], IfOk, OnOk, length};
 ghost use Rattle.std.specs.Io.Buffered.{writer_buffer, writer_contents};
 ghost use Rattle.std.specs.Io.KnownBytes.{Keeps, ReadConsumes, WriteAppends};
@@ -18,8 +18,8 @@ pub struct StdSource {
     faults: u64,
 }
 
-/// Standard output, to which bytes are written as many at a time as are gathered; `finish` writes the rest. It tells nothing of its bytes, and
-/// counts the writes that failed.
+/// Standard output, to which bytes are written as many at a time as are gathered; `finish` writes the rest. It tells nothing of its
+/// bytes, and counts the writes that failed.
 #[derive(Drop)]
 pub struct StdSink {
     stdout: BufWriter<Stdout>,
@@ -27,24 +27,32 @@ pub struct StdSink {
 }
 
 impl StdSource {
-    pub fn new(stdin: Stdin) -> StdSource {
+    ghost use Rattle.std_streams.specs.Streams.{read_faults};
+
+    pub fn new(stdin: Stdin) -> StdSource
+        ensures { read_faults result ≡ 0 }
+    {
         StdSource { stdin, faults: 0 }
     }
 }
 
 impl StdSink {
     ghost use Rattle.lwp_types.specs.Streams.{HasCause};
+    ghost use Rattle.std_streams.specs.Streams.{gathered, write_faults};
 
-    /// Takes the memory for all that it will ever gather. Where that is nothing, each write goes out at once.
-    pub fn new(alloc: Global, stdout: Stdout, gathered: usize) -> io::Result<StdSink> {
-        let stdout = BufWriter::with_capacity(alloc, gathered, stdout)?;
+    /// Takes the memory for all that it will ever gather, which is `most`. Where that is 0, each write goes out at once.
+    pub fn new(alloc: Global, stdout: Stdout, most: usize) -> io::Result<StdSink>
+        ensures faults { IfOk result (λ sink. write_faults sink ≡ 0) }
+        ensures empty { IfOk result (λ sink. gathered sink ≡ []) }
+    {
+        let stdout = BufWriter::with_capacity(alloc, most, stdout)?;
         Ok(StdSink { stdout, faults: 0 })
     }
 
     /// Writes what is gathered.
     pub fn finish(&mut self) -> Result<(), Failed>
-        ensures cause { HasCause self.old.faults self.new.faults result }
-        ensures rest { OnOk result (writer_buffer self.new.stdout ≡ []) }
+        ensures cause { HasCause (write_faults self.old) (write_faults self.new) result }
+        ensures rest { OnOk result (gathered self.new ≡ []) }
     {
         match flush_past_signals(&mut self.stdout) {
             Ok(()) => Ok(()),
