@@ -1,7 +1,8 @@
 -- What each part of an eager session does: it goes on, and comes nearer to its end.
 use Rattle.std.proofs.Common.{◌≡◌, ◌≤◌, ◌<◌, ℕ, zero, suc, ◌+◌, ◌-◌, List, [], ◌∷◌, Bool, true, false, cond, None, Some, ap, ◌∙◌, refl, sym, subst, ◌++◌, append-nil, append_assoc, length, drop, length-append, inl, inr, arith}
 use Rattle.std.specs.Prelude.{Option, is_some, ◌&&◌, ◌||◌, ◌⊎◌, nat_le}
-use Rattle.std.specs.List.{fold, list_any, slice_get}
+use Rattle.std.specs.List.{fold, list_any, range_with_len, slice_get}
+use Rattle.std.specs.Slice.Scan.{HoldsNowhere}
 use Rattle.std.proofs.lemmas.Bool.Decides.{nat_tests}
 use Rattle.std.proofs.lemmas.List.Sums.{sum_by-set}
 use Rattle.event_gate.specs.Shelves.{Shelf, bare, first_left, left_in_all, moved, shelf_of, taken_from}
@@ -153,6 +154,13 @@ module _ {B : Type 0} (planned : Planned B) where
   serves-same : (es : List ℕ) (plan : Plan B) → Same plan (serves plan es)
   serves-same [] plan = same-same plan
   serves-same (e ∷ es) plan = same-then plan (offered planned e plan) (serves (offered planned e plan) es) (offered-same e plan) (serves-same es (offered planned e plan))
+
+  -- where none of these events can be delivered, nothing is taken
+  pub serves-unarmed : (plan : Plan B) (a n : ℕ) → HoldsNowhere (armed (state_of plan)) a (a + n) → serves plan (range_with_len a n) ≡ plan
+  serves-unarmed plan a zero none = refl
+  serves-unarmed plan a (suc n) none =
+      ap (λ p. serves p (range_with_len (a + 1) n)) (offered-unarmed a plan (none a (omega arith) (omega arith)))
+      ∙ serves-unarmed plan (a + 1) n (λ k low high. none k (omega (arith, low)) (omega (arith, high)))
 
   -- nothing can be taken, and nothing is; or something can be, and is
   abbrev Serves : List ℕ → Plan B → Type 0

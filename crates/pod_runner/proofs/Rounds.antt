@@ -3,6 +3,7 @@ use Rattle.std.proofs.Common.{◌≢◌, ◌≡◌, ◌≤◌, ◌<◌, ℕ, zer
 use Rattle.std.proofs.Math.Seq.{take-append_seam, take-length}
 use Rattle.std.specs.Prelude.{Option, Result, Ok, Err, OnOk, OnErr, IsErrAnd}
 use Rattle.std.specs.List.{fold, range_with_len}
+use Rattle.std.specs.Slice.Scan.{HoldsNowhere}
 use Rattle.std.proofs.lemmas.List.Sums.{fold-append}
 use Rattle.event_gate.specs.Shelves.{Shelf, first_left, left_in_all, taken_from}
 use Rattle.lwp_types.specs.Agents.{armed}
@@ -26,7 +27,7 @@ use Rattle.pod_runner.specs.Over.{events}
 use Rattle.pod_runner.proofs.Kept.{boundary-turn}
 use Rattle.pod_runner.proofs.Plays.{LastBy-of, play-call, play-take, play-zero}
 use Rattle.pod_runner.proofs.Ends.{idle-on, idle-round, idle-stuck, turn-round}
-use Rattle.pod_runner.proofs.Eagers.{call-grows, falls, finished-grows, finished-over, finished-round, first-same, first-then, offered-grows, to_do, offered-some, offered-unable, offered-unarmed, serves-grow, taken_from-none}
+use Rattle.pod_runner.proofs.Eagers.{call-grows, falls, finished-grows, finished-over, finished-round, first-same, first-then, offered-grows, to_do, offered-some, offered-unable, offered-unarmed, serves-grow, serves-unarmed, taken_from-none}
 
 -- ---- what is told
 
@@ -162,6 +163,31 @@ module _ {B P : Type 0} (next : Next B) (bodies : P → List B) (procs : P → L
       ∙ ap (λ n. first_events n (planned_of next bodies old) (plan_now next bodies old stock)) more)
       (does-then a b c i j k (λ planned plan. first_events (e - 1) planned plan) (λ planned plan. offered planned e plan) old mid new stock some left x r p q)
 
+  cut : (a m n : ℕ) → range_with_len a m ++ range_with_len (a + m) n ≡ range_with_len a (m + n)
+  cut a zero n = let at : a + 0 ≡ a = omega arith in let all : n ≡ 0 + n = omega arith in ap (λ k. range_with_len k n) at ∙ ap (range_with_len a) all
+  cut a (suc m) n = let e : a + suc m ≡ a + 1 + m = omega arith in let more : suc m + n ≡ suc (m + n) = omega arith in
+      ap (λ k. a ∷ (range_with_len (a + 1) m ++ range_with_len k n)) e ∙ ap (λ es. a ∷ es) (cut (a + 1) m n) ∙ sym (ap (range_with_len a) more)
+
+  -- events that can't be delivered are passed over
+  pub events-skip : {T : Type 0} (s : Stream) (old new : Played P) (stock left : List Shelf) (a b : ℕ) (x : T) → 1 ≤ a → a ≤ b
+      → HoldsNowhere (armed (session_of next bodies new).live.state) a b
+      → Came s (λ planned plan. first_events (a - 1) planned plan) old new stock left (Ok x) → Came s (λ planned plan. first_events (b - 1) planned plan) old new stock left (Ok x)
+  events-skip s old new stock left a b x low up none p =
+      let planned = planned_of next bodies old in
+      let plan = plan_now next bodies old stock in
+      let now = plan_now next bodies new left in
+      let n = b - a in
+      let at : 1 + (a - 1) ≡ a = omega (arith, low) in
+      let reach : b ≡ a + n = omega (arith, up) in
+      let total : (a - 1) + n ≡ b - 1 = omega (arith, low, up) in
+      let still : fold (λ (now : Plan B) e. offered planned e now) now (range_with_len a n) ≡ now = serves-unarmed planned now a n (subst (λ e. HoldsNowhere (armed (session_of next bodies new).live.state) a e) reach none) in
+      let further : fold (λ (now : Plan B) e. offered planned e now) (first_events (a - 1) planned plan) (range_with_len a n) ≡ first_events (b - 1) planned plan =
+      ap (λ k. fold (λ (now : Plan B) e. offered planned e now) (first_events (a - 1) planned plan) (range_with_len k n)) (sym at)
+      ∙ sym (fold-append (λ (now : Plan B) e. offered planned e now) plan (range_with_len 1 (a - 1)) (range_with_len (1 + (a - 1)) n))
+      ∙ ap (λ es. fold (λ (now : Plan B) e. offered planned e now) plan es) (cut 1 (a - 1) n ∙ ap (range_with_len 1) total) in
+      does-by s (λ planned plan. first_events (a - 1) planned plan) (λ planned plan. first_events (b - 1) planned plan) old new stock left (Ok x)
+      (sym p.comes ∙ sym still ∙ ap (λ q. fold (λ (now : Plan B) e. offered planned e now) q (range_with_len a n)) p.comes ∙ further) p
+
   pub events-end : {T : Type 0} (s : Stream) (old new : Played P) (stock left : List Shelf) (e : ℕ) (x : T) → e ≡ 32
       → Came s (λ planned plan. first_events (e - 1) planned plan) old new stock left (Ok x) → Came s (λ planned plan. boundary planned plan) old new stock left (Ok x)
   unfolding events
@@ -177,11 +203,6 @@ module _ {B P : Type 0} (next : Next B) (bodies : P → List B) (procs : P → L
       subst (λ whole. IsFirstPart (first_events e planned plan) whole)
       (sym (fold-append (λ (now : Plan B) e. offered planned e now) plan (range_with_len 1 e) (range_with_len (1 + e) n)) ∙ ap (λ es. fold (λ (now : Plan B) e. offered planned e now) plan es) (cut 1 e n ∙ ap (range_with_len 1) total))
       (serves-grow planned (range_with_len (1 + e) n) (first_events e planned plan))
-    where
-      cut : (a m n : ℕ) → range_with_len a m ++ range_with_len (a + m) n ≡ range_with_len a (m + n)
-      cut a zero n = let at : a + 0 ≡ a = omega arith in let all : n ≡ 0 + n = omega arith in ap (λ k. range_with_len k n) at ∙ ap (range_with_len a) all
-      cut a (suc m) n = let e : a + suc m ≡ a + 1 + m = omega arith in let more : suc m + n ≡ suc (m + n) = omega arith in
-          ap (λ k. a ∷ (range_with_len (a + 1) m ++ range_with_len k n)) e ∙ ap (λ es. a ∷ es) (cut (a + 1) m n) ∙ sym (ap (range_with_len a) more)
 
   pub events-part : {T U : Type 0} (a b c : Option (List ℕ)) (i j k : ℕ) (old mid new : Played P) (stock some left : List Shelf) (e : ℕ) (x : T) (r : Result U RunErr) (error : RunErr) → IsErrAnd r (λ given. given ≡ error) → 1 ≤ e → e < 32
       → Came (stream a b i j) (λ planned plan. first_events (e - 1) planned plan) old mid stock some (Ok x) → Came {T = Unit {0}} (stream b c j k) (λ planned plan. offered planned e plan) mid new some left (Err error)

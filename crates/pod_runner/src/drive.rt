@@ -1,10 +1,11 @@
 // A run over a gate, from step to step, until its end.
-ghost use Rattle.std.specs.Prelude.{◌≡◌, ◌≤◌, false, IfOk, OnOk, OnErr, IsErrOf};
+ghost use Rattle.std.specs.Prelude.{◌≡◌, ◌≤◌, false, IfOk, IsTrue, OnOk, OnErr, IsErrOf};
+ghost use Rattle.lwp_types.specs.Agents.{armed};
 ghost use Rattle.lwp_types.specs.Streams.{Rose};
 ghost use Rattle.pod_runner.specs.Does.{Does};
 ghost use Rattle.pod_runner.specs.Due.{IsDefined};
 ghost use Rattle.pod_runner.specs.Eager.{IsFirstPart, boundary, finished, offered, plan_over, plan_whole, round};
-ghost use Rattle.pod_runner.specs.Run.{setting_of, plan_now, planned_of, trace_before, trace_of, EndsAt, IsNew, Writes, WritesCut, WritesPart, GoesOn};
+ghost use Rattle.pod_runner.specs.Run.{setting_of, session_of, plan_now, planned_of, trace_before, trace_of, EndsAt, IsNew, Writes, WritesCut, WritesPart, GoesOn};
 
 use crate::playing::Run;
 use crate::{Phase, RunErr};
@@ -12,19 +13,21 @@ use event_gate::Gate;
 use lwp_types::{Body, Program, Sink};
 use trace_text::Halt;
 
-// One line of an event is taken, if one is left and can be delivered.
-fn serve<B: Body, P: Program<B>, G: Gate, K: Sink>(
+// One line of an event that can be delivered is taken, if one is left. It stands apart, so that a turn in which nobody listens makes
+// no room for a line.
+#[inline(never)]
+fn take_line<B: Body, P: Program<B>, G: Gate, K: Sink>(
     run: &mut Run<B, P>,
     gate: &mut G,
     event: u8,
     sink: &mut K,
 ) -> Result<(), RunErr>
-    requires { run.old.failed ≡ false }
+    requires sound { run.old.failed ≡ false }
+    requires made { IsDefined (setting_of B.next P.bodies run.old) run.old.takes run.old.calls }
+    requires room { run.old.calls ≤ run.old.turns }
+    requires wanted { IsTrue (armed (session_of B.next P.bodies run.old).live.state event) }
     ensures { Does B.next P.bodies P.proc_names (record { old = K.written sink.old; new = K.written sink.new; faults_old = K.faults sink.old; faults_new = K.faults sink.new }) (λ planned plan. offered planned event plan) run.old run.new (G.stock gate.old) (G.stock gate.new) result }
 {
-    if !run.wants(event) {
-        return Ok(());
-    }
     match gate.take(event) {
         Some(line) => run.offer(event, line, sink),
         None => Ok(()),
@@ -42,8 +45,10 @@ fn serve_all<B: Body, P: Program<B>, G: Gate, K: Sink>(
     requires room { run.old.calls ≤ run.old.turns }
     ensures { Does B.next P.bodies P.proc_names (record { old = K.written sink.old; new = K.written sink.new; faults_old = K.faults sink.old; faults_new = K.faults sink.new }) (λ planned plan. boundary planned plan) run.old run.new (G.stock gate.old) (G.stock gate.new) result }
 {
-    for event in 1..32 {
-        serve(run, gate, event, sink)?;
+    let mut from = 1;
+    while let Some(event) = run.next_wanted(from) {
+        take_line(run, gate, event, sink)?;
+        from = event + 1;
     }
     Ok(())
 }

@@ -1,5 +1,6 @@
 // What a run moves: the pod, each live thread's body, and the names.
-ghost use Rattle.std.specs.Prelude.{◌≡◌, ◌<◌, ◌≤◌, ◌^◌, IfOk, OnOk, IsSome, IsTrue, None, Some, slice_get, length};
+ghost use Rattle.std.specs.Prelude.{◌≡◌, ◌<◌, ◌≤◌, ◌^◌, IfNone, IfOk, IfSome, OnOk, IsSome, IsTrue, None, Some, slice_get, length};
+ghost use Rattle.std.specs.Slice.Scan.{HoldsNowhere, IsFirstPlace};
 ghost use Rattle.lwp_types.specs.Agents.{armed};
 ghost use Rattle.lwp_types.specs.State.{opening};
 ghost use Rattle.lwp_calls.specs.Pod.{current_of};
@@ -77,6 +78,15 @@ impl<B: Body> Parts<B> {
         self.pod.armed(event)
     }
 
+    /// The first event from `from` on of which a line can be delivered, if there is one below 32.
+    pub(crate) fn next_wanted(&self, from: u8) -> Option<u8>
+        ensures none { IfNone result (HoldsNowhere (armed self.now.pod) from 32) }
+        ensures below { IfSome result (λ event. event < 32) }
+        ensures first { IfSome result (λ event. IsFirstPlace (armed self.now.pod) from 32 event) }
+    {
+        self.pod.next_armed(from)
+    }
+
     /// Delivers a line. `out` then has the lines of what that did, and nothing else.
     pub(crate) fn deliver<P: Program<B>>(
         &mut self,
@@ -134,9 +144,13 @@ impl<B: Body> Parts<B> {
         ensures { OnOk result (Moves names.now None (move B.next (P.bodies program.now) (live_of self.old)) (live_of self.new) out.new.items) }
     {
         self.env.set_me(tid);
-        let call = self.rows.poll_at(i, &mut self.env)?;
-        let born = proc_of(&call);
-        self.pod.call(call, &mut self.effects)?;
+        // The call has room for a text, and is looked at where it lies.
+        let polled = self.rows.poll_at(i, &mut self.env);
+        let Ok(call) = &polled else {
+            return Err(NoMemory);
+        };
+        let born = proc_of(call);
+        self.pod.call(*call, &mut self.effects)?;
         set_lines(out, &self.effects, None, names)?;
         settle(&mut self.rows, program, born, &self.effects)?;
         Ok(())

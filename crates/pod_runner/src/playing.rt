@@ -1,5 +1,6 @@
 // A run: what it plays, how far it is, and its parts as they stand.
-ghost use Rattle.std.specs.Prelude.{◌≡◌, ◌≤◌, ◌<◌, ◌^◌, [], false, length, IfOk, IsTrue, slice_index_or};
+ghost use Rattle.std.specs.Prelude.{◌≡◌, ◌≤◌, ◌<◌, ◌^◌, [], false, length, IfNone, IfOk, IfSome, IsTrue, slice_index_or};
+ghost use Rattle.std.specs.Slice.Scan.{HoldsNowhere, IsFirstPlace};
 ghost use Rattle.lwp_types.specs.Agents.{armed};
 ghost use Rattle.pod_runner.specs.Due.{IsDefined};
 ghost use Rattle.pod_runner.specs.Run.{setting_of, session_of, phase_now, trace_of, names_like, stepped, with_call, with_took, Tells};
@@ -141,6 +142,18 @@ impl<B: Body, P: Program<B>> Run<B, P> {
         ensures room { self.now.calls ≤ self.now.turns }
     {
         self.parts.wants(event)
+    }
+
+    /// The first event from `from` on of which a line can be delivered, if there is one below 32.
+    pub fn next_wanted(&self, from: u8) -> Option<u8>
+        requires { self.now.failed ≡ false }
+        ensures none { IfNone result (HoldsNowhere (armed (session_of B.next P.bodies self.now).live.state) from 32) }
+        ensures below { IfSome result (λ event. event < 32) }
+        ensures first { IfSome result (λ event. IsFirstPlace (armed (session_of B.next P.bodies self.now).live.state) from 32 event) }
+        ensures made { IsDefined (setting_of B.next P.bodies self.now) self.now.takes self.now.calls }
+        ensures room { self.now.calls ≤ self.now.turns }
+    {
+        self.parts.next_wanted(from)
     }
 
     /// Delivers a line of the event, and writes its lines. After an error the run has failed: a take whose lines could not all be

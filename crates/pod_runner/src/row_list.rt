@@ -41,10 +41,11 @@ fn copy_list(alloc: Global, list: &IdList) -> Result<IdList, NoMemory>
     Ok(copy)
 }
 
-fn copy_of(alloc: Global, answer: &Answer) -> Result<Answer, NoMemory>
-    ensures { IfOk result (λ copy. copy ≡ answer.now) }
+// Sets an answer to what another is, in place, since an answer has room for a text.
+fn set_answer(alloc: Global, to: &mut Answer, answer: &Answer) -> Result<(), NoMemory>
+    ensures { OnOk result (to.new ≡ answer.now) }
 {
-    Ok(match answer {
+    *to = match answer {
         Answer::Value(value) => Answer::Value(*value),
         Answer::Thread(tid) => Answer::Thread(*tid),
         Answer::Monitor(mon) => Answer::Monitor(*mon),
@@ -73,7 +74,8 @@ fn copy_of(alloc: Global, answer: &Answer) -> Result<Answer, NoMemory>
             list: copy_list(alloc, list)?,
         },
         Answer::Refused(error) => Answer::Refused(*error),
-    })
+    };
+    Ok(())
 }
 
 // Polls the body of a row, which keeps its answer.
@@ -81,7 +83,8 @@ fn poll_row<B: Body>(alloc: Global, row: &mut Row<B>, env: &mut Env) -> Result<C
     ensures polls { IfOk result (λ call. (B.next row.old.body env.old row.old.answer ≡ (call, row.new.body, env.new)) × (row.new.answer ≡ row.old.answer)) }
     ensures same { row.new.tid ≡ row.old.tid }
 {
-    let got = copy_of(alloc, &row.answer)?;
+    let mut got = Answer::Value(0);
+    set_answer(alloc, &mut got, &row.answer)?;
     row.body.poll(env, got)
 }
 
@@ -136,14 +139,21 @@ fn are_older<B>(rows: &Vec<Row<B>>, tid: Tid) -> bool
 }
 
 // Sets what a thread is polled with next, whose row is at a place.
-fn put_answer<B>(rows: &mut Vec<Row<B>>, i: usize, tid: Tid, answer: Answer)
+fn put_answer<B>(
+    rows: &mut Vec<Row<B>>,
+    i: usize,
+    tid: Tid,
+    answer: &Answer,
+) -> Result<(), NoMemory>
     requires at { i ≡ place_of tid rows.old.items }
     requires within { i < length rows.old.items }
-    ensures after { rows.new.items ≡ answered tid answer rows.old.items }
+    ensures after { OnOk result (rows.new.items ≡ answered tid answer.now rows.old.items) }
     ensures rising { AreRising rows.old.items → AreRising rows.new.items }
 {
+    let alloc = *rows.allocator();
     let row = &mut rows[i];
-    row.answer = answer;
+    set_answer(alloc, &mut row.answer, answer)?;
+    Ok(())
 }
 
 // Forgets a thread, whose row is at a place.
@@ -225,8 +235,7 @@ impl<B> RowList<B> {
     {
         let i = self.place(tid);
         if i < self.rows.len() {
-            let given = copy_of(*self.rows.allocator(), answer)?;
-            put_answer(&mut self.rows, i, tid, given);
+            put_answer(&mut self.rows, i, tid, answer)?;
         }
         Ok(())
     }

@@ -1,6 +1,5 @@
-use Rattle.std.proofs.Common.{◌≤◌, ◌∙◌, ap, length, rules, sym}
+use Rattle.std.proofs.Common.{◌≤◌, length, rules, sym}
 use Rattle.pod_runner.specs.Polls.{place_of}
-use Rattle.pod_runner.specs.Session.{answered}
 use Rattle.pod_runner.proofs.Rising.{with_row-missing}
 use Rattle.pod_runner.proofs.row_list.RowList.answer.Goals as goal
 
@@ -10,8 +9,8 @@ put_answer-requires-clause-at g c = rw c.self.view_is c.place-i.ensures
 pub invariant_of-self : goal.invariant_of-self
 invariant_of-self g c = λ up. c.put_answer.ensures.rising (c.self.invariant up)
 
-pub returns-in_ok-given : goal.returns-in_ok-given
-returns-in_ok-given g c = rw (← c.self.view_is) (c.put_answer.ensures.after ∙ ap (λ a. answered c.args.tid a c.self.inside.rows.items) c.in_ok-given.ensures)
+pub returns-in_ok-put_answer : goal.returns-in_ok-put_answer
+returns-in_ok-put_answer g c = rw (← c.self.view_is) c.in_ok-put_answer.ensures.after
 
 pub returns-else-i-len : goal.returns-else-i-len
 returns-else-i-len g c =
