@@ -8,13 +8,11 @@
 #![tactic(auto)]
 
 mod laws;
-mod line_text;
 mod phrase;
 mod table;
 mod words;
 
 pub use laws::said_is_spelt;
-pub use line_text::add_line;
 pub use phrase::{Phrase, blank, phrase_at};
 pub use table::{Kind, Op, Role, Test, Whom};
 pub use words::{is_name, is_printable, number_at, reach};

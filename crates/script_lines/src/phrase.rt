@@ -1,7 +1,7 @@
 // A line, taken apart by its row of the table.
 ghost use Rattle.std.specs.Prelude.{◌≡◌, ℕ, List, [], drop, take, length, Some, None, option_map, if◌then◌else◌};
 ghost use Rattle.script_lines.specs.Words.{is_name};
-ghost use Rattle.script_lines.specs.Table.{key_length};
+ghost use Rattle.script_lines.specs.Table.{is_half, key_length};
 ghost use Rattle.script_lines.specs.Line.{blank};
 ghost use Rattle.trace_text.specs.Lines.{flags_text};
 ghost use Rattle.script_lines.specs.Reading.{flags_by, flags_in, flags_at, room_at, client_at, event_at, mode_at, pattern_at, func_at, value_at, test_at, name_in, who_at, source_at, session_at, built_at, fill_word, fill_text, fill_test, fill_built, slot_at, fill, said_by, phrase_at};
@@ -375,13 +375,23 @@ fn fill<'l>(kinds: &[Kind], phrase: &mut Phrase<'l>, rest: &'l [u8]) -> Option<(
     if left.is_empty() { Some(()) } else { None }
 }
 
+// Whether the word is no key without the next one.
+fn is_half(word: &[u8]) -> bool
+    ensures { result ≡ is_half word.now }
+{
+    match word {
+        [b'l', ..] => word == b"limit".as_slice(),
+        [b'o', ..] => word == b"onexit".as_slice(),
+        _ => false,
+    }
+}
+
 // How long the key of a line is.
 fn key_length(line: &[u8]) -> usize
     ensures { result ≡ key_length line.now }
 {
     let first = reach(b' ', line);
-    let word = &line[..first];
-    if word != b"limit".as_slice() && word != b"onexit".as_slice() {
+    if !is_half(&line[..first]) {
         return first;
     }
     if first == line.len() {

@@ -125,118 +125,164 @@ pub enum Role {
     Again,
 }
 
-// A row: how the line begins, the part that it plays, its slots.
-type Row = (&'static [u8], Role, &'static [Kind]);
-
 impl Op {
-    fn row(self) -> Row
-        ensures key { result.0.now ≡ key_of self }
-        ensures role { result.1 ≡ role_of self }
-        ensures slots { result.2.now ≡ slots_of self }
-    {
-        match self {
-            Op::Lwp => (b"lwp", Role::Header, &[Kind::Number]),
-            Op::Pod => (b"pod", Role::Pod, &[Kind::Number]),
-            Op::Limit => (b"limit births", Role::Limit, &[Kind::Number]),
-            Op::Client => (b"client", Role::Client, &[Kind::Client, Kind::Event]),
-            Op::Native => (b"native", Role::Native, &[Kind::Procedure, Kind::Built]),
-            Op::Proc => (b"proc", Role::Proc, &[Kind::Procedure]),
-            Op::Post => (b"post", Role::Post, &[Kind::Client, Kind::Text]),
-            Op::Create => (
-                b"create",
-                Role::Statement,
-                &[Kind::Thread, Kind::Procedure, Kind::Number, Kind::Flags],
-            ),
-            Op::Destroy => (b"destroy", Role::Statement, &[Kind::Who]),
-            Op::Ping => (b"ping", Role::Statement, &[Kind::Who]),
-            Op::Yield => (b"yield", Role::Statement, &[Kind::Who]),
-            Op::Suspend => (b"suspend", Role::Statement, &[Kind::Who]),
-            Op::Resume => (b"resume", Role::Statement, &[Kind::Who]),
-            Op::Join => (b"join", Role::Statement, &[Kind::Who]),
-            Op::Resched => (b"resched", Role::Statement, &[Kind::Number]),
-            Op::SetPri => (b"setpri", Role::Statement, &[Kind::Who, Kind::Number]),
-            Op::SetMaxPri => (b"setmaxpri", Role::Statement, &[Kind::Number]),
-            Op::Me => (b"self", Role::Statement, &[]),
-            Op::SetExit => (b"setexit", Role::Statement, &[Kind::Number]),
-            Op::GetExit => (b"getexit", Role::Statement, &[]),
-            Op::PodExit => (b"podexit", Role::Statement, &[Kind::Number]),
-            Op::Threads => (b"threads", Role::Statement, &[]),
-            Op::Send => (
-                b"send",
-                Role::Statement,
-                &[Kind::Who, Kind::Room, Kind::Text],
-            ),
-            Op::Recv => (b"recv", Role::Statement, &[Kind::Source, Kind::Mode]),
-            Op::Reply => (b"reply", Role::Statement, &[Kind::Who, Kind::Text]),
-            Op::Senders => (b"senders", Role::Statement, &[]),
-            Op::Receivers => (b"receivers", Role::Statement, &[]),
-            Op::MonCreate => (b"moncreate", Role::Statement, &[Kind::Monitor]),
-            Op::CvCreate => (
-                b"cvcreate",
-                Role::Statement,
-                &[Kind::Condition, Kind::Monitor],
-            ),
-            Op::MonDestroy => (b"mondestroy", Role::Statement, &[Kind::Monitor]),
-            Op::Enter => (b"enter", Role::Statement, &[Kind::Monitor]),
-            Op::CondEnter => (b"condenter", Role::Statement, &[Kind::Monitor]),
-            Op::MonExit => (b"monexit", Role::Statement, &[Kind::Monitor]),
-            Op::MonBreak => (b"monbreak", Role::Statement, &[Kind::Monitor]),
-            Op::MonWaiters => (b"monwaiters", Role::Statement, &[Kind::Monitor]),
-            Op::Monitors => (b"monitors", Role::Statement, &[]),
-            Op::CvDestroy => (b"cvdestroy", Role::Statement, &[Kind::Condition]),
-            Op::Wait => (b"wait", Role::Statement, &[Kind::Condition]),
-            Op::Notify => (b"notify", Role::Statement, &[Kind::Condition]),
-            Op::Broadcast => (b"broadcast", Role::Statement, &[Kind::Condition]),
-            Op::CvSend => (b"cvsend", Role::Statement, &[Kind::Condition, Kind::Who]),
-            Op::CvWaiters => (b"cvwaiters", Role::Statement, &[Kind::Condition]),
-            Op::Conds => (b"conditions", Role::Statement, &[]),
-            Op::CallProc => (b"call", Role::Statement, &[Kind::Procedure]),
-            Op::Return => (b"return", Role::Statement, &[]),
-            Op::Handle => (
-                b"handle",
-                Role::Statement,
-                &[Kind::Pattern, Kind::Func, Kind::Number],
-            ),
-            Op::Unhandle => (b"unhandle", Role::Statement, &[]),
-            Op::Raise => (b"raise", Role::Statement, &[Kind::Number]),
-            Op::ExcNotify => (b"excnotify", Role::Statement, &[Kind::Number]),
-            Op::Bound => (b"bound", Role::Statement, &[Kind::Number]),
-            Op::UniqPatt => (b"uniqpatt", Role::Statement, &[]),
-            Op::ExitMonExit => (b"onexit monexit", Role::Statement, &[Kind::Monitor]),
-            Op::ExitMonBreak => (b"onexit monbreak", Role::Statement, &[Kind::Monitor]),
-            Op::ExitNotify => (b"onexit notify", Role::Statement, &[Kind::Condition]),
-            Op::ExitBroadcast => (b"onexit broadcast", Role::Statement, &[Kind::Condition]),
-            Op::ExitReply => (b"onexit reply", Role::Statement, &[Kind::Who, Kind::Text]),
-            Op::ExitResume => (b"onexit resume", Role::Statement, &[Kind::Who]),
-            Op::ExitSetExit => (b"onexit setexit", Role::Statement, &[Kind::Number]),
-            Op::ExitNote => (b"onexit note", Role::Statement, &[Kind::Text]),
-            Op::Agent => (b"agent", Role::Statement, &[Kind::Thread, Kind::Number]),
-            Op::Agents => (b"agents", Role::Statement, &[]),
-            Op::Say => (b"say", Role::Statement, &[Kind::Text]),
-            Op::Skip => (b"skip", Role::Skip, &[Kind::Test]),
-            Op::Again => (b"again", Role::Again, &[]),
-        }
-    }
-
     /// How the line begins: a word, or two.
     pub fn key(self) -> &'static [u8]
         ensures { result.now ≡ key_of self }
     {
-        self.row().0
+        match self {
+            Op::Lwp => b"lwp",
+            Op::Pod => b"pod",
+            Op::Limit => b"limit births",
+            Op::Client => b"client",
+            Op::Native => b"native",
+            Op::Proc => b"proc",
+            Op::Post => b"post",
+            Op::Create => b"create",
+            Op::Destroy => b"destroy",
+            Op::Ping => b"ping",
+            Op::Yield => b"yield",
+            Op::Suspend => b"suspend",
+            Op::Resume => b"resume",
+            Op::Join => b"join",
+            Op::Resched => b"resched",
+            Op::SetPri => b"setpri",
+            Op::SetMaxPri => b"setmaxpri",
+            Op::Me => b"self",
+            Op::SetExit => b"setexit",
+            Op::GetExit => b"getexit",
+            Op::PodExit => b"podexit",
+            Op::Threads => b"threads",
+            Op::Send => b"send",
+            Op::Recv => b"recv",
+            Op::Reply => b"reply",
+            Op::Senders => b"senders",
+            Op::Receivers => b"receivers",
+            Op::MonCreate => b"moncreate",
+            Op::CvCreate => b"cvcreate",
+            Op::MonDestroy => b"mondestroy",
+            Op::Enter => b"enter",
+            Op::CondEnter => b"condenter",
+            Op::MonExit => b"monexit",
+            Op::MonBreak => b"monbreak",
+            Op::MonWaiters => b"monwaiters",
+            Op::Monitors => b"monitors",
+            Op::CvDestroy => b"cvdestroy",
+            Op::Wait => b"wait",
+            Op::Notify => b"notify",
+            Op::Broadcast => b"broadcast",
+            Op::CvSend => b"cvsend",
+            Op::CvWaiters => b"cvwaiters",
+            Op::Conds => b"conditions",
+            Op::CallProc => b"call",
+            Op::Return => b"return",
+            Op::Handle => b"handle",
+            Op::Unhandle => b"unhandle",
+            Op::Raise => b"raise",
+            Op::ExcNotify => b"excnotify",
+            Op::Bound => b"bound",
+            Op::UniqPatt => b"uniqpatt",
+            Op::ExitMonExit => b"onexit monexit",
+            Op::ExitMonBreak => b"onexit monbreak",
+            Op::ExitNotify => b"onexit notify",
+            Op::ExitBroadcast => b"onexit broadcast",
+            Op::ExitReply => b"onexit reply",
+            Op::ExitResume => b"onexit resume",
+            Op::ExitSetExit => b"onexit setexit",
+            Op::ExitNote => b"onexit note",
+            Op::Agent => b"agent",
+            Op::Agents => b"agents",
+            Op::Say => b"say",
+            Op::Skip => b"skip",
+            Op::Again => b"again",
+        }
     }
 
     /// The part that the line plays.
     pub fn role(self) -> Role
         ensures { result ≡ role_of self }
     {
-        self.row().1
+        match self {
+            Op::Lwp => Role::Header,
+            Op::Pod => Role::Pod,
+            Op::Limit => Role::Limit,
+            Op::Client => Role::Client,
+            Op::Native => Role::Native,
+            Op::Proc => Role::Proc,
+            Op::Post => Role::Post,
+            Op::Skip => Role::Skip,
+            Op::Again => Role::Again,
+            _ => Role::Statement,
+        }
     }
 
     /// The slots behind the key.
     pub fn slots(self) -> &'static [Kind]
         ensures { result.now ≡ slots_of self }
     {
-        self.row().2
+        match self {
+            Op::Lwp
+            | Op::Pod
+            | Op::Limit
+            | Op::Resched
+            | Op::SetMaxPri
+            | Op::SetExit
+            | Op::PodExit
+            | Op::Raise
+            | Op::ExcNotify
+            | Op::Bound
+            | Op::ExitSetExit => &[Kind::Number],
+            Op::Client => &[Kind::Client, Kind::Event],
+            Op::Native => &[Kind::Procedure, Kind::Built],
+            Op::Proc | Op::CallProc => &[Kind::Procedure],
+            Op::Post => &[Kind::Client, Kind::Text],
+            Op::Create => &[Kind::Thread, Kind::Procedure, Kind::Number, Kind::Flags],
+            Op::Destroy
+            | Op::Ping
+            | Op::Yield
+            | Op::Suspend
+            | Op::Resume
+            | Op::Join
+            | Op::ExitResume => &[Kind::Who],
+            Op::SetPri => &[Kind::Who, Kind::Number],
+            Op::Me
+            | Op::GetExit
+            | Op::Threads
+            | Op::Senders
+            | Op::Receivers
+            | Op::Monitors
+            | Op::Conds
+            | Op::Return
+            | Op::Unhandle
+            | Op::UniqPatt
+            | Op::Agents
+            | Op::Again => &[],
+            Op::Send => &[Kind::Who, Kind::Room, Kind::Text],
+            Op::Recv => &[Kind::Source, Kind::Mode],
+            Op::Reply | Op::ExitReply => &[Kind::Who, Kind::Text],
+            Op::MonCreate
+            | Op::MonDestroy
+            | Op::Enter
+            | Op::CondEnter
+            | Op::MonExit
+            | Op::MonBreak
+            | Op::MonWaiters
+            | Op::ExitMonExit
+            | Op::ExitMonBreak => &[Kind::Monitor],
+            Op::CvCreate => &[Kind::Condition, Kind::Monitor],
+            Op::CvDestroy
+            | Op::Wait
+            | Op::Notify
+            | Op::Broadcast
+            | Op::CvWaiters
+            | Op::ExitNotify
+            | Op::ExitBroadcast => &[Kind::Condition],
+            Op::CvSend => &[Kind::Condition, Kind::Who],
+            Op::Handle => &[Kind::Pattern, Kind::Func, Kind::Number],
+            Op::ExitNote | Op::Say => &[Kind::Text],
+            Op::Agent => &[Kind::Thread, Kind::Number],
+            Op::Skip => &[Kind::Test],
+        }
     }
 
     /// Whether the line ends with a text.

@@ -46,11 +46,13 @@ fn are_name_bytes(bytes: &[u8]) -> bool
 fn is_reserved(word: &[u8]) -> bool
     ensures { result ≡ is_reserved word.now }
 {
-    word == b"self".as_slice()
-        || word == b"first".as_slice()
-        || word == b"sender".as_slice()
-        || word == b"none".as_slice()
-        || word == b"any".as_slice()
+    match word {
+        [b's', ..] => word == b"self".as_slice() || word == b"sender".as_slice(),
+        [b'f', ..] => word == b"first".as_slice(),
+        [b'n', ..] => word == b"none".as_slice(),
+        [b'a', ..] => word == b"any".as_slice(),
+        _ => false,
+    }
 }
 
 /// Whether the word may be a name.

@@ -14,43 +14,16 @@ use Rattle.script_text.specs.declared.script.Stmt.{Stmt}
 use Rattle.script_text.specs.declared.script.Stmt.TheVariants as stmt
 use Rattle.script_text.specs.declared.script.Who.{Who}
 use Rattle.script_text.specs.declared.script.Who.TheVariants as who
-use Rattle.script_lines.specs.declared.table.Op.{Op}
 use Rattle.script_lines.specs.declared.table.Op.TheVariants as op
-use Rattle.script_lines.specs.declared.table.Whom.{Whom}
 use Rattle.script_lines.specs.declared.table.Whom.TheVariants as whom
 use Rattle.script_lines.specs.Phrase.{Phrase}
 use Rattle.script_lines.specs.Line.{blank}
 use Rattle.script_text.specs.Grammar.{spelling}
+use Rattle.line_writer.specs.Building.{number_line, proc_line, mon_line, cond_line, text_line, with_whom}
 use Rattle.script_text.specs.Script.{text_at}
 use Rattle.script_text.specs.Track.{name_at}
 
--- ---- Lines of one slot.
-
--- a line whose slot is this number
-abbrev pub number_line : Op → ℕ → Phrase
-number_line o n = record (blank o) { number = n }
-
--- a line that names this procedure
-abbrev pub proc_line : Op → List ℕ → Phrase
-proc_line o w = record (blank o) { procedure = w }
-
--- this monitor
-abbrev pub mon_line : Op → List ℕ → Phrase
-mon_line o w = record (blank o) { monitor = w }
-
--- this condition
-abbrev pub cond_line : Op → List ℕ → Phrase
-cond_line o w = record (blank o) { condition = w }
-
--- a line that ends with this text
-abbrev pub text_line : Op → List ℕ → Phrase
-text_line o w = record (blank o) { text = w }
-
 -- ---- Statements.
-
--- p with this word for a thread
-abbrev pub with_whom : Whom → List ℕ → Phrase → Phrase
-with_whom x w p = record p { who = x; thread = w }
 
 -- p with whom a statement speaks of
 abbrev pub with_who : Names → Who → Phrase → Phrase

@@ -1,64 +1,22 @@
 // A script to bytes: each line by its row of the table.
-ghost use Rattle.std.specs.Prelude.{◌≡◌, ◌++◌, [], IsTrue, IfOk, OnOk, codes, map};
+ghost use Rattle.std.specs.Prelude.{◌≡◌, ◌++◌, [], IfOk, OnOk, codes, map};
 ghost use Rattle.std.specs.Fmt.{decimal};
 ghost use Rattle.std.specs.List.{flat_map};
-ghost use Rattle.lwp_types.specs.TextFields.{is_text};
 ghost use Rattle.script_lines.specs.Line.{phrase_text, ended};
 ghost use Rattle.script_text.specs.Grammar.{spelling};
-ghost use Rattle.script_text.specs.Meaning.{empty_names};
-ghost use Rattle.script_text.specs.Printing.{number_line, proc_line, mon_line, cond_line, text_line, with_whom, with_who, with_source, exit_line, plain_line, lock_line, stmt_line, limit_lines, client_line, client_lines, native_line, proc_lines, post_line, printed};
+ghost use Rattle.script_text.specs.Printing.{with_who, with_source, exit_line, plain_line, lock_line, stmt_line, limit_lines, client_line, client_lines, native_line, proc_lines, post_line, printed};
 ghost use Rattle.script_text.specs.Track.{name_at};
-ghost use Rattle.script_text.specs.declared.script.Stmt.TheVariants as a_stmt;
 
 use crate::names::NameList;
 use crate::{ExitStmt, Names, Native, NativeKind, Post, Proc, Script, Stmt, Texts, Who};
-use lwp_types::{Flags, Func, Mode, NoMemory, Pattern};
-use script_lines::{Op, Phrase, Test, Whom, add_line, blank};
+use line_writer::{
+    add_line, agent_line, cond_line, create_line, cv_create_line, handle_line, mon_line,
+    number_line, proc_line, receive_line, send_line, skip_line, text_line, with_session, with_whom,
+};
+use lwp_types::NoMemory;
+use script_lines::{Op, Phrase, Whom, blank};
 use std::alloc::Global;
 use trace_text::{add_number, add_text};
-
-// ---- Lines of one slot.
-
-fn number_line<'s>(op: Op, number: u32) -> Phrase<'s>
-    ensures { result ≡ number_line op number }
-{
-    let mut line = blank(op);
-    line.number = number;
-    line
-}
-
-fn proc_line(op: Op, name: &[u8]) -> Phrase<'_>
-    ensures { result ≡ proc_line op name.now }
-{
-    let mut line = blank(op);
-    line.procedure = name;
-    line
-}
-
-fn mon_line(op: Op, name: &[u8]) -> Phrase<'_>
-    ensures { result ≡ mon_line op name.now }
-{
-    let mut line = blank(op);
-    line.monitor = name;
-    line
-}
-
-fn cond_line(op: Op, name: &[u8]) -> Phrase<'_>
-    ensures { result ≡ cond_line op name.now }
-{
-    let mut line = blank(op);
-    line.condition = name;
-    line
-}
-
-fn text_line(op: Op, text: &[u8]) -> Phrase<'_>
-    requires { IsTrue (is_text text.now) }
-    ensures { result ≡ text_line op text.now }
-{
-    let mut line = blank(op);
-    line.text = text;
-    line
-}
 
 // ---- Statements.
 
@@ -69,16 +27,6 @@ fn name_at(names: &NameList, number: u32) -> &[u8]
         Some(name) => name.bytes(),
         None => &[],
     }
-}
-
-// A line with this word for a thread.
-fn with_whom<'s>(whom: Whom, name: &'s [u8], line: Phrase<'s>) -> Phrase<'s>
-    ensures { result ≡ with_whom whom name.now line.entry }
-{
-    let mut line = line;
-    line.who = whom;
-    line.thread = name;
-    line
 }
 
 // A line with whom a statement speaks of.
@@ -125,23 +73,6 @@ fn exit_line<'s>(names: &'s Names, texts: &'s Texts, exit: ExitStmt) -> Phrase<'
     }
 }
 
-fn handle_line<'s>(pattern: Pattern, func: Func, arg: u32) -> Phrase<'s>
-    ensures { result ≡ plain_line empty_names [] (a_stmt.Handle pattern func arg) }
-{
-    let mut line = number_line(Op::Handle, arg);
-    line.pattern = pattern;
-    line.func = func;
-    line
-}
-
-fn skip_line<'s>(test: Test) -> Phrase<'s>
-    ensures { result ≡ plain_line empty_names [] (a_stmt.Skip test) }
-{
-    let mut line = blank(Op::Skip);
-    line.test = test;
-    line
-}
-
 // A statement that names nothing, or one that sets an exit procedure.
 fn plain_line<'s>(names: &'s Names, texts: &'s Texts, stmt: Stmt) -> Phrase<'s>
     ensures { result ≡ plain_line names.now texts.now stmt }
@@ -173,21 +104,16 @@ fn plain_line<'s>(names: &'s Names, texts: &'s Texts, stmt: Stmt) -> Phrase<'s>
     }
 }
 
-fn cv_create_line<'s>(names: &'s Names, cond: u32, mon: u32) -> Phrase<'s>
-    ensures { result ≡ lock_line names.now [] (a_stmt.CvCreate cond mon) }
-{
-    let mut line = cond_line(Op::CvCreate, name_at(&names.conds, cond));
-    line.monitor = name_at(&names.mons, mon);
-    line
-}
-
 // The same, or a statement that names a monitor or a condition.
 fn lock_line<'s>(names: &'s Names, texts: &'s Texts, stmt: Stmt) -> Phrase<'s>
     ensures { result ≡ lock_line names.now texts.now stmt }
 {
     match stmt {
         Stmt::MonCreate { mon } => mon_line(Op::MonCreate, name_at(&names.mons, mon)),
-        Stmt::CvCreate { cond, mon } => cv_create_line(names, cond, mon),
+        Stmt::CvCreate { cond, mon } => cv_create_line(
+            name_at(&names.conds, cond),
+            name_at(&names.mons, mon),
+        ),
         Stmt::MonDestroy { mon } => mon_line(Op::MonDestroy, name_at(&names.mons, mon)),
         Stmt::Enter { mon } => mon_line(Op::Enter, name_at(&names.mons, mon)),
         Stmt::CondEnter { mon } => mon_line(Op::CondEnter, name_at(&names.mons, mon)),
@@ -207,41 +133,6 @@ fn lock_line<'s>(names: &'s Names, texts: &'s Texts, stmt: Stmt) -> Phrase<'s>
     }
 }
 
-fn create_line<'s>(names: &'s Names, name: u32, proc: u32, prio: u32, flags: Flags) -> Phrase<'s>
-    ensures { result ≡ stmt_line names.now [] (a_stmt.Create name proc prio flags) }
-{
-    let mut line = number_line(Op::Create, prio);
-    line.thread = name_at(&names.threads, name);
-    line.procedure = name_at(&names.procs, proc);
-    line.flags = flags;
-    line
-}
-
-fn agent_line<'s>(names: &'s Names, name: u32, event: u32) -> Phrase<'s>
-    ensures { result ≡ stmt_line names.now [] (a_stmt.Agent name event) }
-{
-    let mut line = number_line(Op::Agent, event);
-    line.thread = name_at(&names.threads, name);
-    line
-}
-
-fn send_line<'s>(names: &'s Names, to: Who, room: u8, text: &'s [u8]) -> Phrase<'s>
-    requires { IsTrue (is_text text.now) }
-    ensures { result ≡ with_who names.now to (record (text_line Op.Send text.now) { room = room }) }
-{
-    let mut line = text_line(Op::Send, text);
-    line.room = room;
-    with_who(names, to, line)
-}
-
-fn receive_line<'s>(names: &'s Names, from: Option<Who>, mode: Mode) -> Phrase<'s>
-    ensures { result ≡ stmt_line names.now [] (a_stmt.Recv from mode) }
-{
-    let mut line = blank(Op::Recv);
-    line.mode = mode;
-    with_source(names, from, line)
-}
-
 // The line of a statement.
 fn stmt_line<'s>(names: &'s Names, texts: &'s Texts, stmt: Stmt) -> Phrase<'s>
     ensures { result ≡ stmt_line names.now texts.now stmt }
@@ -252,7 +143,12 @@ fn stmt_line<'s>(names: &'s Names, texts: &'s Texts, stmt: Stmt) -> Phrase<'s>
             proc,
             prio,
             flags,
-        } => create_line(names, name, proc, prio, flags),
+        } => create_line(
+            name_at(&names.threads, name),
+            name_at(&names.procs, proc),
+            prio,
+            flags,
+        ),
         Stmt::Destroy { who } => with_who(names, who, blank(Op::Destroy)),
         Stmt::Ping { who } => with_who(names, who, blank(Op::Ping)),
         Stmt::Yield { to } => with_who(names, to, blank(Op::Yield)),
@@ -260,13 +156,17 @@ fn stmt_line<'s>(names: &'s Names, texts: &'s Texts, stmt: Stmt) -> Phrase<'s>
         Stmt::Resume { who } => with_who(names, who, blank(Op::Resume)),
         Stmt::Join { who } => with_who(names, who, blank(Op::Join)),
         Stmt::SetPri { who, prio } => with_who(names, who, number_line(Op::SetPri, prio)),
-        Stmt::Send { to, room, text } => send_line(names, to, room, texts.bytes(text as usize)),
-        Stmt::Recv { from, mode } => receive_line(names, from, mode),
+        Stmt::Send { to, room, text } => with_who(
+            names,
+            to,
+            send_line(room, texts.bytes(text as usize)),
+        ),
+        Stmt::Recv { from, mode } => with_source(names, from, receive_line(mode)),
         Stmt::Reply { to, text } => {
             with_who(names, to, text_line(Op::Reply, texts.bytes(text as usize)))
         }
         Stmt::CallProc { proc } => proc_line(Op::CallProc, name_at(&names.procs, proc)),
-        Stmt::Agent { name, event } => agent_line(names, name, event),
+        Stmt::Agent { name, event } => agent_line(name_at(&names.threads, name), event),
         _ => lock_line(names, texts, stmt),
     }
 }
@@ -312,15 +212,6 @@ fn add_clients(out: &mut Vec<u8>, events: &[u8]) -> Result<(), NoMemory>
     Ok(())
 }
 
-fn session_line<'s>(line: Phrase<'s>, event: u8, store: &'s [u8]) -> Phrase<'s>
-    ensures { result ≡ record line.entry { event = event; thread = store.now } }
-{
-    let mut line = line;
-    line.event = event;
-    line.thread = store;
-    line
-}
-
 fn native_line<'s>(names: &'s Names, native: Native) -> Phrase<'s>
     ensures { result ≡ native_line names.now native }
 {
@@ -328,7 +219,7 @@ fn native_line<'s>(names: &'s Names, native: Native) -> Phrase<'s>
     match native.kind {
         NativeKind::Store => line,
         NativeKind::Session { event, store } => {
-            session_line(line, event, name_at(&names.threads, store))
+            with_session(event, name_at(&names.threads, store), line)
         }
     }
 }
@@ -375,9 +266,7 @@ fn add_procs(
 fn post_line<'s>(texts: &'s Texts, post: Post) -> Phrase<'s>
     ensures { result ≡ post_line texts.now post }
 {
-    let mut line = text_line(Op::Post, texts.bytes(post.text as usize));
-    line.client = post.client;
-    line
+    line_writer::post_line(post.client, texts.bytes(post.text as usize))
 }
 
 fn add_posts(out: &mut Vec<u8>, texts: &Texts, posts: &[Post]) -> Result<(), NoMemory>

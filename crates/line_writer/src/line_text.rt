@@ -3,9 +3,8 @@ ghost use Rattle.std.specs.Prelude.{◌≡◌, ◌++◌, OnOk};
 ghost use Rattle.std.specs.List.{flat_map};
 ghost use Rattle.script_lines.specs.Line.{who_text, test_text, built_text, slot_text, phrase_text, ended};
 
-use crate::phrase::Phrase;
-use crate::table::{Kind, Test, Whom};
 use lwp_types::NoMemory;
+use script_lines::{Kind, Phrase, Test, Whom};
 use trace_text::{add_flags, add_number, add_pattern, add_spaced, add_text, func_word, mode_word};
 
 fn add_whom(out: &mut Vec<u8>, whom: Whom, name: &[u8]) -> Result<(), NoMemory>
