@@ -1,5 +1,5 @@
 // A pod, and its calls.
-ghost use Rattle.std.specs.Prelude.{◌≡◌, ◌≤◌, ◌<◌, ◌^◌, ◌++◌, [], length, IfOk, OnOk, OnErr, IsErr, IsSome, IfNone, IfSome, IsTrue, None, Some};
+ghost use Rattle.std.specs.Prelude.{◌≡◌, ◌≤◌, ◌<◌, ◌^◌, ◌++◌, ◌∷◌, [], length, IfOk, OnOk, OnErr, IsErr, IsSome, IfNone, IfSome, IsTrue, None, Some};
 ghost use Rattle.std.specs.Slice.Scan.{HoldsNowhere, IsFirstPlace};
 ghost use Rattle.death_cleanup.specs.Comes.{CameTo};
 ghost use Rattle.exc_stack.specs.Stack.{one_frame};
@@ -298,9 +298,16 @@ fn finish(parts: &mut Parts, tid: Tid, own: Option<Answer>, effects: &mut Effect
     let next = parts.sched.current();
     parts.ended = parts.ended || (next.is_none() && all_serve(parts));
     if parts.ended {
-        effects.push(Effect::Ended {
-            status: parts.exit as u8,
-        });
+        tell_end(parts.exit as u8, effects);
     }
     next
+}
+
+// The pod ends. It stands apart, so that a step that goes on makes no room for this effect.
+#[inline(never)]
+fn tell_end(status: u8, effects: &mut Effects)
+    requires { length effects.old < 2048 }
+    ensures { effects.new ≡ effects.old ++ Effect.Ended status ∷ [] }
+{
+    effects.push(Effect::Ended { status });
 }
