@@ -11,7 +11,7 @@ use Rattle.trace_page.specs.Frame as frame
 use Rattle.trace_page.specs.Nesting.{Outside, Quoted, at, is_closed, is_nested, read, read_on}
 use Rattle.trace_page.specs.Page.{groups, page, shown, told_all, told_line}
 use Rattle.trace_page.specs.Scene.{Seen, need_of, opening}
-use Rattle.trace_page.specs.Shapes.{arrow_text, band_text, bar_text, closed, closing_text, due_text, escaped, event_text, group_closed, group_open, group_text, height_text, held_text, label_closed, label_open, label_text, letter_text, line_text, move_text, named_text, number_text, path_open, path_text, posted_text, rect_open, rect_text, shape_text, shapes_text, sign_open, tag_text, tick_text, title_text, use_open, use_text, wait_class, wait_text, waits_text, wanted_text, way_class, width_text, x_of, x_text, y_of, y_text}
+use Rattle.trace_page.specs.Shapes.{arrow_text, band_text, bar_text, class_text, closed, closing_text, due_text, escaped, event_text, group_closed, group_open, group_text, held_text, label_closed, label_text, letter_text, line_text, move_text, named_text, number_text, path_text, posted_text, rect_text, shape_text, shapes_text, sign_open, tag_text, tick_text, title_text, use_open, use_text, value_text, wait_class, wait_text, waits_text, wanted_text, way_class, x_of, y_of}
 use Rattle.trace_page.specs.Steps.{finished, is_shown}
 use Rattle.trace_page.specs.Titles.{is_plain}
 use Rattle.trace_page.specs.declared.scene.Kind.{Kind}
@@ -49,32 +49,32 @@ sign_begins : {sign : List ℕ} → Plain sign → Begins (codes "use") (sign_op
 unfolding read read_on sign_open use_open
 sign_begins plain = behind_front {front = codes "<use href='"} (record { begins = λ names. record { so = refl } }) plain
 
-rect_begins : {class : List ℕ} → Plain class → Begins (codes "rect") (rect_open class)
-unfolding read read_on rect_open
+rect_begins : {class : List ℕ} → Plain class → Begins (codes "rect") (class_text (codes "rect") class)
+unfolding read read_on class_text
 rect_begins plain = behind_front {front = codes "<rect class='"} (record { begins = λ names. record { so = refl } }) plain
 
-path_begins : {class : List ℕ} → Plain class → Begins (codes "path") (path_open class)
-unfolding read read_on path_open
+path_begins : {class : List ℕ} → Plain class → Begins (codes "path") (class_text (codes "path") class)
+unfolding read read_on class_text
 path_begins plain = behind_front {front = codes "<path class='"} (record { begins = λ names. record { so = refl } }) plain
 
-label_begins : {class : List ℕ} → Plain class → Begins (codes "text") (label_open class)
-unfolding read read_on label_open
+label_begins : {class : List ℕ} → Plain class → Begins (codes "text") (class_text (codes "text") class)
+unfolding read read_on class_text
 label_begins plain = behind_front {front = codes "<text class='"} (record { begins = λ names. record { so = refl } }) plain
 
-x_goes : (x : ℕ) → Goes (x_text x)
-unfolding read read_on x_text
+x_goes : (x : ℕ) → Goes (value_text (codes "x") x)
+unfolding read read_on value_text
 x_goes x = behind_name {front = codes "' x='"} (record { goes = λ names. record { so = refl } }) (number x)
 
-y_goes : (y : ℕ) → Goes (y_text y)
-unfolding read read_on y_text
+y_goes : (y : ℕ) → Goes (value_text (codes "y") y)
+unfolding read read_on value_text
 y_goes y = behind_name {front = codes "' y='"} (record { goes = λ names. record { so = refl } }) (number y)
 
-width_goes : (width : ℕ) → Goes (width_text width)
-unfolding read read_on width_text
+width_goes : (width : ℕ) → Goes (value_text (codes "width") width)
+unfolding read read_on value_text
 width_goes width = behind_name {front = codes "' width='"} (record { goes = λ names. record { so = refl } }) (number width)
 
-height_goes : (height : ℕ) → Goes (height_text height)
-unfolding read read_on height_text
+height_goes : (height : ℕ) → Goes (value_text (codes "height") height)
+unfolding read read_on value_text
 height_goes height = behind_name {front = codes "' height='"} (record { goes = λ names. record { so = refl } }) (number height)
 
 digits_go : (n : ℕ) → Goes (decimal n)

@@ -48,26 +48,13 @@ use_open = codes "<use href='"
 unfoldable pub sign_open : List ℕ → List ℕ
 sign_open name = use_open ++ name
 
-unfoldable pub rect_open : List ℕ → List ℕ
-rect_open class = codes "<rect class='" ++ class
+-- an element of this name and class begins
+unfoldable pub class_text : List ℕ → List ℕ → List ℕ
+class_text name class = codes "<" ++ (name ++ (codes " class='" ++ class))
 
-unfoldable pub path_open : List ℕ → List ℕ
-path_open class = codes "<path class='" ++ class
-
-unfoldable pub label_open : List ℕ → List ℕ
-label_open class = codes "<text class='" ++ class
-
-unfoldable pub x_text : ℕ → List ℕ
-x_text x = codes "' x='" ++ decimal x
-
-unfoldable pub y_text : ℕ → List ℕ
-y_text y = codes "' y='" ++ decimal y
-
-unfoldable pub width_text : ℕ → List ℕ
-width_text width = codes "' width='" ++ decimal width
-
-unfoldable pub height_text : ℕ → List ℕ
-height_text height = codes "' height='" ++ decimal height
+-- behind an attribute comes another, which is a number
+unfoldable pub value_text : List ℕ → ℕ → List ℕ
+value_text name n = codes "' " ++ (name ++ (codes "='" ++ decimal n))
 
 -- a path begins here, and goes there
 unfoldable pub move_text : ℕ → ℕ → List ℕ
@@ -85,17 +72,18 @@ label_closed = codes "</text>"
 
 -- a sign of the page's head
 unfoldable pub use_text : List ℕ → ℕ → ℕ → List ℕ
-use_text sign x y = sign_open sign ++ (x_text x ++ (y_text y ++ closed))
+use_text sign x y = sign_open sign ++ (value_text (codes "x") x ++ (value_text (codes "y") y ++ closed))
 
 unfoldable pub rect_text : List ℕ → ℕ → ℕ → ℕ → ℕ → List ℕ
-rect_text class x y width height = rect_open class ++ (x_text x ++ (y_text y ++ (width_text width ++ (height_text height ++ closed))))
+rect_text class x y width height =
+    class_text (codes "rect") class ++ (value_text (codes "x") x ++ (value_text (codes "y") y ++ (value_text (codes "width") width ++ (value_text (codes "height") height ++ closed))))
 
 unfoldable pub path_text : List ℕ → ℕ → ℕ → ℕ → ℕ → List ℕ
-path_text class x y to_x to_y = path_open class ++ (move_text x y ++ (line_text to_x to_y ++ closed))
+path_text class x y to_x to_y = class_text (codes "path") class ++ (move_text x y ++ (line_text to_x to_y ++ closed))
 
 -- a label, before its words
 unfoldable pub label_text : List ℕ → ℕ → ℕ → List ℕ
-label_text class x y = label_open class ++ (x_text x ++ (y_text y ++ codes "'>"))
+label_text class x y = class_text (codes "text") class ++ (value_text (codes "x") x ++ (value_text (codes "y") y ++ codes "'>"))
 
 -- ---- shapes
 

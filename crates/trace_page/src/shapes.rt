@@ -1,7 +1,7 @@
 // The text of what is drawn. Each function but those that answer a number or a word puts its part at the end of the bytes so far.
 ghost use Rattle.std.specs.Prelude.{◌≡◌, ◌≤◌, ◌+◌, ◌++◌, OnOk, codes};
 ghost use Rattle.std.specs.Fmt.{decimal};
-ghost use Rattle.trace_page.specs.Shapes.{closed, group_closed, group_open, height_text, label_closed, label_open, line_text, move_text, path_open, posted_text, rect_open, sign_open, tag_text, title_text, use_open, waits_text, width_text, x_text, y_text, arrow_text, band_text, bar_text, closing_text, deep, due_text, escaped, escaped_byte, event_text, group_text, half, held_text, label_text, letter_text, named_text, number_text, path_text, rect_text, shape_text, shapes_text, tick_text, use_text, wait_class, wait_text, wanted_text, way_class, x_of, y_of};
+ghost use Rattle.trace_page.specs.Shapes.{class_text, closed, group_closed, group_open, label_closed, line_text, move_text, posted_text, sign_open, tag_text, title_text, use_open, value_text, waits_text, arrow_text, band_text, bar_text, closing_text, deep, due_text, escaped, escaped_byte, event_text, group_text, half, held_text, label_text, letter_text, named_text, number_text, path_text, rect_text, shape_text, shapes_text, tick_text, use_text, wait_class, wait_text, wanted_text, way_class, x_of, y_of};
 
 use crate::scene::{Kind, Lane, Moment, Need, Scene, Shape, Span, Way};
 use crate::steps::{need_of, place};
@@ -54,59 +54,23 @@ fn add_sign(out: &mut Vec<u8>, word: &[u8]) -> Result<(), NoMemory>
     add_text(out, word)
 }
 
-#[tactic(auto, unfolding(crate::specs::Shapes::rect_open))]
-fn add_rect_open(out: &mut Vec<u8>, word: &[u8]) -> Result<(), NoMemory>
-    ensures { OnOk result (out.new.items ≡ out.old.items ++ rect_open word.now) }
+#[tactic(auto, unfolding(crate::specs::Shapes::class_text))]
+fn add_class(out: &mut Vec<u8>, name: &[u8], class: &[u8]) -> Result<(), NoMemory>
+    ensures { OnOk result (out.new.items ≡ out.old.items ++ class_text name.now class.now) }
 {
-    add_text(out, b"<rect class='")?;
-    add_text(out, word)
+    add_text(out, b"<")?;
+    add_text(out, name)?;
+    add_text(out, b" class='")?;
+    add_text(out, class)
 }
 
-#[tactic(auto, unfolding(crate::specs::Shapes::path_open))]
-fn add_path_open(out: &mut Vec<u8>, word: &[u8]) -> Result<(), NoMemory>
-    ensures { OnOk result (out.new.items ≡ out.old.items ++ path_open word.now) }
+#[tactic(auto, unfolding(crate::specs::Shapes::value_text))]
+fn add_value(out: &mut Vec<u8>, name: &[u8], n: u64) -> Result<(), NoMemory>
+    ensures { OnOk result (out.new.items ≡ out.old.items ++ value_text name.now n) }
 {
-    add_text(out, b"<path class='")?;
-    add_text(out, word)
-}
-
-#[tactic(auto, unfolding(crate::specs::Shapes::label_open))]
-fn add_label_open(out: &mut Vec<u8>, word: &[u8]) -> Result<(), NoMemory>
-    ensures { OnOk result (out.new.items ≡ out.old.items ++ label_open word.now) }
-{
-    add_text(out, b"<text class='")?;
-    add_text(out, word)
-}
-
-#[tactic(auto, unfolding(crate::specs::Shapes::x_text))]
-fn add_x(out: &mut Vec<u8>, n: u64) -> Result<(), NoMemory>
-    ensures { OnOk result (out.new.items ≡ out.old.items ++ x_text n) }
-{
-    add_text(out, b"' x='")?;
-    add_number(out, n)
-}
-
-#[tactic(auto, unfolding(crate::specs::Shapes::y_text))]
-fn add_y(out: &mut Vec<u8>, n: u64) -> Result<(), NoMemory>
-    ensures { OnOk result (out.new.items ≡ out.old.items ++ y_text n) }
-{
-    add_text(out, b"' y='")?;
-    add_number(out, n)
-}
-
-#[tactic(auto, unfolding(crate::specs::Shapes::width_text))]
-fn add_width(out: &mut Vec<u8>, n: u64) -> Result<(), NoMemory>
-    ensures { OnOk result (out.new.items ≡ out.old.items ++ width_text n) }
-{
-    add_text(out, b"' width='")?;
-    add_number(out, n)
-}
-
-#[tactic(auto, unfolding(crate::specs::Shapes::height_text))]
-fn add_height(out: &mut Vec<u8>, n: u64) -> Result<(), NoMemory>
-    ensures { OnOk result (out.new.items ≡ out.old.items ++ height_text n) }
-{
-    add_text(out, b"' height='")?;
+    add_text(out, b"' ")?;
+    add_text(out, name)?;
+    add_text(out, b"='")?;
     add_number(out, n)
 }
 
@@ -149,8 +113,8 @@ fn add_use(out: &mut Vec<u8>, sign: &[u8], x: u64, y: u64) -> Result<(), NoMemor
     ensures { OnOk result (out.new.items ≡ out.old.items ++ use_text sign.now x y) }
 {
     add_sign(out, sign)?;
-    add_x(out, x)?;
-    add_y(out, y)?;
+    add_value(out, b"x", x)?;
+    add_value(out, b"y", y)?;
     add_closed(out)
 }
 
@@ -165,11 +129,11 @@ fn add_rect(
 ) -> Result<(), NoMemory>
     ensures { OnOk result (out.new.items ≡ out.old.items ++ rect_text class.now x y width height) }
 {
-    add_rect_open(out, class)?;
-    add_x(out, x)?;
-    add_y(out, y)?;
-    add_width(out, width)?;
-    add_height(out, height)?;
+    add_class(out, b"rect", class)?;
+    add_value(out, b"x", x)?;
+    add_value(out, b"y", y)?;
+    add_value(out, b"width", width)?;
+    add_value(out, b"height", height)?;
     add_closed(out)
 }
 
@@ -184,7 +148,7 @@ fn add_path(
 ) -> Result<(), NoMemory>
     ensures { OnOk result (out.new.items ≡ out.old.items ++ path_text class.now x y to_x to_y) }
 {
-    add_path_open(out, class)?;
+    add_class(out, b"path", class)?;
     add_move(out, x, y)?;
     add_line(out, to_x, to_y)?;
     add_closed(out)
@@ -195,9 +159,9 @@ fn add_path(
 pub(crate) fn add_label(out: &mut Vec<u8>, class: &[u8], x: u64, y: u64) -> Result<(), NoMemory>
     ensures { OnOk result (out.new.items ≡ out.old.items ++ label_text class.now x y) }
 {
-    add_label_open(out, class)?;
-    add_x(out, x)?;
-    add_y(out, y)?;
+    add_class(out, b"text", class)?;
+    add_value(out, b"x", x)?;
+    add_value(out, b"y", y)?;
     add_text(out, b"'>")
 }
 
