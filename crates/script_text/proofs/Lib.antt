@@ -1,4 +1,5 @@
 pub mod SaidLaws
+pub mod NameLaws
 pub mod TextLaws
 pub mod TrackLaws
 pub mod FoldLaws

@@ -1,5 +1,5 @@
--- Texts that lie one behind the other.
-use Rattle.std.specs.Prelude.{ℕ, ◌+◌, ◌≤◌, List, map, take, drop}
+-- Texts that lie one behind the other, and the bytes of names.
+use Rattle.std.specs.Prelude.{ℕ, ◌+◌, ◌≤◌, List, Vec, map, take, drop, vec_items}
 use Rattle.std.specs.List.{AllByRecursion}
 use Rattle.script_text.specs.declared.texts.Span.{Span}
 
@@ -14,3 +14,7 @@ texts_in bytes spans = map (text_in bytes) spans
 -- each span lies within so many bytes
 abbrev pub AreWithin : ℕ → List Span → Type 0
 AreWithin n spans = AllByRecursion (λ s. s.start + s.len ≤ n) spans
+
+-- the bytes of each of these
+abbrev pub bytes_of : {A : Type 0} → List (Vec ℕ A) → List (List ℕ)
+bytes_of words = map vec_items words

@@ -28,28 +28,23 @@ pub struct Places {
     pub text: u32,
 }
 
-// Enters the names of a line.
-fn name(names: &mut Names, phrase: &Phrase<'_>) -> Result<(), NoMemory>
-    ensures { OnOk result (names.new ≡ named names.old phrase.now) }
-{
-    names.procs.enter(phrase.procedure)?;
-    names.threads.enter(phrase.thread)?;
-    names.mons.enter(phrase.monitor)?;
-    names.conds.enter(phrase.condition)
-}
-
-// Where the names stand that have been entered, and where the text will stand.
-fn places_of(names: &Names, texts: &Texts, phrase: &Phrase<'_>) -> Result<Places, NoMemory>
-    ensures { IfOk result (λ at. at ≡ places_of names.now texts.now phrase.now) }
+// Enters the names of a line. They stand at these places then, and its text will stand behind those before.
+fn name(names: &mut Names, texts: &Texts, phrase: &Phrase<'_>) -> Result<Places, NoMemory>
+    ensures entered { OnOk result (names.new ≡ named names.old phrase.now) }
+    ensures places { IfOk result (λ at. at ≡ places_of (named names.old phrase.now) texts.now phrase.now) }
 {
     let Ok(text) = u32::try_from(texts.len()) else {
         return Err(NoMemory);
     };
+    let procedure = names.procs.numbered(phrase.procedure)?;
+    let thread = names.threads.numbered(phrase.thread)?;
+    let monitor = names.mons.numbered(phrase.monitor)?;
+    let condition = names.conds.numbered(phrase.condition)?;
     Ok(Places {
-        thread: names.threads.number(phrase.thread)?,
-        procedure: names.procs.number(phrase.procedure)?,
-        monitor: names.mons.number(phrase.monitor)?,
-        condition: names.conds.number(phrase.condition)?,
+        thread,
+        procedure,
+        monitor,
+        condition,
         text,
     })
 }
@@ -253,7 +248,8 @@ fn native_kind(event: u8, store: u32) -> NativeKind
 
 impl Draft {
     ghost use Rattle.script_lines.specs.Table.{role_of};
-    ghost use Rattle.script_text.specs.Meaning.{empty_draft, added_at, added, entered, closed};
+    ghost use Rattle.std.specs.Prelude.{IfOk};
+    ghost use Rattle.script_text.specs.Meaning.{empty_draft, added_at, added, entered, closed, named, places_of};
 
     /// No lines.
     pub fn new(alloc: Global) -> Draft
@@ -345,14 +341,15 @@ impl Draft {
         }
     }
 
-    /// One more line.
-    pub fn add(&mut self, alloc: Global, phrase: &Phrase<'_>) -> Result<(), NoMemory>
-        ensures { OnOk result (self.new ≡ added self.old phrase.now) }
+    /// One more line, and where its names stand.
+    pub fn add(&mut self, alloc: Global, phrase: &Phrase<'_>) -> Result<Places, NoMemory>
+        ensures draft { OnOk result (self.new ≡ added self.old phrase.now) }
+        ensures places { IfOk result (λ at. at ≡ places_of (named self.old.script.names phrase.now) self.old.script.texts phrase.now) }
     {
-        name(&mut self.script.names, phrase)?;
-        let at = places_of(&self.script.names, &self.script.texts, phrase)?;
+        let at = name(&mut self.script.names, &self.script.texts, phrase)?;
         speak(&mut self.script.texts, phrase)?;
-        self.add_at(alloc, phrase, at)
+        self.add_at(alloc, phrase, at)?;
+        Ok(at)
     }
 
     /// The script.

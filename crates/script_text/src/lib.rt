@@ -1,12 +1,12 @@
 //! Scripts as bytes.
 //!
 //! A script is read line by line, in whatever pieces its bytes come. What a line says is a matter of `script_lines`;
-//! `Spells text script` says which texts are which scripts, and `verdict text` gives the script of a
-//! text, or its first bad line with the first reason that fits. The reader answers the verdict, so it reads a script exactly
-//! where one is spelt. A text spells one script at most, and a pod can be made for each.
+//! `Spells text script` says which texts are which scripts, and `verdict text` gives the script of a text, or its first bad line
+//! with the first reason that fits. The reader answers the verdict, so it reads a script exactly where one is spelt. A text
+//! spells one script at most, and a pod can be made for each.
 //!
-//! The crate stands on the words of `lwp_types`, on `script_lines` for single lines, on `trace_text` for what scripts and traces
-//! write alike, and on the search for a byte of `memchr`.
+//! The crate stands on the words of `lwp_types`, on `script_lines` and `line_writer` for single lines, on `trace_text` for what
+//! scripts and traces write alike, on the search for a byte of `memchr`, and, so that a name is found at once, on `indexmap`.
 #![tactic(auto)]
 
 mod counts;

@@ -1,57 +1,60 @@
 // Names and their numbers.
-ghost use Rattle.std.specs.Prelude.{◌≡◌, IfOk, IfSome, OnOk, length};
-ghost use Rattle.script_text.specs.Meaning.{contains_name, place};
+ghost use Rattle.std.specs.Prelude.{◌≡◌, IfOk};
 
+use indexmap::IndexSet;
 use lwp_types::{NoMemory, Sequence, Text};
 use std::alloc::Global;
 use std::marker::Model;
 
-/// Names in the order in which they first appear, seen as their list.
-#[derive(Drop)]
+/// Names in the order in which they first appear, seen as their list. A name is found by its hash.
 pub struct NameList {
+    alloc: Global,
     names: Sequence<Text>,
+    // The bytes of these names, in the same order.
+    keys: IndexSet<Vec<u8>>,
 }
 
 impl Model for NameList {
-    ghost use Rattle.std.specs.Prelude.{ℕ, List};
+    ghost use Rattle.std.specs.Prelude.{◌≡◌, ℕ, List};
+    ghost use Rattle.script_text.specs.Parts.{bytes_of};
 
     ghost Value = { List (List ℕ) };
 
     ghost view = { λ l. l.names };
+
+    ghost invariant = { λ l. bytes_of l.keys.keys ≡ l.names };
 }
 
-fn place(names: &[Text], name: &[u8]) -> usize
-    ensures { result ≡ place names.now name.now }
-{
-    for (i, n) in names.iter().enumerate() {
-        if n.bytes() == name {
-            return i;
-        }
+// By hand, so that whoever drops a list calls this, and isn't proved over all that a set is made of.
+impl Drop for NameList {
+    fn drop(self) {
+        let NameList {
+            alloc: _,
+            names: _,
+            keys: _,
+        } = self;
     }
-    names.len()
 }
 
-fn contains_name(names: &[Text], name: &[u8]) -> bool
-    ensures { result ≡ contains_name names.now name.now }
+// A place as a number.
+fn counted(place: usize) -> Result<u32, NoMemory>
+    ensures { IfOk result (λ n. n ≡ place) }
 {
-    for n in names {
-        if n.bytes() == name {
-            return true;
-        }
-    }
-    false
+    u32::try_from(place).map_err(|_| NoMemory)
 }
 
 impl NameList {
-    ghost use Rattle.std.specs.Prelude.{◌≡◌, [], IfOk, OnOk, length};
-    ghost use Rattle.script_text.specs.Meaning.{contains_name, enter, place_of};
+    ghost use Rattle.std.specs.Prelude.{◌≡◌, ◌<◌, [], IfOk, OnOk, length, false};
+    ghost use Rattle.script_text.specs.Meaning.{contains_name, enter, place, place_of};
 
     /// No names.
     pub fn new(alloc: Global) -> NameList
         ensures { result ≡ [] }
     {
         NameList {
+            alloc,
             names: Sequence::new(alloc),
+            keys: IndexSet::new(alloc),
         }
     }
 
@@ -73,7 +76,17 @@ impl NameList {
     pub fn contains(&self, name: &[u8]) -> bool
         ensures { result ≡ contains_name self.now name.now }
     {
-        contains_name(self.names.as_slice(), name)
+        self.keys.contains(name)
+    }
+
+    // Where the name first stands, or how many names there are.
+    fn place(&self, name: &[u8]) -> usize
+        ensures { result ≡ place self.now name.now }
+    {
+        match self.keys.get_index_of(name) {
+            Some(place) => place,
+            None => self.names.len(),
+        }
     }
 
     /// The name's number, or how many names there are if it is none of them; 0 for the empty word. No memory holds more names
@@ -83,20 +96,62 @@ impl NameList {
     {
         match name {
             [] => Ok(0),
-            [_, ..] => u32::try_from(place(self.names.as_slice(), name)).map_err(|_| NoMemory),
+            [_, ..] => counted(self.place(name)),
+        }
+    }
+
+    // Puts a word at the end that isn't empty and is none of these, if it is a text.
+    fn add(&mut self, name: &[u8]) -> Result<(), NoMemory>
+        requires some { 0 < length name.now }
+        requires new { contains_name self.old name.now ≡ false }
+        ensures { OnOk result (self.new ≡ enter self.old name.now) }
+    {
+        let Some(text) = Text::new(name) else {
+            return Ok(());
+        };
+        let mut key = Vec::new(self.alloc);
+        key.extend_from_slice(name)?;
+        self.keys.reserve(1)?;
+        self.names.push(text)?;
+        self.keys.insert(key)?;
+        Ok(())
+    }
+
+    // Puts a word at the end that isn't empty, if it is new, and gives its number.
+    #[inline(never)]
+    fn note(&mut self, name: &[u8]) -> Result<u32, NoMemory>
+        requires { 0 < length name.now }
+        ensures names { OnOk result (self.new ≡ enter self.old name.now) }
+        ensures number { IfOk result (λ n. n ≡ place (enter self.old name.now) name.now) }
+    {
+        match self.keys.get_index_of(name) {
+            Some(place) => counted(place),
+            None => {
+                let last = self.names.len();
+                self.add(name)?;
+                counted(last)
+            }
+        }
+    }
+
+    /// Puts the name at the end, if it is new, and is a text that isn't empty, and gives its number.
+    #[inline]
+    pub fn numbered(&mut self, name: &[u8]) -> Result<u32, NoMemory>
+        ensures names { OnOk result (self.new ≡ enter self.old name.now) }
+        ensures number { IfOk result (λ n. n ≡ place_of (enter self.old name.now) name.now) }
+    {
+        match name {
+            [] => Ok(0),
+            [_, ..] => self.note(name),
         }
     }
 
     /// Puts the name at the end, if it is new, and is a text that isn't empty.
+    #[inline]
     pub fn enter(&mut self, name: &[u8]) -> Result<(), NoMemory>
         ensures { OnOk result (self.new ≡ enter self.old name.now) }
     {
-        if name.is_empty() || self.contains(name) {
-            return Ok(());
-        }
-        match Text::new(name) {
-            Some(text) => self.names.push(text),
-            None => Ok(()),
-        }
+        self.numbered(name)?;
+        Ok(())
     }
 }

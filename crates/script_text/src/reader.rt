@@ -167,7 +167,9 @@ fn first_missing(declared: &Declared, names: &[Text], mentions: &[Mention]) -> O
 }
 
 impl Reader {
-    ghost use Rattle.script_text.specs.Spelling.{Gives};
+    ghost use Rattle.std.specs.Prelude.{◌+◌, Err, IfSome, IfNone};
+    ghost use Rattle.script_text.specs.Meaning.{place_of, closed};
+    ghost use Rattle.script_text.specs.Spelling.{Gives, whole};
     ghost use Rattle.script_text.specs.Track.{start, taken, judged, step, answer, answer_at};
 
     /// Nothing read.
@@ -187,14 +189,15 @@ impl Reader {
         }
     }
 
-    // The procedure that a line starts, once its name is entered.
-    fn mention(&mut self, phrase: &Phrase<'_>) -> Result<(), NoMemory>
+    // The procedure that a line starts, by the number of its name.
+    fn mention(&mut self, phrase: &Phrase<'_>, name: u32) -> Result<(), NoMemory>
+        requires { name ≡ place_of self.old.draft.script.names.procs phrase.now.procedure }
         ensures { OnOk result (self.new ≡ record self.old { mentions = self.old.mentions ++ mention_of self.old.count self.old.draft.script.names.procs phrase.now }) }
     {
         if phrase.op.starts() {
             self.mentions.push(Mention {
                 line: self.count,
-                name: self.draft.script.names.procs.number(phrase.procedure)?,
+                name,
                 any: phrase.op.starts_any(),
             })?;
         }
@@ -208,10 +211,10 @@ impl Reader {
         let Some(count) = self.count.checked_add(1) else {
             return Err(NoMemory);
         };
-        self.draft.add(alloc, phrase)?;
+        let at = self.draft.add(alloc, phrase)?;
         self.count = count;
         self.stage = self.stage.after(phrase.op.role());
-        self.mention(phrase)
+        self.mention(phrase, at.procedure)
     }
 
     // The reason of a line that is bad here, and says this.
@@ -256,29 +259,35 @@ impl Reader {
         self.declared.note(line)
     }
 
+    // The first bad line of those that have ended, or `line`, the one behind them, if it isn't empty.
+    fn fault(&self, line: u32, tail: &[u8]) -> Option<(u32, Reason)>
+        requires { line ≡ self.now.count + 1 }
+        ensures some { IfSome result (λ x. answer self.now tail.now ≡ Err x) }
+        ensures none { IfNone result (answer self.now tail.now ≡ whole (self.now.count + 1) (closed self.now.draft)) }
+    {
+        let names = self.draft.script.names.procs.as_slice();
+        if let Some(missing) = first_missing(&self.declared, names, self.mentions.as_slice()) {
+            return Some((missing, Reason::Statement));
+        }
+        if let Some(reason) = self.bad {
+            return Some((line, reason));
+        }
+        if tail.is_empty() {
+            None
+        } else {
+            Some((line, Reason::Unended))
+        }
+    }
+
     // What all lines answer, and what is left behind the last end.
     fn answer(self, tail: &[u8]) -> Result<Script, ReadErr>
         ensures { Gives (answer self tail.now) result }
     {
-        let names = self.draft.script.names.procs.as_slice();
-        let missing = first_missing(&self.declared, names, self.mentions.as_slice());
-        if let Some(line) = missing {
-            return Err(ReadErr::Bad {
-                line,
-                reason: Reason::Statement,
-            });
-        }
         let Some(line) = self.count.checked_add(1) else {
             return Err(ReadErr::NoMemory);
         };
-        if let Some(reason) = self.bad {
+        if let Some((line, reason)) = self.fault(line, tail) {
             return Err(ReadErr::Bad { line, reason });
-        }
-        if !tail.is_empty() {
-            return Err(ReadErr::Bad {
-                line,
-                reason: Reason::Unended,
-            });
         }
         let script = self.draft.close()?;
         if script.procs.len() == 0 {
