@@ -1,4 +1,4 @@
-use Rattle.std.proofs.Common.{◌≡◌, ◌++◌, ◌∷◌, [], false, List, ℕ, sym, ap, ◌∙◌, arith}
+use Rattle.std.proofs.Common.{◌≡◌, ◌++◌, ◌∷◌, [], false, sym, ap, ◌∙◌}
 use Rattle.script_text.specs.Meaning.{contains_name}
 use Rattle.script_text.specs.Parts.{bytes_of}
 use Rattle.script_text.proofs.NameLaws.{keys_eq, keys_pushed}

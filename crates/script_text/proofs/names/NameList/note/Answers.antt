@@ -1,6 +1,6 @@
 use Rattle.std.proofs.Common.{◌≡◌, true, false, length, sym, ap, subst, ◌∙◌}
 use Rattle.std.specs.Prelude.{IfOk}
-use Rattle.script_text.specs.Meaning.{contains_name, enter, place}
+use Rattle.script_text.specs.Meaning.{contains_name, place}
 use Rattle.script_text.proofs.NameLaws.{entered_again, entered_place, found_place, key_contained, on_ok}
 use Rattle.script_text.proofs.names.NameList.note.Goals as goal
 
