@@ -4,7 +4,7 @@ use Rattle.death_cleanup.specs.Comes.{CameTo}
 use Rattle.death_cleanup.specs.View.{state_of}
 use Rattle.death_cleanup.specs.declared.parts.Parts.{Parts}
 use Rattle.lwp_calls.specs.Pod.{current_of, is_refusal, refuses}
-use Rattle.lwp_types.specs.Agents.{armed, deliver, deliver_to, event_agent, is_for}
+use Rattle.lwp_types.specs.Agents.{armed, deliver, deliver_to, event_agent, is_armed, is_for}
 use Rattle.lwp_types.specs.Choice.{choice, is_eligible_in}
 use Rattle.lwp_types.specs.CountLaws.{count-cons, count_found, one}
 use Rattle.lwp_types.specs.Lawful.{Lawful, NineParts}
@@ -27,7 +27,8 @@ use Rattle.pod_laws.proofs.Refusals.{refused_step}
 use Rattle.std.proofs.Common.{Bool, List, None, Option, Some, [], ap, append_assoc, arith, cond, count_by, false, not, refl, subst, sym, true, ℕ, ◌&&◌, ◌++◌, ◌∙◌, ◌∷◌, ◌≡◌, ◌≤◌}
 use Rattle.std.proofs.lemmas.Bool.{and_parts, eq-eqb, eqb-true}
 use Rattle.std.specs.List.{find}
-use Rattle.std.specs.Prelude.{IfSome, IsTrue, is_some, option_map}
+use Rattle.std.specs.Prelude.{IfNone, IfSome, IsTrue, is_some, option_map}
+use Rattle.std.specs.Slice.Scan.{HoldsNowhere, IsFirstPlace}
 
 -- whose turn it is may run
 pub turn-runs : (s : State) → NineParts s None → (o : Option ℕ) → o ≡ choice s → IfSome o (λ t. IsTrue (is_eligible_in s t))
@@ -197,3 +198,13 @@ looked f o row r a known is found =
 
 pub looked_none : {P : Type 0} (f : AgentRow → ℕ) (o : Option AgentRow) (row : AgentRow) (r : Option ℕ) → o ≡ Some row → r ≡ option_map f o → r ≡ None → P
 looked_none f o row r known is missing = absurd (let same : Some (f row) ≡ None = sym (ap (option_map f) known) ∙ sym is ∙ missing in cc)
+
+-- in a pod that goes on, an event can be delivered where its agent is armed
+module _ (s : State) (goes_on : s.ended ≡ false) where
+  pub nowhere-armed : (from : ℕ) (o : Option ℕ) → IfNone o (HoldsNowhere (is_armed s.agents) from 32) → IfNone o (HoldsNowhere (armed s) from 32)
+  nowhere-armed from None h = λ k least most. rw goes_on (h k least most)
+  nowhere-armed from (Some e) h = h
+
+  pub first-armed : (from : ℕ) (o : Option ℕ) → IfSome o (λ e. IsFirstPlace (is_armed s.agents) from 32 e) → IfSome o (λ e. IsFirstPlace (armed s) from 32 e)
+  first-armed from None h = h
+  first-armed from (Some e) h = record { low = h.low; high = h.high; before = λ k least under. rw goes_on (h.before k least under); hit = λ within. rw goes_on (h.hit within) }

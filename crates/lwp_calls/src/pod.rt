@@ -1,5 +1,6 @@
 // A pod, and its calls.
-ghost use Rattle.std.specs.Prelude.{◌≡◌, ◌≤◌, ◌<◌, ◌^◌, ◌++◌, [], length, IfOk, OnOk, OnErr, IsErr, IsSome, IfSome, IsTrue, None, Some};
+ghost use Rattle.std.specs.Prelude.{◌≡◌, ◌≤◌, ◌<◌, ◌^◌, ◌++◌, [], length, IfOk, OnOk, OnErr, IsErr, IsSome, IfNone, IfSome, IsTrue, None, Some};
+ghost use Rattle.std.specs.Slice.Scan.{HoldsNowhere, IsFirstPlace};
 ghost use Rattle.death_cleanup.specs.Comes.{CameTo};
 ghost use Rattle.exc_stack.specs.Stack.{one_frame};
 ghost use Rattle.death_cleanup.specs.Ties.{InStep, LawfulParts};
@@ -167,6 +168,18 @@ impl Pod {
         ensures { result ≡ armed self.now event }
     {
         !self.parts.ended && self.parts.agents.armed(event)
+    }
+
+    /// The first event from `from` on that can be delivered, if there is one below 32.
+    pub fn next_armed(&self, from: u8) -> Option<u8>
+        ensures none { IfNone result (HoldsNowhere (armed self.now) from 32) }
+        ensures below { IfSome result (λ event. event < 32) }
+        ensures first { IfSome result (λ event. IsFirstPlace (armed self.now) from 32 event) }
+    {
+        if self.parts.ended {
+            return None;
+        }
+        self.parts.agents.next_armed(from)
     }
 
     /// One call of the thread whose turn it is. `effects` is emptied first, and then has what the step did, in order.
