@@ -1,4 +1,5 @@
 -- Agents end, and their numbers are free.
+use Rattle.death_cleanup.proofs.Notes.{noted-removed}
 use Rattle.agents.specs.Roster.{destroyed, first_of, without_first, without_found}
 use Rattle.death_cleanup.proofs.Burials.{rows-removed}
 use Rattle.death_cleanup.proofs.Draining.{Draining, came_then, done, fewer, first_room, goes_on}
@@ -101,6 +102,7 @@ module _ (parts : Parts) (a : ℕ) (no_thread : is_thread (state_of parts) a ≡
       };
       monitors = step.monitors;
       conditions = step.conditions;
+      noted = noted-removed parts.named a parts.ids.live step.noted;
     };
     dying = refl;
   }

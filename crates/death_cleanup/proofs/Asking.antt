@@ -1,4 +1,5 @@
 -- Threads that are woken by a signal of their condition.
+use Rattle.death_cleanup.proofs.Notes.{noted-block}
 use Rattle.conditions.proofs.Machine as conds
 use Rattle.conditions.specs.ConditionTable as cond
 use Rattle.conditions.specs.ConditionTable.{ConditionTable, is_on, is_wait_of}
@@ -221,6 +222,7 @@ module _ (parts : Parts) (t c m : ℕ) (w : WaitRec) (ws : List WaitRec) (h : Si
           record { letters = omega (arith, same, h.step.roomy.letters); threads = omega (arith, same, h.step.roomy.threads); requests = omega (arith, same, h.step.roomy.requests); waits = omega (arith, same, h.step.roomy.waits) };
       monitors = h.step.monitors;
       conditions = h.step.conditions;
+      noted = noted-block parts.named w.tid (block.Entering m) refl parts.ids.live h.step.noted;
     }
       where
         asks : EntryRequest

@@ -1,4 +1,5 @@
 -- A dying thread is gone.
+use Rattle.death_cleanup.proofs.Notes.{noted-removed}
 use Rattle.death_cleanup.specs.Moves.{buried}
 use Rattle.death_cleanup.specs.Ties.{InStep, IsTied}
 use Rattle.death_cleanup.specs.View.{known_of, row_onto, rows_of, state_of}
@@ -156,4 +157,5 @@ module _ (parts : Parts) (t : ℕ) (forgotten : Forgotten (state_of parts) t) wh
     roomy = record { letters = omega (arith, fewer, step.roomy.letters); threads = omega (arith, fewer, step.roomy.threads); requests = omega (arith, fewer, step.roomy.requests); waits = omega (arith, fewer, step.roomy.waits) };
     monitors = step.monitors;
     conditions = step.conditions;
+    noted = noted-removed parts.named t parts.ids.live step.noted;
   }

@@ -1,7 +1,9 @@
 -- What keeps the parts in step.
+use Rattle.death_cleanup.proofs.Notes.{noted-block}
 use Rattle.death_cleanup.proofs.Looks.{IsRanked-waked, IsRoomy-waked, IsTied-waked, waked-is}
 use Rattle.death_cleanup.specs.Comes.{CameTo}
 use Rattle.death_cleanup.specs.Moves.{waked}
+use Rattle.death_cleanup.specs.Named.{NameNote, all_noted}
 use Rattle.death_cleanup.specs.Ties.{InStep}
 use Rattle.death_cleanup.specs.View.{state_of}
 use Rattle.death_cleanup.specs.declared.parts.Parts.{Parts}
@@ -11,6 +13,7 @@ use Rattle.lwp_types.specs.Unblock.{unblock}
 use Rattle.lwp_types.specs.declared.call.Answer.{Answer}
 use Rattle.lwp_types.specs.declared.call.Effect.{Effect}
 use Rattle.lwp_types.specs.declared.call.Effect.TheVariants as effect
+use Rattle.lwp_types.specs.declared.rows.Block.TheVariants as block
 use Rattle.rendezvous.specs.Mailbag.{Mailbag}
 use Rattle.std.proofs.Common.{List, [], arith, length, refl, true, ℕ, ◌++◌, ◌∷◌, ◌≡◌, ◌≤◌}
 
@@ -22,6 +25,18 @@ module _ (parts : Parts) (step : InStep parts) where
     roomy = IsRoomy-waked parts t step.roomy;
     monitors = step.monitors;
     conditions = step.conditions;
+    noted = noted-block parts.named t block.Not refl parts.ids.live step.noted;
+  }
+
+  -- another note, which has all that wait by name
+  pub InStep-noted : (named : NameNote) → all_noted named parts.ids.live ≡ true → InStep (record parts { named = named })
+  InStep-noted named noted = record {
+    tied = record { known = step.tied.known; waits = step.tied.waits };
+    ranked = record { requests = step.ranked.requests; waits = step.ranked.waits };
+    roomy = record { letters = step.roomy.letters; threads = step.roomy.threads; requests = step.roomy.requests; waits = step.roomy.waits };
+    monitors = step.monitors;
+    conditions = step.conditions;
+    noted = noted;
   }
 
   -- other letters, with as many places
@@ -32,6 +47,7 @@ module _ (parts : Parts) (step : InStep parts) where
     roomy = record { letters = omega (arith, same, step.roomy.letters); threads = step.roomy.threads; requests = step.roomy.requests; waits = step.roomy.waits };
     monitors = step.monitors;
     conditions = step.conditions;
+    noted = step.noted;
   }
 
   -- other agents, no more than before
@@ -42,6 +58,7 @@ module _ (parts : Parts) (step : InStep parts) where
     roomy = record { letters = omega (arith, few, step.roomy.letters); threads = step.roomy.threads; requests = step.roomy.requests; waits = step.roomy.waits };
     monitors = step.monitors;
     conditions = step.conditions;
+    noted = step.noted;
   }
 
   -- a thread goes on

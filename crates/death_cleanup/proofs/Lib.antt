@@ -2,6 +2,8 @@ pub mod Living
 pub mod Looks
 pub mod Draining
 pub mod Fronts
+pub mod Notes
+pub mod Firsts
 pub mod Keeping
 pub mod Waits
 pub mod Refusals

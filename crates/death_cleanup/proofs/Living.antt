@@ -10,7 +10,7 @@ use Rattle.std.specs.Borrow.{Bor}
 use Rattle.std.specs.List.{AllByRecursion, slice_get}
 use Rattle.std.specs.Prelude.{is_some, option_copied, slice_index}
 
-later-absent : (t : ℕ) (living : List (ℕ × Kind)) → AllByRecursion (λ (q : ℕ × Kind). t < q.0) living → value_of t living ≡ None
+pub later-absent : (t : ℕ) (living : List (ℕ × Kind)) → AllByRecursion (λ (q : ℕ × Kind). t < q.0) living → value_of t living ≡ None
 later-absent t [] h = refl
 later-absent t (p ∷ living) h = rw (ne_eqb p.0 t (λ e. let less : t < p.0 = h.0 in omega arith)) (later-absent t living h.1)
 

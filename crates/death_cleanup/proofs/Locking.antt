@@ -26,6 +26,7 @@ module _ (parts : Parts) (step : InStep parts) where
     roomy = record { letters = step.roomy.letters; threads = step.roomy.threads; requests = rw places step.roomy.requests; waits = step.roomy.waits };
     monitors = limit ∙ step.monitors;
     conditions = step.conditions;
+    noted = step.noted;
   }
 
   granted-places : (t : MonitorTable) (o : Option EntryRequest) → ((mon.with_grant t o).places ≡ t.places) × ((mon.with_grant t o).limit ≡ t.limit)

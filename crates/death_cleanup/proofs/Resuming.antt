@@ -129,6 +129,7 @@ module _ (parts : Parts) (t : ℕ) where
           record { letters = omega (arith, same, step.roomy.letters); threads = omega (arith, same, step.roomy.threads); requests = omega (arith, same, step.roomy.requests); waits = omega (arith, same, step.roomy.waits) };
       monitors = step.monitors;
       conditions = step.conditions;
+      noted = step.noted;
     }
       where
         blocked : (o : Option Known) → passes (λ (row : Known). row.blocked) (option_map (sched.suspension_set t false) o) ≡ passes (λ (row : Known). row.blocked) o
@@ -171,4 +172,5 @@ InStep-exit parts code step = record {
   roomy = record { letters = step.roomy.letters; threads = step.roomy.threads; requests = step.roomy.requests; waits = step.roomy.waits };
   monitors = step.monitors;
   conditions = step.conditions;
+  noted = step.noted;
 }

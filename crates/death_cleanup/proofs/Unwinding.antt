@@ -1,4 +1,5 @@
 -- The exit procedures of frames that go, one after another.
+use Rattle.death_cleanup.proofs.Notes.{noted-stack}
 use Rattle.death_cleanup.proofs.Looks.{row_under, rows-under}
 use Rattle.death_cleanup.proofs.Unmarking.{blocked, lives, marked_again, marks_now, priority, run_exit_so, same_case}
 use Rattle.death_cleanup.specs.Comes.{CameTo, HasRoom}
@@ -72,6 +73,7 @@ module _ (parts : Parts) (t : ℕ) (ms : List Mark) where
     roomy = record { letters = omega (arith, few, step.roomy.letters); threads = omega (arith, few, step.roomy.threads); requests = omega (arith, few, step.roomy.requests); waits = omega (arith, few, step.roomy.waits) };
     monitors = step.monitors;
     conditions = step.conditions;
+    noted = noted-stack parts.named t ms parts.ids.live step.noted;
   }
     where
       few : length (state_of (stacked parts t ms)).threads ≡ length (state_of parts).threads

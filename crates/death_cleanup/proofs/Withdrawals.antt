@@ -1,4 +1,5 @@
 -- A dying thread leaves the scheduler first; its priority is noted.
+use Rattle.death_cleanup.proofs.Notes.{noted-block}
 use Rattle.conditions.specs.ConditionTable as cond_table
 use Rattle.death_cleanup.proofs.Looks.{find-row, row-unblocked, same-some, waits}
 use Rattle.death_cleanup.specs.Moves.{block_set, kind_set, withdrawn}
@@ -222,4 +223,5 @@ module _ (parts : Parts) (t : â„•) (tied : IsTied parts) (alone : parts.dying â‰
     roomy = record { letters = omega (arith, length-same, step.roomy.letters); threads = omega (arith, length-same, step.roomy.threads); requests = omega (arith, length-same, step.roomy.requests); waits = omega (arith, length-same, step.roomy.waits) };
     monitors = step.monitors;
     conditions = step.conditions;
+    noted = noted-block parts.named t block.Not refl parts.ids.live step.noted;
   }

@@ -1,4 +1,5 @@
 -- A pod in which much hangs on its first thread, for the test of a death.
+use Rattle.death_cleanup.specs.Named.{NameNote}
 use Rattle.death_cleanup.specs.declared.parts.Parts.{Parts}
 use Rattle.death_cleanup.specs.declared.rows.Kind.{Kind}
 use Rattle.death_cleanup.specs.declared.rows.Kind.TheVariants as kind
@@ -128,6 +129,9 @@ conds = record { conditions = record { number = 0; mon = 2 } ∷ []; births = 1;
 abbrev pub agents : Roster
 agents = record { agents = record { number = 8; event = 3; owner = 0; holding = true } ∷ []; places = 1 }
 
+abbrev pub named : NameNote
+named = record { waits = record { tid = 3; of = 0 } ∷ record { tid = 4; of = 0 } ∷ record { tid = 5; of = 0 } ∷ []; crowded = false }
+
 abbrev pub parts : Parts
 parts = record {
   ids = ids;
@@ -143,4 +147,5 @@ parts = record {
   pattern = 1073741824;
   dying = None;
   last_prio = 0;
+  named = named;
 }

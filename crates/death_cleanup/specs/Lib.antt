@@ -3,4 +3,5 @@ pub mod Ties
 pub mod Comes
 pub mod Moves
 pub mod Waits
+pub mod Named
 pub mod Example

@@ -8,6 +8,7 @@ ghost use Rattle.death_cleanup.specs.View.{state_of};
 ghost use Rattle.pod_laws.proofs.DeathEnds.{Forgotten};
 
 use crate::frames::run_all_exits;
+use crate::named::refresh;
 use crate::parts::{Parts, set_block};
 use crate::rows::Awaited;
 use crate::waiters::{dismiss, end_agents, refuse_senders, release_all};
@@ -29,6 +30,7 @@ fn withdraw(parts: &mut Parts, tid: Tid)
     parts.conds.forget(tid);
     parts.mons.forget(tid);
     parts.mail.forget(tid);
+    refresh(&mut parts.named, &parts.ids);
 }
 
 // The dying thread is gone.

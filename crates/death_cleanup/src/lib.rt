@@ -13,7 +13,9 @@
 //! | `leave_frames` | `unwind` down to the first frames |
 //! | `end_agent`, `release`, `wake` | `end_agent`, `release`, `unblock` |
 //!
-//! Nothing here takes memory or is refused by want of it. A dying thread has left the scheduler: `Parts` keep who that is,
+//! Whoever waits for another by name is noted in `Named`, and a death looks there before it goes over all the living.
+//!
+//! But for `Named::new` nothing here takes memory or is refused by want of it. A dying thread has left the scheduler: `Parts` keep who that is,
 //! and the priority that it had. It stands on the crates of the single parts, and on `pod_laws`.
 #![tactic(auto)]
 
@@ -21,6 +23,7 @@ mod death;
 mod exits;
 mod frames;
 mod locks;
+mod named;
 mod parts;
 mod rows;
 mod signals;
@@ -30,7 +33,8 @@ pub use death::die;
 pub use exits::{exit_call, reply, resume, set_exit};
 pub use frames::leave_frames;
 pub use locks::{monitor_break, monitor_exit, release};
+pub use named::{Named, note};
 pub use parts::{Parts, is_agent, is_id, is_thread, set_block, wake};
-pub use rows::{Awaited, Kind, ThreadRec};
+pub use rows::{Awaited, Kind, NamedWait, ThreadRec};
 pub use signals::{ask_again, broadcast, cond_send, is_last, notify};
 pub use waiters::{end_agent, nth_of};

@@ -8,6 +8,7 @@ ghost use Rattle.death_cleanup.specs.Moves.{block_set};
 ghost use Rattle.death_cleanup.specs.Ties.{InStep};
 ghost use Rattle.death_cleanup.specs.View.{rows_of, state_of};
 
+use crate::named::Named;
 use crate::rows::Kind;
 use agents::Agents;
 use conditions::Conds;
@@ -39,6 +40,8 @@ pub struct Parts {
     pub dying: Option<Tid>,
     /// The priority that the dying thread had.
     pub last_prio: u32,
+    /// Who may wait by name.
+    pub named: Named,
 }
 
 /// Whether it is a live thread.

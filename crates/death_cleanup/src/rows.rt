@@ -3,6 +3,7 @@ ghost use Rattle.std.specs.Prelude.{◌≡◌, ◌≤◌, Some};
 ghost use Rattle.death_cleanup.specs.Moves.{kind_marked, kind_marks};
 ghost use Rattle.exc_stack.specs.Stack.{UnwindsAll, UnwindsTo, unwound_all, unwound_to};
 ghost use Rattle.lwp_types.specs.Marks.{frames};
+ghost use Rattle.death_cleanup.specs.Named.{block_name, is_named, kind_name};
 ghost use Rattle.death_cleanup.specs.Waits.{last_answer, waits_for};
 
 use exc_stack::ExcStack;
@@ -30,6 +31,24 @@ pub enum Awaited {
     Letter,
 }
 
+/// A thread that waits for the death or a letter of another one, or of an agent.
+#[derive(Clone, Copy)]
+pub struct NamedWait {
+    pub tid: Tid,
+    pub of: Tid,
+}
+
+/// Of whom a thread waits by name.
+pub fn name_of(block: &Block) -> Option<Tid>
+    ensures { result ≡ block_name block.now }
+{
+    match *block {
+        Block::Joining(of) => Some(of),
+        Block::Receiving(from) => from,
+        Block::Not | Block::Sending | Block::Entering(_) | Block::Waiting(_) => None,
+    }
+}
+
 impl Awaited {
     /// What those who wait are answered at the end of it.
     pub fn answer(self) -> Answer
@@ -54,6 +73,26 @@ impl Kind {
             (Awaited::Death, Block::Joining(other)) => other == tid,
             (Awaited::Letter, Block::Receiving(Some(from))) => from == tid,
             _ => false,
+        }
+    }
+
+    /// Of whom a thread waits by name; an agent doesn't wait.
+    pub fn name(&self) -> Option<Tid>
+        ensures { result ≡ kind_name self.now }
+    {
+        match self {
+            Kind::Thread(rec) => name_of(&rec.block),
+            Kind::Agent => None,
+        }
+    }
+
+    /// Whether it is a thread that waits for this one by name.
+    pub fn names(&self, of: Tid) -> bool
+        ensures { result ≡ is_named of (kind_name self.now) }
+    {
+        match self.name() {
+            Some(other) => other == of,
+            None => false,
         }
     }
 

@@ -1,4 +1,5 @@
 -- An agent is born.
+use Rattle.death_cleanup.proofs.Notes.{noted-born}
 use Rattle.conditions.specs.declared.waits.WaitRec.{WaitRec}
 use Rattle.death_cleanup.specs.Comes.{CameTo}
 use Rattle.death_cleanup.specs.Ties.{InStep}
@@ -57,6 +58,7 @@ module _ (parts : Parts) (e t : ℕ) where
           };
           monitors = step.monitors;
           conditions = step.conditions;
+          noted = noted-born parts.named parts.ids.births kind.Agent refl parts.ids.live step.noted;
         };
         dying = refl;
       }

@@ -142,4 +142,5 @@ module _ (parts : Parts) (t : ℕ) (f : Bool → Known → Known) (h : Bool → 
           roomy = IsRoomy-moved;
           monitors = step.monitors;
           conditions = step.conditions;
+          noted = step.noted;
         }

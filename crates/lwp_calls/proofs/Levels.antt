@@ -11,4 +11,5 @@ InStep-levels parts step order maxpri exit ended = record {
   roomy = record { letters = step.roomy.letters; threads = step.roomy.threads; requests = step.roomy.requests; waits = step.roomy.waits };
   monitors = step.monitors;
   conditions = step.conditions;
+  noted = step.noted;
 }

@@ -38,6 +38,7 @@ InStep-grown parts step i s m q w more-s more-m more-q more-w = record {
   roomy = record { letters = omega (arith, more-m, step.roomy.letters); threads = omega (arith, more-s, step.roomy.threads); requests = omega (arith, more-q, step.roomy.requests); waits = omega (arith, more-w, step.roomy.waits) };
   monitors = step.monitors;
   conditions = step.conditions;
+  noted = step.noted;
 }
 
 pub came_grown : (parts : Parts) → InStep parts → (i s m q w : ℕ) → parts.sched.places ≤ s → parts.mail.places ≤ m → parts.mons.places ≤ q → parts.conds.places ≤ w → CameTo parts (grown parts i s m q w) [] [] (still (state_of parts))
@@ -103,6 +104,7 @@ came_agents_grown parts step i a m more = record {
     roomy = record { letters = omega (arith, more, step.roomy.letters); threads = step.roomy.threads; requests = step.roomy.requests; waits = step.roomy.waits };
     monitors = step.monitors;
     conditions = step.conditions;
+    noted = step.noted;
   };
   dying = refl;
 }

@@ -97,4 +97,5 @@ module _ (t p : ℕ) where
             roomy = record { letters = roomy.letters; threads = roomy.threads; requests = roomy.requests; waits = roomy.waits };
             monitors = step.monitors;
             conditions = step.conditions;
+            noted = step.noted;
           }

@@ -44,6 +44,7 @@ InStep-given parts step registration pattern = record {
   roomy = record { letters = step.roomy.letters; threads = step.roomy.threads; requests = step.roomy.requests; waits = step.roomy.waits };
   monitors = step.monitors;
   conditions = step.conditions;
+  noted = step.noted;
 }
 
 -- the stack of a thread that lives

@@ -20,6 +20,7 @@ InStep-conditions parts step t ranked places limit = record {
   roomy = record { letters = step.roomy.letters; threads = step.roomy.threads; requests = step.roomy.requests; waits = rw places step.roomy.waits };
   monitors = step.monitors;
   conditions = limit ∙ step.conditions;
+  noted = step.noted;
 }
 
 -- a call that is refused tells nothing

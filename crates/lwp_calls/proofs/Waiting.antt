@@ -1,6 +1,7 @@
 -- A thread begins to wait.
 use Rattle.death_cleanup.proofs.Looks.{rows-block, waits}
 use Rattle.death_cleanup.specs.Moves.{block_set}
+use Rattle.death_cleanup.specs.Named.{NameNote, all_noted}
 use Rattle.death_cleanup.specs.Ties.{InStep}
 use Rattle.death_cleanup.specs.View.{state_of}
 use Rattle.death_cleanup.specs.declared.parts.Parts.{Parts}
@@ -85,8 +86,9 @@ module _ (parts : Parts) (t : ℕ) (why : Block) where
     priority-kept : (u : ℕ) → priority_in (state_of (waiting parts t why)) u ≡ priority_in (state_of parts) u
     priority-kept u = ap (λ rs. change.priority_of parts t f h (λ c k. refl) (λ c row. refl) (find (is_number u) rs)) same ∙ change.priority-changed parts t f h (λ c k. refl) (λ c row. refl) (λ c row. refl) u
 
-    pub InStep-waiting : InStep (waiting parts t why)
-    InStep-waiting =
+    -- whoever waits by name then is in this note
+    pub InStep-waiting : (named : NameNote) → all_noted named (map (block_set t why) parts.ids.live) ≡ true → InStep (record (waiting parts t why) { named = named })
+    InStep-waiting named noted =
         let count : length (state_of (waiting parts t why)).threads ≡ length rows = ap length same ∙ as_many t why rows in
         record {
           tied = record {
@@ -103,4 +105,5 @@ module _ (parts : Parts) (t : ℕ) (why : Block) where
           roomy = record { letters = omega (arith, count, step.roomy.letters); threads = omega (arith, count, step.roomy.threads); requests = omega (arith, count, step.roomy.requests); waits = omega (arith, count, step.roomy.waits) };
           monitors = step.monitors;
           conditions = step.conditions;
+          noted = noted;
         }

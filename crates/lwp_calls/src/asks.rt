@@ -10,7 +10,7 @@ ghost use Rattle.lwp_types.specs.State.{is_not_blocked, is_thread, numbers, prio
 ghost use Rattle.lwp_types.specs.Unblock.{blocked};
 ghost use Rattle.lwp_calls.specs.Asks.{serves};
 
-use death_cleanup::{Awaited, Kind, Parts, nth_of, set_block};
+use death_cleanup::{Awaited, Kind, Parts, note, nth_of, set_block};
 use lwp_types::{Block, IdList, NoMemory, Tid};
 use stale_ids::Registry;
 use std::alloc::Global;
@@ -42,6 +42,7 @@ pub fn block(parts: &mut Parts, tid: Tid, why: Block)
     requires waits { is_not_blocked why ≡ false }
     ensures { CameTo parts.old parts.new [] [] (still (blocked (state_of parts.old) tid why)) }
 {
+    note(&mut parts.named, &parts.ids, tid, &why);
     parts.sched.block(tid);
     set_block(&mut parts.ids, tid, why);
 }

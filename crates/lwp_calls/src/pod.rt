@@ -20,7 +20,7 @@ use crate::letters::post;
 use crate::{agent_calls, letters, lives, locks, marks, numbers, turns, waits};
 use agents::Agents;
 use conditions::Conds;
-use death_cleanup::{Kind, Parts, ThreadRec, is_id};
+use death_cleanup::{Kind, Named, Parts, ThreadRec, is_id};
 use exc_stack::ExcStack;
 use lwp_types::{
     Answer, Block, Call, Effect, Effects, Family, Flags, Letter, NoMemory, PodParams, Text, Tid,
@@ -105,6 +105,7 @@ fn first_parts(alloc: Global, params: PodParams) -> Result<Parts, NoMemory>
         pattern: 1_073_741_824,
         dying: None,
         last_prio: 0,
+        named: Named::new(alloc)?,
     };
     parts.ids.reserve(1)?;
     parts.sched.reserve(1)?;

@@ -6,7 +6,7 @@ ghost use Rattle.stale_ids.specs.Register.{inserted};
 
 use agents::Agents;
 use conditions::{Conds, WaitRec};
-use death_cleanup::{Kind, Parts, ThreadRec, die};
+use death_cleanup::{Kind, Named, Parts, ThreadRec, die};
 use exc_stack::ExcStack;
 use lwp_types::{
     Answer, Block, Cid, Effect, Effects, ExitCall, Flags, Letter, LwpErr, Mid, NoMemory, Text, Tid,
@@ -185,6 +185,16 @@ fn armed(alloc: Global) -> Result<Agents, NoMemory>
     Ok(agents)
 }
 
+fn noted(alloc: Global) -> Result<Named, NoMemory>
+    ensures { IfOk result (λ n. n ≡ example.named) }
+{
+    let mut named = Named::new(alloc)?;
+    named.add(Tid { number: 3 }, DYING);
+    named.add(Tid { number: 4 }, DYING);
+    named.add(Tid { number: 5 }, DYING);
+    Ok(named)
+}
+
 fn parts(alloc: Global) -> Result<Parts, NoMemory>
     ensures same { IfOk result (λ p. p ≡ example.parts) }
     ensures lawful { IfOk result (λ p. LawfulParts p) }
@@ -203,6 +213,7 @@ fn parts(alloc: Global) -> Result<Parts, NoMemory>
         pattern: 1_073_741_824,
         dying: None,
         last_prio: 0,
+        named: noted(alloc)?,
     })
 }
 

@@ -4,6 +4,9 @@ use Rattle.death_cleanup.proofs.waiters.dismiss.Goals as goal
 use Rattle.death_cleanup.specs.Ties.{HasLawfulThreads}
 use Rattle.std.proofs.Common.{sym, ◌∙◌}
 
+pub first_waiting-requires : goal.first_waiting-requires
+first_waiting-requires c = c.loop-other.invariant.step.noted
+
 pub wake-requires-clause-step : goal.wake-requires-clause-step
 wake-requires-clause-step c = c.loop-other.invariant.step
 

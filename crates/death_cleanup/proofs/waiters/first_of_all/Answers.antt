@@ -1,5 +1,5 @@
 use Rattle.death_cleanup.proofs.Living.{drop-some}
-use Rattle.death_cleanup.proofs.waiters.first_waiting.Goals as goal
+use Rattle.death_cleanup.proofs.waiters.first_of_all.Goals as goal
 use Rattle.std.proofs.Common.{sym}
 
 pub returns-then-waits_for : goal.returns-then-waits_for

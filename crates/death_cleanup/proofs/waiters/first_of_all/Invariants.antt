@@ -1,4 +1,4 @@
-use Rattle.death_cleanup.proofs.waiters.first_waiting.Given as goal
+use Rattle.death_cleanup.proofs.waiters.first_of_all.Given as goal
 use Rattle.death_cleanup.specs.Waits.{first_waiting}
 use Rattle.std.proofs.Common.{drop, ◌≡◌}
 
