@@ -121,7 +121,7 @@ queued-more script clients posts i c e n d z queues left q w h clients_are posts
     let w_at : shelf_by lines w ≡ with_line (shelf_by lines q) line = ap (shelf_by lines) w_is ∙ more-is lines q i in
     let added = add_at left shelves e c n (shelf_by lines q) (shelf_by lines w) line h.counts (omega (arith, e_low, long)) (omega (arith, c_low, h.left_are)) q_at w_at client_is n_is in
     let now : shelves_by lines (set queues e w) ≡ added_to shelves e line
-        = map-set (shelf_by lines) queues e w ∙ ap (set shelves e) (w_at ∙ ap (λ s. with_line s line) (found_shelf shelves e (shelf_by lines q) (omega (arith, e_low, long)) q_at)) in
+    = map-set (shelf_by lines) queues e w ∙ ap (set shelves e) (w_at ∙ ap (λ s. with_line s line) (found_shelf shelves e (shelf_by lines q) (omega (arith, e_low, long)) q_at)) in
     let next = add_next script.clients lines i e line shelves (shelves_by lines (set queues e w)) under (get_or_default lines i no_line line under) h.stocked_are h.all event_is e_low now in (
       omega (arith, added.0, h.all),
       record {

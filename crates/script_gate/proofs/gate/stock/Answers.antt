@@ -15,7 +15,7 @@ pub overflow_add-index_mut : goal.overflow_add-index_mut
 overflow_add-index_mut c =
     let known = client-known c.args.script.now c.as_slice-posts.result.now c.loop-place.place c.from-client.result _ c.requires c.as_slice-posts.ensures c.loop-place-test.true c.from-client.ensures in
     let more = queued-more c.args.script.now c.as_slice-clients.result.now c.as_slice-posts.result.now c.loop-place.place c.from-client.result c.from-event.result c.index_mut-in-loop-place.result.now _ _ c.loop-place.queues.items c.loop-place.left.items c.index_mut.result.now c.add.new.self c.loop-place.invariant
-        c.as_slice-clients.ensures c.as_slice-posts.ensures c.loop-place-test.true c.from-client.ensures (omega (arith, known, ap length c.as_slice-clients.ensures)) (omega arith) c.from-event.ensures (omega arith) c.index_mut.ensures.value c.in_ok-add.ensures c.index_mut-in-loop-place.ensures.value in
+    c.as_slice-clients.ensures c.as_slice-posts.ensures c.loop-place-test.true c.from-client.ensures (omega (arith, known, ap length c.as_slice-clients.ensures)) (omega arith) c.from-event.ensures (omega arith) c.index_mut.ensures.value c.in_ok-add.ensures c.index_mut-in-loop-place.ensures.value in
     omega (arith, more.0, c.requires.few, ap length c.as_slice-posts.ensures, length-map c.args.script.now.posts (line_of c.args.script.now.texts))
 
 pub loop-place-preserved : goal.loop-place-preserved
