@@ -1,14 +1,1 @@
-pub mod Bodies
-pub mod Posted
-pub mod History
-pub mod Planned
-pub mod Outcome
-pub mod Reading
-pub mod BodyLaws
-pub mod Plan
-pub mod Clients
-pub mod Live
-pub mod Beside
-pub mod Make
 pub mod Words
-pub mod Texts

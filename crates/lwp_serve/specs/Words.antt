@@ -1,12 +1,13 @@
 -- What the program's words ask for.
-use Rattle.lwp_serve.specs.Live.{IsLive}
-use Rattle.lwp_serve.specs.Make.{IsMake}
-use Rattle.lwp_serve.specs.Outcome.{outcome_of}
-use Rattle.lwp_serve.specs.Plan.{IsPlan, IsQuiet, Stream}
+use Rattle.script_run.specs.Live.{IsLive}
+use Rattle.script_plan.specs.Make.{IsMake}
+use Rattle.script_session.specs.Outcome.{outcome_of}
+use Rattle.script_plan.specs.Plan.{IsPlan}
+use Rattle.script_session.specs.Said.{IsQuiet, Stream}
 use Rattle.lwp_serve.specs.declared.command.Command.{Command}
 use Rattle.lwp_serve.specs.declared.command.Command.TheVariants as command
-use Rattle.lwp_serve.specs.declared.session.Session.{Session}
-use Rattle.lwp_serve.specs.declared.session.SessionEnd.TheVariants as end
+use Rattle.script_session.specs.declared.session.Session.{Session}
+use Rattle.script_session.specs.declared.session.SessionEnd.TheVariants as end
 use Rattle.script_maker.specs.Order.{IsAllowed, order_at}
 use Rattle.script_lines.specs.Words.{number_at}
 use Rattle.std.specs.Prelude.{Bool, List, None, Option, Some, [], bytes_eq, codes, if◌then◌else◌, nat_le, option_map, ℕ, ◌&&◌, ◌∷◌, ◌≡◌, ◌≤◌}

@@ -2,13 +2,12 @@
 ghost use Rattle.std.specs.Prelude.{◌≡◌, ◌≤◌, IfSome, length, map, string_bytes};
 ghost use Rattle.lwp_serve.specs.Words.{MayBe, TopSays, command_by, command_of, is_make, is_plan, is_run, turns_of};
 
-use crate::live::run_main;
-use crate::make::make_main;
-use crate::plan::plan_main;
-use crate::session::{Session, SessionEnd};
 use event_gate::PostGate;
 use lwp_types::{Sink, Source};
 use script_maker::{Order, order_at};
+use script_plan::{make_main, plan_main};
+use script_run::run_main;
+use script_session::{Session, SessionEnd};
 use script_text::number_at;
 use std::alloc::Global;
 use std::sync::Wait;

@@ -1,37 +1,18 @@
 //! The program: what its words ask for, what its input spells, and what it writes.
 //!
-//! `top` takes the words, a source and a sink. Its contract says: where the words are `plan`, the source is read, and where it held
-//! a script, the sink is told exactly the trace of that script's session, which the machine of `lwp_types` defines; or the session's
-//! end names what was in the way, and what was written is then the first part of that trace. The lines that the session says were
-//! taken are, of each client, its first lines in order, and the trace counts the rest. Where the words are `make`, nothing is read:
-//! a script is made, its session is run in the same way, and the sink is told five lines that sum it up.
+//! `top` takes the words, a source and a sink (`TopSays` in `specs/Words.antt`). Where the words are `plan`, a script is read and
+//! run with all lines of its clients in place, by `plan_main`; where they are `run`, it is run while threads of the system post
+//! these lines, by `run_main`; where they are `make`, nothing is read: a script is made, run in the same way as by `plan`, and
+//! summed up, by `make_main`. Other words are no command, and nothing is read or written then.
 //!
-//! The crate stands on the reader of `script_text`, the bodies of `script_body` and `line_server`, the gates of `event_gate`, the
-//! runs of `pod_runner`, the scripts of `script_maker` and the sink of `byte_count`.
+//! The crate hands on what a program needs besides. It stands on `script_plan` and `script_run`, on the sessions and ends of
+//! `script_session`, and on the words that `script_maker` and `script_text` read.
 #![tactic(auto)]
 
-mod beside;
-mod body;
-mod clients;
 mod command;
-mod gates;
-mod lines;
-mod live;
-mod make;
-mod opening;
-mod plan;
-mod program;
-mod session;
-mod source;
-mod texts;
 
-pub use body::ThreadBody;
 pub use command::top;
-pub use gates::no_gates;
-pub use live::run_main;
-pub use make::make_main;
-pub use plan::plan_main;
-pub use program::ScriptProgram;
-pub use session::{Session, SessionEnd, Taken, TakenLines};
-pub use source::SCRIPT_MAX;
-pub use texts::fault_text;
+pub use script_plan::{make_main, plan_main};
+pub use script_program::{ScriptProgram, ThreadBody};
+pub use script_run::{no_gates, run_main};
+pub use script_session::{SCRIPT_MAX, Session, SessionEnd, Taken, TakenLines, fault_text};

@@ -1,5 +1,5 @@
 -- Sessions in which lines are taken later than they could be.
-use Rattle.lwp_serve.specs.Planned.{setting_of}
+use Rattle.script_session.specs.SoFar.{setting_of}
 use Rattle.pod_runner.specs.Due.{IsDefined, armed_calls}
 use Rattle.pod_runner.specs.Play.{play}
 use Rattle.pod_runner.specs.Trace.{lines}

@@ -1,9 +1,0 @@
-use Rattle.std.proofs.Common.{refl}
-use Rattle.lwp_serve.proofs.LiveLaws.{live-ran}
-use Rattle.lwp_serve.proofs.PlanLaws.{session-of}
-use Rattle.lwp_serve.specs.Live.{LiveSays}
-use Rattle.lwp_serve.proofs.live.run_main.Goals as goal
-
-pub returns-in-Ok : goal.returns-in-Ok
-returns-in-Ok g c = session-of (λ script. LiveSays c.args.turns script (record { old = g.K.Sink.written c.args.sink.now; new = g.K.Sink.written c.play_live.new.sink; faults_old = g.K.Sink.faults c.args.sink.now; faults_new = g.K.Sink.faults c.play_live.new.sink }) c.play_live.result) (record { old = g.S.Source.left c.args.source.now; new = g.S.Source.left c.read_whole.new.source; faults_old = g.S.Source.faults c.args.source.now; faults_new = g.S.Source.faults c.read_whole.new.source }) (record { old = g.K.Sink.written c.args.sink.now; new = g.K.Sink.written c.play_live.new.sink; faults_old = g.K.Sink.faults c.args.sink.now; faults_new = g.K.Sink.faults c.play_live.new.sink }) c.play_live.result c.in-Ok.script
-    c.in-Ok.ensures.read c.play_live.ensures.status (live-ran c.args.turns c.in-Ok.script (record { old = g.K.Sink.written c.args.sink.now; new = g.K.Sink.written c.play_live.new.sink; faults_old = g.K.Sink.faults c.args.sink.now; faults_new = g.K.Sink.faults c.play_live.new.sink }) c.play_live.result c.play_live.result.end c.play_live.ensures.says) c.play_live.ensures.says

@@ -1,0 +1,3 @@
+pub mod Posted
+pub mod Queues
+pub mod Stocked

@@ -1,0 +1,4 @@
+mod HistoryLaws
+mod LineLaws
+mod PlanLaws
+mod MakeLaws

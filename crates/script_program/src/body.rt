@@ -1,0 +1,29 @@
+// What a thread of a script runs.
+use line_server::{SessionBody, StoreBody};
+use lwp_types::{Answer, Body, Call, Env, NoMemory};
+use script_body::ScriptBody;
+
+/// A thread's body: a procedure of statements, or one of the two that are built in.
+#[derive(Drop)]
+pub enum ThreadBody<'s> {
+    Scripted(ScriptBody<'s>),
+    Serving(SessionBody),
+    Storing(StoreBody),
+}
+
+impl<'s> Body for ThreadBody<'s> {
+    ghost use Rattle.script_program.specs.Bodies.{body_next};
+    ghost use Rattle.script_program.specs.BodyLaws.{body_next-keeps_lengths};
+
+    ghost next = { body_next };
+
+    fn poll(&mut self, env: &mut Env, got: Answer) -> Result<Call, NoMemory> {
+        match self {
+            ThreadBody::Scripted(body) => body.poll(env, got),
+            ThreadBody::Serving(body) => body.poll(env, got),
+            ThreadBody::Storing(body) => body.poll(env, got),
+        }
+    }
+
+    ghost keeps_lengths = { body_next-keeps_lengths };
+}

@@ -1,0 +1,4 @@
+mod LeftLaws
+mod ClientLaws
+mod BesideLaws
+mod LiveLaws

@@ -1,0 +1,41 @@
+-- How a run goes on over inlets to which others post, and what it has taken from them.
+use Rattle.event_gate.specs.Inlet.{Intake}
+use Rattle.event_gate.specs.Port.{told_of}
+use Rattle.event_gate.specs.Shelves.{event_of}
+use Rattle.event_gate.specs.Texts.{lines_from}
+use Rattle.live_clients.specs.Served.{AreServed, texts_of}
+use Rattle.script_program.specs.Bodies.{bodies_of, body_next}
+use Rattle.pod_runner.specs.Due.{IsDefined}
+use Rattle.pod_runner.specs.Live.{HasEvent, lines_taken, may_lose}
+use Rattle.pod_runner.specs.Run.{GoesOn, Played, Stream, Tells, setting_of, trace_before, trace_of}
+use Rattle.pod_runner.specs.declared.phase.RunErr.{RunErr}
+use Rattle.pod_runner.specs.declared.session.Took.{Took}
+use Rattle.script_text.specs.Script.{proc_names}
+use Rattle.script_text.specs.declared.script.Script.{Script}
+use Rattle.std.specs.List.{All, slice_index_or}
+use Rattle.std.specs.Prelude.{Bool, List, OnOk, Result, false, length, ℕ, ◌++◌, ◌<◌, ◌≡◌, ◌≤◌}
+
+-- The lines that an inlet gave are those that were taken of its event, in order, and then perhaps one that was lost. Each take is of
+-- an inlet's event.
+pub record IsFed (takes : List Took) (inlets : List Intake) (most : ℕ) : Type 0 where
+  pub lost : List Took
+  pub few : length lost ≤ most
+  pub given : (k : ℕ) (d : Intake) → k < length inlets → (slice_index_or inlets k d).taken ≡ lines_taken (slice_index_or inlets k d).event (takes ++ lost)
+  pub known : All (λ took. HasEvent inlets took.event) takes
+
+-- a run has gone on, and has told its steps; what was fed to it before and now is what its inlets gave
+pub record GoesBeside {T : Type 0} (stream : Stream) (old new : Played Script) (before after : List Intake) (result : Result T RunErr) : Type 0 where
+  pub same : GoesOn old new
+  pub made : IsDefined (setting_of body_next bodies_of new) new.takes new.calls
+  pub room : new.calls ≤ new.turns
+  pub told : Tells stream (trace_of body_next bodies_of proc_names old) (trace_before body_next bodies_of proc_names new) (trace_of body_next bodies_of proc_names new) result
+  pub sound : OnOk result (new.failed ≡ false)
+  pub fed : IsFed old.takes before 0 → IsFed new.takes after (may_lose result)
+
+-- all threads have ended, whether or not they have posted all their lines
+abbrev pub AreBack : List ℕ → List (List (List ℕ)) → List Intake → Type 0
+AreBack events texts inlets = (all : Bool) × AreServed events texts all inlets
+
+-- each inlet knows that each client of its event has posted all its lines
+abbrev pub KnowAll : List ℕ → List (List (List ℕ)) → List Intake → Type 0
+KnowAll events texts inlets = All (λ t. (c : ℕ) → c < length events → event_of events c ≡ t.event → told_of c t.known ≡ lines_from c 0 (texts_of texts c)) inlets

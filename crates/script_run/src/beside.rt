@@ -1,0 +1,91 @@
+// A run goes on beside the threads that post to it.
+ghost use Rattle.live_clients.specs.Served.{EachInlet, Gave};
+ghost use Rattle.live_clients.specs.Ties.{IsClosed, IsSameOutside, IsTied, all_texts, events_of, intakes};
+ghost use Rattle.script_run.specs.Beside.{AreBack, GoesBeside, KnowAll};
+ghost use Rattle.script_program.specs.Bodies.{bodies_of, body_next};
+ghost use Rattle.pod_runner.specs.Live.{Answers, Halts};
+ghost use Rattle.std.specs.Prelude.{IfOk, OnOk, false, ◌≡◌};
+
+use event_gate::Bell;
+use live_clients::{Outside, closed_are_served, draws_keep_ties};
+use lwp_types::Sink;
+use pod_runner::{Live, Run, RunErr, run_live};
+use script_program::{ScriptProgram, ThreadBody};
+use std::sync::Wait;
+use std::thread::Threads;
+use trace_text::Halt;
+
+// The run goes on until it is over or quiet.
+fn go_live<'p, 's, K: Sink, R: Wait>(
+    rt: &R,
+    played: &mut Run<ThreadBody<'p>, ScriptProgram<'p>>,
+    outside: &mut Outside<'s>,
+    sink: &mut K,
+) -> Result<Live, RunErr>
+    requires sound { played.old.failed ≡ false }
+    requires tied { IsTied outside.old }
+    ensures goes { GoesBeside (record { old = K.written sink.old; new = K.written sink.new; faults_old = K.faults sink.old; faults_new = K.faults sink.new }) played.old played.new (intakes outside.old) (intakes outside.new) result }
+    ensures tied { IsTied outside.new }
+    ensures same { IsSameOutside outside.old outside.new }
+    ensures gave { EachInlet Gave (intakes outside.old) (intakes outside.new) }
+    ensures closed { IsClosed outside.old → IsClosed outside.new }
+    ensures answers { IfOk result (Answers body_next bodies_of played.new (intakes outside.old) (intakes outside.new)) }
+{
+    draws_keep_ties();
+    run_live(rt, played, &mut outside.inlets, sink)
+}
+
+// The run goes on until it is over or all threads have left the bell. Where it is quiet and some thread hasn't, it waits.
+fn go_beside<'p, 's, K: Sink, R: Wait>(
+    rt: &R,
+    played: &mut Run<ThreadBody<'p>, ScriptProgram<'p>>,
+    outside: &mut Outside<'s>,
+    bell: &Bell,
+    clients: u32,
+    sink: &mut K,
+) -> Result<(), RunErr>
+    requires sound { played.old.failed ≡ false }
+    requires tied { IsTied outside.old }
+    ensures goes { GoesBeside (record { old = K.written sink.old; new = K.written sink.new; faults_old = K.faults sink.old; faults_new = K.faults sink.new }) played.old played.new (intakes outside.old) (intakes outside.new) result }
+    ensures tied { IsTied outside.new }
+    ensures same { IsSameOutside outside.old outside.new }
+{
+    for _ in rt.forever() {
+        match go_live(rt, played, outside, sink)? {
+            Live::Halt(_) => return Ok(()),
+            Live::Quiet if bell.gone(rt) >= clients => return Ok(()),
+            Live::Quiet => bell.park(rt),
+        }
+    }
+    unreachable!()
+}
+
+/// The run goes on to its end: first beside the threads, and when all have ended with whatever they have posted. They have ended
+/// after an error too. A post that was refused is want of memory.
+pub fn go_to_end<'p, 's, K: Sink, R: Threads + Wait>(
+    rt: &R,
+    played: &mut Run<ThreadBody<'p>, ScriptProgram<'p>>,
+    outside: &mut Outside<'s>,
+    bell: &Bell,
+    clients: u32,
+    sink: &mut K,
+) -> Result<Halt, RunErr>
+    requires sound { played.old.failed ≡ false }
+    requires tied { IsTied outside.old }
+    ensures goes { GoesBeside (record { old = K.written sink.old; new = K.written sink.new; faults_old = K.faults sink.old; faults_new = K.faults sink.new }) played.old played.new (intakes outside.old) (intakes outside.new) result }
+    ensures back { AreBack (events_of outside.old) (all_texts outside.old) (intakes outside.new) }
+    ensures all { OnOk result (KnowAll (events_of outside.old) (all_texts outside.old) (intakes outside.new)) }
+    ensures halts { IfOk result (Halts body_next bodies_of played.new (intakes outside.new)) }
+{
+    closed_are_served();
+    let beside = go_beside(rt, played, outside, bell, clients, sink);
+    let all = outside.close(rt);
+    beside?;
+    if !all {
+        return Err(RunErr::NoMemory);
+    }
+    match go_live(rt, played, outside, sink)? {
+        Live::Halt(halt) => Ok(halt),
+        Live::Quiet => unreachable!(),
+    }
+}

@@ -1,0 +1,189 @@
+// A script is read, and run while threads post the lines of its clients.
+ghost use Rattle.live_clients.specs.Inlets.{fresh};
+ghost use Rattle.live_clients.specs.Ties.{IsTied, all_texts, events_of, intakes};
+ghost use Rattle.script_run.specs.Clients.{texts_from};
+ghost use Rattle.script_run.specs.Live.{IsLive, IsLiveBroken, IsLivePlayed, IsLiveStopped, IsLived};
+ghost use Rattle.script_session.specs.SoFar.{opening_run};
+ghost use Rattle.script_gate.specs.Posted.{IsPosted};
+ghost use Rattle.lwp_types.specs.Streams.{Rose};
+ghost use Rattle.script_text.specs.Limits.{IsWithinLimits};
+ghost use Rattle.script_text.specs.Script.{lines_posted};
+ghost use Rattle.std.specs.Prelude.{All, IfOk, IsErrOf, OnOk, length, map, ◌≡◌, ◌≤◌};
+ghost use denote.Param.Send.{IsSync};
+
+use crate::beside::go_to_end;
+use crate::clients::{client_texts, counts_behind};
+use event_gate::{Bell, PostGate};
+use live_clients::Outside;
+use lwp_types::{Sink, Source, Text};
+use pod_runner::{Run, RunErr, write_all};
+use script_program::{ScriptProgram, ThreadBody};
+use script_session::{Session, SessionEnd, end_of, read_whole, session_of, start};
+use script_text::Script;
+use std::alloc::Global;
+use std::sync::Wait;
+use std::thread::{self, Scope, Threads};
+use trace_text::{Halt, end_lines};
+
+// A run goes on to its end while threads post, and then what stands behind its lines is written. No thread is out behind it.
+fn run_out<'p, 's, K: Sink, R: Threads + Wait>(
+    rt: &R,
+    alloc: Global,
+    turns: u64,
+    script: &Script,
+    texts: &[Vec<Text>],
+    played: &mut Run<ThreadBody<'p>, ScriptProgram<'p>>,
+    outside: &mut Outside<'s>,
+    bell: &Bell,
+    sink: &mut K,
+) -> Result<Halt, RunErr>
+    requires posted { IsPosted script.now }
+    requires opening { played.old ≡ opening_run script.now turns }
+    requires tied { IsTied outside.old }
+    requires events { events_of outside.old ≡ script.now.clients }
+    requires texts { map (λ v. v.items) texts.now ≡ texts_from 0 script.now.clients (lines_posted script.now) }
+    requires all_texts { all_texts outside.old ≡ map (λ v. v.items) texts.now }
+    requires new { All (λ t. t ≡ fresh t.place t.event t.noted) (intakes outside.old) }
+    ensures whole { IfOk result (λ halt. IsLived turns script.now (K.written sink.old) (K.written sink.new) played.new.takes played.new.calls halt) }
+    ensures stopped { IsErrOf result RunErr.NoMemory → IsLiveStopped turns script.now (K.written sink.old) (K.written sink.new) played.new.takes played.new.calls }
+    ensures broken { IsErrOf result RunErr.WriteFault → IsLiveBroken turns script.now (K.written sink.old) (K.written sink.new) played.new.takes played.new.calls }
+    ensures faults { OnOk result (K.faults sink.new ≡ K.faults sink.old) }
+    ensures cause { IsErrOf result RunErr.WriteFault → Rose (K.faults sink.old) (K.faults sink.new) }
+    ensures memory { IsErrOf result RunErr.NoMemory → K.faults sink.new ≡ K.faults sink.old }
+{
+    let clients = script.clients.len() as u32;
+    let halt = go_to_end(rt, played, outside, bell, clients, sink)?;
+    let left = counts_behind(alloc, texts, played)?;
+    let tail = end_lines(alloc, &halt, turns, &left)?;
+    match write_all(sink, &tail) {
+        Ok(()) => Ok(halt),
+        Err(_) => Err(RunErr::WriteFault),
+    }
+}
+
+// The session of a script whose clients' threads are started in this scope.
+fn play_beside<'p, 's, E, K: Sink, G: PostGate + 's, R: Threads + Wait + Sync>(
+    scope: &Scope<'s, E>,
+    rt: &'s R,
+    alloc: Global,
+    turns: u64,
+    script: &'s Script,
+    texts: &'s [Vec<Text>],
+    mut played: Run<ThreadBody<'p>, ScriptProgram<'p>>,
+    gates: Vec<G>,
+    bell: &'s Bell,
+    sink: &mut K,
+) -> Session
+    requires posted { IsPosted script.now }
+    requires opening { played ≡ opening_run script.now turns }
+    requires texts { map (λ v. v.items) texts.now ≡ texts_from 0 script.now.clients (lines_posted script.now) }
+    requires gates { 16 ≤ length gates.items }
+    ensures { IsLivePlayed turns script.now (record { old = K.written sink.old; new = K.written sink.new; faults_old = K.faults sink.old; faults_new = K.faults sink.new }) result }
+{
+    let clients = script.clients.as_slice();
+    let Ok(mut outside) = Outside::start(scope, rt, alloc, clients, texts, gates, bell) else {
+        return Session::unread(alloc, SessionEnd::NoMemory);
+    };
+    match run_out(
+        rt,
+        alloc,
+        turns,
+        script,
+        texts,
+        &mut played,
+        &mut outside,
+        bell,
+        sink,
+    ) {
+        Ok(halt) => session_of(end_of(halt), played),
+        Err(RunErr::WriteFault) => session_of(SessionEnd::WriteFault, played),
+        Err(RunErr::NoMemory) => session_of(SessionEnd::NoMemory, played),
+    }
+}
+
+// The same, and the sink is handed back, so that the scope can tell what was written.
+fn play_within<'p, 's, 'k, E, K: Sink, G: PostGate + 's, R: Threads + Wait + Sync>(
+    scope: &Scope<'s, E>,
+    rt: &'s R,
+    alloc: Global,
+    turns: u64,
+    script: &'s Script,
+    texts: &'s [Vec<Text>],
+    played: Run<ThreadBody<'p>, ScriptProgram<'p>>,
+    gates: Vec<G>,
+    bell: &'s Bell,
+    sink: &'k mut K,
+) -> (Session, &'k mut K)
+    requires posted { IsPosted script.now }
+    requires opening { played ≡ opening_run script.now turns }
+    requires texts { map (λ v. v.items) texts.now ≡ texts_from 0 script.now.clients (lines_posted script.now) }
+    requires gates { 16 ≤ length gates.items }
+    ensures played { IsLivePlayed turns script.now (record { old = K.written sink.entry.now; new = K.written result.1.now; faults_old = K.faults sink.entry.now; faults_new = K.faults result.1.now }) result.0 }
+    ensures handed { result.1.ghost_name ≡ sink.entry.ghost_name }
+{
+    let session = play_beside(
+        scope, rt, alloc, turns, script, texts, played, gates, bell, sink,
+    );
+    (session, sink)
+}
+
+// The session of a script, with so many turns allowed, while threads post the lines of its clients. Client c has gate c.
+fn play_live<K: Sink, G: PostGate, R: Threads + Wait + Sync>(
+    rt: &R,
+    alloc: Global,
+    turns: u64,
+    script: &Script,
+    gates: Vec<G>,
+    sink: &mut K,
+) -> Session
+    requires within { IsWithinLimits script.now }
+    requires posted { IsPosted script.now }
+    requires gates { 16 ≤ length gates.items }
+    ensures { IsLivePlayed turns script.now (record { old = K.written sink.old; new = K.written sink.new; faults_old = K.faults sink.old; faults_new = K.faults sink.new }) result }
+{
+    let (Ok(played), Ok(texts)) = (start(alloc, script, turns), client_texts(alloc, script)) else {
+        return Session::unread(alloc, SessionEnd::NoMemory);
+    };
+    let bell = Bell::new();
+    let (texts, bell) = (texts.as_slice(), &bell);
+    let (session, _sink) = thread::scope(
+        thread::scope_env(),
+        rt,
+        move |scope| -> (Session, &mut K)
+            requires sync { IsSync R.row }
+            requires posted { IsPosted script.now }
+            requires opening { played ≡ opening_run script.now turns }
+            requires texts { map (λ v. v.items) texts.now ≡ texts_from 0 script.now.clients (lines_posted script.now) }
+            requires gates { 16 ≤ length gates.items }
+            ensures played { IsLivePlayed turns script.entry.now (record { old = K.written sink.entry.now; new = K.written result.1.now; faults_old = K.faults sink.entry.now; faults_new = K.faults result.1.now }) result.0 }
+            ensures handed { result.1.ghost_name ≡ sink.entry.ghost_name }
+        {
+            play_within(
+                scope, rt, alloc, turns, script, texts, played, gates, bell, sink,
+            )
+        },
+    );
+    session
+}
+
+/// Reads a script to its end and runs it, with so many turns allowed, while a thread for each client posts that client's lines.
+/// Client c asks gate c before each of its posts. All threads have ended when it returns.
+pub fn run_main<S: Source, K: Sink, G: PostGate, R: Threads + Wait + Sync>(
+    rt: &R,
+    alloc: Global,
+    turns: u64,
+    source: &mut S,
+    sink: &mut K,
+    gates: Vec<G>,
+) -> Session
+    requires least { 1 ≤ turns }
+    requires most { turns ≤ 1000000 }
+    requires gates { 16 ≤ length gates.items }
+    ensures { IsLive turns (record { old = S.left source.old; new = S.left source.new; faults_old = S.faults source.old; faults_new = S.faults source.new })
+        (record { old = K.written sink.old; new = K.written sink.new; faults_old = K.faults sink.old; faults_new = K.faults sink.new }) result }
+{
+    match read_whole(alloc, source) {
+        Ok(script) => play_live(rt, alloc, turns, &script, gates, sink),
+        Err(end) => Session::unread(alloc, end),
+    }
+}

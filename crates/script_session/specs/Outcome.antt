@@ -1,0 +1,35 @@
+-- What the program's calls say of a session.
+use Rattle.script_session.specs.History.{taken_as}
+use Rattle.script_session.specs.declared.session.Session.{Session}
+use Rattle.script_session.specs.declared.session.SessionEnd.{SessionEnd}
+use Rattle.script_session.specs.declared.session.SessionEnd.TheVariants as end
+use Rattle.pod_runner.specs.declared.session.Took.{Took}
+use Rattle.trace_text.specs.declared.ends.Halt.{Halt}
+use Rattle.trace_text.specs.declared.ends.Halt.TheVariants as halt
+use Rattle.std.specs.Prelude.{List, Option, None, Some, map, take, ℕ, ◌≡◌}
+
+-- the exit status of the program, by the end
+abbrev pub status_of : SessionEnd → ℕ
+status_of (end.Ended status) = status
+status_of end.Usage = 100
+status_of end.ReadFault = 101
+status_of end.WriteFault = 102
+status_of (end.Script line reason) = 103
+status_of end.Stuck = 104
+status_of end.Spent = 105
+status_of end.NoMemory = 106
+
+-- a session of this end, with these lines taken and so many calls made
+abbrev pub outcome_of : SessionEnd → List Took → ℕ → Session
+outcome_of e takes turns = record { status = status_of e; end = e; taken = map taken_as takes; turns = turns }
+
+-- the end of a session that has come to its end
+abbrev pub end_of : Halt → SessionEnd
+end_of (halt.Ended status) = end.Ended status
+end_of halt.Stuck = end.Stuck
+end_of halt.Spent = end.Spent
+
+-- the bytes that a source had left, or one more than a script may have; where nothing is told, some bytes
+abbrev pub HasRead : Option (List ℕ) → List ℕ → Type 0
+HasRead None bytes = Unit {0}
+HasRead (Some told) bytes = bytes ≡ take 16777217 told

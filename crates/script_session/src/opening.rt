@@ -1,0 +1,64 @@
+// What a plan and a run begin and end with: a script is read, it is made a run, and what came of it is told.
+ghost use Rattle.script_session.specs.Outcome.{outcome_of};
+ghost use Rattle.script_session.specs.SoFar.{opening_run};
+ghost use Rattle.script_session.specs.Said.{IsNotRead, IsRead};
+ghost use Rattle.script_text.specs.Limits.{IsWithinLimits};
+ghost use Rattle.std.specs.Prelude.{◌≡◌, IfErr, IfOk};
+
+use crate::session::{Session, SessionEnd};
+use crate::source::{ReadFailure, read_all};
+use lwp_types::{Env, NoMemory, PodParams, Source};
+use pod_runner::Run;
+use script_program::{ScriptProgram, ThreadBody};
+use script_text::{ReadErr, Script, ScriptReader};
+use std::alloc::Global;
+
+/// The script that a source holds, which is read to its end; or how the session ends without one. Of what is read only a buffer and
+/// the reader are kept.
+pub fn read_whole<S: Source>(alloc: Global, source: &mut S) -> Result<Script, SessionEnd>
+    ensures read { IfOk result (λ script. IsRead (record { old = S.left source.old; new = S.left source.new; faults_old = S.faults source.old; faults_new = S.faults source.new }) script) }
+    ensures within { IfOk result IsWithinLimits }
+    ensures not_read { IfErr result (λ e. IsNotRead (record { old = S.left source.old; new = S.left source.new; faults_old = S.faults source.old; faults_new = S.faults source.new }) e) }
+{
+    let mut reader = ScriptReader::new(alloc);
+    match read_all(&mut reader, source) {
+        Ok(()) => {}
+        Err(ReadFailure::Fault) => return Err(SessionEnd::ReadFault),
+        Err(ReadFailure::NoMemory) => return Err(SessionEnd::NoMemory),
+    }
+    match reader.finish() {
+        Ok(script) => Ok(script),
+        Err(ReadErr::NoMemory) => Err(SessionEnd::NoMemory),
+        Err(ReadErr::Bad { line, reason }) => Err(SessionEnd::Script { line, reason }),
+    }
+}
+
+/// A run of a script, before its first call.
+pub fn start<'s>(
+    alloc: Global,
+    script: &'s Script,
+    turns: u64,
+) -> Result<Run<ThreadBody<'s>, ScriptProgram<'s>>, NoMemory>
+    requires { IsWithinLimits script.now }
+    ensures { IfOk result (λ run. run ≡ opening_run script.now turns) }
+{
+    let procs = (script.procs.len() + script.natives.len()) as u32;
+    let params = PodParams {
+        maxpri: script.maxpri,
+        births: script.births,
+        procs,
+    };
+    let threads = script.names.threads.len() as u32;
+    let mons = script.names.mons.len() as u32;
+    let conds = script.names.conds.len() as u32;
+    let env = Env::new(alloc, threads, mons, conds)?;
+    Run::new(alloc, params, ScriptProgram::new(alloc, script), env, turns)
+}
+
+/// The session of a run that has ended so.
+pub fn session_of<'s>(end: SessionEnd, played: Run<ThreadBody<'s>, ScriptProgram<'s>>) -> Session
+    ensures { result ≡ outcome_of end played.entry.takes played.entry.calls }
+{
+    let calls = played.calls();
+    Session::new(end, played.into_takes(), calls)
+}
