@@ -10,5 +10,5 @@ loop-left-preserved c =
     record {
       within = omega arith;
       noted = rw (c.add_if.ensures, c.name.ensures)
-      (noted-onto at.named c.args.ids.now.live (at.left - 1) c.nth_of-tid.result.0 c.nth_of-tid.result.1.now c.nth_of-tid.ensures (rw next at.invariant.noted));
+          (noted-onto at.named c.args.ids.now.live (at.left - 1) c.nth_of-tid.result.0 c.nth_of-tid.result.1.now c.nth_of-tid.ensures (rw next at.invariant.noted));
     }
