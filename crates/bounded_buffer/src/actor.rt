@@ -17,11 +17,11 @@ impl Body for Actor {
     ghost next = { actor_next };
 
     #[tactic(auto, unfolding(crate::specs::Actors::actor_next))]
-    fn poll(&mut self, _env: &mut Env, got: Answer) -> Result<Call, NoMemory> {
+    fn poll(&mut self, _env: &mut Env, got: &Answer) -> Result<Call, NoMemory> {
         match self {
-            Actor::Buffering(buffer) => buffer.next(&got),
+            Actor::Buffering(buffer) => buffer.next(got),
             Actor::Producing(producer) => Ok(producer.next()),
-            Actor::Consuming(consumer) => Ok(consumer.next(&got)),
+            Actor::Consuming(consumer) => Ok(consumer.next(got)),
         }
     }
 

@@ -41,10 +41,10 @@ pub fn resume(parts: &mut Parts, tid: Tid) -> Answer
 
 /// The letter that the thread has received from the other is done with. A thread that sent it goes on with the text; an agent
 /// can take the next event.
-pub fn reply(parts: &mut Parts, tid: Tid, to: Tid, text: Text, effects: &mut Effects) -> Answer
+pub fn reply(parts: &mut Parts, tid: Tid, to: Tid, text: &Text, effects: &mut Effects) -> Answer
     requires lawful { LawfulParts parts.old }
     requires room { length effects.old < 2048 }
-    ensures answers { Answers parts.old parts.new effects.old effects.new (reply (state_of parts.old) tid to text) result }
+    ensures answers { Answers parts.old parts.new effects.old effects.new (reply (state_of parts.old) tid to text.now) result }
 {
     if !is_id(parts, to) {
         return Answer::Refused(LwpErr::NonExist);
@@ -57,7 +57,7 @@ pub fn reply(parts: &mut Parts, tid: Tid, to: Tid, text: Text, effects: &mut Eff
         parts.agents.release(to);
         return Answer::Value(0);
     }
-    wake(parts, to, Answer::Reply(text), effects);
+    wake(parts, to, Answer::Reply(*text), effects);
     Answer::Value(0)
 }
 
@@ -72,7 +72,7 @@ fn perform(parts: &mut Parts, tid: Tid, call: ExitCall, effects: &mut Effects) -
         ExitCall::MonBreak { mon } => monitor_break(parts, mon, effects),
         ExitCall::Notify { cond } => notify(parts, tid, cond),
         ExitCall::Broadcast { cond } => broadcast(parts, tid, cond),
-        ExitCall::Reply { to, text } => reply(parts, tid, to, text, effects),
+        ExitCall::Reply { to, text } => reply(parts, tid, to, &text, effects),
         ExitCall::Resume { tid } => resume(parts, tid),
         ExitCall::SetExit { code } => set_exit(parts, code),
         ExitCall::Note { text: _ } => Answer::Value(0),

@@ -157,8 +157,8 @@ impl Body for SessionBody {
     ghost next = { session_next };
 
     #[tactic(auto, unfolding(crate::specs::Sessions::session_next))]
-    fn poll(&mut self, env: &mut Env, got: Answer) -> Result<Call, NoMemory> {
-        Ok(self.go_on(env, &got))
+    fn poll(&mut self, env: &mut Env, got: &Answer) -> Result<Call, NoMemory> {
+        Ok(self.go_on(env, got))
     }
 
     ghost keeps_lengths = { session_next-keeps_lengths };

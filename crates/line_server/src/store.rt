@@ -135,8 +135,8 @@ impl Body for StoreBody {
     ghost next = { store_next };
 
     #[tactic(auto, unfolding(crate::specs::Stores::store_next))]
-    fn poll(&mut self, env: &mut Env, got: Answer) -> Result<Call, NoMemory> {
-        self.go_on(&got)
+    fn poll(&mut self, env: &mut Env, got: &Answer) -> Result<Call, NoMemory> {
+        self.go_on(got)
     }
 
     ghost keeps_lengths = { store_next-keeps_lengths };

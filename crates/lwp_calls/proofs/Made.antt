@@ -3,13 +3,15 @@ use Rattle.death_cleanup.specs.Comes.{Answers, CameTo}
 use Rattle.death_cleanup.specs.Ties.{InStep, LawfulParts}
 use Rattle.death_cleanup.specs.View.{state_of}
 use Rattle.death_cleanup.specs.declared.parts.Parts.{Parts}
-use Rattle.lwp_calls.specs.Comes.{ComesTo, IsAsBefore}
+use Rattle.lwp_calls.specs.Comes.{ComesTo, IsAsBefore, Told}
 use Rattle.lwp_types.specs.Case.{Case, answered}
 use Rattle.lwp_types.specs.State.{Outcome, State}
 use Rattle.lwp_types.specs.Lawful.{NineParts}
+use Rattle.lwp_types.specs.Step.{own_effects}
 use Rattle.lwp_types.specs.declared.call.Answer.{Answer}
 use Rattle.lwp_types.specs.declared.call.Effect.{Effect}
-use Rattle.std.proofs.Common.{List, Option, Some, [], ap, append-nil, subst, sym, ℕ, ◌++◌, ◌∙◌, ◌≡◌}
+use Rattle.lwp_types.specs.declared.call.Effect.TheVariants as effect
+use Rattle.std.proofs.Common.{List, None, Option, Some, [], ap, append_assoc, append-nil, arith, length, length-append, subst, sym, ℕ, ◌+◌, ◌++◌, ◌∙◌, ◌∷◌, ◌≡◌, ◌≤◌}
 
 module _ {old new : Parts} {made : Case} where
   pub ComesTo-is : {own : Option Answer} → made ≡ record { after = state_of new; others = []; own = own } → InStep new → new.dying ≡ old.dying → ComesTo old new [] [] made own
@@ -37,6 +39,24 @@ module _ {old new : Parts} {made : Case} where
 
   pub ComesTo-said : {a : Answer} → Answers old new [] [] made a → (effects : List Effect) → ComesTo old new effects effects made (Some a)
   ComesTo-said answers effects = ComesTo-quiet (ComesTo-answers answers) effects
+
+  -- the caller's answer is told behind it
+  pub told-behind : {before middle after : List Effect} {own : Option Answer} → ComesTo old new before middle made own → (t : ℕ) → after ≡ middle ++ own_effects t own → Told old new before after t made
+  told-behind {before} {middle} {after} {own} comes t told = record {
+    state = comes.came.state;
+    effects = told ∙ ap (λ (es : List Effect). es ++ own_effects t own) comes.came.effects ∙ append_assoc before made.others (own_effects t own) ∙ ap (λ (o : Option Answer). before ++ (made.others ++ own_effects t o)) (sym comes.own);
+    step = comes.came.step;
+    dying = comes.came.dying;
+  }
+
+  -- of an answer at once, where others were told nothing
+  pub told-alone : {before after : List Effect} {a : Answer} → Answers old new [] [] made a → (t : ℕ) → after ≡ before ++ effect.Answered t a ∷ [] → Told old new before after t made
+  told-alone {before} answers t told = told-behind (ComesTo-said answers before) t told
+
+-- an answer is one effect more at most
+pub told-few : (middle : List Effect) (t : ℕ) (own : Option Answer) → length (middle ++ own_effects t own) ≤ length middle + 1
+told-few middle t None = omega (arith, ap length (append-nil middle))
+told-few middle t (Some a) = omega (arith, length-append middle (effect.Answered t a ∷ []))
 
 -- a call after which nothing has changed but places, and then another
 module _ {old mid : Parts} (same : IsAsBefore old mid) where

@@ -94,11 +94,11 @@ module _ (s : State) (lawful : Lawful s None) (c : Call) (t : ℕ) (turn : curre
     stepped = ap (λ (out : Outcome). out.after) (step-chosen s t c turn) ∙ ap (λ (now : State). record now { ended = ends now }) (sym carried)
 
     -- and its effects
-    pub told : (own : Option Answer) (before after : List Effect) → (case_of s t c).own ≡ own → after ≡ before ++ (case_of s t c).others → before ≡ effect.Called t c ∷ [] → after ++ (own_effects t own ++ end_effects (state_of parts)) ≡ (step s c).effects
-    told own before after answers others called =
-        ap (λ es. es ++ (own_effects t own ++ end_effects (state_of parts))) others
-        ∙ ap (λ es. (es ++ (case_of s t c).others) ++ (own_effects t own ++ end_effects (state_of parts))) called
-        ∙ ap (λ o. effect.Called t c ∷ ((case_of s t c).others ++ (own_effects t o ++ end_effects (state_of parts)))) (sym answers)
+    pub told : (before after : List Effect) → after ≡ before ++ ((case_of s t c).others ++ own_effects t (case_of s t c).own) → before ≡ effect.Called t c ∷ [] → after ++ end_effects (state_of parts) ≡ (step s c).effects
+    told before after tells called =
+        ap (λ es. es ++ end_effects (state_of parts)) tells
+        ∙ ap (λ es. (es ++ ((case_of s t c).others ++ own_effects t (case_of s t c).own)) ++ end_effects (state_of parts)) called
+        ∙ ap (λ es. effect.Called t c ∷ es) (append_assoc (case_of s t c).others (own_effects t (case_of s t c).own) (end_effects (state_of parts)))
         ∙ ap (λ now. effect.Called t c ∷ ((case_of s t c).others ++ (own_effects t (case_of s t c).own ++ end_effects now))) carried
         ∙ sym (ap (λ (out : Outcome). out.effects) (step-chosen s t c turn))
 

@@ -1,5 +1,5 @@
 // Calls on agents.
-ghost use Rattle.std.specs.Prelude.{◌≡◌, ◌<◌, ◌≤◌, false, Some, None, IfOk, IsErr, IsTrue, OnErr, OnOk, []};
+ghost use Rattle.std.specs.Prelude.{◌≡◌, ◌<◌, ◌≤◌, false, Some, None, IfOk, IsErr, IsTrue, OnErr, OnOk, [], length};
 ghost use Rattle.death_cleanup.specs.Comes.{Answers, CameTo};
 ghost use Rattle.death_cleanup.specs.Ties.{InStep, LawfulParts};
 ghost use Rattle.death_cleanup.specs.View.{state_of};
@@ -11,11 +11,11 @@ ghost use Rattle.lwp_types.specs.Step.{case_of};
 ghost use Rattle.lwp_types.specs.declared.call.IdKind.TheVariants as kind;
 ghost use Rattle.agents.specs.Roster.{has_agent_for};
 ghost use Rattle.lwp_calls.specs.Asks.{HasAgentPlaces, asks_memory};
-ghost use Rattle.lwp_calls.specs.Comes.{IsAsBefore};
+ghost use Rattle.lwp_calls.specs.Comes.{IsAsBefore, Told};
 
 use crate::asks::{next_count, thread_count};
 use death_cleanup::{Kind, Parts};
-use lwp_types::{AgentCall, Answer, IdKind, LwpErr, NoMemory, Tid};
+use lwp_types::{AgentCall, Answer, Effects, IdKind, LwpErr, NoMemory, Tid};
 
 // Events are numbered from 1 to this.
 const MOST_EVENT: u32 = 31;
@@ -24,17 +24,22 @@ const MOST_EVENT: u32 = 31;
 const MOST_AGENTS: usize = 31;
 
 /// A call of this family.
-pub fn carry_out(parts: &mut Parts, tid: Tid, call: AgentCall) -> Result<Answer, NoMemory>
+#[inline(never)]
+pub fn carry_out(parts: &mut Parts, tid: Tid, call: AgentCall, effects: &mut Effects) -> Result<(), NoMemory>
     requires lawful { LawfulParts parts.old }
     requires alone { parts.old.dying ≡ None }
-    ensures ok { IfOk result (λ own. Answers parts.old parts.new [] [] (case_of (state_of parts.old) tid (agent_call call)) own) }
+    requires room { length effects.old ≤ 1 }
+    ensures ok { OnOk result (Told parts.old parts.new effects.old effects.new tid (case_of (state_of parts.old) tid (agent_call call))) }
+    ensures most { length effects.new ≤ 1281 }
     ensures err { OnErr result (IsAsBefore parts.old parts.new) }
     ensures memory { IsErr result → IsTrue (asks_memory (agent_call call)) }
 {
-    match call {
-        AgentCall::Create(event) => create(parts, tid, event),
-        AgentCall::List => list(parts),
-    }
+    let own = match call {
+        AgentCall::Create(event) => create(parts, tid, event)?,
+        AgentCall::List => list(parts)?,
+    };
+    effects.answered(tid, own);
+    Ok(())
 }
 
 // An agent of the caller, for an event that has none. What a delivery needs later is reserved now.

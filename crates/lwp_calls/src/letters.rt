@@ -1,5 +1,5 @@
 // Calls on letters: a sender waits for the reply.
-ghost use Rattle.std.specs.Prelude.{◌≡◌, ◌<◌, ◌≤◌, ◌==◌, ◌∷◌, false, Some, None, IfOk, IsErr, IsTrue, OnErr, length, []};
+ghost use Rattle.std.specs.Prelude.{◌≡◌, ◌<◌, ◌≤◌, ◌==◌, ◌∷◌, false, Some, None, IfOk, IsErr, IsTrue, OnErr, OnOk, length, []};
 ghost use Rattle.death_cleanup.specs.Comes.{Answers, CameTo};
 ghost use Rattle.death_cleanup.specs.Ties.{InStep, LawfulParts};
 ghost use Rattle.death_cleanup.specs.View.{state_of};
@@ -12,7 +12,7 @@ ghost use Rattle.lwp_types.specs.Step.{case_of};
 ghost use Rattle.lwp_types.specs.declared.call.IdKind.TheVariants as kind;
 ghost use Rattle.rendezvous.specs.Mailbag.{has_letter_of};
 ghost use Rattle.lwp_calls.specs.Asks.{asks_memory, first_refusal};
-ghost use Rattle.lwp_calls.specs.Comes.{ComesTo, IsAsBefore};
+ghost use Rattle.lwp_calls.specs.Comes.{ComesTo, IsAsBefore, Told};
 
 use crate::asks::{block, receivers};
 use death_cleanup::{Kind, Parts, is_id, is_thread, reply, wake};
@@ -22,30 +22,32 @@ use lwp_types::{
 use std::alloc::Global;
 
 /// A call of this family.
+#[inline(never)]
 pub fn carry_out(
     parts: &mut Parts,
     alloc: Global,
     tid: Tid,
-    call: LetterCall,
+    call: &LetterCall<'_>,
     effects: &mut Effects,
-) -> Result<Option<Answer>, NoMemory>
+) -> Result<(), NoMemory>
     requires lawful { LawfulParts parts.old }
     requires alone { parts.old.dying ≡ None }
     requires may_run { IsTrue (is_eligible_in (state_of parts.old) tid) }
     requires room { length effects.old ≤ 1 }
-    ensures ok { IfOk result (λ own. ComesTo parts.old parts.new effects.old effects.new (case_of (state_of parts.old) tid (letter_call call)) own) }
-    ensures most { length effects.new ≤ 1280 }
+    ensures ok { OnOk result (Told parts.old parts.new effects.old effects.new tid (case_of (state_of parts.old) tid (letter_call call.now))) }
+    ensures most { length effects.new ≤ 1281 }
     ensures err { OnErr result (IsAsBefore parts.old parts.new) }
-    ensures memory { IsErr result → IsTrue (asks_memory (letter_call call)) }
+    ensures memory { IsErr result → IsTrue (asks_memory (letter_call call.now)) }
 {
     let own = match call {
-        LetterCall::Send(to, room, text) => send(parts, tid, to, room, text, effects),
-        LetterCall::Recv(from, mode) => receive(parts, tid, &from, mode),
-        LetterCall::Reply(to, text) => Some(reply(parts, tid, to, text, effects)),
+        LetterCall::Send(to, room, text) => send(parts, tid, *to, *room, text, effects),
+        LetterCall::Recv(from, mode) => receive(parts, tid, from, *mode),
+        LetterCall::Reply(to, text) => Some(reply(parts, tid, *to, text, effects)),
         LetterCall::Senders => Some(list_senders(parts, tid)?),
         LetterCall::Receivers => Some(list_receivers(parts, alloc, tid)?),
     };
-    Ok(own)
+    effects.told(tid, own);
+    Ok(())
 }
 
 // The caller waits for the reply to its letter.
@@ -54,14 +56,14 @@ fn send(
     caller: Tid,
     to: Tid,
     room: u8,
-    text: Text,
+    text: &Text,
     effects: &mut Effects,
 ) -> Option<Answer>
     requires lawful { LawfulParts parts.old }
     requires alone { parts.old.dying ≡ None }
     requires may_run { IsTrue (is_eligible_in (state_of parts.old) caller) }
     requires room { length effects.old ≤ 1 }
-    ensures comes { ComesTo parts.old parts.new effects.old effects.new (send (state_of parts.old) caller to room text) result }
+    ensures comes { ComesTo parts.old parts.new effects.old effects.new (send (state_of parts.old) caller to room text.now) result }
     ensures most { length effects.new ≤ 2 }
 {
     if !is_thread(parts, to) {
@@ -74,7 +76,7 @@ fn send(
     let letter = Letter {
         from: caller,
         to,
-        text,
+        text: *text,
         room,
         received: false,
     };

@@ -13,7 +13,7 @@ ghost use Rattle.lwp_types.specs.Threads.{create, created, join, ping};
 ghost use Rattle.lwp_types.specs.declared.call.IdKind.TheVariants as kind;
 ghost use Rattle.exc_stack.specs.Stack.{one_frame};
 ghost use Rattle.lwp_calls.specs.Asks.{HasPlaces, asks_memory};
-ghost use Rattle.lwp_calls.specs.Comes.{ComesTo, IsAsBefore};
+ghost use Rattle.lwp_calls.specs.Comes.{ComesTo, IsAsBefore, Told};
 
 use crate::asks::{block, next_count, thread_count, threads};
 use death_cleanup::{Kind, Parts, ThreadRec, die, end_agent, is_agent, is_id, is_thread};
@@ -28,19 +28,20 @@ const MOST_THREADS: usize = 1024;
 const MOST_AGENTS: usize = 31;
 
 /// A call of this family.
+#[inline(never)]
 pub fn carry_out(
     parts: &mut Parts,
     alloc: Global,
     tid: Tid,
     call: LifeCall,
     effects: &mut Effects,
-) -> Result<Option<Answer>, NoMemory>
+) -> Result<(), NoMemory>
     requires lawful { LawfulParts parts.old }
     requires alone { parts.old.dying ≡ None }
     requires may_run { IsTrue (is_eligible_in (state_of parts.old) tid) }
     requires room { length effects.old ≤ 1 }
-    ensures ok { IfOk result (λ own. ComesTo parts.old parts.new effects.old effects.new (case_of (state_of parts.old) tid (life_call call)) own) }
-    ensures most { length effects.new ≤ 1280 }
+    ensures ok { OnOk result (Told parts.old parts.new effects.old effects.new tid (case_of (state_of parts.old) tid (life_call call))) }
+    ensures most { length effects.new ≤ 1281 }
     ensures err { OnErr result (IsAsBefore parts.old parts.new) }
     ensures memory { IsErr result → IsTrue (asks_memory (life_call call)) }
 {
@@ -51,7 +52,8 @@ pub fn carry_out(
         LifeCall::Join(other) => join(parts, tid, other),
         LifeCall::Threads => Some(list(parts, alloc)?),
     };
-    Ok(own)
+    effects.told(tid, own);
+    Ok(())
 }
 
 // A thread more, which begins in a procedure.

@@ -1,5 +1,5 @@
 // Calls on monitors.
-ghost use Rattle.std.specs.Prelude.{◌≡◌, ◌≤◌, [], ◌∷◌, false, Some, None, IfOk, IsErr, IsTrue, OnErr, length};
+ghost use Rattle.std.specs.Prelude.{◌≡◌, ◌≤◌, [], ◌∷◌, false, Some, None, IfOk, IsErr, IsTrue, OnErr, OnOk, length};
 ghost use Rattle.death_cleanup.specs.Comes.{Answers};
 ghost use Rattle.death_cleanup.specs.Ties.{InStep, LawfulParts};
 ghost use Rattle.death_cleanup.specs.View.{state_of};
@@ -11,7 +11,7 @@ ghost use Rattle.lwp_types.specs.State.{member};
 ghost use Rattle.lwp_types.specs.Step.{case_of};
 ghost use Rattle.lwp_types.specs.declared.call.IdKind.TheVariants as kind;
 ghost use Rattle.lwp_calls.specs.Asks.{asks_memory};
-ghost use Rattle.lwp_calls.specs.Comes.{ComesTo, IsAsBefore};
+ghost use Rattle.lwp_calls.specs.Comes.{ComesTo, IsAsBefore, Told};
 
 use crate::asks::{block, prio_of};
 use death_cleanup::{Parts, monitor_break, monitor_exit};
@@ -21,18 +21,19 @@ use lwp_types::{Answer, Block, Effects, IdKind, LockCall, LwpErr, Mid, NoMemory,
 const MOST_DEPTH: u32 = 65_535;
 
 /// A call of this family.
+#[inline(never)]
 pub fn carry_out(
     parts: &mut Parts,
     tid: Tid,
     call: LockCall,
     effects: &mut Effects,
-) -> Result<Option<Answer>, NoMemory>
+) -> Result<(), NoMemory>
     requires lawful { LawfulParts parts.old }
     requires alone { parts.old.dying ≡ None }
     requires may_run { IsTrue (is_eligible_in (state_of parts.old) tid) }
     requires room { length effects.old ≤ 1 }
-    ensures ok { IfOk result (λ own. ComesTo parts.old parts.new effects.old effects.new (case_of (state_of parts.old) tid (lock_call call)) own) }
-    ensures most { length effects.new ≤ 1280 }
+    ensures ok { OnOk result (Told parts.old parts.new effects.old effects.new tid (case_of (state_of parts.old) tid (lock_call call))) }
+    ensures most { length effects.new ≤ 1281 }
     ensures err { OnErr result (IsAsBefore parts.old parts.new) }
     ensures memory { IsErr result → IsTrue (asks_memory (lock_call call)) }
 {
@@ -46,7 +47,8 @@ pub fn carry_out(
         LockCall::List => Some(list(parts)?),
         LockCall::Waiters(mon) => Some(waiters(parts, mon)?),
     };
-    Ok(own)
+    effects.told(tid, own);
+    Ok(())
 }
 
 // A monitor that nobody holds.

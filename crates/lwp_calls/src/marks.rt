@@ -15,7 +15,7 @@ ghost use Rattle.lwp_types.specs.State.{marks_in};
 ghost use Rattle.lwp_types.specs.Step.{case_of};
 ghost use Rattle.lwp_types.specs.declared.rows.Mark.TheVariants as Mark;
 ghost use Rattle.lwp_calls.specs.Asks.{asks_memory};
-ghost use Rattle.lwp_calls.specs.Comes.{ComesTo, IsAsBefore};
+ghost use Rattle.lwp_calls.specs.Comes.{ComesTo, IsAsBefore, Told};
 
 use death_cleanup::{Kind, Parts, die, leave_frames};
 use lwp_types::{Answer, Effects, ExitCall, Found, Func, LwpErr, MarkCall, NoMemory, Pattern, Tid};
@@ -26,33 +26,35 @@ const MOST_PATTERN: u32 = 2_147_483_647;
 const MOST_REGISTRATIONS: u64 = 4_294_967_295;
 
 /// A call of this family.
+#[inline(never)]
 pub fn carry_out(
     parts: &mut Parts,
     tid: Tid,
-    call: MarkCall,
+    call: &MarkCall<'_>,
     effects: &mut Effects,
-) -> Result<Option<Answer>, NoMemory>
+) -> Result<(), NoMemory>
     requires lawful { LawfulParts parts.old }
     requires alone { parts.old.dying ≡ None }
     requires may_run { IsTrue (is_eligible_in (state_of parts.old) tid) }
     requires room { length effects.old ≤ 1 }
-    ensures ok { IfOk result (λ own. ComesTo parts.old parts.new effects.old effects.new (case_of (state_of parts.old) tid (mark_call call)) own) }
-    ensures most { length effects.new ≤ 1280 }
+    ensures ok { OnOk result (Told parts.old parts.new effects.old effects.new tid (case_of (state_of parts.old) tid (mark_call call.now))) }
+    ensures most { length effects.new ≤ 1281 }
     ensures err { OnErr result (IsAsBefore parts.old parts.new) }
-    ensures memory { IsErr result → IsTrue (asks_memory (mark_call call)) }
+    ensures memory { IsErr result → IsTrue (asks_memory (mark_call call.now)) }
 {
     let own = match call {
-        MarkCall::CallProc(number) => Some(call_procedure(parts, tid, number)?),
+        MarkCall::CallProc(number) => Some(call_procedure(parts, tid, *number)?),
         MarkCall::Return => return_from(parts, tid, effects),
-        MarkCall::Handle(pattern, func, arg) => Some(handle(parts, tid, pattern, func, arg)?),
+        MarkCall::Handle(pattern, func, arg) => Some(handle(parts, tid, *pattern, *func, *arg)?),
         MarkCall::Unhandle => Some(unhandle(parts, tid)),
-        MarkCall::OnExit(exit) => Some(on_exit(parts, tid, &exit)?),
-        MarkCall::Raise(pattern) => Some(raise(parts, tid, pattern, effects)),
-        MarkCall::ExcNotify(pattern) => Some(notify(parts, tid, pattern, effects)),
-        MarkCall::Bound(pattern) => Some(bound(parts, tid, pattern)),
+        MarkCall::OnExit(exit) => Some(on_exit(parts, tid, exit)?),
+        MarkCall::Raise(pattern) => Some(raise(parts, tid, *pattern, effects)),
+        MarkCall::ExcNotify(pattern) => Some(notify(parts, tid, *pattern, effects)),
+        MarkCall::Bound(pattern) => Some(bound(parts, tid, *pattern)),
         MarkCall::UniqPatt => Some(unique_pattern(parts)),
     };
-    Ok(own)
+    effects.told(tid, own);
+    Ok(())
 }
 
 // A procedure more on a stack. The answer is false where there is no room for its frame.

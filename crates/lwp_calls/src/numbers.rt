@@ -1,15 +1,15 @@
 // Calls on the numbers of a pod, or on nothing at all.
-ghost use Rattle.std.specs.Prelude.{◌≡◌, [], None};
+ghost use Rattle.std.specs.Prelude.{◌≡◌, ◌≤◌, length, [], None};
 ghost use Rattle.death_cleanup.specs.Comes.{Answers};
 ghost use Rattle.death_cleanup.specs.Ties.{InStep};
 ghost use Rattle.death_cleanup.specs.View.{state_of};
 ghost use Rattle.lwp_types.specs.Families.{number_call};
 ghost use Rattle.lwp_types.specs.Step.{case_of};
 ghost use Rattle.lwp_types.specs.Threads.{pod_exit, set_maxpri};
-ghost use Rattle.lwp_calls.specs.Comes.{ComesTo};
+ghost use Rattle.lwp_calls.specs.Comes.{ComesTo, Told};
 
 use death_cleanup::{Parts, set_exit};
-use lwp_types::{Answer, LwpErr, NumberCall, Tid};
+use lwp_types::{Answer, Effects, LwpErr, NumberCall, Tid};
 
 // The greatest status, and the greatest priority that a pod may be given.
 const MOST_STATUS: u32 = 99;
@@ -17,19 +17,23 @@ const MOST_STATUS: u32 = 99;
 const MOST_PRIORITY: u32 = 255;
 
 /// A call of this family.
-pub fn carry_out(parts: &mut Parts, tid: Tid, call: NumberCall) -> Option<Answer>
+#[inline(never)]
+pub fn carry_out(parts: &mut Parts, tid: Tid, call: &NumberCall<'_>, effects: &mut Effects)
     requires step { InStep parts.old }
     requires alone { parts.old.dying ≡ None }
-    ensures { ComesTo parts.old parts.new [] [] (case_of (state_of parts.old) tid (number_call call)) result }
+    requires room { length effects.old ≤ 1 }
+    ensures told { Told parts.old parts.new effects.old effects.new tid (case_of (state_of parts.old) tid (number_call call.now)) }
+    ensures most { length effects.new ≤ 1281 }
 {
-    match call {
+    let own = match call {
         NumberCall::Me => Some(Answer::Thread(tid)),
-        NumberCall::SetMaxPri(prio) => Some(set_maxpri(parts, prio)),
-        NumberCall::SetExit(code) => Some(set_exit(parts, code)),
+        NumberCall::SetMaxPri(prio) => Some(set_maxpri(parts, *prio)),
+        NumberCall::SetExit(code) => Some(set_exit(parts, *code)),
         NumberCall::GetExit => Some(Answer::Value(i64::from(parts.exit))),
-        NumberCall::PodExit(code) => pod_exit(parts, code),
+        NumberCall::PodExit(code) => pod_exit(parts, *code),
         NumberCall::Say(_) => Some(Answer::Value(0)),
-    }
+    };
+    effects.told(tid, own);
 }
 
 // The greatest priority grows.

@@ -10,9 +10,9 @@ ghost use Rattle.lwp_types.specs.Choice.{is_eligible_in};
 ghost use Rattle.pod_sched.specs.Schedule.{choice};
 ghost use Rattle.lwp_types.specs.Lawful.{Lawful};
 ghost use Rattle.lwp_types.specs.State.{is_id, opening};
-ghost use Rattle.lwp_types.specs.Step.{case_of, step, end_effects, ends, own_effects};
+ghost use Rattle.lwp_types.specs.Step.{case_of, step, end_effects, ends};
 ghost use Rattle.lwp_calls.specs.Asks.{asks_memory};
-ghost use Rattle.lwp_calls.specs.Comes.{ComesTo, IsAsBefore};
+ghost use Rattle.lwp_calls.specs.Comes.{IsAsBefore, Told};
 ghost use Rattle.lwp_calls.specs.Pod.{ForgetsTheDead, RunsExitsOnce, current_of, ending_of, is_refusal};
 
 use crate::asks::all_serve;
@@ -23,7 +23,7 @@ use conditions::Conds;
 use death_cleanup::{Kind, Named, Parts, ThreadRec, is_id};
 use exc_stack::ExcStack;
 use lwp_types::{
-    Answer, Block, Call, Effect, Effects, Family, Flags, Letter, NoMemory, PodParams, Text, Tid,
+    Block, Call, Effect, Effects, Family, Flags, Letter, NoMemory, PodParams, Text, Tid,
 };
 use monitors::Monitors;
 use pod_sched::Sched;
@@ -184,24 +184,24 @@ impl Pod {
     }
 
     /// One call of the thread whose turn it is. `effects` is emptied first, and then has what the step did, in order.
-    pub fn call(&mut self, call: Call, effects: &mut Effects) -> Result<(), NoMemory>
+    pub fn call(&mut self, call: &Call, effects: &mut Effects) -> Result<(), NoMemory>
         requires { IsSome (current_of self.old) }
-        ensures after { OnOk result (self.new ≡ (step self.old call).after) }
-        ensures effects { OnOk result (effects.new ≡ (step self.old call).effects) }
+        ensures after { OnOk result (self.new ≡ (step self.old call.now).after) }
+        ensures effects { OnOk result (effects.new ≡ (step self.old call.now).effects) }
         ensures err { OnErr result (self.new ≡ self.old) }
         ensures err_effects { OnErr result (effects.new ≡ []) }
-        ensures memory { IsErr result → IsTrue (asks_memory call) }
+        ensures memory { IsErr result → IsTrue (asks_memory call.now) }
         ensures lawful { Lawful self.new None }
-        ensures refused { OnOk result (IsTrue (is_refusal self.old call) → self.new ≡ self.old) }
+        ensures refused { OnOk result (IsTrue (is_refusal self.old call.now) → self.new ≡ self.old) }
         ensures dead { OnOk result (ForgetsTheDead self.new effects.new) }
-        ensures exits { OnOk result (RunsExitsOnce self.old call self.new effects.new) }
+        ensures exits { OnOk result (RunsExitsOnce self.old call.now self.new effects.new) }
     {
         effects.clear();
         let tid = self.current().unwrap();
-        effects.push(Effect::Called { tid, call });
-        match carry_out(&mut self.parts, self.alloc, tid, &call, effects) {
-            Ok(own) => {
-                self.next = finish(&mut self.parts, tid, own, effects);
+        effects.called(tid, call);
+        match carry_out(&mut self.parts, self.alloc, tid, call, effects) {
+            Ok(()) => {
+                self.next = finish(&mut self.parts, effects);
                 Ok(())
             }
             Err(no_memory) => {
@@ -251,51 +251,53 @@ fn deliver(parts: &mut Parts, event: u8, text: Text, effects: &mut Effects)
     post(parts, letter, effects);
 }
 
-// What the call comes to, before the end of the pod is tested: the caller's answer, if it has one now.
+// What the call comes to, before the end of the pod is tested. The caller's answer, if it has one now, is told last.
 fn carry_out(
     parts: &mut Parts,
     alloc: Global,
     tid: Tid,
     call: &Call,
     effects: &mut Effects,
-) -> Result<Option<Answer>, NoMemory>
+) -> Result<(), NoMemory>
     requires lawful { LawfulParts parts.old }
     requires alone { parts.old.dying ≡ None }
     requires may_run { IsTrue (is_eligible_in (state_of parts.old) tid) }
     requires room { length effects.old ≤ 1 }
-    ensures ok { IfOk result (λ own. ComesTo parts.old parts.new effects.old effects.new (case_of (state_of parts.old) tid call.now) own) }
-    ensures most { length effects.new ≤ 1280 }
+    ensures ok { OnOk result (Told parts.old parts.new effects.old effects.new tid (case_of (state_of parts.old) tid call.now)) }
+    ensures most { length effects.new ≤ 1281 }
     ensures err { OnErr result (IsAsBefore parts.old parts.new) }
     ensures memory { IsErr result → IsTrue (asks_memory call.now) }
 {
     match call.family() {
         Family::Lives(life) => lives::carry_out(parts, alloc, tid, life, effects),
-        Family::Turns(turn) => Ok(Some(turns::carry_out(parts, tid, turn))),
-        Family::Numbers(number) => Ok(numbers::carry_out(parts, tid, number)),
-        Family::Letters(letter) => letters::carry_out(parts, alloc, tid, letter, effects),
+        Family::Turns(turn) => {
+            turns::carry_out(parts, tid, turn, effects);
+            Ok(())
+        }
+        Family::Numbers(number) => {
+            numbers::carry_out(parts, tid, &number, effects);
+            Ok(())
+        }
+        Family::Letters(letter) => letters::carry_out(parts, alloc, tid, &letter, effects),
         Family::Locks(lock) => locks::carry_out(parts, tid, lock, effects),
         Family::Waits(wait) => waits::carry_out(parts, tid, wait, effects),
-        Family::Marks(mark) => marks::carry_out(parts, tid, mark, effects),
-        Family::Agents(agent) => Ok(Some(agent_calls::carry_out(parts, tid, agent)?)),
+        Family::Marks(mark) => marks::carry_out(parts, tid, &mark, effects),
+        Family::Agents(agent) => agent_calls::carry_out(parts, tid, agent, effects),
     }
 }
 
-// The caller's answer, if it has one now; and the pod ends, if nobody is left to run and nobody is worth waiting for. The answer
-// is who is next by the scheduler.
-fn finish(parts: &mut Parts, tid: Tid, own: Option<Answer>, effects: &mut Effects) -> Option<Tid>
+// The pod ends, if nobody is left to run and nobody is worth waiting for. The answer is who is next by the scheduler.
+fn finish(parts: &mut Parts, effects: &mut Effects) -> Option<Tid>
     requires step { InStep parts.old }
     requires alone { parts.old.dying ≡ None }
-    requires room { length effects.old < 2046 }
+    requires room { length effects.old < 2048 }
     requires status { parts.old.exit ≤ 99 }
     ensures after { state_of parts.new ≡ record (state_of parts.old) { ended = ends (state_of parts.old) } }
-    ensures effects { effects.new ≡ effects.old ++ (own_effects tid own ++ end_effects (state_of parts.old)) }
+    ensures effects { effects.new ≡ effects.old ++ end_effects (state_of parts.old) }
     ensures step { InStep parts.new }
     ensures still_alone { parts.new.dying ≡ None }
     ensures next { result ≡ choice parts.new.sched }
 {
-    if let Some(answer) = own {
-        effects.push(Effect::Answered { tid, answer });
-    }
     let next = parts.sched.current();
     parts.ended = parts.ended || (next.is_none() && all_serve(parts));
     if parts.ended {

@@ -1,31 +1,36 @@
 // Calls that move threads in the order.
-ghost use Rattle.std.specs.Prelude.{◌≡◌, Some, IsTrue, [], None};
+ghost use Rattle.std.specs.Prelude.{◌≡◌, ◌≤◌, length, Some, IsTrue, [], None};
 ghost use Rattle.death_cleanup.specs.Comes.{Answers};
 ghost use Rattle.death_cleanup.specs.Ties.{InStep};
 ghost use Rattle.death_cleanup.specs.View.{state_of};
 ghost use Rattle.lwp_types.specs.Choice.{is_eligible_in};
 ghost use Rattle.lwp_types.specs.Families.{turn_call};
 ghost use Rattle.lwp_types.specs.Step.{case_of};
+ghost use Rattle.lwp_calls.specs.Comes.{Told};
 ghost use Rattle.lwp_types.specs.Threads.{resched, set_priority, suspend, yield_to};
 
 use crate::asks::{may_run, prio_of};
 use death_cleanup::{Parts, is_thread, resume};
-use lwp_types::{Answer, LwpErr, Tid, TurnCall};
+use lwp_types::{Answer, Effects, LwpErr, Tid, TurnCall};
 
 /// A call of this family.
-pub fn carry_out(parts: &mut Parts, tid: Tid, call: TurnCall) -> Answer
+#[inline(never)]
+pub fn carry_out(parts: &mut Parts, tid: Tid, call: TurnCall, effects: &mut Effects)
     requires step { InStep parts.old }
     requires alone { parts.old.dying ≡ None }
     requires may_run { IsTrue (is_eligible_in (state_of parts.old) tid) }
-    ensures { Answers parts.old parts.new [] [] (case_of (state_of parts.old) tid (turn_call call)) result }
+    requires room { length effects.old ≤ 1 }
+    ensures told { Told parts.old parts.new effects.old effects.new tid (case_of (state_of parts.old) tid (turn_call call)) }
+    ensures most { length effects.new ≤ 1281 }
 {
-    match call {
+    let own = match call {
         TurnCall::Yield(to) => yield_to(parts, tid, to),
         TurnCall::Resched(prio) => resched(parts, tid, prio),
         TurnCall::SetPri(other, prio) => set_priority(parts, other, prio),
         TurnCall::Suspend(other) => suspend(parts, other),
         TurnCall::Resume(other) => resume(parts, other),
-    }
+    };
+    effects.answered(tid, own);
 }
 
 // Another goes ahead of the caller, or all others of its priority do.

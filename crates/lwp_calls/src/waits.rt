@@ -1,5 +1,5 @@
 // Calls on conditions.
-ghost use Rattle.std.specs.Prelude.{◌≡◌, ◌≤◌, Some, None, IfOk, IsErr, IsTrue, OnErr, length, []};
+ghost use Rattle.std.specs.Prelude.{◌≡◌, ◌≤◌, Some, None, IfOk, IsErr, IsTrue, OnErr, OnOk, length, []};
 ghost use Rattle.death_cleanup.specs.Comes.{Answers};
 ghost use Rattle.death_cleanup.specs.Ties.{InStep, LawfulParts};
 ghost use Rattle.death_cleanup.specs.View.{state_of};
@@ -10,7 +10,7 @@ ghost use Rattle.lwp_types.specs.Step.{case_of};
 ghost use Rattle.lwp_types.specs.Waits.{condition_create, condition_destroy, condition_numbers, condition_waiters, wait};
 ghost use Rattle.lwp_types.specs.declared.call.IdKind.TheVariants as kind;
 ghost use Rattle.lwp_calls.specs.Asks.{asks_memory};
-ghost use Rattle.lwp_calls.specs.Comes.{ComesTo, IsAsBefore};
+ghost use Rattle.lwp_calls.specs.Comes.{ComesTo, IsAsBefore, Told};
 
 use crate::asks::{block, prio_of};
 use conditions::WaitRec;
@@ -18,18 +18,19 @@ use death_cleanup::{Parts, broadcast, cond_send, is_last, notify, release};
 use lwp_types::{Answer, Block, Cid, Effects, IdKind, LwpErr, Mid, NoMemory, Tid, WaitCall};
 
 /// A call of this family.
+#[inline(never)]
 pub fn carry_out(
     parts: &mut Parts,
     tid: Tid,
     call: WaitCall,
     effects: &mut Effects,
-) -> Result<Option<Answer>, NoMemory>
+) -> Result<(), NoMemory>
     requires lawful { LawfulParts parts.old }
     requires alone { parts.old.dying ≡ None }
     requires may_run { IsTrue (is_eligible_in (state_of parts.old) tid) }
     requires room { length effects.old ≤ 1 }
-    ensures ok { IfOk result (λ own. ComesTo parts.old parts.new effects.old effects.new (case_of (state_of parts.old) tid (wait_call call)) own) }
-    ensures most { length effects.new ≤ 1280 }
+    ensures ok { OnOk result (Told parts.old parts.new effects.old effects.new tid (case_of (state_of parts.old) tid (wait_call call))) }
+    ensures most { length effects.new ≤ 1281 }
     ensures err { OnErr result (IsAsBefore parts.old parts.new) }
     ensures memory { IsErr result → IsTrue (asks_memory (wait_call call)) }
 {
@@ -43,7 +44,8 @@ pub fn carry_out(
         WaitCall::List => Some(list(parts)?),
         WaitCall::Waiters(cond) => Some(waiters(parts, cond)?),
     };
-    Ok(own)
+    effects.told(tid, own);
+    Ok(())
 }
 
 // A condition of the monitor.

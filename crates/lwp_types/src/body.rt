@@ -12,8 +12,8 @@ pub trait Body: Drop {
     ghost next: { Self → Names → Answer → Call × Self × Names };
 
     /// The next call. After `NoMemory` the body isn't polled again.
-    fn poll(&mut self, env: &mut Env, got: Answer) -> Result<Call, NoMemory>
-        ensures { IfOk result (λ call. next self.old env.old got ≡ (call, self.new, env.new)) };
+    fn poll(&mut self, env: &mut Env, got: &Answer) -> Result<Call, NoMemory>
+        ensures { IfOk result (λ call. next self.old env.old got.now ≡ (call, self.new, env.new)) };
 
     ghost keeps_lengths: { (body : Self) (names : Names) (got : Answer) → KeepsLengths names (next body names got).2 };
 }

@@ -150,7 +150,7 @@ impl<B: Body> Parts<B> {
             return Err(NoMemory);
         };
         let born = proc_of(call);
-        self.pod.call(*call, &mut self.effects)?;
+        self.pod.call(call, &mut self.effects)?;
         set_lines(out, &self.effects, None, names)?;
         settle(&mut self.rows, program, born, &self.effects)?;
         Ok(())

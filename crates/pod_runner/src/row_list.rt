@@ -79,13 +79,11 @@ fn set_answer(alloc: Global, to: &mut Answer, answer: &Answer) -> Result<(), NoM
 }
 
 // Polls the body of a row, which keeps its answer.
-fn poll_row<B: Body>(alloc: Global, row: &mut Row<B>, env: &mut Env) -> Result<Call, NoMemory>
+fn poll_row<B: Body>(row: &mut Row<B>, env: &mut Env) -> Result<Call, NoMemory>
     ensures polls { IfOk result (λ call. (B.next row.old.body env.old row.old.answer ≡ (call, row.new.body, env.new)) × (row.new.answer ≡ row.old.answer)) }
     ensures same { row.new.tid ≡ row.old.tid }
 {
-    let mut got = Answer::Value(0);
-    set_answer(alloc, &mut got, &row.answer)?;
-    row.body.poll(env, got)
+    row.body.poll(env, &row.answer)
 }
 
 // The place of a thread's row, or how many rows there are.
@@ -169,7 +167,6 @@ fn take_out<B: Drop>(rows: &mut Vec<Row<B>>, i: usize, tid: Tid)
 
 // Polls the body of the row at a place.
 fn poll_in<B: Body>(
-    alloc: Global,
     rows: &mut Vec<Row<B>>,
     i: usize,
     env: &mut Env,
@@ -179,7 +176,7 @@ fn poll_in<B: Body>(
     ensures rising { AreRising rows.old.items → AreRising rows.new.items }
 {
     let row = &mut rows[i];
-    poll_row(alloc, row, env)
+    poll_row(row, env)
 }
 
 impl<B> RowList<B> {
@@ -259,9 +256,8 @@ impl<B> RowList<B> {
         requires { i < length self.old }
         ensures { IfOk result (λ call. (row : Row B) → slice_get self.old i ≡ Some row → Polls B.next row env.old call i self.old self.new env.new) }
     {
-        let alloc = *self.rows.allocator();
         self.last = i;
-        poll_in(alloc, &mut self.rows, i, env)
+        poll_in(&mut self.rows, i, env)
     }
 
     /// The row of a new thread, if there is such a procedure.

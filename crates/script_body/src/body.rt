@@ -190,17 +190,16 @@ impl<'s> ScriptBody<'s> {
         }
     }
 
-    // Makes the call of the next statement, and stands behind it.
-    fn go_on(&mut self, env: &Env, got: &Answer) -> Call
-        ensures call { result ≡ call_of self.old.script self.old.sender env.now (stmt_after got.now self.old).stmt }
+    // Goes on to the next statement that makes a call, and stands behind it.
+    fn go_on(&mut self, got: &Answer) -> Stmt
+        ensures stmt { result ≡ (stmt_after got.now self.old).stmt }
         ensures after { self.new ≡ behind self.old (stmt_after got.now self.old) }
     {
         let stmts = stmts_at(self.script, self.top.number());
         let at = next_stmt(stmts, self.top.place(), got);
-        let call = call_of(self.script, self.sender, env, &at.stmt);
         self.top.go_on_at(at.place);
         self.last = Some(at.stmt);
-        call
+        at.stmt
     }
 }
 
@@ -211,13 +210,14 @@ impl<'s> Body for ScriptBody<'s> {
     ghost next = { script_next };
 
     #[tactic(auto, unfolding(crate::specs::ScriptBody::script_next))]
-    fn poll(&mut self, env: &mut Env, got: Answer) -> Result<Call, NoMemory> {
+    fn poll(&mut self, env: &mut Env, got: &Answer) -> Result<Call, NoMemory> {
         let made = self.last;
-        if !self.take(&got)? {
+        if !self.take(got)? {
             return Ok(Call::Return);
         }
-        name_by(env, &got, &made);
-        Ok(self.go_on(env, &got))
+        name_by(env, got, &made);
+        let stmt = self.go_on(got);
+        Ok(call_of(self.script, self.sender, env, &stmt))
     }
 
     ghost keeps_lengths = { script_next-keeps_lengths };

@@ -19,6 +19,7 @@ fn who_id(sender: Tid, env: &Env, who: Who) -> Tid
     }
 }
 
+#[inline(never)]
 fn exit_call_of(texts: &Texts, sender: Tid, env: &Env, exit: &ExitStmt) -> ExitCall
     ensures { result ≡ exit_call_of texts.now sender env.now exit.now }
 {
@@ -46,6 +47,7 @@ fn exit_call_of(texts: &Texts, sender: Tid, env: &Env, exit: &ExitStmt) -> ExitC
 }
 
 // A statement that names nothing.
+#[inline(never)]
 fn plain_call(texts: &Texts, stmt: &Stmt) -> Call
     ensures { result ≡ plain_call texts.now stmt.now }
 {
@@ -83,6 +85,7 @@ fn plain_call(texts: &Texts, stmt: &Stmt) -> Call
 }
 
 // A statement that names monitors or conditions, or nothing.
+#[inline(never)]
 fn lock_call(texts: &Texts, sender: Tid, env: &Env, stmt: &Stmt) -> Call
     ensures { result ≡ lock_call texts.now sender env.now stmt.now }
 {

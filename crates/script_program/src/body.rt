@@ -17,7 +17,7 @@ impl<'s> Body for ThreadBody<'s> {
 
     ghost next = { body_next };
 
-    fn poll(&mut self, env: &mut Env, got: Answer) -> Result<Call, NoMemory> {
+    fn poll(&mut self, env: &mut Env, got: &Answer) -> Result<Call, NoMemory> {
         match self {
             ThreadBody::Scripted(body) => body.poll(env, got),
             ThreadBody::Serving(body) => body.poll(env, got),

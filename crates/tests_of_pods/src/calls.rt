@@ -53,7 +53,7 @@ const ASKING: [Call; 15] = [
 
 // How many effects the call of whoever's turn it is has; none if it is nobody's turn, or memory is refused.
 fn makes(pod: &mut Pod, effects: &mut Effects, call: &Call) -> usize {
-    if pod.current().is_none() || pod.call(*call, effects).is_err() {
+    if pod.current().is_none() || pod.call(call, effects).is_err() {
         return 0;
     }
     effects.len()

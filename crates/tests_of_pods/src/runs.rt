@@ -26,7 +26,7 @@ impl Body for Listens {
 
     ghost keeps_lengths = { λ body names got. record { threads = refl; monitors = refl; conditions = refl } };
 
-    fn poll(&mut self, _env: &mut Env, _got: Answer) -> Result<Call, NoMemory> {
+    fn poll(&mut self, _env: &mut Env, _got: &Answer) -> Result<Call, NoMemory> {
         if self.listening {
             return Ok(Call::Return);
         }

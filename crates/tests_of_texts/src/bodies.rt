@@ -82,7 +82,7 @@ fn calls(
     }
     let mut body = ScriptBody::new(alloc, &script, 0)?;
     for got in answers {
-        let call = body.poll(&mut env, got)?;
+        let call = body.poll(&mut env, &got)?;
         made.push(told(&call))?;
     }
     Ok(made)

@@ -46,7 +46,7 @@ fn heard(call: &Call) -> (u8, u64, Text) {
 }
 
 fn said<B: Body>(body: &mut B, env: &mut Env, got: Answer) -> Result<(u8, u64, Text), NoMemory> {
-    let call = body.poll(env, got)?;
+    let call = body.poll(env, &got)?;
     Ok(heard(&call))
 }
 

@@ -11,23 +11,23 @@ use Rattle.std.proofs.Common.{None, Some, ap, length, refl, sym, ◌∙◌, ◌�
 use Rattle.std.specs.Result.{result_err}
 
 pub returns-then-not-is_id : goal.returns-then-not-is_id
-returns-then-not-is_id c = record { answers = answers_refused c.args.parts.now c.args.effects.now _ error.NonExist c.requires.lawful.step (reply-absent (state_of c.args.parts.now) c.args.tid c.args.to c.args.text (sym c.if-not-is_id.ensures)) }
+returns-then-not-is_id c = record { answers = answers_refused c.args.parts.now c.args.effects.now _ error.NonExist c.requires.lawful.step (reply-absent (state_of c.args.parts.now) c.args.tid c.args.to c.args.text.now (sym c.if-not-is_id.ensures)) }
 
 pub returns-in-Err : goal.returns-in-Err
 returns-in-Err c =
-    let cause : refusal (received_from c.args.parts.now.mail.letters c.args.tid c.args.to) (length c.args.text) ≡ Some c.in-Err.err = rw (← c.bytes-len.ensures.same) (sym c.reply.ensures.cause ∙ ap result_err c.in-Err.is) in
+    let cause : refusal (received_from c.args.parts.now.mail.letters c.args.tid c.args.to) (length c.args.text.now) ≡ Some c.in-Err.err = rw (← c.bytes-len.ensures.same) (sym c.reply.ensures.cause ∙ ap result_err c.in-Err.is) in
     record {
       answers = rw c.in-Err.ensures.err (answers_refused c.args.parts.now c.args.effects.now _ c.in-Err.err c.requires.lawful.step
-          (reply-refused (state_of c.args.parts.now) c.args.tid c.args.to c.args.text (sym c.if-not-is_id.ensures) c.in-Err.err cause));
+          (reply-refused (state_of c.args.parts.now) c.args.tid c.args.to c.args.text.now (sym c.if-not-is_id.ensures) c.in-Err.err cause));
     }
 
 pub returns-then-is_agent : goal.returns-then-is_agent
 returns-then-is_agent c =
-    let fine : refusal (received_from c.args.parts.now.mail.letters c.args.tid c.args.to) (length c.args.text) ≡ None = rw (← c.bytes-len.ensures.same) (sym c.reply.ensures.cause ∙ ap result_err c.in_default.is) in
+    let fine : refusal (received_from c.args.parts.now.mail.letters c.args.tid c.args.to) (length c.args.text.now) ≡ None = rw (← c.bytes-len.ensures.same) (sym c.reply.ensures.cause ∙ ap result_err c.in_default.is) in
     record {
-      answers = rw (c.release.ensures, c.in_default.ensures.ok) (answers_zero c.args.parts.now (rearmed c.args.parts.now c.args.to) c.args.effects.now c.args.effects.now (replied c.args.to c.args.text (state_of c.args.parts.now)) _
-          (came_quietly c.args.parts.now (rearmed c.args.parts.now c.args.to) c.args.effects.now _ (InStep-rearmed c.args.parts.now c.args.to c.requires.lawful.step) refl (replied-agent c.args.parts.now c.args.to c.args.text (sym c.if-is_agent.ensures)))
-          (reply-made (state_of c.args.parts.now) c.args.tid c.args.to c.args.text (sym c.if-not-is_id.ensures) fine));
+      answers = rw (c.release.ensures, c.in_default.ensures.ok) (answers_zero c.args.parts.now (rearmed c.args.parts.now c.args.to) c.args.effects.now c.args.effects.now (replied c.args.to c.args.text.now (state_of c.args.parts.now)) _
+          (came_quietly c.args.parts.now (rearmed c.args.parts.now c.args.to) c.args.effects.now _ (InStep-rearmed c.args.parts.now c.args.to c.requires.lawful.step) refl (replied-agent c.args.parts.now c.args.to c.args.text.now (sym c.if-is_agent.ensures)))
+          (reply-made (state_of c.args.parts.now) c.args.tid c.args.to c.args.text.now (sym c.if-not-is_id.ensures) fine));
     }
 
 pub wake-requires-clause-step : goal.wake-requires-clause-step
@@ -35,16 +35,16 @@ wake-requires-clause-step c = rw c.in_default.ensures.ok (InStep-lighter c.args.
 
 pub wake-requires-clause-waits : goal.wake-requires-clause-waits
 wake-requires-clause-waits c =
-    let fine : refusal (received_from c.args.parts.now.mail.letters c.args.tid c.args.to) (length c.args.text) ≡ None = rw (← c.bytes-len.ensures.same) (sym c.reply.ensures.cause ∙ ap result_err c.in_default.is) in
+    let fine : refusal (received_from c.args.parts.now.mail.letters c.args.tid c.args.to) (length c.args.text.now) ≡ None = rw (← c.bytes-len.ensures.same) (sym c.reply.ensures.cause ∙ ap result_err c.in_default.is) in
     sender-waits c.args.parts.now c.args.to c.requires.lawful c.args.tid
-    (reply-some (state_of c.args.parts.now) c.args.tid c.args.to c.args.text fine) (thread-is (state_of c.args.parts.now) c.args.to (sym c.if-not-is_id.ensures) (sym c.if-is_agent.ensures))
+    (reply-some (state_of c.args.parts.now) c.args.tid c.args.to c.args.text.now fine) (thread-is (state_of c.args.parts.now) c.args.to (sym c.if-not-is_id.ensures) (sym c.if-is_agent.ensures))
 
 pub returns : goal.returns
 returns c =
-    let fine : refusal (received_from c.args.parts.now.mail.letters c.args.tid c.args.to) (length c.args.text) ≡ None = rw (← c.bytes-len.ensures.same) (sym c.reply.ensures.cause ∙ ap result_err c.in_default.is) in
-    let is : replied c.args.to c.args.text (state_of c.args.parts.now) ≡ unblock (answer.Reply c.args.text) c.args.to (state_of (record c.args.parts.now { mail = c.reply.new.self })) =
-    rw c.in_default.ensures.ok (replied-thread c.args.parts.now c.args.to c.args.text (sym c.if-is_agent.ensures)) in
+    let fine : refusal (received_from c.args.parts.now.mail.letters c.args.tid c.args.to) (length c.args.text.now) ≡ None = rw (← c.bytes-len.ensures.same) (sym c.reply.ensures.cause ∙ ap result_err c.in_default.is) in
+    let is : replied c.args.to c.args.text.now (state_of c.args.parts.now) ≡ unblock (answer.Reply c.args.text.now) c.args.to (state_of (record c.args.parts.now { mail = c.reply.new.self })) =
+    rw c.in_default.ensures.ok (replied-thread c.args.parts.now c.args.to c.args.text.now (sym c.if-is_agent.ensures)) in
     record {
-      answers = answers_zero _ _ _ _ (replied c.args.to c.args.text (state_of c.args.parts.now)) _ (came_as _ _ _ _ _ _ _ c.wake.ensures.came refl is)
-          (reply-made (state_of c.args.parts.now) c.args.tid c.args.to c.args.text (sym c.if-not-is_id.ensures) fine);
+      answers = answers_zero _ _ _ _ (replied c.args.to c.args.text.now (state_of c.args.parts.now)) _ (came_as _ _ _ _ _ _ _ c.wake.ensures.came refl is)
+          (reply-made (state_of c.args.parts.now) c.args.tid c.args.to c.args.text.now (sym c.if-not-is_id.ensures) fine);
     }

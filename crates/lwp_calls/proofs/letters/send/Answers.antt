@@ -14,10 +14,10 @@ use Rattle.rendezvous.specs.Mailbag.{has_letter_of}
 use Rattle.std.proofs.Common.{ap, arith, false, length, refl, sym, ◌∙◌}
 
 pub returns-then-not-is_thread-clause-comes : goal.returns-then-not-is_thread-clause-comes
-returns-then-not-is_thread-clause-comes c = ComesTo-answers (answers_refused c.args.parts.now c.args.effects.now _ error.NonExist c.requires.lawful.step (send-absent (state_of c.args.parts.now) c.args.caller c.args.to c.args.room c.args.text (sym c.if-not-is_thread.ensures)))
+returns-then-not-is_thread-clause-comes c = ComesTo-answers (answers_refused c.args.parts.now c.args.effects.now _ error.NonExist c.requires.lawful.step (send-absent (state_of c.args.parts.now) c.args.caller c.args.to c.args.room c.args.text.now (sym c.if-not-is_thread.ensures)))
 
 pub returns-then-eq-clause-comes : goal.returns-then-eq-clause-comes
-returns-then-eq-clause-comes c = ComesTo-answers (answers_refused c.args.parts.now c.args.effects.now _ error.InvalidArg c.requires.lawful.step (send-self (state_of c.args.parts.now) c.args.caller c.args.to c.args.room c.args.text (sym c.if-not-is_thread.ensures) (sym c.if-eq.ensures)))
+returns-then-eq-clause-comes c = ComesTo-answers (answers_refused c.args.parts.now c.args.effects.now _ error.InvalidArg c.requires.lawful.step (send-self (state_of c.args.parts.now) c.args.caller c.args.to c.args.room c.args.text.now (sym c.if-not-is_thread.ensures) (sym c.if-eq.ensures)))
 
 pub post-requires-clause-new : goal.post-requires-clause-new
 post-requires-clause-new c =
@@ -40,7 +40,7 @@ post-requires-clause-place c =
 
 pub returns-clause-comes : goal.returns-clause-comes
 returns-clause-comes c =
-    let letter : Letter = record { from = c.args.caller; to = c.args.to; text = c.args.text; room = c.args.room; received = false } in
+    let letter : Letter = record { from = c.args.caller; to = c.args.to; text = c.args.text.now; room = c.args.room; received = false } in
     let there = ap (λ (s : State). post letter s) c.block.ensures.state in
-    rw (send-made (state_of c.args.parts.now) c.args.caller c.args.to c.args.room c.args.text (sym c.if-not-is_thread.ensures) (sym c.if-eq.ensures))
+    rw (send-made (state_of c.args.parts.now) c.args.caller c.args.to c.args.room c.args.text.now (sym c.if-not-is_thread.ensures) (sym c.if-eq.ensures))
     (record { came = came_as c.args.parts.now c.block.new.parts c.post.new.parts c.args.effects.now c.post.new.effects _ _ c.post.ensures c.block.ensures.dying (sym there); own = refl })

@@ -17,13 +17,13 @@ use Rattle.std.proofs.Common.{List, None, Some, [], ap, subst, sym, ◌++◌, �
 pub finish-self-inside-requires-clause-status : goal.finish-self-inside-requires-clause-status
 finish-self-inside-requires-clause-status c =
     let turn : current_of (state_of c.self.inside.parts) ≡ Some c.unwrap-tid.result = (rw (← c.self.view_is) at (sym c.current.ensures.value ∙ c.unwrap-tid.ensures)) in
-    few_status (state_of c.self.inside.parts) c.self.invariant.0 c.args.call c.unwrap-tid.result turn c.carry_out.new.parts c.in-Ok.ensures.ok.came.state
+    few_status (state_of c.self.inside.parts) c.self.invariant.0 c.args.call.now c.unwrap-tid.result turn c.carry_out.new.parts c.in-Ok.ensures.ok.state
 
 pub invariant_of-self : goal.invariant_of-self
 invariant_of-self c =
     let turn : current_of (state_of c.self.inside.parts) ≡ Some c.unwrap-tid.result = (rw (← c.self.view_is) at (sym c.current.ensures.value ∙ c.unwrap-tid.ensures)) in
-    let after : state_of c.finish-self-inside.new.parts ≡ (step (state_of c.self.inside.parts) c.args.call).after = c.finish-self-inside.ensures.after ∙ sym (stepped (state_of c.self.inside.parts) c.self.invariant.0 c.args.call c.unwrap-tid.result turn c.carry_out.new.parts c.in-Ok.ensures.ok.came.state) in
-    (rw after (Lawful-step (state_of c.self.inside.parts) c.self.invariant.0 c.args.call), c.finish-self-inside.ensures.step, c.finish-self-inside.ensures.still_alone, c.finish-self-inside.ensures.next)
+    let after : state_of c.finish-self-inside.new.parts ≡ (step (state_of c.self.inside.parts) c.args.call.now).after = c.finish-self-inside.ensures.after ∙ sym (stepped (state_of c.self.inside.parts) c.self.invariant.0 c.args.call.now c.unwrap-tid.result turn c.carry_out.new.parts c.in-Ok.ensures.ok.state) in
+    (rw after (Lawful-step (state_of c.self.inside.parts) c.self.invariant.0 c.args.call.now), c.finish-self-inside.ensures.step, c.finish-self-inside.ensures.still_alone, c.finish-self-inside.ensures.next)
 
 pub invariant_of-self-in-Err : goal.invariant_of-self-in-Err
 invariant_of-self-in-Err c =
@@ -37,42 +37,42 @@ invariant_of-self-in-Err c =
 pub returns-in-Ok-clause-after : goal.returns-in-Ok-clause-after
 returns-in-Ok-clause-after c =
     let turn : current_of (state_of c.self.inside.parts) ≡ Some c.unwrap-tid.result = (rw (← c.self.view_is) at (sym c.current.ensures.value ∙ c.unwrap-tid.ensures)) in
-    let after : state_of c.finish-self-inside.new.parts ≡ (step (state_of c.self.inside.parts) c.args.call).after = c.finish-self-inside.ensures.after ∙ sym (stepped (state_of c.self.inside.parts) c.self.invariant.0 c.args.call c.unwrap-tid.result turn c.carry_out.new.parts c.in-Ok.ensures.ok.came.state) in
+    let after : state_of c.finish-self-inside.new.parts ≡ (step (state_of c.self.inside.parts) c.args.call.now).after = c.finish-self-inside.ensures.after ∙ sym (stepped (state_of c.self.inside.parts) c.self.invariant.0 c.args.call.now c.unwrap-tid.result turn c.carry_out.new.parts c.in-Ok.ensures.ok.state) in
     rw (← c.self.view_is) after
 
 pub returns-in-Ok-clause-effects : goal.returns-in-Ok-clause-effects
 returns-in-Ok-clause-effects c =
     let turn : current_of (state_of c.self.inside.parts) ≡ Some c.unwrap-tid.result = (rw (← c.self.view_is) at (sym c.current.ensures.value ∙ c.unwrap-tid.ensures)) in
-    let effects : c.finish-self-inside.new.effects ≡ (step (state_of c.self.inside.parts) c.args.call).effects =
-    c.finish-self-inside.ensures.effects ∙ told (state_of c.self.inside.parts) c.self.invariant.0 c.args.call c.unwrap-tid.result turn c.carry_out.new.parts c.in-Ok.ensures.ok.came.state c.in-Ok.own c.push.new.self c.carry_out.new.effects c.in-Ok.ensures.ok.own c.in-Ok.ensures.ok.came.effects (c.push.ensures ∙ ap (λ (es : List Effect). es ++ effect.Called c.unwrap-tid.result c.args.call ∷ []) c.clear.ensures) in
+    let effects : c.finish-self-inside.new.effects ≡ (step (state_of c.self.inside.parts) c.args.call.now).effects =
+    c.finish-self-inside.ensures.effects ∙ told (state_of c.self.inside.parts) c.self.invariant.0 c.args.call.now c.unwrap-tid.result turn c.carry_out.new.parts c.in-Ok.ensures.ok.state c.called.new.self c.carry_out.new.effects c.in-Ok.ensures.ok.effects (c.called.ensures ∙ ap (λ (es : List Effect). es ++ effect.Called c.unwrap-tid.result c.args.call.now ∷ []) c.clear.ensures) in
     rw (← c.self.view_is) effects
 
 pub returns-in-Ok-clause-lawful : goal.returns-in-Ok-clause-lawful
 returns-in-Ok-clause-lawful c =
     let turn : current_of (state_of c.self.inside.parts) ≡ Some c.unwrap-tid.result = (rw (← c.self.view_is) at (sym c.current.ensures.value ∙ c.unwrap-tid.ensures)) in
-    let after : state_of c.finish-self-inside.new.parts ≡ (step (state_of c.self.inside.parts) c.args.call).after = c.finish-self-inside.ensures.after ∙ sym (stepped (state_of c.self.inside.parts) c.self.invariant.0 c.args.call c.unwrap-tid.result turn c.carry_out.new.parts c.in-Ok.ensures.ok.came.state) in
-    rw after (Lawful-step (state_of c.self.inside.parts) c.self.invariant.0 c.args.call)
+    let after : state_of c.finish-self-inside.new.parts ≡ (step (state_of c.self.inside.parts) c.args.call.now).after = c.finish-self-inside.ensures.after ∙ sym (stepped (state_of c.self.inside.parts) c.self.invariant.0 c.args.call.now c.unwrap-tid.result turn c.carry_out.new.parts c.in-Ok.ensures.ok.state) in
+    rw after (Lawful-step (state_of c.self.inside.parts) c.self.invariant.0 c.args.call.now)
 
 pub returns-in-Ok-clause-refused : goal.returns-in-Ok-clause-refused
 returns-in-Ok-clause-refused c =
     let turn : current_of (state_of c.self.inside.parts) ≡ Some c.unwrap-tid.result = (rw (← c.self.view_is) at (sym c.current.ensures.value ∙ c.unwrap-tid.ensures)) in
-    let after : state_of c.finish-self-inside.new.parts ≡ (step (state_of c.self.inside.parts) c.args.call).after = c.finish-self-inside.ensures.after ∙ sym (stepped (state_of c.self.inside.parts) c.self.invariant.0 c.args.call c.unwrap-tid.result turn c.carry_out.new.parts c.in-Ok.ensures.ok.came.state) in
-    rw (← c.self.view_is) (λ refused. after ∙ refusal-leaves (state_of c.self.inside.parts) c.self.invariant.0 c.args.call c.unwrap-tid.result turn refused)
+    let after : state_of c.finish-self-inside.new.parts ≡ (step (state_of c.self.inside.parts) c.args.call.now).after = c.finish-self-inside.ensures.after ∙ sym (stepped (state_of c.self.inside.parts) c.self.invariant.0 c.args.call.now c.unwrap-tid.result turn c.carry_out.new.parts c.in-Ok.ensures.ok.state) in
+    rw (← c.self.view_is) (λ refused. after ∙ refusal-leaves (state_of c.self.inside.parts) c.self.invariant.0 c.args.call.now c.unwrap-tid.result turn refused)
 
 pub returns-in-Ok-clause-dead : goal.returns-in-Ok-clause-dead
 returns-in-Ok-clause-dead c =
     let turn : current_of (state_of c.self.inside.parts) ≡ Some c.unwrap-tid.result = (rw (← c.self.view_is) at (sym c.current.ensures.value ∙ c.unwrap-tid.ensures)) in
-    let after : state_of c.finish-self-inside.new.parts ≡ (step (state_of c.self.inside.parts) c.args.call).after = c.finish-self-inside.ensures.after ∙ sym (stepped (state_of c.self.inside.parts) c.self.invariant.0 c.args.call c.unwrap-tid.result turn c.carry_out.new.parts c.in-Ok.ensures.ok.came.state) in
-    let effects : c.finish-self-inside.new.effects ≡ (step (state_of c.self.inside.parts) c.args.call).effects =
-    c.finish-self-inside.ensures.effects ∙ told (state_of c.self.inside.parts) c.self.invariant.0 c.args.call c.unwrap-tid.result turn c.carry_out.new.parts c.in-Ok.ensures.ok.came.state c.in-Ok.own c.push.new.self c.carry_out.new.effects c.in-Ok.ensures.ok.own c.in-Ok.ensures.ok.came.effects (c.push.ensures ∙ ap (λ (es : List Effect). es ++ effect.Called c.unwrap-tid.result c.args.call ∷ []) c.clear.ensures) in
-    let there : ForgetsTheDead (step (state_of c.self.inside.parts) c.args.call).after (step (state_of c.self.inside.parts) c.args.call).effects = the_dead_are_forgotten (state_of c.self.inside.parts) c.self.invariant.0 c.args.call in
-    subst (λ (s : State). ForgetsTheDead s c.finish-self-inside.new.effects) (sym after) (subst (λ (es : List Effect). ForgetsTheDead (step (state_of c.self.inside.parts) c.args.call).after es) (sym effects) there)
+    let after : state_of c.finish-self-inside.new.parts ≡ (step (state_of c.self.inside.parts) c.args.call.now).after = c.finish-self-inside.ensures.after ∙ sym (stepped (state_of c.self.inside.parts) c.self.invariant.0 c.args.call.now c.unwrap-tid.result turn c.carry_out.new.parts c.in-Ok.ensures.ok.state) in
+    let effects : c.finish-self-inside.new.effects ≡ (step (state_of c.self.inside.parts) c.args.call.now).effects =
+    c.finish-self-inside.ensures.effects ∙ told (state_of c.self.inside.parts) c.self.invariant.0 c.args.call.now c.unwrap-tid.result turn c.carry_out.new.parts c.in-Ok.ensures.ok.state c.called.new.self c.carry_out.new.effects c.in-Ok.ensures.ok.effects (c.called.ensures ∙ ap (λ (es : List Effect). es ++ effect.Called c.unwrap-tid.result c.args.call.now ∷ []) c.clear.ensures) in
+    let there : ForgetsTheDead (step (state_of c.self.inside.parts) c.args.call.now).after (step (state_of c.self.inside.parts) c.args.call.now).effects = the_dead_are_forgotten (state_of c.self.inside.parts) c.self.invariant.0 c.args.call.now in
+    subst (λ (s : State). ForgetsTheDead s c.finish-self-inside.new.effects) (sym after) (subst (λ (es : List Effect). ForgetsTheDead (step (state_of c.self.inside.parts) c.args.call.now).after es) (sym effects) there)
 
 pub returns-in-Ok-clause-exits : goal.returns-in-Ok-clause-exits
 returns-in-Ok-clause-exits c =
     let turn : current_of (state_of c.self.inside.parts) ≡ Some c.unwrap-tid.result = (rw (← c.self.view_is) at (sym c.current.ensures.value ∙ c.unwrap-tid.ensures)) in
-    let after : state_of c.finish-self-inside.new.parts ≡ (step (state_of c.self.inside.parts) c.args.call).after = c.finish-self-inside.ensures.after ∙ sym (stepped (state_of c.self.inside.parts) c.self.invariant.0 c.args.call c.unwrap-tid.result turn c.carry_out.new.parts c.in-Ok.ensures.ok.came.state) in
-    let effects : c.finish-self-inside.new.effects ≡ (step (state_of c.self.inside.parts) c.args.call).effects =
-    c.finish-self-inside.ensures.effects ∙ told (state_of c.self.inside.parts) c.self.invariant.0 c.args.call c.unwrap-tid.result turn c.carry_out.new.parts c.in-Ok.ensures.ok.came.state c.in-Ok.own c.push.new.self c.carry_out.new.effects c.in-Ok.ensures.ok.own c.in-Ok.ensures.ok.came.effects (c.push.ensures ∙ ap (λ (es : List Effect). es ++ effect.Called c.unwrap-tid.result c.args.call ∷ []) c.clear.ensures) in
-    let there : RunsExitsOnce (state_of c.self.inside.parts) c.args.call (step (state_of c.self.inside.parts) c.args.call).after (step (state_of c.self.inside.parts) c.args.call).effects = exits_run_once (state_of c.self.inside.parts) c.self.invariant.0 c.args.call in
-    rw (← c.self.view_is) (subst (λ (s : State). RunsExitsOnce (state_of c.self.inside.parts) c.args.call s c.finish-self-inside.new.effects) (sym after) (subst (λ (es : List Effect). RunsExitsOnce (state_of c.self.inside.parts) c.args.call (step (state_of c.self.inside.parts) c.args.call).after es) (sym effects) there))
+    let after : state_of c.finish-self-inside.new.parts ≡ (step (state_of c.self.inside.parts) c.args.call.now).after = c.finish-self-inside.ensures.after ∙ sym (stepped (state_of c.self.inside.parts) c.self.invariant.0 c.args.call.now c.unwrap-tid.result turn c.carry_out.new.parts c.in-Ok.ensures.ok.state) in
+    let effects : c.finish-self-inside.new.effects ≡ (step (state_of c.self.inside.parts) c.args.call.now).effects =
+    c.finish-self-inside.ensures.effects ∙ told (state_of c.self.inside.parts) c.self.invariant.0 c.args.call.now c.unwrap-tid.result turn c.carry_out.new.parts c.in-Ok.ensures.ok.state c.called.new.self c.carry_out.new.effects c.in-Ok.ensures.ok.effects (c.called.ensures ∙ ap (λ (es : List Effect). es ++ effect.Called c.unwrap-tid.result c.args.call.now ∷ []) c.clear.ensures) in
+    let there : RunsExitsOnce (state_of c.self.inside.parts) c.args.call.now (step (state_of c.self.inside.parts) c.args.call.now).after (step (state_of c.self.inside.parts) c.args.call.now).effects = exits_run_once (state_of c.self.inside.parts) c.self.invariant.0 c.args.call.now in
+    rw (← c.self.view_is) (subst (λ (s : State). RunsExitsOnce (state_of c.self.inside.parts) c.args.call.now s c.finish-self-inside.new.effects) (sym after) (subst (λ (es : List Effect). RunsExitsOnce (state_of c.self.inside.parts) c.args.call.now (step (state_of c.self.inside.parts) c.args.call.now).after es) (sym effects) there))
