@@ -1,3 +1,4 @@
 pub mod WordLemmas
 pub mod PhraseLaws
 pub mod PrintableLaws
+pub mod LengthLaws

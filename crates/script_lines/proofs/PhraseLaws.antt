@@ -1,5 +1,5 @@
 -- Reading a line and writing a phrase undo each other.
-use Rattle.std.proofs.Common.{◌≡◌, ℕ, zero, suc, ◌≤◌, ◌<◌, ◌^◌, Bool, true, false, not, ◌&&◌, ◌||◌, cond, eqb, ltb, leb, List, [], ◌∷◌, ◌++◌, length, take, drop, Some, None, refl, sym, ap, subst, ◌∙◌, arith, inl, inr, slice_get}
+use Rattle.std.proofs.Common.{◌≡◌, ℕ, zero, suc, ◌+◌, ◌≤◌, ◌<◌, ◌^◌, Bool, true, false, not, ◌&&◌, ◌||◌, cond, eqb, ltb, leb, List, [], ◌∷◌, ◌++◌, length, take, drop, Some, None, refl, sym, ap, subst, ◌∙◌, arith, inl, inr, slice_get}
 use Rattle.std.specs.Prelude.{Option, option_map, option_and_then, codes}
 use Rattle.std.specs.List.{flat_map, AllByRecursion, list_all}
 use Rattle.std.specs.Str.{bytes_eq, all_ascii_digits}
@@ -7,7 +7,7 @@ use Rattle.std.specs.Fmt.{decimal}
 use Rattle.std.specs.Char.{is_ascii_digit}
 use Rattle.std.proofs.lemmas.Bool.{leb-true, le-leb, lt-ltb, ltb-true, ne_eqb, eqb-true}
 use Rattle.std.proofs.lemmas.Option.{cond_some, option_and_then_some}
-use Rattle.std.proofs.lemmas.List.{append-nil, take_at, drop_at, take-append-drop}
+use Rattle.std.proofs.lemmas.List.{append-nil, take_at, drop_at, take-append-drop, take-append-le, drop-append-le, length-drop}
 use Rattle.std.proofs.lemmas.Slice.Eq.{bytes_eq-Decides}
 use Rattle.std.proofs.lemmas.Fmt.{digits_decimal}
 use Rattle.script_lines.specs.declared.table.Op.{Op}
@@ -27,7 +27,7 @@ use Rattle.lwp_types.specs.declared.call.Pattern.{Pattern}
 use Rattle.lwp_types.specs.declared.call.Pattern.TheVariants as pattern
 use Rattle.script_lines.specs.Phrase.{Phrase}
 use Rattle.script_lines.specs.Words.{is_lowercase, is_reserved, is_name, is_name_byte, number_at, reach}
-use Rattle.script_lines.specs.Table.{op_in, op_at, ops, slots_of, key_of, key_length, rows_under}
+use Rattle.script_lines.specs.Table.{op_in, op_at, ops, slots_of, key_of, is_half, key_length, rows_under}
 use Rattle.lwp_types.specs.TextFields.{is_text}
 use Rattle.trace_text.specs.Lines.{spaced, flags_text, mode_text, pattern_text, func_text}
 use Rattle.script_lines.specs.Line.{who_text, built_text, test_text, WhoFits, SourceFits, TestFits, PatternFits, IsEvent, BuiltFits, slot_text, phrase_text, SlotFits, IsPhrase, blank, copy_slot, copy_slots, needed, IsNeeded}
@@ -47,74 +47,6 @@ pub op_found : (w : List ℕ) (o : Op) → op_at w ≡ Some o → w ≡ key_of o
 unfolding op_at
 op_found [] o e = absurd cc
 op_found (b ∷ bs) o e = op_in_found (rows_under b) (b ∷ bs) o e
-
--- every row is found by its key
-pub op_again : (o : Op) → op_at (key_of o) ≡ Some o
-unfolding op_at rows_under
-op_again op.Lwp = refl
-op_again op.Pod = refl
-op_again op.Limit = refl
-op_again op.Client = refl
-op_again op.Native = refl
-op_again op.Proc = refl
-op_again op.Post = refl
-op_again op.Create = refl
-op_again op.Destroy = refl
-op_again op.Ping = refl
-op_again op.Yield = refl
-op_again op.Suspend = refl
-op_again op.Resume = refl
-op_again op.Join = refl
-op_again op.Resched = refl
-op_again op.SetPri = refl
-op_again op.SetMaxPri = refl
-op_again op.Me = refl
-op_again op.SetExit = refl
-op_again op.GetExit = refl
-op_again op.PodExit = refl
-op_again op.Threads = refl
-op_again op.Send = refl
-op_again op.Recv = refl
-op_again op.Reply = refl
-op_again op.Senders = refl
-op_again op.Receivers = refl
-op_again op.MonCreate = refl
-op_again op.CvCreate = refl
-op_again op.MonDestroy = refl
-op_again op.Enter = refl
-op_again op.CondEnter = refl
-op_again op.MonExit = refl
-op_again op.MonBreak = refl
-op_again op.MonWaiters = refl
-op_again op.Monitors = refl
-op_again op.CvDestroy = refl
-op_again op.Wait = refl
-op_again op.Notify = refl
-op_again op.Broadcast = refl
-op_again op.CvSend = refl
-op_again op.CvWaiters = refl
-op_again op.Conds = refl
-op_again op.CallProc = refl
-op_again op.Return = refl
-op_again op.Handle = refl
-op_again op.Unhandle = refl
-op_again op.Raise = refl
-op_again op.ExcNotify = refl
-op_again op.Bound = refl
-op_again op.UniqPatt = refl
-op_again op.ExitMonExit = refl
-op_again op.ExitMonBreak = refl
-op_again op.ExitNotify = refl
-op_again op.ExitBroadcast = refl
-op_again op.ExitReply = refl
-op_again op.ExitResume = refl
-op_again op.ExitSetExit = refl
-op_again op.ExitNote = refl
-op_again op.Agent = refl
-op_again op.Agents = refl
-op_again op.Say = refl
-op_again op.Skip = refl
-op_again op.Again = refl
 
 -- where each row stands in the table
 standing : (o : Op) → (k : ℕ) × (slice_get ops k ≡ Some o)
@@ -192,76 +124,87 @@ all_at f (y ∷ xs) (suc k) x h e = all_at f xs k x (both (f y) (list_all f xs) 
 pub on_all : (f : Op → Bool) → list_all f ops ≡ true → (o : Op) → f o ≡ true
 on_all f h o = let s = standing o in all_at f ops s.0 o h s.1
 
--- keys are whole, whatever comes behind them
-pub key_is_whole : (o : Op) (r : List ℕ) → reach 32 r ≡ 0 → key_length (key_of o ++ r) ≡ length (key_of o)
-key_is_whole op.Lwp r s = rw s refl
-key_is_whole op.Pod r s = rw s refl
-key_is_whole op.Limit r s = rw s refl
-key_is_whole op.Client r s = rw s refl
-key_is_whole op.Native r s = rw s refl
-key_is_whole op.Proc r s = rw s refl
-key_is_whole op.Post r s = rw s refl
-key_is_whole op.Create r s = rw s refl
-key_is_whole op.Destroy r s = rw s refl
-key_is_whole op.Ping r s = rw s refl
-key_is_whole op.Yield r s = rw s refl
-key_is_whole op.Suspend r s = rw s refl
-key_is_whole op.Resume r s = rw s refl
-key_is_whole op.Join r s = rw s refl
-key_is_whole op.Resched r s = rw s refl
-key_is_whole op.SetPri r s = rw s refl
-key_is_whole op.SetMaxPri r s = rw s refl
-key_is_whole op.Me r s = rw s refl
-key_is_whole op.SetExit r s = rw s refl
-key_is_whole op.GetExit r s = rw s refl
-key_is_whole op.PodExit r s = rw s refl
-key_is_whole op.Threads r s = rw s refl
-key_is_whole op.Send r s = rw s refl
-key_is_whole op.Recv r s = rw s refl
-key_is_whole op.Reply r s = rw s refl
-key_is_whole op.Senders r s = rw s refl
-key_is_whole op.Receivers r s = rw s refl
-key_is_whole op.MonCreate r s = rw s refl
-key_is_whole op.CvCreate r s = rw s refl
-key_is_whole op.MonDestroy r s = rw s refl
-key_is_whole op.Enter r s = rw s refl
-key_is_whole op.CondEnter r s = rw s refl
-key_is_whole op.MonExit r s = rw s refl
-key_is_whole op.MonBreak r s = rw s refl
-key_is_whole op.MonWaiters r s = rw s refl
-key_is_whole op.Monitors r s = rw s refl
-key_is_whole op.CvDestroy r s = rw s refl
-key_is_whole op.Wait r s = rw s refl
-key_is_whole op.Notify r s = rw s refl
-key_is_whole op.Broadcast r s = rw s refl
-key_is_whole op.CvSend r s = rw s refl
-key_is_whole op.CvWaiters r s = rw s refl
-key_is_whole op.Conds r s = rw s refl
-key_is_whole op.CallProc r s = rw s refl
-key_is_whole op.Return r s = rw s refl
-key_is_whole op.Handle r s = rw s refl
-key_is_whole op.Unhandle r s = rw s refl
-key_is_whole op.Raise r s = rw s refl
-key_is_whole op.ExcNotify r s = rw s refl
-key_is_whole op.Bound r s = rw s refl
-key_is_whole op.UniqPatt r s = rw s refl
-key_is_whole op.ExitMonExit r s = rw s refl
-key_is_whole op.ExitMonBreak r s = rw s refl
-key_is_whole op.ExitNotify r s = rw s refl
-key_is_whole op.ExitBroadcast r s = rw s refl
-key_is_whole op.ExitReply r s = rw s refl
-key_is_whole op.ExitResume r s = rw s refl
-key_is_whole op.ExitSetExit r s = rw s refl
-key_is_whole op.ExitNote r s = rw s refl
-key_is_whole op.Agent r s = rw s refl
-key_is_whole op.Agents r s = rw s refl
-key_is_whole op.Say r s = rw s refl
-key_is_whole op.Skip r s = rw s refl
-key_is_whole op.Again r s = rw s refl
+-- rows that stand at the same place are one
+same_row : (a b : Op) → eqb (standing a).0 (standing b).0 ≡ true → a ≡ b
+same_row a b e =
+    let s = standing a in
+    let t = standing b in
+    let there : slice_get ops t.0 ≡ Some a = subst (λ k. slice_get ops k ≡ Some a) (eqb-true s.0 t.0 e) s.1 in
+    let one : Some a ≡ Some b = sym there ∙ t.1 in
+    cc
+
+-- the answer is this row
+is_found : Op → Option Op → Bool
+is_found o None = false
+is_found o (Some x) = eqb (standing x).0 (standing o).0
+
+found : (o : Op) (answer : Option Op) → is_found o answer ≡ true → answer ≡ Some o
+unfolding is_found
+found o None e = absurd cc
+found o (Some x) e = ap (λ (y : Op). Some y) (same_row x o e)
+
+-- every row is found by its key
+pub op_again : (o : Op) → op_at (key_of o) ≡ Some o
+unfolding op_at rows_under is_found standing
+op_again o = found o (op_at (key_of o)) (on_all (λ x. is_found x (op_at (key_of x))) refl o)
+
+-- ---- Keys are whole, whatever comes behind them.
 
 pub stops_there : (r : List ℕ) → Stops 32 r → reach 32 r ≡ 0
 stops_there [] s = refl
 stops_there (b ∷ bs) s = rw s refl
+
+stops_by : (r : List ℕ) → reach 32 r ≡ 0 → Stops 32 r
+stops_by [] h = tt
+stops_by (b ∷ bs) h = elim (eqb b 32) as (λ v. eqb b 32 ≡ v → cond v 0 (suc (reach 32 bs)) ≡ 0 → b ≡ 32) [
+  | true ↦ λ e f. eqb-true b 32 e
+  | false ↦ λ e f. absurd (omega (arith, f))
+] refl h
+
+reach_in : (w r : List ℕ) → reach 32 w < length w → reach 32 (w ++ r) ≡ reach 32 w
+reach_in [] r h = absurd (omega (arith, h))
+reach_in (b ∷ bs) r h = elim (eqb b 32) as (λ v. cond v 0 (suc (reach 32 bs)) < length (b ∷ bs) → cond v 0 (suc (reach 32 (bs ++ r))) ≡ cond v 0 (suc (reach 32 bs))) [
+  | true ↦ λ e. refl
+  | false ↦ λ e. ap suc (reach_in bs r (omega (arith, e)))
+] h
+
+-- one word that is no half of a key
+abbrev is_one_word : List ℕ → Bool
+is_one_word w = eqb (reach 32 w) (length w) && not (is_half w)
+
+-- two words, the first of which is a half
+abbrev is_two_words : List ℕ → Bool
+is_two_words w = ltb (reach 32 w) (length w) && is_half (take (reach 32 w) w) && eqb (suc (reach 32 w) + reach 32 (drop (suc (reach 32 w)) w)) (length w)
+
+one_word : (w r : List ℕ) → is_one_word w ≡ true → reach 32 r ≡ 0 → key_length (w ++ r) ≡ length w
+one_word w r h s =
+    let t = both (eqb (reach 32 w) (length w)) (not (is_half w)) h in
+    let at : reach 32 (w ++ r) ≡ length w = reach-append 32 w r (eqb-true _ _ t.0) (stops_by r s) in
+    let other : is_half w ≡ false = not_so (is_half w) t.1 in
+    rw (at, take_at w r (length w) refl, other) refl
+  where
+    not_so : (v : Bool) → not v ≡ true → v ≡ false
+    not_so true e = absurd cc
+    not_so false e = refl
+
+two_words : (w r : List ℕ) → is_two_words w ≡ true → reach 32 r ≡ 0 → key_length (w ++ r) ≡ length w
+two_words w r h s =
+    let n = reach 32 w in
+    let t = both (ltb n (length w) && is_half (take n w)) (eqb (suc n + reach 32 (drop (suc n) w)) (length w)) h in
+    let u = both (ltb n (length w)) (is_half (take n w)) t.0 in
+    let some : n < length w = ltb-true n (length w) u.0 in
+    let all : suc n + reach 32 (drop (suc n) w) ≡ length w = eqb-true _ _ t.1 in
+    let rest : reach 32 (drop (suc n) w ++ r) ≡ length (drop (suc n) w) = reach-append 32 (drop (suc n) w) r (omega (arith, all, length-drop (suc n) w)) (stops_by r s) in
+    rw (reach_in w r some, take-append-le n w r (omega (arith, some)), u.1, drop-append-le (suc n) w r (omega (arith, some)), rest) (omega (arith, some, length-drop (suc n) w))
+
+whole_by : (w r : List ℕ) → (is_one_word w || is_two_words w) ≡ true → reach 32 r ≡ 0 → key_length (w ++ r) ≡ length w
+whole_by w r h s = elim (is_one_word w) as (λ v. is_one_word w ≡ v → (v || is_two_words w) ≡ true → key_length (w ++ r) ≡ length w) [
+  | true ↦ λ e f. one_word w r e s
+  | false ↦ λ e f. two_words w r f s
+] refl h
+
+pub key_is_whole : (o : Op) (r : List ℕ) → reach 32 r ≡ 0 → key_length (key_of o ++ r) ≡ length (key_of o)
+key_is_whole o r s = whole_by (key_of o) r (on_all (λ x. is_one_word (key_of x) || is_two_words (key_of x)) refl o) s
 
 -- ---- Slots of different kinds don't touch each other.
 

@@ -125,164 +125,122 @@ pub enum Role {
     Again,
 }
 
+// A row of the table: how a line begins, the part that it plays, and its slots.
+type Row = (&'static [u8], Role, &'static [Kind]);
+
+// The table, in the order of the operations.
+static ROWS: [Row; 64] = [
+    (b"lwp", Role::Header, &[Kind::Number]),
+    (b"pod", Role::Pod, &[Kind::Number]),
+    (b"limit births", Role::Limit, &[Kind::Number]),
+    (b"client", Role::Client, &[Kind::Client, Kind::Event]),
+    (b"native", Role::Native, &[Kind::Procedure, Kind::Built]),
+    (b"proc", Role::Proc, &[Kind::Procedure]),
+    (b"post", Role::Post, &[Kind::Client, Kind::Text]),
+    (
+        b"create",
+        Role::Statement,
+        &[Kind::Thread, Kind::Procedure, Kind::Number, Kind::Flags],
+    ),
+    (b"destroy", Role::Statement, &[Kind::Who]),
+    (b"ping", Role::Statement, &[Kind::Who]),
+    (b"yield", Role::Statement, &[Kind::Who]),
+    (b"suspend", Role::Statement, &[Kind::Who]),
+    (b"resume", Role::Statement, &[Kind::Who]),
+    (b"join", Role::Statement, &[Kind::Who]),
+    (b"resched", Role::Statement, &[Kind::Number]),
+    (b"setpri", Role::Statement, &[Kind::Who, Kind::Number]),
+    (b"setmaxpri", Role::Statement, &[Kind::Number]),
+    (b"self", Role::Statement, &[]),
+    (b"setexit", Role::Statement, &[Kind::Number]),
+    (b"getexit", Role::Statement, &[]),
+    (b"podexit", Role::Statement, &[Kind::Number]),
+    (b"threads", Role::Statement, &[]),
+    (
+        b"send",
+        Role::Statement,
+        &[Kind::Who, Kind::Room, Kind::Text],
+    ),
+    (b"recv", Role::Statement, &[Kind::Source, Kind::Mode]),
+    (b"reply", Role::Statement, &[Kind::Who, Kind::Text]),
+    (b"senders", Role::Statement, &[]),
+    (b"receivers", Role::Statement, &[]),
+    (b"moncreate", Role::Statement, &[Kind::Monitor]),
+    (
+        b"cvcreate",
+        Role::Statement,
+        &[Kind::Condition, Kind::Monitor],
+    ),
+    (b"mondestroy", Role::Statement, &[Kind::Monitor]),
+    (b"enter", Role::Statement, &[Kind::Monitor]),
+    (b"condenter", Role::Statement, &[Kind::Monitor]),
+    (b"monexit", Role::Statement, &[Kind::Monitor]),
+    (b"monbreak", Role::Statement, &[Kind::Monitor]),
+    (b"monwaiters", Role::Statement, &[Kind::Monitor]),
+    (b"monitors", Role::Statement, &[]),
+    (b"cvdestroy", Role::Statement, &[Kind::Condition]),
+    (b"wait", Role::Statement, &[Kind::Condition]),
+    (b"notify", Role::Statement, &[Kind::Condition]),
+    (b"broadcast", Role::Statement, &[Kind::Condition]),
+    (b"cvsend", Role::Statement, &[Kind::Condition, Kind::Who]),
+    (b"cvwaiters", Role::Statement, &[Kind::Condition]),
+    (b"conditions", Role::Statement, &[]),
+    (b"call", Role::Statement, &[Kind::Procedure]),
+    (b"return", Role::Statement, &[]),
+    (
+        b"handle",
+        Role::Statement,
+        &[Kind::Pattern, Kind::Func, Kind::Number],
+    ),
+    (b"unhandle", Role::Statement, &[]),
+    (b"raise", Role::Statement, &[Kind::Number]),
+    (b"excnotify", Role::Statement, &[Kind::Number]),
+    (b"bound", Role::Statement, &[Kind::Number]),
+    (b"uniqpatt", Role::Statement, &[]),
+    (b"onexit monexit", Role::Statement, &[Kind::Monitor]),
+    (b"onexit monbreak", Role::Statement, &[Kind::Monitor]),
+    (b"onexit notify", Role::Statement, &[Kind::Condition]),
+    (b"onexit broadcast", Role::Statement, &[Kind::Condition]),
+    (b"onexit reply", Role::Statement, &[Kind::Who, Kind::Text]),
+    (b"onexit resume", Role::Statement, &[Kind::Who]),
+    (b"onexit setexit", Role::Statement, &[Kind::Number]),
+    (b"onexit note", Role::Statement, &[Kind::Text]),
+    (b"agent", Role::Statement, &[Kind::Thread, Kind::Number]),
+    (b"agents", Role::Statement, &[]),
+    (b"say", Role::Statement, &[Kind::Text]),
+    (b"skip", Role::Skip, &[Kind::Test]),
+    (b"again", Role::Again, &[]),
+];
+
 impl Op {
+    // The row of the table.
+    fn row(self) -> &'static Row
+        ensures key { result.now.0.now ≡ key_of self }
+        ensures role { result.now.1 ≡ role_of self }
+        ensures slots { result.now.2.now ≡ slots_of self }
+    {
+        &ROWS[self as usize]
+    }
+
     /// How the line begins: a word, or two.
     pub fn key(self) -> &'static [u8]
         ensures { result.now ≡ key_of self }
     {
-        match self {
-            Op::Lwp => b"lwp",
-            Op::Pod => b"pod",
-            Op::Limit => b"limit births",
-            Op::Client => b"client",
-            Op::Native => b"native",
-            Op::Proc => b"proc",
-            Op::Post => b"post",
-            Op::Create => b"create",
-            Op::Destroy => b"destroy",
-            Op::Ping => b"ping",
-            Op::Yield => b"yield",
-            Op::Suspend => b"suspend",
-            Op::Resume => b"resume",
-            Op::Join => b"join",
-            Op::Resched => b"resched",
-            Op::SetPri => b"setpri",
-            Op::SetMaxPri => b"setmaxpri",
-            Op::Me => b"self",
-            Op::SetExit => b"setexit",
-            Op::GetExit => b"getexit",
-            Op::PodExit => b"podexit",
-            Op::Threads => b"threads",
-            Op::Send => b"send",
-            Op::Recv => b"recv",
-            Op::Reply => b"reply",
-            Op::Senders => b"senders",
-            Op::Receivers => b"receivers",
-            Op::MonCreate => b"moncreate",
-            Op::CvCreate => b"cvcreate",
-            Op::MonDestroy => b"mondestroy",
-            Op::Enter => b"enter",
-            Op::CondEnter => b"condenter",
-            Op::MonExit => b"monexit",
-            Op::MonBreak => b"monbreak",
-            Op::MonWaiters => b"monwaiters",
-            Op::Monitors => b"monitors",
-            Op::CvDestroy => b"cvdestroy",
-            Op::Wait => b"wait",
-            Op::Notify => b"notify",
-            Op::Broadcast => b"broadcast",
-            Op::CvSend => b"cvsend",
-            Op::CvWaiters => b"cvwaiters",
-            Op::Conds => b"conditions",
-            Op::CallProc => b"call",
-            Op::Return => b"return",
-            Op::Handle => b"handle",
-            Op::Unhandle => b"unhandle",
-            Op::Raise => b"raise",
-            Op::ExcNotify => b"excnotify",
-            Op::Bound => b"bound",
-            Op::UniqPatt => b"uniqpatt",
-            Op::ExitMonExit => b"onexit monexit",
-            Op::ExitMonBreak => b"onexit monbreak",
-            Op::ExitNotify => b"onexit notify",
-            Op::ExitBroadcast => b"onexit broadcast",
-            Op::ExitReply => b"onexit reply",
-            Op::ExitResume => b"onexit resume",
-            Op::ExitSetExit => b"onexit setexit",
-            Op::ExitNote => b"onexit note",
-            Op::Agent => b"agent",
-            Op::Agents => b"agents",
-            Op::Say => b"say",
-            Op::Skip => b"skip",
-            Op::Again => b"again",
-        }
+        self.row().0
     }
 
     /// The part that the line plays.
     pub fn role(self) -> Role
         ensures { result ≡ role_of self }
     {
-        match self {
-            Op::Lwp => Role::Header,
-            Op::Pod => Role::Pod,
-            Op::Limit => Role::Limit,
-            Op::Client => Role::Client,
-            Op::Native => Role::Native,
-            Op::Proc => Role::Proc,
-            Op::Post => Role::Post,
-            Op::Skip => Role::Skip,
-            Op::Again => Role::Again,
-            _ => Role::Statement,
-        }
+        self.row().1
     }
 
     /// The slots behind the key.
     pub fn slots(self) -> &'static [Kind]
         ensures { result.now ≡ slots_of self }
     {
-        match self {
-            Op::Lwp
-            | Op::Pod
-            | Op::Limit
-            | Op::Resched
-            | Op::SetMaxPri
-            | Op::SetExit
-            | Op::PodExit
-            | Op::Raise
-            | Op::ExcNotify
-            | Op::Bound
-            | Op::ExitSetExit => &[Kind::Number],
-            Op::Client => &[Kind::Client, Kind::Event],
-            Op::Native => &[Kind::Procedure, Kind::Built],
-            Op::Proc | Op::CallProc => &[Kind::Procedure],
-            Op::Post => &[Kind::Client, Kind::Text],
-            Op::Create => &[Kind::Thread, Kind::Procedure, Kind::Number, Kind::Flags],
-            Op::Destroy
-            | Op::Ping
-            | Op::Yield
-            | Op::Suspend
-            | Op::Resume
-            | Op::Join
-            | Op::ExitResume => &[Kind::Who],
-            Op::SetPri => &[Kind::Who, Kind::Number],
-            Op::Me
-            | Op::GetExit
-            | Op::Threads
-            | Op::Senders
-            | Op::Receivers
-            | Op::Monitors
-            | Op::Conds
-            | Op::Return
-            | Op::Unhandle
-            | Op::UniqPatt
-            | Op::Agents
-            | Op::Again => &[],
-            Op::Send => &[Kind::Who, Kind::Room, Kind::Text],
-            Op::Recv => &[Kind::Source, Kind::Mode],
-            Op::Reply | Op::ExitReply => &[Kind::Who, Kind::Text],
-            Op::MonCreate
-            | Op::MonDestroy
-            | Op::Enter
-            | Op::CondEnter
-            | Op::MonExit
-            | Op::MonBreak
-            | Op::MonWaiters
-            | Op::ExitMonExit
-            | Op::ExitMonBreak => &[Kind::Monitor],
-            Op::CvCreate => &[Kind::Condition, Kind::Monitor],
-            Op::CvDestroy
-            | Op::Wait
-            | Op::Notify
-            | Op::Broadcast
-            | Op::CvWaiters
-            | Op::ExitNotify
-            | Op::ExitBroadcast => &[Kind::Condition],
-            Op::CvSend => &[Kind::Condition, Kind::Who],
-            Op::Handle => &[Kind::Pattern, Kind::Func, Kind::Number],
-            Op::ExitNote | Op::Say => &[Kind::Text],
-            Op::Agent => &[Kind::Thread, Kind::Number],
-            Op::Skip => &[Kind::Test],
-        }
+        self.row().2
     }
 
     /// Whether the line ends with a text.

@@ -68,7 +68,7 @@ onto_inv : (b : ℕ) (ls : List (List ℕ)) (t tl : List ℕ) → onto_first b (
 onto_inv b [] t tl e = (refl, let f : b ∷ t ≡ b ∷ tl = ap (λ (c : Cut). c.1) e in cc)
 onto_inv b (l ∷ ls) t tl e = absurd (let f : (b ∷ l) ∷ ls ≡ [] = ap (λ (c : Cut). c.0) e in cc)
 
-tail_inv : (b : ℕ) (tl : List ℕ) → IsTail (b ∷ tl) → (eqb b 10 ≡ false) × IsTail tl
+pub tail_inv : (b : ℕ) (tl : List ℕ) → IsTail (b ∷ tl) → (eqb b 10 ≡ false) × IsTail tl
 tail_inv b tl h = elim (eqb b 10) as (λ v. eqb b 10 ≡ v → cond v ([] ∷ (cut tl).0, (cut tl).1) (onto_first b (cut tl)) ≡ ([], b ∷ tl) → (eqb b 10 ≡ false) × IsTail tl) [
   | true ↦ λ e f. absurd (let g : [] ∷ (cut tl).0 ≡ [] = ap (λ (c : Cut). c.0) f in cc)
   | false ↦ λ e f. let i = onto_inv b (cut tl).0 (cut tl).1 tl f in (e, pair_is (cut tl) [] tl i.0 i.1)

@@ -7,6 +7,7 @@ pub mod JudgeLaws
 pub mod CutLaws
 pub mod ScriptLaws
 pub mod LimitLaws
+pub mod KeptLaws
 pub mod PieceLaws
 pub mod BackLaws
 pub mod PrintLaws

@@ -6,6 +6,7 @@ pub mod Limits
 pub mod Declaring
 pub mod Spelling
 pub mod Track
+pub mod Kept
 pub mod Pieces
 pub mod Printing
 pub mod Laws

@@ -33,9 +33,10 @@ fn name(names: &mut Names, texts: &Texts, phrase: &Phrase<'_>) -> Result<Places,
     ensures entered { OnOk result (names.new ≡ named names.old phrase.now) }
     ensures places { IfOk result (λ at. at ≡ places_of (named names.old phrase.now) texts.now phrase.now) }
 {
-    let Ok(text) = u32::try_from(texts.len()) else {
+    let text = texts.len();
+    if text > 0xffff_ffff {
         return Err(NoMemory);
-    };
+    }
     let procedure = names.procs.numbered(phrase.procedure)?;
     let thread = names.threads.numbered(phrase.thread)?;
     let monitor = names.mons.numbered(phrase.monitor)?;
@@ -45,7 +46,7 @@ fn name(names: &mut Names, texts: &Texts, phrase: &Phrase<'_>) -> Result<Places,
         procedure,
         monitor,
         condition,
-        text,
+        text: text as u32,
     })
 }
 
@@ -82,21 +83,29 @@ fn from_of(whom: Whom, name: u32) -> Option<Who>
     }
 }
 
+// Whom a line speaks of, whose names stand so.
+fn whom(at: Places, phrase: &Phrase<'_>) -> Who
+    ensures { result ≡ who_of phrase.now.who at.thread }
+{
+    who_of(phrase.who, at.thread)
+}
+
 // What an exit procedure is to do.
 fn exit_statement(at: Places, phrase: &Phrase<'_>) -> Option<ExitStmt>
     ensures { result ≡ exit_statement phrase.now.op at phrase.now }
 {
-    let who = who_of(phrase.who, at.thread);
     match phrase.op {
         Op::ExitMonExit => Some(ExitStmt::MonExit { mon: at.monitor }),
         Op::ExitMonBreak => Some(ExitStmt::MonBreak { mon: at.monitor }),
         Op::ExitNotify => Some(ExitStmt::Notify { cond: at.condition }),
         Op::ExitBroadcast => Some(ExitStmt::Broadcast { cond: at.condition }),
         Op::ExitReply => Some(ExitStmt::Reply {
-            to: who,
+            to: whom(at, phrase),
             text: at.text,
         }),
-        Op::ExitResume => Some(ExitStmt::Resume { who }),
+        Op::ExitResume => Some(ExitStmt::Resume {
+            who: whom(at, phrase),
+        }),
         Op::ExitSetExit => Some(ExitStmt::SetExit {
             code: phrase.number,
         }),
@@ -134,7 +143,6 @@ fn plain_statement(at: Places, phrase: &Phrase<'_>) -> Option<Stmt>
         Op::Bound => Some(Stmt::Bound { pattern: number }),
         Op::UniqPatt => Some(Stmt::UniqPatt),
         Op::Agents => Some(Stmt::Agents),
-        Op::Say => Some(Stmt::Say { text: at.text }),
         Op::Skip => Some(Stmt::Skip { test: phrase.test }),
         Op::Again => Some(Stmt::Again),
         _ => match exit_statement(at, phrase) {
@@ -165,7 +173,7 @@ fn lock_statement(at: Places, phrase: &Phrase<'_>) -> Option<Stmt>
         Op::Broadcast => Some(Stmt::Broadcast { cond }),
         Op::CvSend => Some(Stmt::CvSend {
             cond,
-            who: who_of(phrase.who, at.thread),
+            who: whom(at, phrase),
         }),
         Op::CvWaiters => Some(Stmt::CvWaiters { cond }),
         _ => plain_statement(at, phrase),
@@ -176,7 +184,6 @@ fn lock_statement(at: Places, phrase: &Phrase<'_>) -> Option<Stmt>
 fn statement_of(at: Places, phrase: &Phrase<'_>) -> Option<Stmt>
     ensures { result ≡ statement_of phrase.now.op at phrase.now }
 {
-    let who = who_of(phrase.who, at.thread);
     match phrase.op {
         Op::Create => Some(Stmt::Create {
             name: at.thread,
@@ -184,18 +191,30 @@ fn statement_of(at: Places, phrase: &Phrase<'_>) -> Option<Stmt>
             prio: phrase.number,
             flags: phrase.flags,
         }),
-        Op::Destroy => Some(Stmt::Destroy { who }),
-        Op::Ping => Some(Stmt::Ping { who }),
-        Op::Yield => Some(Stmt::Yield { to: who }),
-        Op::Suspend => Some(Stmt::Suspend { who }),
-        Op::Resume => Some(Stmt::Resume { who }),
-        Op::Join => Some(Stmt::Join { who }),
+        Op::Destroy => Some(Stmt::Destroy {
+            who: whom(at, phrase),
+        }),
+        Op::Ping => Some(Stmt::Ping {
+            who: whom(at, phrase),
+        }),
+        Op::Yield => Some(Stmt::Yield {
+            to: whom(at, phrase),
+        }),
+        Op::Suspend => Some(Stmt::Suspend {
+            who: whom(at, phrase),
+        }),
+        Op::Resume => Some(Stmt::Resume {
+            who: whom(at, phrase),
+        }),
+        Op::Join => Some(Stmt::Join {
+            who: whom(at, phrase),
+        }),
         Op::SetPri => Some(Stmt::SetPri {
-            who,
+            who: whom(at, phrase),
             prio: phrase.number,
         }),
         Op::Send => Some(Stmt::Send {
-            to: who,
+            to: whom(at, phrase),
             room: phrase.room,
             text: at.text,
         }),
@@ -204,9 +223,10 @@ fn statement_of(at: Places, phrase: &Phrase<'_>) -> Option<Stmt>
             mode: phrase.mode,
         }),
         Op::Reply => Some(Stmt::Reply {
-            to: who,
+            to: whom(at, phrase),
             text: at.text,
         }),
+        Op::Say => Some(Stmt::Say { text: at.text }),
         Op::CallProc => Some(Stmt::CallProc { proc: at.procedure }),
         Op::Agent => Some(Stmt::Agent {
             name: at.thread,

@@ -40,7 +40,10 @@ impl Drop for NameList {
 fn counted(place: usize) -> Result<u32, NoMemory>
     ensures { IfOk result (λ n. n ≡ place) }
 {
-    u32::try_from(place).map_err(|_| NoMemory)
+    if place > 0xffff_ffff {
+        return Err(NoMemory);
+    }
+    Ok(place as u32)
 }
 
 impl NameList {

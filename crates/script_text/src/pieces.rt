@@ -1,5 +1,7 @@
 // A script that comes in pieces.
-ghost use Rattle.std.specs.Prelude.{◌≡◌, ◌≤◌, ◌<◌, ◌+◌, ◌∷◌, [], length, IfSome, IfNone};
+ghost use Rattle.std.specs.Prelude.{◌≡◌, ◌≤◌, ◌<◌, ◌+◌, ◌∷◌, ◌++◌, ◌&&◌, [], length, IfSome, IfNone, OnOk};
+ghost use Rattle.lwp_types.specs.TextFields.{is_printable};
+ghost use Rattle.script_text.specs.Kept.{kept};
 ghost use Rattle.script_text.specs.Spelling.{cut};
 
 use crate::Script;
@@ -7,17 +9,21 @@ use crate::reader::Reader;
 use crate::reason::{ReadErr, Reason};
 use lwp_types::NoMemory;
 use memchr::memchr;
+use script_lines::is_printable;
 use std::alloc::Global;
 
 /// The most bytes that a script has.
 const MOST: usize = 16_777_216;
+
+// How many bytes are kept of a line that hasn't ended. No good line has as many.
+const KEPT: usize = 1024;
 
 /// Reads a script in pieces, whatever they are.
 #[derive(Drop)]
 pub struct ScriptReader {
     pub alloc: Global,
     pub reader: Reader,
-    // What stands behind the last newline.
+    // What is kept of what stands behind the last newline.
     pub tail: Vec<u8>,
     pub total: usize,
     pub is_large: bool,
@@ -36,6 +42,28 @@ fn first_line(text: &[u8]) -> Option<(&[u8], &[u8])>
     }
 }
 
+fn are_printable(front: &[u8], back: &[u8]) -> bool
+    ensures { result ≡ (is_printable front.now && is_printable back.now) }
+{
+    is_printable(front) && is_printable(back)
+}
+
+// One more part of a line: what is kept of the line.
+fn keep(tail: &mut Vec<u8>, part: &[u8]) -> Result<(), NoMemory>
+    ensures { OnOk result (tail.new.items ≡ kept (tail.old.items ++ part.now)) }
+{
+    let room = KEPT.saturating_sub(tail.len()).min(part.len());
+    let (near, far) = part.split_at(room);
+    tail.extend_from_slice(near)?;
+    let end = tail.len().min(KEPT);
+    let is_clear = are_printable(&tail[end..], far);
+    tail.truncate(end);
+    if !is_clear {
+        tail.push(0)?;
+    }
+    Ok(())
+}
+
 impl ScriptReader {
     ghost use Rattle.std.specs.Prelude.{◌≡◌, ◌++◌, ◌<◌, ◌+◌, ◌^◌, ℕ, List, [], fold, length, OnOk, OnErr, IfOk, IsErr, Err};
     ghost use Rattle.script_text.specs.Grammar.{Spells};
@@ -46,6 +74,7 @@ impl ScriptReader {
     ghost use Rattle.script_text.specs.declared.reason.ReadErr.TheVariants as read_err;
 
     /// Nothing read.
+    #[tactic(auto, unfolding(crate::specs::Kept::kept))]
     pub fn new(alloc: Global) -> ScriptReader
         ensures { HasRead result [] }
     {
@@ -69,16 +98,16 @@ impl ScriptReader {
         if self.tail.is_empty() {
             return self.reader.line(self.alloc, line);
         }
-        self.tail.extend_from_slice(line)?;
+        keep(&mut self.tail, line)?;
         self.reader.line(self.alloc, &self.tail)?;
         self.tail.clear();
         Ok(())
     }
 
-    // The lines of a piece, and what stands behind the last of them.
+    // The lines of a piece, and what is kept of what stands behind the last of them.
     fn lines(&mut self, piece: &[u8]) -> Result<(), NoMemory>
         ensures reader { OnOk result (IsTail self.old.tail.items → self.new.reader ≡ fold step self.old.reader (cut (self.old.tail.items ++ piece.now)).0) }
-        ensures tail { OnOk result (IsTail self.old.tail.items → self.new.tail.items ≡ (cut (self.old.tail.items ++ piece.now)).1) }
+        ensures tail { OnOk result (IsTail self.old.tail.items → self.new.tail.items ≡ kept (cut (self.old.tail.items ++ piece.now)).1) }
         ensures rest { OnOk result (self.new ≡ record self.old { reader = self.new.reader; tail = self.new.tail }) }
         ensures failed { self.new.failed ≡ self.old.failed }
     {
@@ -87,7 +116,7 @@ impl ScriptReader {
             self.line(line)?;
             rest = after;
         }
-        self.tail.extend_from_slice(rest)?;
+        keep(&mut self.tail, rest)?;
         Ok(())
     }
 

@@ -7,6 +7,7 @@ ghost use Rattle.script_lines.specs.Reading.{phrase_at};
 ghost use Rattle.script_text.specs.Declaring.{only_name, spaced_word, proc_on, native_on};
 ghost use Rattle.script_text.specs.Grammar.{has, keeps_rule, may_stand_at};
 ghost use Rattle.script_text.specs.Spelling.{Gives, word_reason, reason_behind, reason_of, noted};
+ghost use Rattle.script_text.specs.Meaning.{enter};
 ghost use Rattle.script_text.specs.Track.{mention_of, first_missing};
 
 use crate::Script;
@@ -120,18 +121,41 @@ impl Declared {
         self.procs.contains(name) || (any && self.natives.contains(name))
     }
 
+    // Notes the procedure of statements that a line declares.
+    #[inline(never)]
+    fn note_proc(&mut self, line: &[u8]) -> Result<(), NoMemory>
+        ensures { OnOk result (self.new ≡ record self.old { procs = enter self.old.procs (proc_on line.now) }) }
+    {
+        self.procs.enter(proc_on(line))
+    }
+
+    // Notes the built-in procedure that a line declares.
+    #[inline(never)]
+    fn note_native(&mut self, line: &[u8]) -> Result<(), NoMemory>
+        ensures { OnOk result (self.new ≡ record self.old { natives = enter self.old.natives (native_on line.now) }) }
+    {
+        self.natives.enter(native_on(line))
+    }
+
     /// Notes what a line declares.
+    #[inline(always)]
     pub fn note(&mut self, line: &[u8]) -> Result<(), NoMemory>
         ensures { OnOk result (self.new ≡ noted self.old line.now) }
     {
-        self.procs.enter(proc_on(line))?;
-        self.natives.enter(native_on(line))
+        match line {
+            [b'p', ..] => self.note_proc(line),
+            [b'n', ..] => self.note_native(line),
+            _ => Ok(()),
+        }
     }
 }
 
 fn keeps_rule(declared: &Declared, posted: &Counts, role: Role, phrase: &Phrase<'_>) -> bool
     ensures { result ≡ keeps_rule declared.now posted.now role phrase.now }
 {
+    if matches!(role, Role::Statement | Role::Skip | Role::Again) {
+        return true;
+    }
     match role {
         Role::Header => phrase.number == 1,
         Role::Pod => 1 <= phrase.number && phrase.number <= 255,

@@ -89,12 +89,16 @@ impl Texts {
         requires { IsTrue (is_text text.now) }
         ensures { OnOk result (self.new ≡ self.old ++ text.now ∷ []) }
     {
-        let Ok(start) = u32::try_from(self.bytes.len()) else {
+        let start = self.bytes.len();
+        if start > 0xffff_ffff {
             return Err(NoMemory);
-        };
+        }
         let len = text.len() as u32;
         self.bytes.extend_from_slice(text)?;
-        self.spans.push(Span { start, len })?;
+        self.spans.push(Span {
+            start: start as u32,
+            len,
+        })?;
         Ok(())
     }
 }

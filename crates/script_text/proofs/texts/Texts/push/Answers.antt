@@ -12,12 +12,12 @@ pub invariant_of-self-2 : goal.invariant_of-self-2
 invariant_of-self-2 c =
     let s = c.self.inside.spans.items in
     let b = c.self.inside.bytes.items in
-    let start : c.in-Ok.start ≡ length b = search rules in
-    rw (c.in_ok-push.ensures.items, c.in_ok-extend_from_slice.ensures.items) (within_push s b c.args.text.now c.in-Ok.start start c.self.invariant.0, are_push s b c.args.text.now c.in-Ok.start start c.self.invariant.0 c.self.invariant.1 c.requires)
+    let start : c.len-start.result ≡ length b = search rules in
+    rw (c.in_ok-push.ensures.items, c.in_ok-extend_from_slice.ensures.items) (within_push s b c.args.text.now c.len-start.result start c.self.invariant.0, are_push s b c.args.text.now c.len-start.result start c.self.invariant.0 c.self.invariant.1 c.requires)
 
 pub returns : goal.returns
 returns c =
     let s = c.self.inside.spans.items in
     let b = c.self.inside.bytes.items in
-    let start : c.in-Ok.start ≡ length b = search rules in
-    rw (c.in_ok-push.ensures.items, c.in_ok-extend_from_slice.ensures.items) (texts_push s b c.args.text.now c.in-Ok.start start c.self.invariant.0 ∙ ap (λ (l : List (List ℕ)). l ++ c.args.text.now ∷ []) c.self.view_is)
+    let start : c.len-start.result ≡ length b = search rules in
+    rw (c.in_ok-push.ensures.items, c.in_ok-extend_from_slice.ensures.items) (texts_push s b c.args.text.now c.len-start.result start c.self.invariant.0 ∙ ap (λ (l : List (List ℕ)). l ++ c.args.text.now ∷ []) c.self.view_is)

@@ -1,0 +1,11 @@
+-- What is kept of a line before its end comes.
+use Rattle.std.specs.Prelude.{ℕ, Bool, List, [], ◌∷◌, ◌++◌, take, drop, if◌then◌else◌}
+use Rattle.lwp_types.specs.TextFields.{is_printable}
+
+-- a byte that isn't printable, unless all bytes are
+abbrev pub marked : Bool → List ℕ
+marked clear = if clear then [] else 0 ∷ []
+
+-- its first 1,024 bytes, which are more than any good line has, and a byte that isn't printable, if there is one behind them
+unfoldable pub kept : List ℕ → List ℕ
+kept line = take 1024 line ++ marked (is_printable (drop 1024 line))
