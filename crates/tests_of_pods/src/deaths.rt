@@ -217,13 +217,23 @@ fn parts(alloc: Global) -> Result<Parts, NoMemory>
     })
 }
 
-// The parts once the first thread has died, and what is told of it.
-fn after_the_death(alloc: Global, effects: &mut Effects) -> Result<Parts, NoMemory>
+// Whether nothing of the first thread is left.
+fn is_gone(parts: &mut Parts) -> bool {
+    parts.sched.current() == Some(Tid { number: 7 })
+        && parts.exit == 7
+        && !parts.ids.is_live(0)
+        && !parts.ids.is_live(8)
+        && parts.mail.pop_to(DYING).is_none()
+        && parts.agents.owner_of(AGENT).is_none()
+}
+
+// The first thread dies. Answers whether nothing of it is left.
+fn dies(alloc: Global, effects: &mut Effects) -> Result<bool, NoMemory>
     requires { effects.old ≡ [] }
 {
     let mut parts = parts(alloc)?;
     die(&mut parts, DYING, effects);
-    Ok(parts)
+    Ok(is_gone(&mut parts))
 }
 
 // An effect as its letter, whose it is or its number, and the answer: `x` an exit procedure, `=` an answer, `d` a death.
@@ -265,20 +275,18 @@ const TOLD: [(u8, u64, u8); 13] = [
     (b'd', 0, 0),
 ];
 
-#[test]
-fn a_death_in_full(rt: HostRuntime) -> Result<(), Fail> {
-    let mut effects = Effects::new(rt.alloc()).map_err(|_| "no memory")?;
-    let mut parts = after_the_death(rt.alloc(), &mut effects).map_err(|_| "no memory")?;
-    assert_eq!(rt; effects.len(), TOLD.len());
+fn is_told(effects: &Effects) -> bool {
     for place in 0..TOLD.len() {
-        if place < effects.len() {
-            assert_eq!(rt; deed_of(effects.get(place)), TOLD[place]);
+        if place >= effects.len() || deed_of(effects.get(place)) != TOLD[place] {
+            return false;
         }
     }
-    assert_eq!(rt; parts.sched.current(), Some(Tid { number: 7 }));
-    assert_eq!(rt; parts.exit, 7);
-    assert!(rt; !parts.ids.is_live(0) && !parts.ids.is_live(8));
-    assert_eq!(rt; parts.mail.pop_to(DYING), None);
-    assert_eq!(rt; parts.agents.owner_of(AGENT), None);
+    effects.len() == TOLD.len()
+}
+
+#[test]
+fn a_death_in_full(rt: HostRuntime) -> Result<(), Fail> {
+    let mut effects = Effects::new(rt.alloc())?;
+    assert!(rt; dies(rt.alloc(), &mut effects)? && is_told(&effects));
     Ok(())
 }

@@ -1,11 +1,11 @@
-ghost use Rattle.std.specs.Prelude.{◌≡◌, false, IfOk};
+ghost use Rattle.std.specs.Prelude.{◌≡◌, [], false, IfOk};
 
 use event_gate::ListGate;
 use lwp_types::{
     Answer, Body, Call, Effect, Effects, Env, Line, MemSink, NoMemory, PodParams, Program, Text,
     Tid,
 };
-use pod_runner::{Phase, Run, RunErr, lines_of, run, write_all};
+use pod_runner::{Run, RunErr, lines_of, run, write_all};
 use std::alloc::Global;
 use std::test::Fail;
 use trace_text::Halt;
@@ -73,6 +73,10 @@ const PARAMS: PodParams = PodParams {
 const TRACE: &[u8] =
     b"t0: agent 5\nt0 = t1\nevent 5 client 0 seq 0 hi\nt0: return\nt0 dies\npod ends 0\n";
 
+fn text_of(bytes: &[u8]) -> Text {
+    Text::new(bytes).unwrap_or(Text::empty())
+}
+
 fn start(alloc: Global, text: Text, turns: u64) -> Result<Run<Listens, OneProcedure>, NoMemory>
     ensures { IfOk result (λ run. run.failed ≡ false) }
 {
@@ -92,87 +96,41 @@ fn halt_of(alloc: Global, turns: u64, text: Text, sink: &mut MemSink) -> Result<
     run(&mut session, &mut gate, sink)
 }
 
+// Whether a run ends so where so many calls are allowed and a write fails, and has written so many bytes of its trace.
+fn is_run(
+    alloc: Global,
+    turns: u64,
+    fails: Vec<u32>,
+    wanted: Result<Halt, RunErr>,
+    length: usize,
+) -> Result<bool, NoMemory> {
+    let text = text_of(b"hi");
+    // The sink takes at most seven bytes at once.
+    let mut sink = MemSink::new(alloc, 200, 7, fails)?;
+    let halt = halt_of(alloc, turns, text, &mut sink);
+    Ok(halt == wanted && sink.bytes().len() == length && TRACE.starts_with(sink.bytes()))
+}
+
 #[test]
-fn a_run_writes_its_session(rt: HostRuntime) -> Result<(), Fail> {
+fn a_run_writes_its_session_as_far_as_it_comes(rt: HostRuntime) -> Result<(), Fail> {
     let alloc = rt.alloc();
-    let text = Text::new(b"hi").ok_or("text")?;
-    for (turns, want, length) in [
-        (2, Halt::Ended(0), TRACE.len()),
-        (1, Halt::Spent, 20),
-        (0, Halt::Spent, 0),
+    for (turns, fails, wanted, length) in [
+        (2, 100, Ok(Halt::Ended(0)), TRACE.len()),
+        // The first turn takes three writes.
+        (2, 3, Err(RunErr::WriteFault), 20),
+        (1, 100, Ok(Halt::Spent), 20),
+        (0, 100, Ok(Halt::Spent), 0),
     ] {
-        // The sink takes at most seven bytes at once.
-        let mut sink = MemSink::new(alloc, 200, 7, Vec::new(alloc))?;
-        assert_eq!(rt; halt_of(alloc, turns, text, &mut sink), Ok(want));
-        assert_eq!(rt; sink.bytes().len(), length);
-        assert!(rt; TRACE.starts_with(sink.bytes()));
+        assert!(rt; is_run(alloc, turns, vec![in alloc; fails]?, wanted, length)?);
     }
     Ok(())
 }
 
-#[test]
-fn a_run_ends_where_a_write_fails(rt: HostRuntime) -> Result<(), Fail> {
-    let alloc = rt.alloc();
-    let text = Text::new(b"hi").ok_or("text")?;
-    // The first turn takes three writes.
-    let mut sink = MemSink::new(alloc, 200, 7, vec![in alloc; 3]?)?;
-    assert_eq!(rt; halt_of(alloc, 2, text, &mut sink), Err(RunErr::WriteFault));
-    assert_eq!(rt; sink.bytes(), b"t0: agent 5\nt0 = t1\n".as_slice());
-    Ok(())
-}
-
-// One turn, and then a line for the agent that it made.
-fn drive(
-    session: &mut Run<Listens, OneProcedure>,
-    text: Text,
-    sink: &mut MemSink,
-) -> Result<(), RunErr>
-    requires { session.old.failed ≡ false }
+fn push_three(effects: &mut Effects)
+    requires { effects.old ≡ [] }
 {
-    if let Phase::Turn = session.phase() {
-        session.turn(sink)?;
-        if session.wants(5) {
-            let line = Line {
-                client: 0,
-                seq: 0,
-                text,
-            };
-            session.offer(5, line, sink)?;
-        }
-    }
-    Ok(())
-}
-
-// How many calls and takes were made by hand.
-fn driven(alloc: Global, text: Text, sink: &mut MemSink) -> Result<(u64, usize), RunErr> {
-    let mut session = start(alloc, text, 3)?;
-    drive(&mut session, text, sink)?;
-    Ok((session.calls(), session.takes()))
-}
-
-#[test]
-fn a_run_is_driven_by_hand(rt: HostRuntime) -> Result<(), Fail> {
-    let alloc = rt.alloc();
-    let text = Text::new(b"hi").ok_or("text")?;
-    let mut sink = MemSink::new(alloc, 200, 200, Vec::new(alloc))?;
-    assert_eq!(rt; driven(alloc, text, &mut sink), Ok((1, 1)));
-    assert_eq!(rt; sink.bytes().len(), 46);
-    Ok(())
-}
-
-#[test]
-fn the_lines_of_a_step_are_written_piece_by_piece(rt: HostRuntime) -> Result<(), Fail> {
-    let alloc = rt.alloc();
-    let names = [Text::new(b"main").ok_or("text")?];
-    let line = Line {
-        client: 0,
-        seq: 1,
-        text: Text::new(b"two").ok_or("text")?,
-    };
-    let first = Tid { number: 0 };
-    let mut effects = Effects::new(alloc)?;
     effects.push(Effect::Called {
-        tid: first,
+        tid: Tid { number: 0 },
         call: Call::CallProc { proc: 0 },
     });
     effects.push(Effect::Delivered {
@@ -180,9 +138,25 @@ fn the_lines_of_a_step_are_written_piece_by_piece(rt: HostRuntime) -> Result<(),
         event: 5,
     });
     effects.push(Effect::Ended { status: 7 });
-    let lines = lines_of(alloc, &effects, Some(&line), &names)?;
+}
+
+// The lines of a step in which a line was taken.
+fn lines_of_three(alloc: Global) -> Result<Vec<u8>, NoMemory> {
+    let mut effects = Effects::new(alloc)?;
+    push_three(&mut effects);
+    let line = Line {
+        client: 0,
+        seq: 1,
+        text: text_of(b"two"),
+    };
+    lines_of(alloc, &effects, Some(&line), &[text_of(b"main")])
+}
+
+#[test]
+fn the_lines_of_a_step_are_written_piece_by_piece(rt: HostRuntime) -> Result<(), Fail> {
+    let alloc = rt.alloc();
     let mut sink = MemSink::new(alloc, 60, 3, Vec::new(alloc))?;
-    write_all(&mut sink, &lines)?;
+    write_all(&mut sink, &lines_of_three(alloc)?)?;
     let want = b"t0: call main\nevent 5 client 0 seq 1 two\npod ends 7\n";
     assert_eq!(rt; sink.bytes(), want.as_slice());
     Ok(())

