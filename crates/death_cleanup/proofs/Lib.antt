@@ -24,4 +24,3 @@ pub mod Asking
 pub mod Notices
 pub mod Exiting
 pub mod Leaving
-pub mod Example

@@ -4,4 +4,3 @@ pub mod Comes
 pub mod Moves
 pub mod Waits
 pub mod Named
-pub mod Example

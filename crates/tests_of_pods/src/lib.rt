@@ -1,4 +1,4 @@
-//! The tests of deaths, of the calls of a pod, and of runs.
+//! The tests of the calls of a pod, and of the lines of its steps. Deaths and whole runs are those of scripts, in the corpus.
 //!
 //! A test calls public functions as a caller would, and looks at what no clause says. A crate with tests of its own is proved once
 //! more with them, so those of several crates stand here, in a crate that has no code besides, and each of those is proved once.
@@ -6,7 +6,5 @@
 
 #[cfg(test)]
 mod calls;
-#[cfg(test)]
-mod deaths;
 #[cfg(test)]
 mod runs;
