@@ -40,7 +40,7 @@ fn says<I: Inlet, R: Wait>(rt: &R, inlet: &mut I, all: &[Said]) -> bool {
 #[test]
 fn a_pass_comes_in_before_its_lines(rt: HostRuntime) -> Result<(), Fail> {
     let texts = [Text::empty(); 2];
-    let mut taker = early(&rt, rt.alloc(), 20_000, &texts).map_err(|_| "no memory")?;
+    let mut taker = early(&rt, rt.alloc(), 20_000, &texts)?;
     let said = [(7, true, 2, 0, 0), (7, true, 1, 0, 1), (7, true, 0, 0, 9)];
     assert!(rt; says(&rt, &mut taker, &said));
     Ok(())
