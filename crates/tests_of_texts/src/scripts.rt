@@ -23,14 +23,24 @@ fn holds(read: Result<Script, ReadErr>, wanted: [usize; 4]) -> bool {
     ] == wanted
 }
 
-// Reads a text in pieces of so many bytes, the first of which has another length.
-fn in_pieces(alloc: Global, text: &[u8], first: usize, size: usize) -> Result<Script, ReadErr> {
-    let mut reader = ScriptReader::new(alloc);
+// Feeds a text in pieces of so many bytes, the first of which has another length.
+fn feed_all(
+    reader: &mut ScriptReader,
+    text: &[u8],
+    first: usize,
+    size: usize,
+) -> Result<(), ReadErr> {
     let (front, back) = text.split_at(first.min(text.len()));
     reader.feed(front)?;
     for piece in back.chunks(size.max(1)) {
         reader.feed(piece)?;
     }
+    Ok(())
+}
+
+fn in_pieces(alloc: Global, text: &[u8], first: usize, size: usize) -> Result<Script, ReadErr> {
+    let mut reader = ScriptReader::new(alloc);
+    feed_all(&mut reader, text, first, size)?;
     reader.finish()
 }
 
