@@ -1,16 +1,13 @@
 ghost use Rattle.std.specs.Prelude.{◌≡◌, ◌+◌, ◌≤◌, [], All, IfOk, length};
 ghost use denote.Param.Send.{IsSync};
 
-use crossbeam_utils::atomic::AtomicCell;
-use event_gate::{
-    Bell, Gate, ListGate, NoGate, PostEnd, PostGate, Poster, Taker, open_port, post_all,
-};
+use event_gate::{Bell, Gate, ListGate, NoGate, PostEnd, Poster, Taker, open_port, post_all};
 use lwp_types::{Line, NoMemory, Text};
 use std::alloc::Global;
 use std::snapshot::Snapshot;
 use std::sync::Wait;
 use std::test::*;
-use std::thread::{self, Promise, PromisedHandle, Scope, Threads, join};
+use std::thread::{self, Promise, PromisedHandle, Scope, Threads};
 
 fn text(bytes: &[u8]) -> Text {
     Text::new(bytes).unwrap_or(Text::empty())
@@ -191,78 +188,20 @@ fn rush_of_sixteen<R: Threads + Wait + Sync>(
     )
 }
 
+// Whether each of sixteen threads has posted all, and each line has come once and in its place.
+fn is_whole(harvest: &Harvest) -> bool {
+    harvest.whole == 16
+        && harvest.left == 6_000
+        && harvest.tally.counts == [1000; 16]
+        && harvest.tally.in_order
+        && harvest.done
+}
+
 #[test]
 fn sixteen_clients_post_while_one_thread_takes(rt: HostRuntime) -> Result<(), Fail> {
     let texts = [text(b"a"); 1000];
-    let harvest = rush_of_sixteen(&rt, rt.alloc(), &texts).map_err(|_| "no memory")?;
-    assert_eq!(rt; harvest.whole, 16);
-    assert_eq!(rt; harvest.left, 6_000);
-    assert_eq!(rt; harvest.tally.counts, [1000; 16]);
-    assert!(rt; harvest.tally.in_order && harvest.done);
-    Ok(())
-}
-
-// Before the second line it waits until the first was seen.
-#[derive(Drop)]
-struct Waits<'a> {
-    seen: &'a AtomicCell<bool>,
-    gave_up: &'a AtomicCell<bool>,
-}
-
-impl PostGate for Waits<'_> {
-    fn before(&mut self, _client: u8, seq: u32) {
-        if seq == 0 {
-            return;
-        }
-        for _ in 0..100_000_000 {
-            if self.seen.load() {
-                return;
-            }
-        }
-        self.gave_up.store(true);
-    }
-}
-
-// Whether a line was taken while its client had more to post, and how many lines came.
-fn while_it_posts<R: Threads + Wait + Sync>(
-    rt: &R,
-    alloc: Global,
-    texts: &[Text],
-) -> Result<(bool, u32), NoMemory>
-    requires { length texts.now ≤ 1000 }
-{
-    let (mut taker, mut posters) = open_port(rt, alloc, 5, &[4])?;
-    let poster = posters.pop().ok_or(NoMemory)?;
-    let (seen, gave_up) = (AtomicCell::new(false), AtomicCell::new(false));
-    let gate = Waits {
-        seen: &seen,
-        gave_up: &gave_up,
-    };
-    let bell = Bell::new();
-    let bell = &bell;
-    let seen = &seen;
-    let (end, tally) = join(
-        rt,
-        move || -> PostEnd
-            requires { length poster.posted + length texts.now ≤ 4294967295 }
-        { post_all(rt, poster, gate, texts, bell) },
-        move || -> Tally {
-            let mut tally = Tally::new();
-            take_some(rt, &mut taker, bell, 1, &mut tally);
-            seen.store(true);
-            take_some(rt, &mut taker, bell, 1, &mut tally);
-            tally
-        },
-    );
-    Ok((end.all && !gave_up.load(), tally.counts[4]))
-}
-
-#[test]
-fn a_line_is_taken_while_its_client_posts(rt: HostRuntime) -> Result<(), Fail> {
-    let texts = [text(b"a"); 2];
-    let (taken, lines) = while_it_posts(&rt, rt.alloc(), &texts).map_err(|_| "no memory")?;
-    assert!(rt; taken);
-    assert_eq!(rt; lines, 2);
+    let harvest = rush_of_sixteen(&rt, rt.alloc(), &texts)?;
+    assert!(rt; is_whole(&harvest));
     Ok(())
 }
 
@@ -299,35 +238,64 @@ fn both_end_early<R: Wait>(
     Ok((taker, out))
 }
 
+// Whether both clients' lines are taken, one after another, and how many are left of each is told.
+fn is_emptied<R: Wait>(rt: &R, taker: &mut Taker) -> bool {
+    for wanted in [(2, 2), (1, 2), (0, 2), (0, 1), (0, 0)] {
+        if (taker.left(3), taker.left(9)) != wanted {
+            return false;
+        }
+        let _ = taker.take(rt);
+    }
+    true
+}
+
 #[test]
 fn a_pass_comes_in_before_its_lines(rt: HostRuntime) -> Result<(), Fail> {
     let texts = [text(b"a"); 2];
     let bell = Bell::new();
-    let (mut taker, out) = both_end_early(&rt, rt.alloc(), &texts, &bell).map_err(|_| "no memory")?;
+    let (mut taker, out) = both_end_early(&rt, rt.alloc(), &texts, &bell)?;
     bell.park(&rt);
-    assert_eq!(rt; (out, bell.gone(&rt), taker.event()), (1, 2, 7));
-    let mut left = [(9u32, 9u32); 5];
-    for place in &mut left {
-        *place = (taker.left(3), taker.left(9));
-        let _ = taker.take(&rt);
-    }
-    assert_eq!(rt; left, [(2, 2), (1, 2), (0, 2), (0, 1), (0, 0)]);
+    assert!(rt; (out, bell.gone(&rt), taker.event()) == (1, 2, 7) && is_emptied(&rt, &mut taker));
     Ok(())
+}
+
+fn left_of_three(gate: &ListGate) -> [u32; 3] {
+    [gate.left(0), gate.left(1), gate.left(2)]
+}
+
+// An event, and the client and the number of the line that is taken for it; 9 where there is none.
+const TAKES: [(u8, (u8, u32)); 6] = [
+    (5, (0, 0)),
+    (5, (0, 1)),
+    (6, (1, 0)),
+    (5, (2, 0)),
+    (5, (9, 9)),
+    (7, (9, 9)),
+];
+
+fn gives_all(gate: &mut ListGate) -> bool {
+    for (event, wanted) in TAKES {
+        let came = match gate.take(event) {
+            Some(line) => (line.client, line.seq),
+            None => (9, 9),
+        };
+        if came != wanted {
+            return false;
+        }
+    }
+    true
+}
+
+fn list_gate(alloc: Global) -> Result<ListGate, NoMemory> {
+    let posts = [line(0, 0), line(1, 0), line(0, 1), line(2, 0)];
+    ListGate::new(alloc, &[5, 6, 5], &posts)
 }
 
 #[test]
 fn a_gate_gives_each_event_its_lines_in_order(rt: HostRuntime) -> Result<(), Fail> {
-    let posts = [line(0, 0), line(1, 0), line(0, 1), line(2, 0)];
-    let mut gate = ListGate::new(rt.alloc(), &[5, 6, 5], &posts).map_err(|_| "no memory")?;
-    let before = (gate.left(0), gate.left(1), gate.left(2));
-    let mut came = [(9u8, 9u32); 6];
-    for (place, event) in came.iter_mut().zip([5u8, 5, 6, 5, 5, 7]) {
-        if let Some(line) = gate.take(event) {
-            *place = (line.client, line.seq);
-        }
-    }
-    assert_eq!(rt; before, (2, 1, 1));
-    assert_eq!(rt; came, [(0, 0), (0, 1), (1, 0), (2, 0), (9, 9), (9, 9)]);
-    assert_eq!(rt; (gate.left(0), gate.left(1), gate.left(2)), (0, 0, 0));
+    let mut gate = list_gate(rt.alloc())?;
+    assert!(rt;
+        left_of_three(&gate) == [2, 1, 1] && gives_all(&mut gate) && left_of_three(&gate) == [0; 3]
+    );
     Ok(())
 }

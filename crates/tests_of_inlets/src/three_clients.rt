@@ -71,25 +71,29 @@ fn drain<'s, R: Wait>(rt: &R, outside: &mut Outside<'s>, tally: &mut Tally)
     }
 }
 
-// What the inlets say in the end: of each its event, and how many lines of its clients are left; 9 where a pass is missing.
-fn last_words(inlets: &[AnyInlet]) -> [(u8, u32); 2] {
-    let mut words = [(0u8, 9u32); 2];
-    for (word, inlet) in words.iter_mut().zip(inlets) {
-        let left = inlet
-            .left(0)
-            .saturating_add(inlet.left(1))
-            .saturating_add(inlet.left(2));
-        *word = (inlet.event(), if inlet.told() { left } else { 9 });
+// What an inlet says in the end: its event, and how many lines of its clients are left; 9 where a pass is missing.
+fn last_word(inlet: &AnyInlet) -> (u8, u32) {
+    if !inlet.told() {
+        return (inlet.event(), 9);
     }
-    words
+    let mut left = 0u32;
+    for client in 0..3 {
+        left = left.saturating_add(inlet.left(client));
+    }
+    (inlet.event(), left)
 }
 
-// What came of it, whether all was posted, and what the inlets said.
+// Whether there is an inlet for each event, and no line is left.
+fn are_empty(inlets: &[AnyInlet]) -> bool {
+    inlets.len() == 2 && last_word(&inlets[0]) == (5, 0) && last_word(&inlets[1]) == (7, 0)
+}
+
+// What came of it, whether all was posted, and whether nothing was left.
 #[derive(Drop)]
 struct Harvest {
     tally: Tally,
     all: bool,
-    words: [(u8, u32); 2],
+    empty: bool,
 }
 
 // Lines are taken until all clients have left the bell, and the rest when their threads have ended.
@@ -110,8 +114,8 @@ fn take_beside<'s, R: Threads + Wait>(rt: &R, outside: &mut Outside<'s>, bell: &
     let first = outside.close(rt);
     drain(rt, outside, &mut tally);
     let all = outside.close(rt) && first;
-    let words = last_words(&outside.inlets);
-    Harvest { tally, all, words }
+    let empty = are_empty(&outside.inlets);
+    Harvest { tally, all, empty }
 }
 
 fn start_and_take<'s, E, R: Threads + Wait + Sync>(
@@ -170,13 +174,18 @@ fn three_texts(alloc: Global) -> Result<Vec<Vec<Text>>, NoMemory>
     Ok(texts)
 }
 
+fn is_whole(harvest: &Harvest) -> bool {
+    harvest.tally.counts == [300, 200, 100]
+        && harvest.tally.in_order
+        && harvest.all
+        && harvest.empty
+}
+
 #[test]
 fn each_line_comes_once_and_in_order(rt: HostRuntime) -> Result<(), Fail> {
-    let texts = three_texts(rt.alloc()).map_err(|_| "no memory")?;
+    let texts = three_texts(rt.alloc())?;
     let strange = AtomicCell::new(false);
-    let harvest = run_three(&rt, rt.alloc(), &texts, &strange).map_err(|_| "no memory")?;
-    assert_eq!(rt; harvest.tally.counts, [300, 200, 100]);
-    assert!(rt; harvest.tally.in_order && harvest.all && !strange.load());
-    assert_eq!(rt; harvest.words, [(5, 0), (7, 0)]);
+    let harvest = run_three(&rt, rt.alloc(), &texts, &strange)?;
+    assert!(rt; is_whole(&harvest) && !strange.load());
     Ok(())
 }

@@ -1,79 +1,101 @@
 use stale_ids::Registry;
-use std::test::Fail;
+use std::alloc::Global;
 
-#[test]
-fn an_old_number_never_finds_who_took_the_slot(rt: HostRuntime) -> Result<(), Fail> {
-    let mut registry: Registry<u8> = Registry::new(rt.alloc(), 9);
-    registry.reserve(2).ok().ok_or("memory")?;
-    assert_eq!(rt; registry.insert(10), Ok(0));
-    assert_eq!(rt; registry.insert(11), Ok(1));
-    assert_eq!(rt; registry.remove(0), Some(10));
-    assert_eq!(rt; registry.insert(12), Ok(2));
-    assert!(rt; !registry.is_live(0) && registry.is_live(2));
-    assert_eq!(rt; registry.get(0).copied(), None);
-    assert!(rt; registry.get_mut(0).is_none());
-    assert_eq!(rt; registry.remove(0), None);
-    assert_eq!(rt; registry.get(2).copied(), Some(12));
-    assert_eq!(rt; registry.births(), 3);
-    Ok(())
+// Gives the next number to a value, if there is room.
+fn inserts(registry: &mut Registry<u64>, value: u64) -> Option<u64> {
+    if registry.reserve(3).is_err() || registry.len() >= 3 {
+        return None;
+    }
+    registry.insert(value).ok()
 }
 
-#[test]
-fn the_living_stand_in_the_order_of_their_births(rt: HostRuntime) -> Result<(), Fail> {
-    let mut registry: Registry<u8> = Registry::new(rt.alloc(), 9);
-    registry.reserve(3).ok().ok_or("memory")?;
-    assert_eq!(rt; registry.insert(10), Ok(0));
-    assert_eq!(rt; registry.insert(11), Ok(1));
-    assert_eq!(rt; registry.insert(12), Ok(2));
-    assert_eq!(rt; registry.remove(1), Some(11));
-    assert_eq!(rt; registry.insert(13), Ok(3));
-    assert_eq!(rt; registry.len(), 3);
-    assert_eq!(rt; registry.nth(0), 0);
-    assert_eq!(rt; registry.nth(1), 2);
-    assert_eq!(rt; registry.nth(2), 3);
-    Ok(())
+// Writes 10 more, and answers what was written before.
+fn raises(registry: &mut Registry<u64>, number: u64) -> Option<u64> {
+    let value = registry.get_mut(number)?;
+    let before = *value;
+    *value = before.wrapping_add(10);
+    Some(before)
 }
 
-#[test]
-fn after_the_last_birth_the_value_comes_back(rt: HostRuntime) -> Result<(), Fail> {
-    let mut registry: Registry<u8> = Registry::new(rt.alloc(), 2);
-    registry.reserve(3).ok().ok_or("memory")?;
-    assert_eq!(rt; registry.insert(10), Ok(0));
-    assert_eq!(rt; registry.insert(11), Ok(1));
-    assert_eq!(rt; registry.insert(12), Err(12));
-    assert_eq!(rt; registry.births(), 2);
+// The number in a place, in the order of births.
+fn number_at(registry: &Registry<u64>, place: usize) -> Option<u64> {
+    if place < registry.len() {
+        Some(registry.nth(place))
+    } else {
+        None
+    }
+}
+
+// `i` insert, `r` remove, `g` get, `w` write 10 more, `n` the number in a place, `b` how many were born.
+fn answers(registry: &mut Registry<u64>, letter: u8, number: u64) -> Option<u64> {
+    match letter {
+        b'i' => inserts(registry, number),
+        b'r' => registry.remove(number),
+        b'g' => registry.get(number).copied(),
+        b'w' => raises(registry, number),
+        b'n' => number_at(registry, number as usize),
+        _ => Some(registry.births()),
+    }
+}
+
+// A call by its letter, the number or the value that it is given, and what it answers.
+const STEPS: [(u8, u64, Option<u64>); 17] = [
+    (b'i', 10, Some(0)),
+    (b'i', 11, Some(1)),
+    (b'r', 0, Some(10)),
+    // The slot is taken, and the number isn't.
+    (b'i', 12, Some(2)),
+    (b'g', 0, None),
+    (b'w', 0, None),
+    (b'r', 0, None),
+    (b'w', 2, Some(12)),
+    (b'g', 2, Some(22)),
+    (b'g', 1, Some(11)),
+    (b'n', 0, Some(1)),
+    (b'n', 1, Some(2)),
+    (b'i', 13, Some(3)),
+    (b'b', 0, Some(4)),
     // A death makes room, but no birth.
-    assert_eq!(rt; registry.remove(0), Some(10));
-    assert_eq!(rt; registry.insert(13), Err(13));
-    assert_eq!(rt; registry.len(), 1);
-    Ok(())
+    (b'r', 1, Some(11)),
+    (b'i', 14, None),
+    (b'n', 1, Some(3)),
+];
+
+fn does_all(registry: &mut Registry<u64>) -> bool {
+    for (letter, number, wanted) in STEPS {
+        if answers(registry, letter, number) != wanted {
+            return false;
+        }
+    }
+    registry.is_live(3) && !registry.is_live(1)
 }
 
 #[test]
-fn what_is_written_stays_written(rt: HostRuntime) -> Result<(), Fail> {
-    let mut registry: Registry<u8> = Registry::new(rt.alloc(), 9);
-    registry.reserve(2).ok().ok_or("memory")?;
-    assert_eq!(rt; registry.insert(10), Ok(0));
-    assert_eq!(rt; registry.insert(11), Ok(1));
-    *registry.get_mut(1).ok_or("live")? = 21;
-    assert_eq!(rt; registry.get(0).copied(), Some(10));
-    assert_eq!(rt; registry.remove(1), Some(21));
-    Ok(())
+fn an_old_number_never_finds_who_took_the_slot(rt: HostRuntime) {
+    let mut registry = Registry::new(rt.alloc(), 4);
+    assert!(rt; does_all(&mut registry));
 }
 
-#[test]
-fn with_ample_memory_places_are_given(rt: HostRuntime) -> Result<(), Fail> {
-    let mut registry: Registry<Vec<u8>> = Registry::new(rt.alloc(), 1000);
-    assert!(rt; registry.reserve(0).is_ok());
-    for n in 1..=200 {
-        registry.reserve(n).ok().ok_or("memory")?;
-        if registry.len() < n {
-            let value = Vec::new(rt.alloc());
-            registry.insert(value).ok().ok_or("a birth")?;
+// Makes place for one more, and fills it.
+fn grows(registry: &mut Registry<Vec<u8>>, alloc: Global, n: usize) -> bool {
+    if registry.reserve(n).is_err() || registry.len() >= n {
+        return false;
+    }
+    registry.insert(Vec::new(alloc)).is_ok()
+}
+
+fn grows_to(registry: &mut Registry<Vec<u8>>, alloc: Global, most: usize) -> bool {
+    for n in 1..=most {
+        if !grows(registry, alloc, n) {
+            return false;
         }
     }
     // Fewer places are there already.
-    assert!(rt; registry.reserve(7).is_ok());
-    assert_eq!(rt; registry.len(), 200);
-    Ok(())
+    registry.reserve(7).is_ok() && registry.len() == most
+}
+
+#[test]
+fn with_ample_memory_places_are_given(rt: HostRuntime) {
+    let mut registry = Registry::new(rt.alloc(), 1000);
+    assert!(rt; grows_to(&mut registry, rt.alloc(), 200));
 }

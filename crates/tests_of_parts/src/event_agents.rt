@@ -1,6 +1,8 @@
+ghost use Rattle.std.specs.Prelude.{◌≡◌};
+ghost use Rattle.agents.specs.Roster.{no_agents};
+
 use agents::Agents;
 use lwp_types::Tid;
-use std::test::Fail;
 
 const OWNER: Tid = Tid { number: 0 };
 
@@ -12,41 +14,50 @@ const B: Tid = Tid { number: 4 };
 
 const C: Tid = Tid { number: 7 };
 
-#[test]
-fn an_agent_holds_a_message_until_the_reply(rt: HostRuntime) -> Result<(), Fail> {
-    let mut agents = Agents::new(rt.alloc());
-    agents.reserve(2).map_err(|_| "no memory")?;
-    agents.create(A, 5, OWNER);
+fn lists_three(agents: &Agents) -> bool {
+    let Ok(list) = agents.list() else {
+        return false;
+    };
+    list.len() == 3 && (list.get(0), list.get(1), list.get(2)) == (2, 4, 7)
+}
+
+fn are_known(agents: &Agents) -> bool {
+    lists_three(agents)
+        && agents.agent_of(31) == Some(B)
+        && agents.agent_of(5).is_none()
+        && agents.owner_of(B) == Some(OTHER)
+        && agents.owner_of(OWNER).is_none()
+}
+
+fn are_armed(agents: &Agents, want: [bool; 3]) -> bool {
+    [agents.armed(9), agents.armed(31), agents.armed(6)] == want
+}
+
+// An agent holds a message until the reply; agents end one by one, or with their owner.
+fn does_all(agents: &mut Agents) -> bool
+    requires { agents.old ≡ no_agents }
+{
+    let Ok(()) = agents.reserve(4) else {
+        return false;
+    };
+    agents.create(A, 9, OWNER);
     agents.create(B, 31, OTHER);
-    assert_eq!(rt; agents.agent_of(31), Some(B));
-    assert_eq!(rt; agents.agent_of(6), None);
-    assert_eq!(rt; agents.owner_of(B), Some(OTHER));
-    assert_eq!(rt; agents.owner_of(OWNER), None);
-    assert!(rt; agents.armed(5) && agents.armed(31) && !agents.armed(6));
-    agents.hold(5);
-    assert!(rt; !agents.armed(5) && agents.armed(31));
-    agents.release(A);
-    assert!(rt; agents.armed(5) && agents.armed(31));
-    Ok(())
+    agents.create(C, 6, OWNER);
+    agents.hold(31);
+    let held = are_armed(agents, [true, false, true]) && agents.next_armed(10).is_none();
+    agents.release(B);
+    let known = are_known(agents) && are_armed(agents, [true; 3]);
+    agents.destroy(B);
+    held && known
+        && agents.next_armed(7) == Some(9)
+        && agents.forget_owner(OTHER).is_none()
+        && agents.forget_owner(OWNER) == Some(A)
+        && agents.forget_owner(OWNER) == Some(C)
+        && agents.forget_owner(OWNER).is_none()
 }
 
 #[test]
-fn agents_end_one_by_one_or_with_their_owner(rt: HostRuntime) -> Result<(), Fail> {
+fn an_agent_holds_a_message_until_the_reply(rt: HostRuntime) {
     let mut agents = Agents::new(rt.alloc());
-    agents.reserve(4).map_err(|_| "no memory")?;
-    agents.create(A, 9, OWNER);
-    agents.create(B, 3, OTHER);
-    agents.create(C, 6, OWNER);
-    let list = agents.list().map_err(|_| "no memory")?;
-    assert_eq!(rt; list.len(), 3);
-    if list.len() == 3 {
-        assert_eq!(rt; (list.get(0), list.get(1), list.get(2)), (2, 4, 7));
-    }
-    agents.destroy(B);
-    assert_eq!(rt; agents.agent_of(3), None);
-    assert_eq!(rt; agents.forget_owner(OTHER), None);
-    assert_eq!(rt; agents.forget_owner(OWNER), Some(A));
-    assert_eq!(rt; agents.forget_owner(OWNER), Some(C));
-    assert_eq!(rt; agents.forget_owner(OWNER), None);
-    Ok(())
+    assert!(rt; does_all(&mut agents));
 }

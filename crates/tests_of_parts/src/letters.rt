@@ -1,8 +1,8 @@
 ghost use Rattle.std.specs.Prelude.{◌≡◌, false};
+ghost use Rattle.rendezvous.specs.Mailbag.{empty_mail};
 
 use lwp_types::{Letter, LwpErr, Text, Tid};
 use rendezvous::Mail;
-use std::test::Fail;
 
 const A: Tid = Tid { number: 0 };
 
@@ -25,47 +25,54 @@ fn letter(from: Tid, to: Tid, text: Text) -> Letter
     }
 }
 
-#[test]
-fn letters_are_received_in_send_order_and_replied_to(rt: HostRuntime) -> Result<(), Fail> {
-    let text = Text::new(b"hello").ok_or("no text")?;
-    let mut mail = Mail::new(rt.alloc());
-    mail.reserve(3).map_err(|_| "no memory")?;
-    mail.post_letter(letter(B, D, text));
-    mail.post_letter(letter(A, D, text));
-    mail.post_letter(letter(C, A, text));
-    let first = mail.take_letter(D, None).ok_or("no letter")?;
-    assert_eq!(rt; first.from, B);
-    assert!(rt; first.received && first.text.bytes() == b"hello".as_slice());
-    assert_eq!(rt; mail.take_letter(D, None).map(|next| next.from), Some(A));
-    assert!(rt; mail.take_letter(D, None).is_none());
-    assert_eq!(rt; mail.reply(D, C, 5), Err(LwpErr::NoWait));
-    assert_eq!(rt; mail.reply(A, C, 5), Err(LwpErr::NoWait));
-    assert_eq!(rt; mail.reply(D, B, 5), Err(LwpErr::InvalidArg));
-    assert_eq!(rt; mail.reply(D, B, 4), Ok(()));
-    assert_eq!(rt; mail.reply(D, B, 4), Err(LwpErr::NoWait));
-    Ok(())
+fn lists_three(mail: &Mail) -> bool {
+    let Ok(senders) = mail.senders(D) else {
+        return false;
+    };
+    senders.len() == 3 && (senders.get(0), senders.get(1), senders.get(2)) == (2, 0, 1)
 }
 
-#[test]
-fn letters_go_with_their_senders_and_receivers(rt: HostRuntime) -> Result<(), Fail> {
-    let text = Text::new(b"").ok_or("no text")?;
-    let mut mail = Mail::new(rt.alloc());
-    mail.reserve(3).map_err(|_| "no memory")?;
+// The letter of a named sender is received, or of any.
+fn takes(mail: &mut Mail, from: Option<Tid>, wanted: Tid) -> bool {
+    let Some(letter) = mail.take_letter(D, from) else {
+        return false;
+    };
+    letter.from == wanted && letter.received && letter.text.bytes() == b"hello".as_slice()
+}
+
+fn replies(mail: &mut Mail) -> bool {
+    takes(mail, Some(A), A)
+        && takes(mail, None, C)
+        && mail.take_letter(D, Some(D)).is_none()
+        && mail.reply(D, B, 4) == Err(LwpErr::NoWait)
+        && mail.reply(D, A, 5) == Err(LwpErr::InvalidArg)
+        && mail.reply(D, A, 4) == Ok(())
+        && mail.reply(D, A, 4) == Err(LwpErr::NoWait)
+}
+
+// Three letters are received in the order of sending, and replied to; they go with their senders and receivers.
+fn does_all(mail: &mut Mail, text: Text) -> bool
+    requires { mail.old ≡ empty_mail }
+{
+    let Ok(()) = mail.reserve(3) else {
+        return false;
+    };
     mail.post_letter(letter(C, D, text));
     mail.post_letter(letter(A, D, text));
     mail.post_letter(letter(B, D, text));
-    assert_eq!(rt; mail.take_letter(D, Some(A)).map(|next| next.from), Some(A));
-    assert!(rt; mail.take_letter(D, Some(D)).is_none());
-    let senders = mail.senders(D).map_err(|_| "no memory")?;
-    assert_eq!(rt; senders.len(), 3);
-    if senders.len() == 3 {
-        assert_eq!(rt; (senders.get(0), senders.get(1), senders.get(2)), (2, 0, 1));
+    if !lists_three(mail) || !replies(mail) {
+        return false;
     }
-    mail.forget(C);
     mail.forget(D);
-    assert_eq!(rt; mail.pop_to(C), None);
-    assert_eq!(rt; mail.pop_to(D), Some(A));
-    assert_eq!(rt; mail.pop_to(D), Some(B));
-    assert_eq!(rt; mail.pop_to(D), None);
-    Ok(())
+    mail.pop_to(C).is_none()
+        && mail.pop_to(D) == Some(C)
+        && mail.pop_to(D) == Some(B)
+        && mail.pop_to(D).is_none()
+}
+
+#[test]
+fn letters_are_received_in_send_order_and_replied_to(rt: HostRuntime) {
+    let mut mail = Mail::new(rt.alloc());
+    let text = Text::new(b"hello").unwrap_or(Text::empty());
+    assert!(rt; does_all(&mut mail, text));
 }

@@ -1,33 +1,40 @@
-use chains::Chains;
-use std::test::Fail;
+ghost use Rattle.std.specs.Prelude.{◌≡◌};
+ghost use Rattle.chains.specs.Lists.{empty_lists};
 
-#[test]
-fn keys_join_and_leave(rt: HostRuntime) -> Result<(), Fail> {
-    let mut chains = Chains::new(rt.alloc(), 2).map_err(|_| "no memory")?;
-    chains.reserve(5).map_err(|_| "no memory")?;
+use chains::Chains;
+use std::alloc::Global;
+
+// Keys join and leave; more keys leave the lists as they are.
+fn does_all(chains: &mut Chains) -> bool
+    requires { chains.old ≡ empty_lists 2 }
+{
+    let Ok(()) = chains.reserve(4) else {
+        return false;
+    };
     chains.move_to_back(0, 2);
     chains.move_to_back(0, 3);
+    let Ok(()) = chains.reserve(5) else {
+        return false;
+    };
     chains.move_to_back(1, 4);
-    assert_eq!(rt; chains.first(0), Some(2));
+    let first = chains.first(0);
     // 4 leaves its list for a place between the two.
     chains.move_before(4, 3);
-    assert_eq!(rt; chains.first(1), None);
+    let none = chains.first(1);
     chains.remove(2);
-    assert_eq!(rt; chains.first(0), Some(4));
+    let second = chains.first(0);
     chains.move_to_back(0, 4);
-    assert_eq!(rt; chains.first(0), Some(3));
-    Ok(())
+    (first, none, second, chains.first(0)) == (Some(2), None, Some(4), Some(3))
+}
+
+fn is_done(alloc: Global) -> bool {
+    let Ok(mut chains) = Chains::new(alloc, 2) else {
+        return false;
+    };
+    does_all(&mut chains)
 }
 
 #[test]
-fn more_keys_leave_the_lists_as_they_are(rt: HostRuntime) -> Result<(), Fail> {
-    let mut chains = Chains::new(rt.alloc(), 1).map_err(|_| "no memory")?;
-    chains.reserve(2).map_err(|_| "no memory")?;
-    chains.move_to_back(0, 1);
-    chains.reserve(4).map_err(|_| "no memory")?;
-    chains.move_to_back(0, 3);
-    assert_eq!(rt; chains.first(0), Some(1));
-    chains.remove(1);
-    assert_eq!(rt; chains.first(0), Some(3));
-    Ok(())
+fn keys_join_and_leave(rt: HostRuntime) {
+    assert!(rt; is_done(rt.alloc()));
 }

@@ -1,6 +1,9 @@
-use lwp_types::{IdList, Tid};
+ghost use Rattle.std.specs.Prelude.{◌≡◌};
+ghost use Rattle.monitors.specs.MonitorTable.{empty_table};
+
+use lwp_types::{IdList, Mid, NoMemory, Tid};
 use monitors::Monitors;
-use std::test::Fail;
+use std::alloc::Global;
 
 const A: Tid = Tid { number: 1 };
 
@@ -8,60 +11,78 @@ const B: Tid = Tid { number: 2 };
 
 const C: Tid = Tid { number: 3 };
 
-fn holds(ids: &IdList, wanted: &[u64]) -> bool {
-    ids.len() == wanted.len() && (0..ids.len()).all(|i| ids.get(i) == wanted[i])
+const FIRST: Mid = Mid { number: 0 };
+
+const SECOND: Mid = Mid { number: 1 };
+
+fn holds(ids: Result<IdList, NoMemory>, first: u64, second: u64) -> bool {
+    let Ok(ids) = ids else {
+        return false;
+    };
+    ids.len() == 2 && ids.get(0) == first && ids.get(1) == second
 }
 
-#[test]
-fn the_greatest_priority_enters_next(rt: HostRuntime) -> Result<(), Fail> {
-    let mut mons = Monitors::new(rt.alloc(), 10);
-    mons.reserve(2).ok().ok_or("memory")?;
-    let mon = mons.create().ok().ok_or("memory")?.ok_or("a monitor")?;
-    assert_eq!(rt; mons.enter(mon, A), 0);
+// The greatest priority enters next, and at the depth that it asks for.
+fn enters(mons: &mut Monitors) -> bool
+    requires { mons.old ≡ empty_table 10 }
+{
+    let Ok(()) = mons.reserve(2) else {
+        return false;
+    };
+    let Ok(Some(mon)) = mons.create() else {
+        return false;
+    };
+    mons.enter(mon, A);
     mons.request(mon, B, 1, 1);
     mons.request(mon, C, 1, 3);
-    assert!(rt; holds(&mons.waiters(mon).ok().ok_or("memory")?, &[2, 3]));
     mons.requeue(C, 2);
-    assert!(rt; mons.exit(mon, A) == Some(C));
-    assert_eq!(rt; mons.depth(mon), 3);
-    assert!(rt; mons.owner(mon) == Some(C));
-    Ok(())
-}
-
-#[test]
-fn what_is_given_up_is_granted(rt: HostRuntime) -> Result<(), Fail> {
-    let mut mons = Monitors::new(rt.alloc(), 10);
-    mons.reserve(2).ok().ok_or("memory")?;
-    let mon = mons.create().ok().ok_or("memory")?.ok_or("a monitor")?;
-    assert_eq!(rt; mons.enter(mon, A), 0);
-    mons.request(mon, B, 1, 1);
+    let waiting = holds(mons.waiters(mon), 2, 3);
+    let next = mons.exit(mon, A);
+    let depth = mons.depth(mon);
+    let owner = mons.owner(mon);
     mons.forget(B);
-    assert_eq!(rt; mons.give_up(mon, A), 1);
-    assert!(rt; mons.grant(mon).is_none());
-    assert!(rt; mons.release_last(A).is_none());
-    Ok(())
+    let before = mons.give_up(mon, C);
+    waiting
+        && next == Some(C)
+        && (depth, before) == (3, 3)
+        && owner == Some(C)
+        && mons.grant(mon).is_none()
+}
+
+// The last acquired goes first, and a destroyed one isn't live.
+fn releases(mons: &mut Monitors) -> bool
+    requires { mons.old ≡ empty_table 10 }
+{
+    let Ok(Some(_)) = mons.create() else {
+        return false;
+    };
+    let Ok(Some(_)) = mons.create() else {
+        return false;
+    };
+    mons.enter(SECOND, A);
+    mons.enter(FIRST, A);
+    let last = mons.last_held(A);
+    let next = mons.break_lock(FIRST);
+    let listed = holds(mons.list(), 0, 1);
+    mons.destroy(FIRST);
+    listed
+        && last == Some(FIRST)
+        && next.is_none()
+        && !mons.is_live(FIRST)
+        && mons.release_last(A) == Some((SECOND, None))
+        && mons.release_last(A).is_none()
+}
+
+fn is_done(alloc: Global) -> bool {
+    let mut mons = Monitors::new(alloc, 10);
+    if !enters(&mut mons) {
+        return false;
+    }
+    mons = Monitors::new(alloc, 10);
+    releases(&mut mons)
 }
 
 #[test]
-fn the_last_acquired_goes_first(rt: HostRuntime) -> Result<(), Fail> {
-    let mut mons = Monitors::new(rt.alloc(), 10);
-    let first = mons.create().ok().ok_or("memory")?.ok_or("a monitor")?;
-    let second = mons.create().ok().ok_or("memory")?.ok_or("a monitor")?;
-    assert!(rt; holds(&mons.list().ok().ok_or("memory")?, &[0, 1]));
-    assert_eq!(rt; mons.enter(second, A), 0);
-    assert_eq!(rt; mons.enter(first, A), 0);
-    assert!(rt; mons.last_held(A) == Some(first));
-    assert!(rt; mons.break_lock(first).is_none());
-    assert!(rt; mons.release_last(A) == Some((second, None)));
-    Ok(())
-}
-
-#[test]
-fn the_destroyed_is_not_live(rt: HostRuntime) -> Result<(), Fail> {
-    let mut mons = Monitors::new(rt.alloc(), 10);
-    let mon = mons.create().ok().ok_or("memory")?.ok_or("a monitor")?;
-    assert!(rt; mons.is_live(mon));
-    mons.destroy(mon);
-    assert!(rt; !mons.is_live(mon));
-    Ok(())
+fn the_greatest_priority_enters_next_and_the_last_acquired_goes_first(rt: HostRuntime) {
+    assert!(rt; is_done(rt.alloc()));
 }

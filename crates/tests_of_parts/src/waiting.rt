@@ -1,49 +1,73 @@
 ghost use Rattle.std.specs.Prelude.{◌≡◌};
+ghost use Rattle.waiting_list.specs.Line.{empty_line};
 
-use lwp_types::{IdList, Tid};
-use std::test::Fail;
+use lwp_types::Tid;
 use waiting_list::{Waiting, WaitingList};
 
-fn waiting(what: u64, thread: u64, prio: u32) -> Waiting
-    ensures { result ≡ record { what = what; tid = thread; prio = prio; depth = 1 } }
+const A: Tid = Tid { number: 1 };
+
+const B: Tid = Tid { number: 2 };
+
+const C: Tid = Tid { number: 3 };
+
+const D: Tid = Tid { number: 4 };
+
+fn waiting(what: u64, tid: Tid, prio: u32) -> Waiting
+    ensures { result ≡ record { what = what; tid = tid; prio = prio; depth = 1 } }
 {
     Waiting {
         what,
-        tid: Tid { number: thread },
+        tid,
         prio,
         depth: 1,
     }
 }
 
-fn is_of(found: Option<Waiting>, thread: u64) -> bool {
-    found.is_some_and(|next| next.tid.number == thread)
+// Whose waits are found first and best for a thing, 0 where there is none.
+fn found(line: &WaitingList, what: u64) -> (u64, u64) {
+    (
+        line.first(what).map_or(0, |next| next.tid.number),
+        line.best(what).map_or(0, |next| next.tid.number),
+    )
 }
 
-fn holds(ids: &IdList, wanted: &[u64]) -> bool {
-    ids.len() == wanted.len() && (0..ids.len()).all(|i| ids.get(i) == wanted[i])
+fn knows(line: &WaitingList) -> bool {
+    let Ok(ids) = line.tids(7) else {
+        return false;
+    };
+    ids.len() == 3
+        && (ids.get(0), ids.get(1), ids.get(2)) == (1, 3, 4)
+        && line.has(8)
+        && line.found(7, D).is_some()
+        && line.found(8, D).is_none()
+}
+
+// The first of the greatest priority is best.
+fn does_all(line: &mut WaitingList) -> bool
+    requires { line.old ≡ empty_line }
+{
+    let Ok(()) = line.reserve(4) else {
+        return false;
+    };
+    line.join(waiting(7, A, 3));
+    line.join(waiting(8, B, 9));
+    line.join(waiting(7, C, 5));
+    line.join(waiting(7, D, 5));
+    let before = found(line, 7);
+    let known = knows(line);
+    line.set_prio(A, 5);
+    let raised = found(line, 7);
+    line.leave(A);
+    line.set_prio(C, 4);
+    line.leave(B);
+    known
+        && (before, raised, found(line, 7)) == ((1, 3), (1, 1), (3, 4))
+        && found(line, 8) == (0, 0)
+        && !line.has(8)
 }
 
 #[test]
-fn the_first_of_the_greatest_priority(rt: HostRuntime) -> Result<(), Fail> {
+fn the_first_of_the_greatest_priority_is_best(rt: HostRuntime) {
     let mut line = WaitingList::new(rt.alloc());
-    line.reserve(4).ok().ok_or("memory")?;
-    line.join(waiting(7, 1, 3));
-    line.join(waiting(8, 2, 9));
-    line.join(waiting(7, 3, 5));
-    line.join(waiting(7, 4, 5));
-    assert!(rt;
-        is_of(line.best(7), 3)
-            && is_of(line.first(7), 1)
-            && is_of(line.found(7, Tid { number: 4 }), 4)
-    );
-    assert!(rt; line.has(8) && !line.has(9) && line.found(8, Tid { number: 4 }).is_none());
-    line.set_prio(Tid { number: 1 }, 5);
-    assert!(rt; is_of(line.best(7), 1));
-    line.leave(Tid { number: 1 });
-    line.set_prio(Tid { number: 3 }, 4);
-    assert!(rt; is_of(line.best(7), 4));
-    line.leave(Tid { number: 2 });
-    assert!(rt; !line.has(8) && line.best(8).is_none());
-    assert!(rt; holds(&line.tids(7).ok().ok_or("memory")?, &[3, 4]));
-    Ok(())
+    assert!(rt; does_all(&mut line));
 }

@@ -1,85 +1,80 @@
 ghost use Rattle.std.specs.Prelude.{◌≡◌};
+ghost use Rattle.conditions.specs.ConditionTable.{empty_table};
 
 use conditions::{Conds, WaitRec};
-use lwp_types::{Cid, IdList, Mid, Tid};
-use std::test::Fail;
+use lwp_types::{Cid, IdList, Mid, NoMemory, Tid};
 
 const MON: Mid = Mid { number: 7 };
 
-fn wait_on(cond: Cid, thread: u64) -> WaitRec
-    ensures { result ≡ record { cond = cond; tid = thread; prio = 1; depth = 2 } }
+const A: Tid = Tid { number: 1 };
+
+const B: Tid = Tid { number: 2 };
+
+const C: Tid = Tid { number: 3 };
+
+const FIRST: Cid = Cid { number: 0 };
+
+fn wait_on(cond: Cid, tid: Tid) -> WaitRec
+    ensures { result ≡ record { cond = cond; tid = tid; prio = 1; depth = 2 } }
 {
     WaitRec {
         cond,
-        tid: Tid { number: thread },
+        tid,
         prio: 1,
         depth: 2,
     }
 }
 
-fn is_of(wait: Option<WaitRec>, thread: u64) -> bool {
-    wait.is_some_and(|w| w.tid.number == thread)
+fn is_of(wait: Option<WaitRec>, tid: Tid) -> bool {
+    wait.is_some_and(|wait| wait.tid == tid)
 }
 
-fn holds(ids: &IdList, wanted: &[u64]) -> bool {
+fn holds(ids: Result<IdList, NoMemory>, wanted: &[u64]) -> bool {
+    let Ok(ids) = ids else {
+        return false;
+    };
     ids.len() == wanted.len() && (0..ids.len()).all(|i| ids.get(i) == wanted[i])
 }
 
-#[test]
-fn the_greatest_priority_is_notified(rt: HostRuntime) -> Result<(), Fail> {
-    let mut conds = Conds::new(rt.alloc(), 10);
-    conds.reserve(2).ok().ok_or("memory")?;
-    let cond = conds
-        .create(MON)
-        .ok()
-        .ok_or("memory")?
-        .ok_or("a condition")?;
-    conds.wait(wait_on(cond, 1));
-    conds.wait(wait_on(cond, 2));
-    conds.requeue(Tid { number: 2 }, 3);
-    assert!(rt; conds.waited(cond) && conds.waited_of(MON));
-    assert!(rt; holds(&conds.waiters(cond).ok().ok_or("memory")?, &[1, 2]));
-    assert!(rt; is_of(conds.notify(cond), 2));
-    assert!(rt; is_of(conds.broadcast(cond), 1));
-    assert!(rt; conds.broadcast(cond).is_none());
-    Ok(())
-}
-
-#[test]
-fn one_thread_is_woken(rt: HostRuntime) -> Result<(), Fail> {
-    let mut conds = Conds::new(rt.alloc(), 10);
-    conds.reserve(2).ok().ok_or("memory")?;
-    let cond = conds
-        .create(MON)
-        .ok()
-        .ok_or("memory")?
-        .ok_or("a condition")?;
-    conds.wait(wait_on(cond, 1));
-    conds.wait(wait_on(cond, 2));
-    conds.forget(Tid { number: 1 });
-    assert!(rt; conds.send_to(cond, Tid { number: 1 }).is_none());
-    assert!(rt; is_of(conds.send_to(cond, Tid { number: 2 }), 2));
-    Ok(())
-}
-
-#[test]
-fn a_monitor_takes_its_conditions_with_it(rt: HostRuntime) -> Result<(), Fail> {
-    let mut conds = Conds::new(rt.alloc(), 10);
-    let first = conds
-        .create(MON)
-        .ok()
-        .ok_or("memory")?
-        .ok_or("a condition")?;
-    let second = conds
-        .create(MON)
-        .ok()
-        .ok_or("memory")?
-        .ok_or("a condition")?;
-    assert!(rt; holds(&conds.list().ok().ok_or("memory")?, &[0, 1]));
-    assert!(rt; conds.monitor_of(first) == Some(MON));
-    conds.destroy(first);
-    assert!(rt; conds.monitor_of(first).is_none());
+// The greatest priority is notified; then one thread is woken, and the last of all; the monitor takes its conditions with it.
+fn does_all(conds: &mut Conds) -> bool
+    requires { conds.old ≡ empty_table 10 }
+{
+    let Ok(()) = conds.reserve(4) else {
+        return false;
+    };
+    let Ok(Some(_)) = conds.create(MON) else {
+        return false;
+    };
+    let Ok(Some(second)) = conds.create(MON) else {
+        return false;
+    };
+    conds.wait(wait_on(FIRST, A));
+    conds.wait(wait_on(FIRST, B));
+    conds.wait(wait_on(FIRST, C));
+    conds.requeue(B, 3);
+    let waited = conds.waited(FIRST) && conds.waited_of(MON);
+    let listed = holds(conds.waiters(FIRST), &[1, 2, 3]) && holds(conds.list(), &[0, 1]);
+    let notified = is_of(conds.notify(FIRST), B);
+    let sent = is_of(conds.send_to(FIRST, C), C) && conds.send_to(FIRST, C).is_none();
+    conds.forget(B);
+    let woken = is_of(conds.broadcast(FIRST), A);
+    let last = conds.broadcast(FIRST).is_none();
+    let known = conds.monitor_of(second) == Some(MON);
+    conds.destroy(second);
     conds.destroy_of(MON);
-    assert!(rt; conds.monitor_of(second).is_none());
-    Ok(())
+    waited
+        && listed
+        && notified
+        && sent
+        && woken
+        && last
+        && known
+        && conds.monitor_of(FIRST).is_none()
+}
+
+#[test]
+fn the_greatest_priority_is_notified(rt: HostRuntime) {
+    let mut conds = Conds::new(rt.alloc(), 10);
+    assert!(rt; does_all(&mut conds));
 }

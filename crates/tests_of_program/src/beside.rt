@@ -127,9 +127,9 @@ fn a_line_is_posted_once_the_one_before_it_has_its_reply(rt: HostRuntime) -> Res
     Ok(())
 }
 
-// The pod is never idle before its line has come.
+// The pod is never idle before its line has come. Two clients have one event, so their lines come over a port.
 const BUSY: &[u8] =
-    b"lwp 1\npod 1\nclient 0 5\nproc main\nagent g 5\ncall loop\nreply g ok\nproc loop\nrecv g poll\nskip ok\nagain\npost 0 one\npost 0 two\n";
+    b"lwp 1\npod 1\nclient 0 5\nclient 1 5\nproc main\nagent g 5\ncall loop\nreply g ok\nproc loop\nrecv g poll\nskip ok\nagain\npost 0 one\npost 0 two\n";
 
 #[test]
 fn a_line_is_taken_while_the_pod_is_busy(rt: HostRuntime) -> Result<(), Fail> {

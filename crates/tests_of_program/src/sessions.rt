@@ -1,12 +1,7 @@
-ghost use Rattle.std.specs.Prelude.{◌≤◌};
-
-use lwp_serve::{SessionEnd, fault_text, make_main, no_gates, plan_main, top};
+use lwp_serve::{Session, SessionEnd, fault_text, make_main, plan_main};
 use lwp_types::{MemSink, MemSource, NoMemory};
-use script_text::Reason;
 use std::alloc::Global;
-use std::sync::Wait;
 use std::test::Fail;
-use std::thread::Threads;
 
 const SCRIPT: &[u8] =
     b"lwp 1\npod 1\nclient 0 5\nproc main\nagent g 5\nrecv g wait\nreply g ok\npost 0 hi\n";
@@ -23,20 +18,7 @@ struct Outcome {
     written: Vec<u8>,
 }
 
-// A plan of so many calls at most, with reads and writes that fail.
-fn plan(
-    alloc: Global,
-    script: &[u8],
-    turns: u64,
-    reads: Vec<u32>,
-    writes: Vec<u32>,
-) -> Result<Outcome, NoMemory>
-    requires least { 1 ≤ turns }
-    requires most { turns ≤ 1000000 }
-{
-    let mut source = MemSource::new(script.to_vec(alloc)?, reads);
-    let mut sink = MemSink::new(alloc, 4096, 4, writes)?;
-    let session = plan_main(alloc, turns, &mut source, &mut sink);
+fn outcome_of(alloc: Global, session: &Session, sink: &MemSink) -> Result<Outcome, NoMemory> {
     Ok(Outcome {
         status: session.status,
         turns: session.turns,
@@ -45,23 +27,17 @@ fn plan(
     })
 }
 
-// The same, where nothing fails.
-fn plain(alloc: Global, script: &[u8], turns: u64) -> Result<Outcome, NoMemory>
-    requires least { 1 ≤ turns }
-    requires most { turns ≤ 1000000 }
-{
-    plan(alloc, script, turns, Vec::new(alloc), Vec::new(alloc))
+// A plan, with reads and writes that fail.
+fn plan(alloc: Global, reads: Vec<u32>, writes: Vec<u32>) -> Result<Outcome, NoMemory> {
+    let mut source = MemSource::new(SCRIPT.to_vec(alloc)?, reads);
+    // It takes four bytes at most at a time.
+    let mut sink = MemSink::new(alloc, 4096, 4, writes)?;
+    let session = plan_main(alloc, 100_000, &mut source, &mut sink);
+    outcome_of(alloc, &session, &sink)
 }
 
 fn is(outcome: &Outcome, status: u8, turns: u64, written: &[u8]) -> bool {
     outcome.status == status && outcome.turns == turns && outcome.written.as_slice() == written
-}
-
-#[test]
-fn a_script_is_run_to_its_end(rt: HostRuntime) -> Result<(), Fail> {
-    let outcome = plain(rt.alloc(), SCRIPT, 100_000)?;
-    assert!(rt; is(&outcome, 0, 4, TRACE));
-    Ok(())
 }
 
 #[test]
@@ -73,13 +49,7 @@ fn a_read_that_fails_leaves_all_unwritten(rt: HostRuntime) -> Result<(), Fail> {
         (1, 101, 0, b""),
         (2, 0, 4, TRACE),
     ] {
-        let outcome = plan(
-            alloc,
-            SCRIPT,
-            100_000,
-            vec![in alloc; fails]?,
-            Vec::new(alloc),
-        )?;
+        let outcome = plan(alloc, vec![in alloc; fails]?, Vec::new(alloc))?;
         assert!(rt; is(&outcome, status, turns, written));
     }
     Ok(())
@@ -96,152 +66,71 @@ fn takes_by(written: usize) -> usize {
     usize::from(written >= 20)
 }
 
+// Whether a first part of the trace was written, and calls and takes are told as far as it goes.
+fn is_part(outcome: &Outcome) -> bool {
+    let written = outcome.written.len();
+    outcome.status == 102
+        && outcome.turns == calls_by(written)
+        && outcome.taken == takes_by(written)
+        && written < TRACE.len()
+        && TRACE.starts_with(outcome.written.as_slice())
+}
+
 #[test]
 fn a_write_that_fails_leaves_a_first_part(rt: HostRuntime) -> Result<(), Fail> {
     let alloc = rt.alloc();
-    let third = plan(alloc, SCRIPT, 100_000, Vec::new(alloc), vec![in alloc; 2]?)?;
-    assert!(rt; is(&third, 102, 1, b"t0: agen"));
     for fails in 0..100 {
-        let outcome = plan(
-            alloc,
-            SCRIPT,
-            100_000,
-            Vec::new(alloc),
-            vec![in alloc; fails]?,
-        )?;
+        let outcome = plan(alloc, Vec::new(alloc), vec![in alloc; fails]?)?;
         if outcome.status == 0 {
             assert!(rt; is(&outcome, 0, 4, TRACE));
             return Ok(());
         }
-        assert_eq!(rt; outcome.status, 102);
-        assert_eq!(rt; outcome.turns, calls_by(outcome.written.len()));
-        assert_eq!(rt; outcome.taken, takes_by(outcome.written.len()));
-        assert!(rt; TRACE.starts_with(outcome.written.as_slice()));
-        assert!(rt; outcome.written.len() < TRACE.len());
+        assert!(rt; is_part(&outcome), "at {fails}");
     }
     Err("each of a hundred writes fails".into())
 }
 
-// Scripts that aren't run, and how their sessions end.
-const NOT_RUN: [(&[u8], u32, Reason); 4] = [
-    (b"", 1, Reason::Missing),
-    (b"lwp 1\npod 1\nproc main\nnonsense\n", 4, Reason::Statement),
-    (b"lwp 1\npod 1\nproc main\nproc main\n", 4, Reason::Proc),
-    (b"lwp 1\npod 1\nproc main\nsay h", 4, Reason::Unended),
-];
-
-#[test]
-fn names_the_first_bad_line(rt: HostRuntime) -> Result<(), Fail> {
-    let alloc = rt.alloc();
-    for (script, line, reason) in NOT_RUN {
-        let mut source = MemSource::new(script.to_vec(alloc)?, Vec::new(alloc));
-        let mut sink = MemSink::new(alloc, 4096, 4, Vec::new(alloc))?;
-        let session = plan_main(alloc, 100, &mut source, &mut sink);
-        assert!(rt;
-            session.end == SessionEnd::Script { line, reason },
-            "line {line}"
-        );
-        assert!(rt; sink.bytes().is_empty());
-    }
-    Ok(())
+// How a session that makes a script ends, with writes that fail: its status, how many lines were taken, and what it wrote.
+fn make(alloc: Global, writes: Vec<u32>) -> Result<Outcome, NoMemory> {
+    let mut sink = MemSink::new(alloc, 4096, 4, writes)?;
+    let session = make_main(alloc, 7, 2, 3, &mut sink);
+    outcome_of(alloc, &session, &sink)
 }
 
-// A client posts two lines, and its agent's owner receives the first and doesn't reply.
-const POSTED: &[u8] =
-    b"lwp 1\npod 1\nclient 0 5\nproc main\nagent g 5\nrecv g wait\nrecv g wait\npost 0 one\npost 0 two\n";
-
-#[test]
-fn the_lines_taken_are_told(rt: HostRuntime) -> Result<(), Fail> {
-    let alloc = rt.alloc();
-    let mut source = MemSource::new(POSTED.to_vec(alloc)?, Vec::new(alloc));
-    let mut sink = MemSink::new(alloc, 4096, 4096, Vec::new(alloc))?;
-    let session = plan_main(alloc, 100, &mut source, &mut sink);
-    if session.taken.len() != 1 {
-        return Err("one line is taken".into());
-    }
-    let taken = session.taken.get(0);
-    assert!(rt; taken.turn == 1 && taken.event == 5 && taken.client == 0 && taken.seq == 0);
-    assert!(rt; taken.text.bytes() == b"one".as_slice());
-    assert!(rt; sink.bytes().ends_with(b"stuck\nleft client 0 1\n"));
-    Ok(())
+fn is_made(made: &Outcome, status: u8, begin: &[u8], end: &[u8]) -> bool {
+    made.status == status
+        && made.taken == 8
+        && made.written.starts_with(begin)
+        && made.written.ends_with(end)
 }
 
 #[test]
 fn a_script_that_is_made_is_summed_up(rt: HostRuntime) -> Result<(), Fail> {
     let alloc = rt.alloc();
-    let mut sink = MemSink::new(alloc, 4096, 4096, Vec::new(alloc))?;
-    let session = make_main(alloc, 7, 2, 3, &mut sink);
-    assert!(rt; session.status == 0 && session.taken.len() == 8);
-    let mut lines = sink.bytes().split(|b| *b == b'\n');
-    assert!(rt; lines.next() == Some(b"script 283".as_slice()));
-    assert!(rt; lines.any(|line| line == b"taken 8 left 0".as_slice()));
-    assert!(rt; sink.bytes().ends_with(b"\nstatus 0\n"));
-    Ok(())
-}
-
-#[test]
-fn a_summary_that_is_not_written_leaves_its_session(rt: HostRuntime) -> Result<(), Fail> {
-    let alloc = rt.alloc();
-    let mut sink = MemSink::new(alloc, 4096, 4, vec![in alloc; 2]?)?;
-    let session = make_main(alloc, 7, 2, 3, &mut sink);
-    assert!(rt; session.status == 102 && session.taken.len() == 8);
-    assert!(rt; sink.bytes() == b"script 2".as_slice());
-    Ok(())
-}
-
-// The status of a session of these words.
-fn status_of_words<R: Threads + Wait + Sync>(
-    rt: &R,
-    alloc: Global,
-    words: &[&str],
-) -> Result<u8, NoMemory> {
-    let mut strings = Vec::new(alloc);
-    for word in words {
-        strings.push(word.to_string(alloc)?)?;
-    }
-    let mut source = MemSource::new(SCRIPT.to_vec(alloc)?, Vec::new(alloc));
-    let mut sink = MemSink::new(alloc, 4096, 4096, Vec::new(alloc))?;
-    let gates = no_gates(alloc)?;
-    Ok(top(rt, alloc, &strings, &mut source, &mut sink, gates).status)
-}
-
-#[test]
-fn the_words_are_a_command(rt: HostRuntime) -> Result<(), Fail> {
-    let alloc = rt.alloc();
-    for (words, status) in [
-        (["plan"].as_slice(), 0),
-        (&["plan", "4"], 0),
-        (&["plan", ""], 100),
-        (&["run"], 0),
-        (&["run", "3"], 105),
-        (&["run", "0"], 100),
-        (&["make", "7", "2", "3"], 0),
-        (&["make", "7", "0", "3"], 100),
+    for (fails, status, begin, end) in [
+        (
+            100,
+            0,
+            b"script 283\ncalls ".as_slice(),
+            b"\nstatus 0\n".as_slice(),
+        ),
+        (2, 102, b"script 2", b"script 2"),
     ] {
-        assert_eq!(rt; status_of_words(&rt, alloc, words)?, status);
+        let made = make(alloc, vec![in alloc; fails]?)?;
+        assert!(rt; is_made(&made, status, begin, end));
     }
     Ok(())
 }
 
 #[test]
 fn a_fault_is_told_on_a_line(rt: HostRuntime) -> Result<(), Fail> {
-    let alloc = rt.alloc();
-    let bad = SessionEnd::Script {
-        line: 2,
-        reason: Reason::Missing,
-    };
-    let usage = b"lwpserve: usage: run [TURNS] | plan [TURNS] | make SEED THREADS LINES\n";
     for (end, text) in [
         (SessionEnd::Ended(7), b"".as_slice()),
-        (SessionEnd::Stuck, b""),
-        (SessionEnd::Spent, b""),
-        (SessionEnd::Usage, usage),
         (SessionEnd::ReadFault, b"lwpserve: read fault\n"),
         (SessionEnd::WriteFault, b"lwpserve: write fault\n"),
         (SessionEnd::NoMemory, b"lwpserve: no memory\n"),
-        (bad, b"lwpserve: script line 2: Missing\n"),
     ] {
-        assert!(rt; fault_text(alloc, &end)?.as_slice() == text);
+        assert!(rt; fault_text(rt.alloc(), &end)?.as_slice() == text);
     }
     Ok(())
 }

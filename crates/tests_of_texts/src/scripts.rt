@@ -1,3 +1,4 @@
+use lwp_types::NoMemory;
 use script_text::*;
 use std::alloc::Global;
 use std::test::Fail;
@@ -9,31 +10,37 @@ const FIRST_RUN: &[u8] =
 const EVERY_ROW: &[u8] =
     b"lwp 1\npod 9\nlimit births 7\nclient 0 31\nclient 1 1\nnative n store\nnative s session 3 db\nproc p\ncreate a n 1 snv\ncreate b p 4294967295 -\ndestroy a\nping self\nyield first\nsuspend sender\nresume none\njoin b\nresched 0\nsetpri a 1\nsetmaxpri 1\nself\nsetexit 1\ngetexit\npodexit 0\nthreads\nsend a 240  two\nsend a 0\nrecv any poll\nrecv c wait\nreply sender\nsenders\nreceivers\nmoncreate m\ncvcreate c m\nmondestroy m\nenter m\ncondenter m\nmonexit m\nmonbreak m\nmonwaiters m\nmonitors\ncvdestroy c\nwait c\nnotify c\nbroadcast c\ncvsend c a\ncvwaiters c\nconditions\ncall q\nreturn\nhandle all - 0\nhandle 7 give 1\nhandle 8 sum 2\nunhandle\nraise 1\nexcnotify 1\nbound 1\nuniqpatt\nonexit monexit m\nonexit monbreak m\nonexit notify c\nonexit broadcast c\nonexit reply a x\nonexit resume a\nonexit setexit 1\nonexit note\nagent g 40\nagents\nsay\nsay x\nskip ok\nskip err\nskip caught\nskip is 4294967295\nagain\nproc q\npost 0 a\npost 1\npost 0  b\n";
 
-// What a script holds: how many procedures, names of procedures, texts and posted lines; or its first bad line and the reason;
-// nothing, where memory was refused.
-fn told(read: Result<Script, ReadErr>) -> (usize, usize, usize, usize, u32, Option<Reason>) {
-    match read {
-        Ok(script) => (
-            script.procs.len(),
-            script.names.procs.len(),
-            script.texts.len(),
-            script.posts.len(),
-            0,
-            None,
-        ),
-        Err(ReadErr::Bad { line, reason }) => (0, 0, 0, 0, line, Some(reason)),
-        Err(ReadErr::NoMemory) => (0, 0, 0, 0, 0, None),
-    }
+// Whether a script of so many procedures, names of procedures, texts and posted lines was read.
+fn holds(read: Result<Script, ReadErr>, wanted: [usize; 4]) -> bool {
+    let Ok(script) = read else {
+        return false;
+    };
+    [
+        script.procs.len(),
+        script.names.procs.len(),
+        script.texts.len(),
+        script.posts.len(),
+    ] == wanted
 }
 
-// Reads a text in pieces of so many bytes, the first of which has another length.
-fn in_pieces(alloc: Global, text: &[u8], first: usize, size: usize) -> Result<Script, ReadErr> {
-    let mut reader = ScriptReader::new(alloc);
+// Feeds a text in pieces of so many bytes, the first of which has another length.
+fn feed_all(
+    reader: &mut ScriptReader,
+    text: &[u8],
+    first: usize,
+    size: usize,
+) -> Result<(), ReadErr> {
     let (front, back) = text.split_at(first.min(text.len()));
     reader.feed(front)?;
     for piece in back.chunks(size.max(1)) {
         reader.feed(piece)?;
     }
+    Ok(())
+}
+
+fn in_pieces(alloc: Global, text: &[u8], first: usize, size: usize) -> Result<Script, ReadErr> {
+    let mut reader = ScriptReader::new(alloc);
+    feed_all(&mut reader, text, first, size)?;
     reader.finish()
 }
 
@@ -42,49 +49,35 @@ fn reads_the_first_run_however_it_is_cut(rt: HostRuntime) {
     for first in 0..FIRST_RUN.len() + 1 {
         for size in [1, 100] {
             let read = in_pieces(rt.alloc(), FIRST_RUN, first, size);
-            assert_eq!(rt; told(read), (2, 2, 1, 0, 0, None), "cut at {first}");
+            assert!(rt; holds(read, [2, 2, 1, 0]), "cut at {first}");
         }
     }
 }
 
-#[test]
-fn reads_every_row(rt: HostRuntime) {
-    let read = read_script(rt.alloc(), EVERY_ROW);
-    assert_eq!(rt; told(read), (2, 4, 10, 3, 0, None));
+fn is_printed_back(alloc: Global) -> Result<bool, ReadErr> {
+    let script = read_script(alloc, EVERY_ROW)?;
+    let text = print_script(alloc, &script)?;
+    Ok(text.as_slice() == EVERY_ROW && holds(Ok(script), [2, 4, 10, 3]))
 }
 
 #[test]
-fn prints_every_row_back(rt: HostRuntime) -> Result<(), Fail> {
-    let script = read_script(rt.alloc(), EVERY_ROW).ok().ok_or("a script")?;
-    let text = print_script(rt.alloc(), &script)?;
-    assert_eq!(rt; text.as_slice(), EVERY_ROW);
-    Ok(())
+fn prints_every_row_back(rt: HostRuntime) {
+    assert!(rt; matches!(is_printed_back(rt.alloc()), Ok(true)));
 }
 
-#[test]
-fn counts_bytes_before_all_else(rt: HostRuntime) -> Result<(), Fail> {
-    let mut reader = ScriptReader::new(rt.alloc());
-    let piece = [b'x'; 4096];
-    for _ in 0..4096 {
-        reader.feed(&piece)?;
+fn numbers(names: &mut NameList) -> Result<bool, NoMemory> {
+    let rows: [(&[u8], u32); 4] = [(b"b", 0), (b"a", 1), (b"b", 0), (b"c7", 2)];
+    for (name, number) in rows {
+        names.enter(name)?;
+        if names.number(name)? != number {
+            return Ok(false);
+        }
     }
-    reader.feed(b"\n")?;
-    assert_eq!(rt;
-        told(reader.finish()),
-        (0, 0, 0, 0, 0, Some(Reason::TooLarge))
-    );
-    Ok(())
+    Ok((names.len(), names.as_slice().len()) == (3, 3) && !names.contains(b"c"))
 }
 
 #[test]
 fn numbers_names_as_they_come(rt: HostRuntime) -> Result<(), Fail> {
-    let mut names = NameList::new(rt.alloc());
-    let rows: [(&[u8], u32); 4] = [(b"b", 0), (b"a", 1), (b"b", 0), (b"c7", 2)];
-    for (name, number) in rows {
-        names.enter(name)?;
-        assert_eq!(rt; names.number(name)?, number);
-    }
-    assert_eq!(rt; (names.len(), names.as_slice().len()), (3, 3));
-    assert!(rt; !names.contains(b"c"));
+    assert!(rt; numbers(&mut NameList::new(rt.alloc()))?);
     Ok(())
 }

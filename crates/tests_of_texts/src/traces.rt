@@ -1,47 +1,52 @@
-use lwp_types::{Answer, Effect, Effects, Flags, Func, LwpErr, Mode, Pattern, Tid};
+use lwp_types::{Answer, Effect, Effects, Flags, Func, LwpErr, Mode, NoMemory, Pattern, Tid};
+use std::alloc::Global;
 use std::test::Fail;
 use trace_text::*;
 
-#[test]
-fn writes_the_lines_of_a_step(rt: HostRuntime) -> Result<(), Fail> {
-    let mut effects = Effects::new(rt.alloc())?;
-    effects.push(Effect::Died {
-        tid: Tid { number: 4 },
-    });
+const FLAGS: Flags = Flags {
+    suspended: true,
+    nolastrites: false,
+    server: true,
+};
+
+fn add_words(out: &mut Vec<u8>) -> Result<(), NoMemory> {
+    add_text(out, func_word(Func::Give))?;
+    add_spaced(out, mode_word(Mode::Block))?;
+    add_number(out, 250)?;
+    add_pattern(out, Pattern::All)?;
+    add_flags(out, FLAGS)?;
+    add_text(out, b"\n")
+}
+
+// What a refusal and a death are written as.
+fn add_step(out: &mut Vec<u8>, effects: &mut Effects) -> Result<(), NoMemory> {
+    effects.clear();
     effects.push(Effect::Answered {
         tid: Tid { number: 0 },
         answer: Answer::Refused(LwpErr::NonExist),
     });
-    let mut out = Vec::new(rt.alloc());
-    add_step_lines(&mut out, &effects, None, &[])?;
-    assert_eq!(rt; out.as_slice(), b"t4 dies\nt0 ! LE_NONEXIST\n".as_slice());
-    Ok(())
+    effects.push(Effect::Died {
+        tid: Tid { number: 4 },
+    });
+    add_step_lines(out, effects, None, &[])
+}
+
+fn lines(alloc: Global) -> Result<Vec<u8>, NoMemory> {
+    let mut out = Vec::new(alloc);
+    add_words(&mut out)?;
+    add_step(&mut out, &mut Effects::new(alloc)?)?;
+    add_text(
+        &mut out,
+        &trace_line(alloc, &Effect::Ended { status: 3 }, None, &[])?,
+    )?;
+    add_text(&mut out, &end_lines(alloc, &Halt::Stuck, 9, &[0, 2])?)?;
+    Ok(out)
 }
 
 #[test]
 fn writes_lines(rt: HostRuntime) -> Result<(), Fail> {
-    let ended = trace_line(rt.alloc(), &Effect::Ended { status: 3 }, None, &[])?;
-    assert_eq!(rt; ended.as_slice(), b"pod ends 3\n".as_slice());
-    let last = end_lines(rt.alloc(), &Halt::Stuck, 9, &[0, 2])?;
-    assert_eq!(rt; last.as_slice(), b"stuck\nleft client 1 2\n".as_slice());
-    Ok(())
-}
-
-#[test]
-fn writes_words(rt: HostRuntime) -> Result<(), Fail> {
-    let mut out = Vec::new(rt.alloc());
-    add_text(&mut out, func_word(Func::Give))?;
-    add_spaced(&mut out, mode_word(Mode::Block))?;
-    add_number(&mut out, 250)?;
-    add_pattern(&mut out, Pattern::All)?;
-    add_flags(
-        &mut out,
-        Flags {
-            suspended: true,
-            nolastrites: false,
-            server: true,
-        },
-    )?;
-    assert_eq!(rt; out.as_slice(), b"give wait250allsv".as_slice());
+    let want =
+        b"give wait250allsv\nt0 ! LE_NONEXIST\nt4 dies\npod ends 3\nstuck\nleft client 1 2\n";
+    assert_eq!(rt; lines(rt.alloc())?.as_slice(), want.as_slice());
     Ok(())
 }

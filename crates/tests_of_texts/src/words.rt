@@ -1,184 +1,151 @@
+ghost use Rattle.std.specs.Prelude.{◌≡◌, []};
+
 use lwp_types::{
-    Answer, Call, Cid, Effect, Effects, Env, Failed, Family, IdList, MemSink, MemSource, Mid,
-    NULL_CID, NULL_MID, NULL_TID, PLACES, Sequence, Sink, Source, TEXT_MAX, Text, Tid, WaitCall,
+    Answer, Call, Cid, Effect, Effects, Env, Failed, MemSink, MemSource, Mid, NULL_CID, NULL_MID,
+    NULL_TID, NoMemory, PLACES, Sink, Source, TEXT_MAX, Text, Tid,
 };
+use std::alloc::Global;
 use std::test::Fail;
 
 const A: Tid = Tid { number: 4 };
 
 const B: Tid = Tid { number: 7 };
 
-#[test]
-fn a_text_keeps_its_bytes_and_has_240_printable_ones_at_most(rt: HostRuntime) -> Result<(), Fail> {
-    for bytes in [b"".as_slice(), b" ", b"~", b"to the 3rd & last"] {
-        let text = Text::new(bytes).ok_or("a text")?;
-        let copy = text;
-        assert_eq!(rt; text.bytes(), bytes);
-        assert_eq!(rt; copy.bytes(), bytes);
+const NULL: u64 = u64::MAX;
+
+fn is_kept(bytes: &[u8]) -> bool {
+    match Text::new(bytes) {
+        Some(text) => text.bytes() == bytes,
+        None => false,
     }
-    for bytes in [b"\x1f".as_slice(), b"\x7f", b"a\n", b"\xe9", b"a\0b"] {
-        assert!(rt; Text::new(bytes).is_none(), "at {bytes:?}");
-    }
-    let longest = Text::new(&[b'x'; 240]).ok_or("240 bytes")?;
-    assert_eq!(rt; longest.bytes(), [b'x'; 240].as_slice());
-    assert!(rt; Text::new(&[b'x'; 241]).is_none());
-    assert_eq!(rt; TEXT_MAX, 240);
-    Ok(())
 }
 
 #[test]
-fn a_call_belongs_to_what_it_concerns(rt: HostRuntime) {
-    let family = Call::CvWaiters {
-        cond: Cid { number: 3 },
+fn a_text_has_240_printable_bytes_at_most(rt: HostRuntime) {
+    let rows: [(&[u8], bool); 10] = [
+        (b"", true),
+        (b" ", true),
+        (b"~", true),
+        (b"to the 3rd & last", true),
+        (&[b'x'; TEXT_MAX], true),
+        (&[b'x'; 241], false),
+        (b"\x1f", false),
+        (b"\x7f", false),
+        (b"a\n", false),
+        (b"\xe9", false),
+    ];
+    for (bytes, wanted) in rows {
+        assert!(rt; is_kept(bytes) == wanted, "at {bytes:?}");
     }
-    .family();
-    assert!(rt; matches!(family, Family::Waits(WaitCall::Waiters(Cid { number: 3 }))));
 }
 
-#[test]
-fn null_ids_are_the_greatest_numbers_and_equal_no_other(rt: HostRuntime) {
-    assert_eq!(rt; NULL_TID.number, 18_446_744_073_709_551_615);
-    assert_eq!(rt; NULL_MID.number, 18_446_744_073_709_551_615);
-    assert_eq!(rt; NULL_CID.number, 18_446_744_073_709_551_615);
-    assert_ne!(rt; NULL_TID, A);
-    assert_ne!(rt; NULL_MID, Mid { number: 0 });
-    assert_ne!(rt; NULL_CID, Cid { number: 0 });
-    assert_eq!(rt; A, Tid { number: 4 });
+// Who the thread is and what the names of two threads, a monitor and the last of three conditions stand for, each with a name
+// more than there is.
+fn numbers(env: &Env) -> [u64; 7] {
+    [
+        env.me().number,
+        env.thread(1).number,
+        env.thread(2).number,
+        env.mon(0).number,
+        env.mon(1).number,
+        env.cond(2).number,
+        env.cond(3).number,
+    ]
 }
 
-#[test]
-fn lists_keep_what_was_pushed_in_order(rt: HostRuntime) -> Result<(), Fail> {
-    let mut words = Sequence::new(rt.alloc());
-    assert_eq!(rt; words.len(), 0);
-    for word in [b'c', b'a', b'c'] {
-        words.push(word)?;
-    }
-    assert_eq!(rt; words.as_slice(), b"cac".as_slice());
-    assert_eq!(rt; words.len(), 3);
-    assert_eq!(rt; *words.get(1), b'a');
-
-    let mut ids = IdList::new(rt.alloc());
-    assert_eq!(rt; ids.len(), 0);
-    for id in [9, 18_446_744_073_709_551_615, 0] {
-        ids.push(id)?;
-    }
-    assert_eq!(rt; ids.len(), 3);
-    assert_eq!(rt;
-        (ids.get(0), ids.get(1), ids.get(2)),
-        (9, 18_446_744_073_709_551_615, 0)
-    );
-    Ok(())
+fn set_all(env: &mut Env) {
+    env.set_me(A);
+    env.set_thread(1, B);
+    env.set_thread(2, A);
+    env.set_mon(0, Mid { number: 5 });
+    env.set_mon(1, Mid { number: 8 });
+    env.set_cond(2, Cid { number: 6 });
+    env.set_cond(3, Cid { number: 8 });
 }
 
 #[test]
 fn names_are_null_until_they_are_set(rt: HostRuntime) -> Result<(), Fail> {
     let mut env = Env::new(rt.alloc(), 2, 1, 3)?;
-    assert_eq!(rt;
-        (env.thread_count(), env.mon_count(), env.cond_count()),
-        (2, 1, 3)
-    );
-    assert_eq!(rt; env.me(), NULL_TID);
-    assert_eq!(rt; (env.thread(0), env.thread(1)), (NULL_TID, NULL_TID));
-    assert_eq!(rt; env.mon(0), NULL_MID);
-    assert_eq!(rt; (env.cond(0), env.cond(2)), (NULL_CID, NULL_CID));
-    env.set_me(A);
-    env.set_thread(1, B);
-    env.set_mon(0, Mid { number: 5 });
-    env.set_cond(2, Cid { number: 6 });
-    // There are no such names.
-    env.set_thread(2, A);
-    env.set_mon(1, Mid { number: 8 });
-    env.set_cond(3, Cid { number: 8 });
-    assert_eq!(rt;
-        (env.thread_count(), env.mon_count(), env.cond_count()),
-        (2, 1, 3)
-    );
-    assert_eq!(rt; env.me(), A);
-    assert_eq!(rt;
-        (env.thread(0), env.thread(1), env.thread(2)),
-        (NULL_TID, B, NULL_TID)
-    );
-    assert_eq!(rt; (env.mon(0), env.mon(1)), (Mid { number: 5 }, NULL_MID));
-    assert_eq!(rt;
-        (env.cond(1), env.cond(2), env.cond(3)),
-        (NULL_CID, Cid { number: 6 }, NULL_CID)
-    );
+    let before = numbers(&env);
+    set_all(&mut env);
+    assert!(rt; before == [NULL; 7] && numbers(&env) == [4, 7, NULL, 5, NULL, 6, NULL]);
+    assert!(rt; (env.thread_count(), env.mon_count(), env.cond_count()) == (2, 1, 3));
+    assert!(rt; (NULL_TID.number, NULL_MID.number, NULL_CID.number) == (NULL, NULL, NULL));
     Ok(())
+}
+
+fn come_out(effects: &mut Effects) -> bool
+    requires { effects.old ≡ [] }
+{
+    let _inside: Option<(Call, Answer)> = None;
+    effects.push(Effect::Died { tid: A });
+    effects.push(Effect::Died { tid: B });
+    effects.push(Effect::Ended { status: 2 });
+    let last = matches!(effects.get(2), Effect::Ended { status: 2 });
+    let first = matches!(
+        effects.pop_front(),
+        Some(Effect::Died {
+            tid: Tid { number: 4 }
+        })
+    );
+    let left = effects.len();
+    effects.clear();
+    first && last && left == 2 && effects.len() == 0 && effects.pop_front().is_none()
 }
 
 #[test]
 fn effects_come_out_as_they_went_in(rt: HostRuntime) -> Result<(), Fail> {
-    let _inside: Option<(Call, Answer)> = None;
     let mut effects = Effects::new(rt.alloc())?;
-    assert_eq!(rt; (PLACES, effects.len()), (2048, 0));
-    assert!(rt; effects.pop_front().is_none());
-    effects.push(Effect::Called {
-        tid: A,
-        call: Call::Ping { tid: B },
-    });
-    effects.push(Effect::Answered {
-        tid: A,
-        answer: Answer::Value(-3),
-    });
-    effects.push(Effect::Ended { status: 2 });
-    assert_eq!(rt; effects.len(), 3);
-    assert!(rt; matches!(effects.get(2), Effect::Ended { status: 2 }));
-    assert!(rt;
-        matches!(
-            effects.pop_front(),
-            Some(Effect::Called {
-                tid: Tid { number: 4 },
-                call: Call::Ping {
-                    tid: Tid { number: 7 }
-                }
-            })
-        )
-    );
-    assert!(rt;
-        matches!(
-            effects.pop_front(),
-            Some(Effect::Answered {
-                tid: Tid { number: 4 },
-                answer: Answer::Value(-3)
-            })
-        )
-    );
-    assert_eq!(rt; effects.len(), 1);
-    effects.clear();
-    assert_eq!(rt; effects.len(), 0);
-    assert!(rt; effects.pop_front().is_none());
-    effects.push(Effect::Died { tid: B });
-    assert_eq!(rt; effects.len(), 1);
-    assert!(rt;
-        matches!(
-            effects.get(0),
-            Effect::Died {
-                tid: Tid { number: 7 }
-            }
-        )
-    );
+    assert!(rt; come_out(&mut effects) && PLACES == 2048);
     Ok(())
+}
+
+// Whether a source gives "hello" three bytes at most at a time, and fails at its second and fifth call.
+fn gives(source: &mut MemSource) -> bool {
+    let mut buf = *b"...";
+    for (answer, wanted) in [
+        (Ok(3), *b"hel"),
+        (Err(Failed), *b"hel"),
+        // What wasn't read is still there, and it is less than the buffer takes.
+        (Ok(2), *b"lol"),
+        (Ok(0), *b"lol"),
+        (Err(Failed), *b"lol"),
+        (Ok(0), *b"lol"),
+    ] {
+        if source.read(&mut buf) != answer || buf != wanted {
+            return false;
+        }
+    }
+    true
+}
+
+fn hello(alloc: Global) -> Result<MemSource, NoMemory> {
+    Ok(MemSource::new(b"hello".to_vec(alloc)?, vec![in alloc; 1, 4]?))
 }
 
 #[test]
 fn a_source_gives_its_bytes_in_parts_and_fails_where_it_is_told_to(
     rt: HostRuntime,
 ) -> Result<(), Fail> {
-    let alloc = rt.alloc();
-    let mut source = MemSource::new(b"hello".to_vec(alloc)?, vec![in alloc; 1, 4]?);
-    let mut buf = *b"...";
-    assert_eq!(rt; source.read(&mut buf), Ok(3));
-    assert_eq!(rt; buf, *b"hel");
-    assert_eq!(rt; source.read(&mut buf), Err(Failed));
-    assert_eq!(rt; buf, *b"hel");
-    // What wasn't read is still there, and it is less than the buffer takes.
-    assert_eq!(rt; source.read(&mut buf), Ok(2));
-    assert_eq!(rt; buf, *b"lol");
-    assert_eq!(rt; source.read(&mut buf), Ok(0));
-    assert_eq!(rt; source.read(&mut buf), Err(Failed));
-    assert_eq!(rt; source.read(&mut buf), Ok(0));
-    assert_eq!(rt; buf, *b"lol");
+    assert!(rt; gives(&mut hello(rt.alloc())?));
     Ok(())
+}
+
+// Whether a sink with five places takes three bytes at most at a time, and fails at its second call and where it is full.
+fn takes(sink: &mut MemSink) -> bool {
+    let rows: [(&[u8], Result<usize, Failed>, &[u8]); 5] = [
+        (b"hello!", Ok(3), b"hel"),
+        (b"lo!", Err(Failed), b"hel"),
+        (b"lo!", Ok(2), b"hello"),
+        (b"!", Err(Failed), b"hello"),
+        (b"", Ok(0), b"hello"),
+    ];
+    for (bytes, answer, wanted) in rows {
+        if sink.write(bytes) != answer || sink.bytes() != wanted {
+            return false;
+        }
+    }
+    true
 }
 
 #[test]
@@ -187,15 +154,6 @@ fn a_sink_takes_bytes_in_parts_and_fails_where_it_is_told_to_or_is_full(
 ) -> Result<(), Fail> {
     let alloc = rt.alloc();
     let mut sink = MemSink::new(alloc, 5, 3, vec![in alloc; 1]?)?;
-    assert_eq!(rt; sink.bytes(), b"".as_slice());
-    assert_eq!(rt; sink.write(b"hello!"), Ok(3));
-    assert_eq!(rt; sink.write(b"lo!"), Err(Failed));
-    assert_eq!(rt; sink.bytes(), b"hel".as_slice());
-    // Two places are left.
-    assert_eq!(rt; sink.write(b"lo!"), Ok(2));
-    assert_eq!(rt; sink.bytes(), b"hello".as_slice());
-    assert_eq!(rt; sink.write(b"!"), Err(Failed));
-    assert_eq!(rt; sink.write(b""), Ok(0));
-    assert_eq!(rt; sink.bytes(), b"hello".as_slice());
+    assert!(rt; takes(&mut sink));
     Ok(())
 }
