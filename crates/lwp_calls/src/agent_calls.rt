@@ -25,7 +25,12 @@ const MOST_AGENTS: usize = 31;
 
 /// A call of this family.
 #[inline(never)]
-pub fn carry_out(parts: &mut Parts, tid: Tid, call: AgentCall, effects: &mut Effects) -> Result<(), NoMemory>
+pub fn carry_out(
+    parts: &mut Parts,
+    tid: Tid,
+    call: AgentCall,
+    effects: &mut Effects,
+) -> Result<(), NoMemory>
     requires lawful { LawfulParts parts.old }
     requires alone { parts.old.dying ≡ None }
     requires room { length effects.old ≤ 1 }

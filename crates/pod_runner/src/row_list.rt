@@ -166,11 +166,7 @@ fn take_out<B: Drop>(rows: &mut Vec<Row<B>>, i: usize, tid: Tid)
 }
 
 // Polls the body of the row at a place.
-fn poll_in<B: Body>(
-    rows: &mut Vec<Row<B>>,
-    i: usize,
-    env: &mut Env,
-) -> Result<Call, NoMemory>
+fn poll_in<B: Body>(rows: &mut Vec<Row<B>>, i: usize, env: &mut Env) -> Result<Call, NoMemory>
     requires { i < length rows.old.items }
     ensures polls { IfOk result (λ call. (row : Row B) → slice_get rows.old.items i ≡ Some row → Polls B.next row env.old call i rows.old.items rows.new.items env.new) }
     ensures rising { AreRising rows.old.items → AreRising rows.new.items }
