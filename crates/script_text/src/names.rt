@@ -1,5 +1,5 @@
 // Names and their numbers.
-ghost use Rattle.std.specs.Prelude.{◌≡◌, IfOk};
+ghost use Rattle.std.specs.Prelude.{◌≡◌, ◌≤◌, IfOk, OnErr};
 
 use indexmap::IndexSet;
 use lwp_types::{NoMemory, Sequence, Text};
@@ -38,7 +38,8 @@ impl Drop for NameList {
 
 // A place as a number.
 fn counted(place: usize) -> Result<u32, NoMemory>
-    ensures { IfOk result (λ n. n ≡ place) }
+    ensures value { IfOk result (λ n. n ≡ place) }
+    ensures err { OnErr result (4294967296 ≤ place) }
 {
     if place > 0xffff_ffff {
         return Err(NoMemory);
@@ -47,7 +48,7 @@ fn counted(place: usize) -> Result<u32, NoMemory>
 }
 
 impl NameList {
-    ghost use Rattle.std.specs.Prelude.{◌≡◌, ◌<◌, [], IfOk, OnOk, length, false};
+    ghost use Rattle.std.specs.Prelude.{◌≡◌, ◌<◌, ◌≤◌, [], IfOk, OnOk, OnErr, length, false};
     ghost use Rattle.script_text.specs.Meaning.{contains_name, enter, place, place_of};
 
     /// No names.
@@ -95,7 +96,8 @@ impl NameList {
     /// The name's number, or how many names there are if it is none of them; 0 for the empty word. No memory holds more names
     /// than a `u32` counts.
     pub fn number(&self, name: &[u8]) -> Result<u32, NoMemory>
-        ensures { IfOk result (λ n. n ≡ place_of self.now name.now) }
+        ensures number { IfOk result (λ n. n ≡ place_of self.now name.now) }
+        ensures err { OnErr result (4294967296 ≤ place_of self.now name.now) }
     {
         match name {
             [] => Ok(0),
