@@ -32,7 +32,7 @@ use Rattle.lwp_types.specs.TextFields.{is_text}
 use Rattle.trace_text.specs.Lines.{spaced, flags_text, mode_text, pattern_text, func_text}
 use Rattle.script_lines.specs.Line.{who_text, built_text, test_text, WhoFits, SourceFits, TestFits, PatternFits, IsEvent, BuiltFits, slot_text, phrase_text, SlotFits, IsPhrase, blank, copy_slot, copy_slots, needed, IsNeeded}
 use Rattle.script_lines.specs.Reading.{flags_by, all_flags, flags_in, flags_at, within_room, room_at, client_at, event_at, pattern_at, func_at, who_at, source_at, name_in, mode_at, value_at, test_at, spaced_name, session_at, built_at, fill_word, fill_text, fill_test, fill_built, fill_spaced, slot_at, fill, phrase_at}
-use Rattle.script_lines.proofs.WordLemmas.{both, Stops, reach-append, number_again, number_found, own}
+use Rattle.script_lines.proofs.WordLemmas.{both, Stops, reach-append, reach_in, number_again, number_found, own}
 
 -- ---- Rows.
 
@@ -161,13 +161,6 @@ stops_by (b ∷ bs) h = elim (eqb b 32) as (λ v. eqb b 32 ≡ v → cond v 0 (s
   | false ↦ λ e f. absurd (omega (arith, f))
 ] refl h
 
-reach_in : (w r : List ℕ) → reach 32 w < length w → reach 32 (w ++ r) ≡ reach 32 w
-reach_in [] r h = absurd (omega (arith, h))
-reach_in (b ∷ bs) r h = elim (eqb b 32) as (λ v. cond v 0 (suc (reach 32 bs)) < length (b ∷ bs) → cond v 0 (suc (reach 32 (bs ++ r))) ≡ cond v 0 (suc (reach 32 bs))) [
-  | true ↦ λ e. refl
-  | false ↦ λ e. ap suc (reach_in bs r (omega (arith, e)))
-] h
-
 -- one word that is no half of a key
 abbrev is_one_word : List ℕ → Bool
 is_one_word w = eqb (reach 32 w) (length w) && not (is_half w)
@@ -195,7 +188,7 @@ two_words w r h s =
     let some : n < length w = ltb-true n (length w) u.0 in
     let all : suc n + reach 32 (drop (suc n) w) ≡ length w = eqb-true _ _ t.1 in
     let rest : reach 32 (drop (suc n) w ++ r) ≡ length (drop (suc n) w) = reach-append 32 (drop (suc n) w) r (omega (arith, all, length-drop (suc n) w)) (stops_by r s) in
-    rw (reach_in w r some, take-append-le n w r (omega (arith, some)), u.1, drop-append-le (suc n) w r (omega (arith, some)), rest) (omega (arith, some, length-drop (suc n) w))
+    rw (reach_in 32 w r some, take-append-le n w r (omega (arith, some)), u.1, drop-append-le (suc n) w r (omega (arith, some)), rest) (omega (arith, some, length-drop (suc n) w))
 
 whole_by : (w r : List ℕ) → (is_one_word w || is_two_words w) ≡ true → reach 32 r ≡ 0 → key_length (w ++ r) ≡ length w
 whole_by w r h s = elim (is_one_word w) as (λ v. is_one_word w ≡ v → (v || is_two_words w) ≡ true → key_length (w ++ r) ≡ length w) [

@@ -34,6 +34,14 @@ reach-append c (x ∷ w) r h s = elim (eqb x c) as (λ v. cond v 0 (suc (reach c
   | false ↦ λ e. let h' : reach c w ≡ length w = omega (arith, e) in ap suc (reach-append c w r h' s)
 ] h
 
+-- where a word ends within a list, it ends there too where more comes behind
+pub reach_in : (c : ℕ) (w r : List ℕ) → reach c w < length w → reach c (w ++ r) ≡ reach c w
+reach_in c [] r h = absurd (omega (arith, h))
+reach_in c (b ∷ bs) r h = elim (eqb b c) as (λ v. cond v 0 (suc (reach c bs)) < length (b ∷ bs) → cond v 0 (suc (reach c (bs ++ r))) ≡ cond v 0 (suc (reach c bs))) [
+  | true ↦ λ e. refl
+  | false ↦ λ e. ap suc (reach_in c bs r (omega (arith, e)))
+] h
+
 -- ---- Numbers.
 
 -- behind a number, digits never make it smaller

@@ -12,6 +12,7 @@ use Rattle.script_lines.specs.Words.{is_name, reach}
 use Rattle.script_lines.specs.Table.{role_of}
 use Rattle.script_lines.specs.Reading.{first_word, phrase_at}
 use Rattle.script_lines.proofs.LengthLaws.{name_length, long_says_nothing}
+use Rattle.script_lines.proofs.WordLemmas.{reach_in}
 use Rattle.script_text.specs.declared.reader.Declared.{Declared}
 use Rattle.script_text.specs.declared.reader.Reader.{Reader}
 use Rattle.script_text.specs.declared.reason.Reason.{Reason}
@@ -34,13 +35,6 @@ reach_le c (b ∷ bs) = elim (eqb b c) as (λ v. cond v 0 (suc (reach c bs)) ≤
   | true ↦ omega arith
   | false ↦ omega (arith, reach_le c bs)
 ]
-
-reach_in : (c : ℕ) (front x : List ℕ) → reach c front < length front → reach c (front ++ x) ≡ reach c front
-reach_in c [] x h = absurd (omega (arith, h))
-reach_in c (b ∷ bs) x h = elim (eqb b c) as (λ v. cond v 0 (suc (reach c bs)) < length (b ∷ bs) → cond v 0 (suc (reach c (bs ++ x))) ≡ cond v 0 (suc (reach c bs))) [
-  | true ↦ λ e. refl
-  | false ↦ λ e. ap suc (reach_in c bs x (omega (arith, e)))
-] h
 
 reach_past : (c : ℕ) (front x : List ℕ) → length front ≤ reach c front → length front ≤ reach c (front ++ x)
 reach_past c [] x h = omega arith

@@ -88,7 +88,7 @@ impl ScriptReader {
         }
     }
 
-    // One more line, which has ended; what stands behind the last newline is its first part.
+    // One more line, which has ended; what is kept behind the last newline is its first part.
     fn line(&mut self, line: &[u8]) -> Result<(), NoMemory>
         ensures reader { OnOk result (self.new.reader ≡ step self.old.reader (self.old.tail.items ++ line.now)) }
         ensures rest { OnOk result (self.new ≡ record self.old { reader = self.new.reader; tail = self.new.tail }) }
