@@ -17,12 +17,13 @@ impl Body for Actor {
     ghost next = { actor_next };
 
     #[tactic(auto, unfolding(crate::specs::Actors::actor_next))]
-    fn poll(&mut self, _env: &mut Env, got: &Answer) -> Result<Call, NoMemory> {
+    fn poll(&mut self, _env: &mut Env, got: &Answer, call: &mut Call) -> Result<(), NoMemory> {
         match self {
-            Actor::Buffering(buffer) => buffer.next(got),
-            Actor::Producing(producer) => Ok(producer.next()),
-            Actor::Consuming(consumer) => Ok(consumer.next(got)),
+            Actor::Buffering(buffer) => buffer.next(got, call)?,
+            Actor::Producing(producer) => producer.next(call),
+            Actor::Consuming(consumer) => consumer.next(got, call),
         }
+        Ok(())
     }
 
     ghost keeps_lengths = { actor_next-keeps_lengths };

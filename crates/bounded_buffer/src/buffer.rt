@@ -1,6 +1,6 @@
 // The thread that keeps items.
 ghost use Rattle.bounded_buffer.specs.Buffer.{buffer_next, calls, get, handed, kept, lettered, opening, put, refilled, replied, rests, speaks, stored, thanked, told};
-ghost use Rattle.std.specs.Prelude.{◌≡◌, IfOk, OnOk};
+ghost use Rattle.std.specs.Prelude.{◌≡◌, OnOk};
 
 use lwp_types::{Answer, Call, Flags, Mode, NoMemory, Text, Tid};
 use std::alloc::Global;
@@ -141,35 +141,37 @@ impl Buffer {
         }
     }
 
-    fn rest(&self) -> Call
-        ensures { (result, self.now) ≡ rests self.now }
+    fn rest(&self, call: &mut Call)
+        ensures { (call.new, self.now) ≡ rests self.now }
     {
         if self.left == 0 {
-            return Call::Return;
-        }
-        Call::Recv {
-            from: None,
-            mode: Mode::Block,
+            *call = Call::Return;
+        } else {
+            *call = Call::Recv {
+                from: None,
+                mode: Mode::Block,
+            };
         }
     }
 
-    fn speak(&mut self) -> Call
-        ensures { (result, self.new) ≡ speaks self.old self.old.replies }
+    fn speak(&mut self, call: &mut Call)
+        ensures { (call.new, self.new) ≡ speaks self.old self.old.replies }
     {
         match self.replies.pop_front() {
-            Some((to, text)) => Call::Reply { to, text },
-            None => self.rest(),
+            Some((to, text)) => *call = Call::Reply { to, text },
+            None => self.rest(call),
         }
     }
 
-    fn call(&mut self) -> Call
-        ensures { (result, self.new) ≡ calls self.old }
+    fn go_on(&mut self, call: &mut Call)
+        ensures { (call.new, self.new) ≡ calls self.old }
     {
         if self.created >= self.crew {
-            return self.speak();
+            self.speak(call);
+            return;
         }
         self.created += 1;
-        Call::Create {
+        *call = Call::Create {
             proc: self.created,
             prio: 1,
             flags: Flags {
@@ -177,14 +179,15 @@ impl Buffer {
                 nolastrites: false,
                 server: false,
             },
-        }
+        };
     }
 
-    /// The next call, by the answer to the last one.
-    pub fn next(&mut self, got: &Answer) -> Result<Call, NoMemory>
-        ensures { IfOk result (λ call. (call, self.new) ≡ buffer_next self.old got.now) }
+    /// Sets the next call, by the answer to the last one.
+    pub fn next(&mut self, got: &Answer, call: &mut Call) -> Result<(), NoMemory>
+        ensures { OnOk result ((call.new, self.new) ≡ buffer_next self.old got.now) }
     {
         self.hear(got)?;
-        Ok(self.call())
+        self.go_on(call);
+        Ok(())
     }
 }

@@ -23,44 +23,46 @@ pub struct Consumer {
 }
 
 impl Producer {
-    /// The next call.
-    pub fn next(&mut self) -> Call
-        ensures { (result, self.new) ≡ produces self.old }
+    /// Sets the next call.
+    pub fn next(&mut self, call: &mut Call)
+        ensures { (call.new, self.new) ≡ produces self.old }
     {
         if self.left == 0 {
-            return Call::Return;
+            *call = Call::Return;
+            return;
         }
         self.left -= 1;
-        Call::Send {
+        *call = Call::Send {
             to: BUFFER,
             room: WHOLE,
             text: self.item,
-        }
+        };
     }
 }
 
 impl Consumer {
-    fn ask(&mut self) -> Call
-        ensures { (result, self.new) ≡ asks self.old }
+    fn ask(&mut self, call: &mut Call)
+        ensures { (call.new, self.new) ≡ asks self.old }
     {
         if self.left == 0 {
-            return Call::Return;
+            *call = Call::Return;
+            return;
         }
         self.left -= 1;
-        Call::Send {
+        *call = Call::Send {
             to: BUFFER,
             room: WHOLE,
             text: Text::empty(),
-        }
+        };
     }
 
-    /// The next call, by the answer to the last one.
-    pub fn next(&mut self, got: &Answer) -> Call
-        ensures { (result, self.new) ≡ consumes self.old got.now }
+    /// Sets the next call, by the answer to the last one.
+    pub fn next(&mut self, got: &Answer, call: &mut Call)
+        ensures { (call.new, self.new) ≡ consumes self.old got.now }
     {
         match got {
-            Answer::Reply(item) => Call::Say { text: *item },
-            _ => self.ask(),
+            Answer::Reply(item) => *call = Call::Say { text: *item },
+            _ => self.ask(call),
         }
     }
 }

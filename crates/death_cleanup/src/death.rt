@@ -1,5 +1,5 @@
 // The death of a thread.
-ghost use Rattle.std.specs.Prelude.{None, IsTrue, ◌≡◌, ◌<◌, ◌≤◌, ◌+◌, ◌++◌, Some, length};
+ghost use Rattle.std.specs.Prelude.{None, IsTrue, ◌≡◌, ◌<◌, ◌≤◌, ◌+◌, ◌++◌, ◌∷◌, [], Some, length};
 ghost use Rattle.lwp_types.specs.Death.{bury, death, withdraw};
 ghost use Rattle.lwp_types.specs.State.{is_thread};
 ghost use Rattle.death_cleanup.specs.Comes.{CameTo};
@@ -33,6 +33,15 @@ fn withdraw(parts: &mut Parts, tid: Tid)
     refresh(&mut parts.named, &parts.ids);
 }
 
+// A death is told. It stands apart, so that nobody else makes room for this effect.
+#[inline(never)]
+fn tell_death(tid: Tid, effects: &mut Effects)
+    requires { length effects.old < 2048 }
+    ensures { effects.new ≡ effects.old ++ Effect.Died tid ∷ [] }
+{
+    effects.push(Effect::Died { tid });
+}
+
 // The dying thread is gone.
 fn bury(parts: &mut Parts, tid: Tid, effects: &mut Effects)
     requires forgotten { Forgotten (state_of parts.old) tid }
@@ -46,7 +55,7 @@ fn bury(parts: &mut Parts, tid: Tid, effects: &mut Effects)
 {
     parts.ids.remove(tid.number);
     parts.dying = None;
-    effects.push(Effect::Died { tid });
+    tell_death(tid, effects);
 }
 
 /// A thread dies. Its exit procedures run, its monitors go to whoever is next, its agents end, and whoever waits for it goes on.

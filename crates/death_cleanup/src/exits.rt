@@ -1,5 +1,6 @@
 // What an exit procedure does.
-ghost use Rattle.std.specs.Prelude.{◌≡◌, ◌<◌, ◌≤◌, ◌+◌, [], length};
+ghost use Rattle.std.specs.Prelude.{◌≡◌, ◌<◌, ◌≤◌, ◌+◌, ◌++◌, ◌∷◌, [], length};
+ghost use Rattle.lwp_types.specs.Case.{answer_by};
 ghost use Rattle.lwp_types.specs.Exits.{exit_case, run_exit};
 ghost use Rattle.lwp_types.specs.Letters.{reply};
 ghost use Rattle.lwp_types.specs.Threads.{resume, set_exit};
@@ -8,90 +9,110 @@ ghost use Rattle.death_cleanup.specs.Ties.{InStep, LawfulParts};
 ghost use Rattle.death_cleanup.specs.View.{state_of};
 
 use crate::locks::{monitor_break, monitor_exit};
-use crate::parts::{Parts, is_agent, is_id, is_thread, wake};
+use crate::parts::{Parts, is_agent, is_id, is_thread, wake_replied};
 use crate::signals::{broadcast, notify};
 use lwp_types::{Answer, Effect, Effects, ExitCall, ExitMark, LwpErr, Text, Tid};
 
 /// The exit status is set; it is at most 99.
-pub fn set_exit(parts: &mut Parts, code: u32) -> Answer
+pub fn set_exit(parts: &mut Parts, code: u32) -> Result<i64, LwpErr>
     requires step { InStep parts.old }
-    ensures answers { Answers parts.old parts.new [] [] (set_exit (state_of parts.old) code) result }
+    ensures answers { Answers parts.old parts.new [] [] (set_exit (state_of parts.old) code) (answer_by result) }
 {
     if code > 99 {
-        return Answer::Refused(LwpErr::InvalidArg);
+        return Err(LwpErr::InvalidArg);
     }
     parts.exit = code;
-    Answer::Value(0)
+    Ok(0)
 }
 
 /// A suspended thread may run again, unless it waits. A dying one isn't suspended, and nothing happens.
-pub fn resume(parts: &mut Parts, tid: Tid) -> Answer
+pub fn resume(parts: &mut Parts, tid: Tid) -> Result<i64, LwpErr>
     requires step { InStep parts.old }
-    ensures answers { Answers parts.old parts.new [] [] (resume (state_of parts.old) tid) result }
+    ensures answers { Answers parts.old parts.new [] [] (resume (state_of parts.old) tid) (answer_by result) }
 {
     if !is_thread(parts, tid) {
-        return Answer::Refused(LwpErr::NonExist);
+        return Err(LwpErr::NonExist);
     }
     if !parts.sched.knows(tid) {
-        return Answer::Value(0);
+        return Ok(0);
     }
     parts.sched.resume(tid);
-    Answer::Value(0)
+    Ok(0)
 }
 
 /// The letter that the thread has received from the other is done with. A thread that sent it goes on with the text; an agent
 /// can take the next event.
-pub fn reply(parts: &mut Parts, tid: Tid, to: Tid, text: &Text, effects: &mut Effects) -> Answer
+pub fn reply(
+    parts: &mut Parts,
+    tid: Tid,
+    to: Tid,
+    text: &Text,
+    effects: &mut Effects,
+) -> Result<i64, LwpErr>
     requires lawful { LawfulParts parts.old }
     requires room { length effects.old < 2048 }
-    ensures answers { Answers parts.old parts.new effects.old effects.new (reply (state_of parts.old) tid to text.now) result }
+    ensures answers { Answers parts.old parts.new effects.old effects.new (reply (state_of parts.old) tid to text.now) (answer_by result) }
 {
     if !is_id(parts, to) {
-        return Answer::Refused(LwpErr::NonExist);
+        return Err(LwpErr::NonExist);
     }
     let len = text.bytes().len();
     if let Err(err) = parts.mail.reply(tid, to, len) {
-        return Answer::Refused(err);
+        return Err(err);
     }
     if is_agent(&parts.agents, to) {
         parts.agents.release(to);
-        return Answer::Value(0);
+        return Ok(0);
     }
-    wake(parts, to, Answer::Reply(*text), effects);
-    Answer::Value(0)
+    wake_replied(parts, to, text, effects);
+    Ok(0)
 }
 
 // The call of an exit procedure is made.
-fn perform(parts: &mut Parts, tid: Tid, call: ExitCall, effects: &mut Effects) -> Answer
+fn perform(
+    parts: &mut Parts,
+    tid: Tid,
+    call: &ExitCall,
+    effects: &mut Effects,
+) -> Result<i64, LwpErr>
     requires lawful { LawfulParts parts.old }
     requires room { length effects.old < 2048 }
-    ensures answers { Answers parts.old parts.new effects.old effects.new (exit_case (state_of parts.old) tid call) result }
+    ensures answers { Answers parts.old parts.new effects.old effects.new (exit_case (state_of parts.old) tid call.now) (answer_by result) }
 {
     match call {
-        ExitCall::MonExit { mon } => monitor_exit(parts, tid, mon, effects),
-        ExitCall::MonBreak { mon } => monitor_break(parts, mon, effects),
-        ExitCall::Notify { cond } => notify(parts, tid, cond),
-        ExitCall::Broadcast { cond } => broadcast(parts, tid, cond),
-        ExitCall::Reply { to, text } => reply(parts, tid, to, &text, effects),
-        ExitCall::Resume { tid } => resume(parts, tid),
-        ExitCall::SetExit { code } => set_exit(parts, code),
-        ExitCall::Note { text: _ } => Answer::Value(0),
+        ExitCall::MonExit { mon } => monitor_exit(parts, tid, *mon, effects),
+        ExitCall::MonBreak { mon } => monitor_break(parts, *mon, effects),
+        ExitCall::Notify { cond } => notify(parts, tid, *cond),
+        ExitCall::Broadcast { cond } => broadcast(parts, tid, *cond),
+        ExitCall::Reply { to, text } => reply(parts, tid, *to, text, effects),
+        ExitCall::Resume { tid } => resume(parts, *tid),
+        ExitCall::SetExit { code } => set_exit(parts, *code),
+        ExitCall::Note { text: _ } => Ok(0),
     }
 }
 
-/// An exit procedure of the thread is carried out, and its result told behind what it did to others.
-pub fn exit_call(parts: &mut Parts, tid: Tid, mark: ExitMark, effects: &mut Effects)
-    requires lawful { LawfulParts parts.old }
-    requires room { length effects.old + 2 ≤ 2048 }
-    ensures came { CameTo parts.old parts.new effects.old effects.new (run_exit tid mark (state_of parts.old)) }
-    ensures lawful { LawfulParts parts.new }
-    ensures most { length effects.new ≤ length effects.old + 2 }
+// The result of an exit procedure is told. It stands apart, so that nobody else makes room for this effect.
+#[inline(never)]
+fn tell_exit(tid: Tid, mark: &ExitMark, done: Result<i64, LwpErr>, effects: &mut Effects)
+    requires { length effects.old < 2048 }
+    ensures { effects.new ≡ effects.old ++ Effect.Exited tid mark.now.reg mark.now.call (answer_by done) ∷ [] }
 {
-    let answer = perform(parts, tid, mark.call, effects);
     effects.push(Effect::Exited {
         tid,
         reg: mark.reg,
         call: mark.call,
-        answer,
+        answer: Answer::of(done),
     });
+}
+
+/// An exit procedure of the thread is carried out, and its result told behind what it did to others.
+pub fn exit_call(parts: &mut Parts, tid: Tid, mark: &ExitMark, effects: &mut Effects)
+    requires lawful { LawfulParts parts.old }
+    requires room { length effects.old + 2 ≤ 2048 }
+    ensures came { CameTo parts.old parts.new effects.old effects.new (run_exit tid mark.now (state_of parts.old)) }
+    ensures lawful { LawfulParts parts.new }
+    ensures most { length effects.new ≤ length effects.old + 2 }
+{
+    let done = perform(parts, tid, &mark.call, effects);
+    tell_exit(tid, mark, done, effects);
 }

@@ -42,7 +42,9 @@ fn next_exit_above(parts: &mut Parts, tid: Tid, depth: u32) -> Option<ExitMark>
     kind.unwind_to(depth)
 }
 
-/// All marks of the dying thread go, and its exit procedures run, the last set first.
+/// All marks of the dying thread go, and its exit procedures run, the last set first. It stands apart, so that a death makes no
+/// room for a mark.
+#[inline(never)]
 pub fn run_all_exits(parts: &mut Parts, tid: Tid, effects: &mut Effects)
     requires lawful { LawfulParts parts.old }
     requires dying { parts.old.dying ≡ Some tid }
@@ -50,11 +52,12 @@ pub fn run_all_exits(parts: &mut Parts, tid: Tid, effects: &mut Effects)
     ensures came { CameTo parts.old parts.new effects.old effects.new (run_all_exits tid (state_of parts.old)) }
 {
     while let Some(mark) = next_exit(&mut parts.ids, tid) {
-        exit_call(parts, tid, mark, effects);
+        exit_call(parts, tid, &mark, effects);
     }
 }
 
 /// Of the thread's frames only the first `depth` stay. The exit procedures of the others run, the last set first.
+#[inline(never)]
 pub fn leave_frames(parts: &mut Parts, tid: Tid, depth: u32, effects: &mut Effects)
     requires lawful { LawfulParts parts.old }
     requires least { 1 ≤ depth }
@@ -63,6 +66,6 @@ pub fn leave_frames(parts: &mut Parts, tid: Tid, depth: u32, effects: &mut Effec
     ensures came { CameTo parts.old parts.new effects.old effects.new (unwind tid (first_frames depth (marks_in (state_of parts.old) tid)) (later_frames depth (marks_in (state_of parts.old) tid)) (state_of parts.old)) }
 {
     while let Some(mark) = next_exit_above(parts, tid, depth) {
-        exit_call(parts, tid, mark, effects);
+        exit_call(parts, tid, &mark, effects);
     }
 }

@@ -11,7 +11,8 @@
 //! | `die` | `death` |
 //! | `exit_call` | `run_exit`, by the calls `monitor_exit`, `monitor_break`, `notify`, `broadcast`, `reply`, `resume`, `set_exit` |
 //! | `leave_frames` | `unwind` down to the first frames |
-//! | `end_agent`, `release`, `wake` | `end_agent`, `release`, `unblock` |
+//! | `end_agent`, `release` | `end_agent`, `release` |
+//! | `wake_done`, `wake_lettered`, `wake_replied` | `unblock`, with the answer of that kind |
 //!
 //! Whoever waits for another by name is noted in `Named`, and a death looks there before it goes over all the living.
 //!
@@ -34,7 +35,9 @@ pub use exits::{exit_call, reply, resume, set_exit};
 pub use frames::leave_frames;
 pub use locks::{monitor_break, monitor_exit, release};
 pub use named::{Named, note};
-pub use parts::{Parts, is_agent, is_id, is_thread, set_block, wake};
+pub use parts::{
+    Parts, is_agent, is_id, is_thread, set_block, wake_done, wake_lettered, wake_replied,
+};
 pub use rows::{Awaited, Kind, NamedWait, ThreadRec};
 pub use signals::{ask_again, broadcast, cond_send, is_last, notify};
 pub use waiters::{end_agent, nth_of};

@@ -1,5 +1,6 @@
 // How a monitor becomes free.
 ghost use Rattle.std.specs.Prelude.{◌≡◌, ◌<◌, false, is_none, length, IfSome, IsTrue};
+ghost use Rattle.lwp_types.specs.Case.{answer_by};
 ghost use Rattle.lwp_types.specs.Locks.{is_owner, monitor_break, monitor_exit};
 ghost use Rattle.lwp_types.specs.Release.{lock_of, release};
 ghost use Rattle.lwp_types.specs.State.{is_blocked_in};
@@ -9,8 +10,8 @@ ghost use Rattle.death_cleanup.specs.Comes.{Answers, CameTo};
 ghost use Rattle.death_cleanup.specs.Ties.{InStep, LawfulParts};
 ghost use Rattle.death_cleanup.specs.View.{state_of};
 
-use crate::parts::{Parts, wake};
-use lwp_types::{Answer, Effects, LwpErr, Mid, Tid};
+use crate::parts::{Parts, wake_done};
+use lwp_types::{Effects, LwpErr, Mid, Tid};
 use monitors::Monitors;
 
 // Whether the thread holds the monitor.
@@ -34,7 +35,7 @@ fn go_on(parts: &mut Parts, next: Option<Tid>, effects: &mut Effects)
     let Some(tid) = next else {
         return;
     };
-    wake(parts, tid, Answer::Value(0), effects);
+    wake_done(parts, tid, Ok(0), effects);
 }
 
 /// The monitor loses its owner, and whoever enters next goes on.
@@ -49,34 +50,39 @@ pub fn release(parts: &mut Parts, mon: Mid, effects: &mut Effects)
 }
 
 /// The thread leaves the monitor once, and the last time gives it up.
-pub fn monitor_exit(parts: &mut Parts, tid: Tid, mon: Mid, effects: &mut Effects) -> Answer
+pub fn monitor_exit(
+    parts: &mut Parts,
+    tid: Tid,
+    mon: Mid,
+    effects: &mut Effects,
+) -> Result<i64, LwpErr>
     requires lawful { LawfulParts parts.old }
     requires room { length effects.old < 2048 }
-    ensures answers { Answers parts.old parts.new effects.old effects.new (monitor_exit (state_of parts.old) tid mon) result }
+    ensures answers { Answers parts.old parts.new effects.old effects.new (monitor_exit (state_of parts.old) tid mon) (answer_by result) }
 {
     if !parts.mons.is_live(mon) {
-        return Answer::Refused(LwpErr::NonExist);
+        return Err(LwpErr::NonExist);
     }
     if !holds(&parts.mons, tid, mon) {
-        return Answer::Refused(LwpErr::InvalidArg);
+        return Err(LwpErr::InvalidArg);
     }
     let next = parts.mons.exit(mon, tid);
     go_on(parts, next, effects);
-    Answer::Value(0)
+    Ok(0)
 }
 
 /// The monitor loses its owner, whoever that is and however deep.
-pub fn monitor_break(parts: &mut Parts, mon: Mid, effects: &mut Effects) -> Answer
+pub fn monitor_break(parts: &mut Parts, mon: Mid, effects: &mut Effects) -> Result<i64, LwpErr>
     requires lawful { LawfulParts parts.old }
     requires room { length effects.old < 2048 }
-    ensures answers { Answers parts.old parts.new effects.old effects.new (monitor_break (state_of parts.old) mon) result }
+    ensures answers { Answers parts.old parts.new effects.old effects.new (monitor_break (state_of parts.old) mon) (answer_by result) }
 {
     if !parts.mons.is_live(mon) {
-        return Answer::Refused(LwpErr::NonExist);
+        return Err(LwpErr::NonExist);
     }
     if parts.mons.owner(mon).is_none() {
-        return Answer::Refused(LwpErr::NotOwned);
+        return Err(LwpErr::NotOwned);
     }
     release(parts, mon, effects);
-    Answer::Value(0)
+    Ok(0)
 }

@@ -1,10 +1,13 @@
 // The parts, and the changes of one thread in them.
 ghost use Rattle.std.specs.Prelude.{◌≡◌, ◌<◌, length, map, IsTrue};
 ghost use Rattle.agents.specs.Roster.{is_listed};
+ghost use Rattle.lwp_types.specs.Case.{answer_by};
 ghost use Rattle.lwp_types.specs.State.{is_blocked_in, is_id, is_thread};
 ghost use Rattle.lwp_types.specs.Unblock.{unblock};
+ghost use Rattle.lwp_types.specs.declared.call.Answer.TheVariants as answer;
+ghost use Rattle.pod_sched.specs.Schedule as sched;
 ghost use Rattle.death_cleanup.specs.Comes.{CameTo};
-ghost use Rattle.death_cleanup.specs.Moves.{block_set};
+ghost use Rattle.death_cleanup.specs.Moves.{block_set, waked};
 ghost use Rattle.death_cleanup.specs.Ties.{InStep};
 ghost use Rattle.death_cleanup.specs.View.{rows_of, state_of};
 
@@ -12,7 +15,7 @@ use crate::named::Named;
 use crate::rows::Kind;
 use agents::Agents;
 use conditions::Conds;
-use lwp_types::{Answer, Block, Effect, Effects, Tid};
+use lwp_types::{Block, Effects, Letter, LwpErr, Text, Tid};
 use monitors::Monitors;
 use pod_sched::Sched;
 use rendezvous::Mail;
@@ -83,14 +86,44 @@ pub fn set_block(ids: &mut Registry<Kind>, tid: Tid, block: Block)
     }
 }
 
-/// A thread that waits goes on, with this answer.
-pub fn wake(parts: &mut Parts, tid: Tid, answer: Answer, effects: &mut Effects)
-    requires step { InStep parts.old }
-    requires waits { IsTrue (is_blocked_in (state_of parts.old) tid) }
-    requires room { length effects.old < 2048 }
-    ensures came { CameTo parts.old parts.new effects.old effects.new (unblock answer tid (state_of parts.old)) }
+// A thread waits no more, and may run again. Whoever calls this tells its answer.
+fn unblock(parts: &mut Parts, tid: Tid)
+    requires { IsTrue (sched.is_blocked_in parts.old.sched tid) }
+    ensures { parts.new ≡ waked parts.old tid }
 {
     parts.sched.unblock(tid);
     set_block(&mut parts.ids, tid, Block::Not);
-    effects.push(Effect::Answered { tid, answer });
+}
+
+/// A thread that waits goes on. Its call was carried out, with a number, or is refused.
+pub fn wake_done(parts: &mut Parts, tid: Tid, done: Result<i64, LwpErr>, effects: &mut Effects)
+    requires step { InStep parts.old }
+    requires waits { IsTrue (is_blocked_in (state_of parts.old) tid) }
+    requires room { length effects.old < 2048 }
+    ensures came { CameTo parts.old parts.new effects.old effects.new (unblock (answer_by done) tid (state_of parts.old)) }
+{
+    unblock(parts, tid);
+    effects.done(tid, done);
+}
+
+/// The same of a thread that waits for a letter, and gets this one.
+pub fn wake_lettered(parts: &mut Parts, tid: Tid, letter: &Letter, effects: &mut Effects)
+    requires step { InStep parts.old }
+    requires waits { IsTrue (is_blocked_in (state_of parts.old) tid) }
+    requires room { length effects.old < 2048 }
+    ensures came { CameTo parts.old parts.new effects.old effects.new (unblock (answer.Letter letter.now.from letter.now.text letter.now.room) tid (state_of parts.old)) }
+{
+    unblock(parts, tid);
+    effects.lettered(tid, letter);
+}
+
+/// The same of a thread that waits for the reply to its letter.
+pub fn wake_replied(parts: &mut Parts, tid: Tid, text: &Text, effects: &mut Effects)
+    requires step { InStep parts.old }
+    requires waits { IsTrue (is_blocked_in (state_of parts.old) tid) }
+    requires room { length effects.old < 2048 }
+    ensures came { CameTo parts.old parts.new effects.old effects.new (unblock (answer.Reply text.now) tid (state_of parts.old)) }
+{
+    unblock(parts, tid);
+    effects.replied(tid, text);
 }

@@ -2,12 +2,13 @@
 ghost use Rattle.std.specs.Prelude.{◌≡◌, ◌≤◌, Some};
 ghost use Rattle.death_cleanup.specs.Moves.{kind_marked, kind_marks};
 ghost use Rattle.exc_stack.specs.Stack.{UnwindsAll, UnwindsTo, unwound_all, unwound_to};
+ghost use Rattle.lwp_types.specs.Case.{answer_by};
 ghost use Rattle.lwp_types.specs.Marks.{frames};
 ghost use Rattle.death_cleanup.specs.Named.{block_name, is_named, kind_name};
 ghost use Rattle.death_cleanup.specs.Waits.{last_answer, waits_for};
 
 use exc_stack::ExcStack;
-use lwp_types::{Answer, Block, ExitMark, Flags, LwpErr, Tid};
+use lwp_types::{Block, ExitMark, Flags, LwpErr, Tid};
 
 /// What is kept of a thread, but for what the scheduler keeps.
 #[derive(Drop)]
@@ -51,12 +52,12 @@ pub fn name_of(block: &Block) -> Option<Tid>
 
 impl Awaited {
     /// What those who wait are answered at the end of it.
-    pub fn answer(self) -> Answer
-        ensures { result ≡ last_answer self }
+    pub fn answer(self) -> Result<i64, LwpErr>
+        ensures { answer_by result ≡ last_answer self }
     {
         match self {
-            Awaited::Death => Answer::Value(0),
-            Awaited::Letter => Answer::Refused(LwpErr::NonExist),
+            Awaited::Death => Ok(0),
+            Awaited::Letter => Err(LwpErr::NonExist),
         }
     }
 }

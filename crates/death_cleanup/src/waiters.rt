@@ -13,9 +13,9 @@ ghost use Rattle.death_cleanup.specs.Waits.{dismissed, first_waiting};
 ghost use Rattle.pod_laws.proofs.DeathLoops.{Lonely, Unowning};
 
 use crate::locks::release;
-use crate::parts::{Parts, wake};
+use crate::parts::{Parts, wake_done};
 use crate::rows::{Awaited, Kind};
-use lwp_types::{Answer, Effects, LwpErr, Tid};
+use lwp_types::{Effects, LwpErr, Tid};
 use stale_ids::Registry;
 
 /// The `i`-th of the living, counted from the oldest.
@@ -60,7 +60,7 @@ pub fn dismiss(parts: &mut Parts, what: Awaited, tid: Tid, effects: &mut Effects
     ensures came { CameTo parts.old parts.new effects.old effects.new (dismissed what tid (state_of parts.old)) }
 {
     while let Some(other) = first_waiting(parts, what, tid) {
-        wake(parts, other, what.answer(), effects);
+        wake_done(parts, other, what.answer(), effects);
     }
 }
 
@@ -84,7 +84,7 @@ pub fn refuse_senders(parts: &mut Parts, tid: Tid, effects: &mut Effects)
     ensures came { CameTo parts.old parts.new effects.old effects.new (refuse_senders tid (state_of parts.old)) }
 {
     while let Some(sender) = parts.mail.pop_to(tid) {
-        wake(parts, sender, Answer::Refused(LwpErr::NonExist), effects);
+        wake_done(parts, sender, Err(LwpErr::NonExist), effects);
     }
 }
 

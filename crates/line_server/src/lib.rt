@@ -8,6 +8,7 @@
 //! The crate stands on `lwp_types` and, so that a table and a key in it are found at once, on the kit's `indexmap`.
 #![tactic(auto)]
 
+mod calls;
 mod command;
 mod key;
 mod laws;

@@ -1,11 +1,13 @@
 // A thread that serves the client of one event.
 ghost use Rattle.line_server.specs.Sessions.{session_receives, session_returns, session_replies, session_next, session_next-keeps_lengths, session_opening, session_received, session_reads, session_told, session_opened, session_at, session_by};
 ghost use Rattle.line_server.specs.Turns.{is_replied};
-ghost use Rattle.std.specs.Prelude.{◌≡◌};
+ghost use Rattle.lwp_types.specs.TextFields.{is_text};
+ghost use Rattle.std.specs.Prelude.{◌≡◌, IsTrue};
 
+use crate::calls::{set_agent, set_recv, set_reply, set_return, set_send, set_word};
 use crate::command::command_of;
-use crate::words::{text_of, was_replied};
-use lwp_types::{Answer, Body, Call, Env, Mode, NULL_TID, NoMemory, Text, Tid};
+use crate::words::was_replied;
+use lwp_types::{Answer, Body, Call, Env, NULL_TID, NoMemory, Text, Tid};
 use std::marker::Model;
 
 /// What a session's last call was.
@@ -50,105 +52,98 @@ impl SessionBody {
         }
     }
 
-    fn receive(&mut self) -> Call
-        ensures { (result, self.new) ≡ session_receives self.old }
+    fn receive(&mut self, call: &mut Call)
+        ensures { (call.new, self.new) ≡ session_receives self.old }
     {
         self.place = SessionPlace::Recv;
-        Call::Recv {
-            from: Some(self.agent),
-            mode: Mode::Block,
-        }
+        set_recv(call, Some(self.agent));
     }
 
-    fn end(&mut self) -> Call
-        ensures { (result, self.new) ≡ session_returns self.old }
+    fn end(&mut self, call: &mut Call)
+        ensures { (call.new, self.new) ≡ session_returns self.old }
     {
         self.place = SessionPlace::End;
-        Call::Return
+        set_return(call);
     }
 
-    fn reply(&mut self, text: Text) -> Call
-        ensures { (result, self.new) ≡ session_replies self.old text }
+    fn reply(&mut self, text: &Text, call: &mut Call)
+        ensures { (call.new, self.new) ≡ session_replies self.old text.now }
     {
         self.place = SessionPlace::Reply;
-        Call::Reply {
-            to: self.agent,
-            text,
-        }
+        set_reply(call, self.agent, text);
+    }
+
+    fn reply_word(&mut self, word: &[u8], call: &mut Call)
+        requires { IsTrue (is_text word.now) }
+        ensures { (call.new, self.new) ≡ session_replies self.old word.now }
+    {
+        self.place = SessionPlace::Reply;
+        set_word(call, self.agent, word);
     }
 
     // A line was received.
-    fn read(&mut self, env: &Env, text: &Text) -> Call
-        ensures { (result, self.new) ≡ session_reads self.old env.now text.now }
+    fn read(&mut self, env: &Env, text: &Text, call: &mut Call)
+        ensures { (call.new, self.new) ≡ session_reads self.old env.now text.now }
     {
         if text.bytes() == b"quit".as_slice() {
             self.place = SessionPlace::Bye;
-            return Call::Reply {
-                to: self.agent,
-                text: text_of(b"bye"),
-            };
-        }
-        if command_of(text.bytes()).is_none() {
-            return self.reply(text_of(b"bad"));
-        }
-        self.place = SessionPlace::Send;
-        Call::Send {
-            to: env.thread(self.store),
-            room: 240,
-            text: *text,
+            set_word(call, self.agent, b"bye");
+        } else if command_of(text.bytes()).is_none() {
+            self.reply_word(b"bad", call);
+        } else {
+            self.place = SessionPlace::Send;
+            set_send(call, env.thread(self.store), text);
         }
     }
 
-    fn take_agent(&mut self, got: &Answer) -> Call
-        ensures { (result, self.new) ≡ session_opened self.old got.now }
+    fn take_agent(&mut self, got: &Answer, call: &mut Call)
+        ensures { (call.new, self.new) ≡ session_opened self.old got.now }
     {
         match got {
             Answer::Thread(agent) => {
                 self.agent = *agent;
-                self.receive()
+                self.receive(call);
             }
-            Answer::Refused(_) => self.end(),
-            _ => Call::Return,
+            Answer::Refused(_) => self.end(call),
+            _ => set_return(call),
         }
     }
 
-    fn take_line(&mut self, env: &Env, got: &Answer) -> Call
-        ensures { (result, self.new) ≡ session_received self.old env.now got.now }
+    fn take_line(&mut self, env: &Env, got: &Answer, call: &mut Call)
+        ensures { (call.new, self.new) ≡ session_received self.old env.now got.now }
     {
         match got {
-            Answer::Letter { text, .. } => self.read(env, text),
-            Answer::Refused(_) => self.end(),
-            _ => Call::Return,
+            Answer::Letter { text, .. } => self.read(env, text, call),
+            Answer::Refused(_) => self.end(call),
+            _ => set_return(call),
         }
     }
 
-    fn take_reply(&mut self, got: &Answer) -> Call
-        ensures { (result, self.new) ≡ session_told self.old got.now }
+    fn take_reply(&mut self, got: &Answer, call: &mut Call)
+        ensures { (call.new, self.new) ≡ session_told self.old got.now }
     {
         match got {
-            Answer::Reply(text) => self.reply(*text),
-            Answer::Refused(_) => self.reply(text_of(b"down")),
-            _ => Call::Return,
+            Answer::Reply(text) => self.reply(text, call),
+            Answer::Refused(_) => self.reply_word(b"down", call),
+            _ => set_return(call),
         }
     }
 
     // The next call, by the last one.
-    fn go_on(&mut self, env: &Env, got: &Answer) -> Call
-        ensures { (result, self.new) ≡ session_by self.old env.now got.now self.old.place }
+    fn go_on(&mut self, env: &Env, got: &Answer, call: &mut Call)
+        ensures { (call.new, self.new) ≡ session_by self.old env.now got.now self.old.place }
     {
         match self.place {
             SessionPlace::Start => {
                 self.place = SessionPlace::Agent;
-                Call::Agent {
-                    event: u32::from(self.event),
-                }
+                set_agent(call, self.event);
             }
-            SessionPlace::Agent => self.take_agent(got),
-            SessionPlace::Recv => self.take_line(env, got),
-            SessionPlace::Send => self.take_reply(got),
-            SessionPlace::Reply if was_replied(got) => self.receive(),
-            SessionPlace::Bye if was_replied(got) => self.end(),
-            _ => Call::Return,
+            SessionPlace::Agent => self.take_agent(got, call),
+            SessionPlace::Recv => self.take_line(env, got, call),
+            SessionPlace::Send => self.take_reply(got, call),
+            SessionPlace::Reply if was_replied(got) => self.receive(call),
+            SessionPlace::Bye if was_replied(got) => self.end(call),
+            _ => set_return(call),
         }
     }
 }
@@ -157,8 +152,9 @@ impl Body for SessionBody {
     ghost next = { session_next };
 
     #[tactic(auto, unfolding(crate::specs::Sessions::session_next))]
-    fn poll(&mut self, env: &mut Env, got: &Answer) -> Result<Call, NoMemory> {
-        Ok(self.go_on(env, got))
+    fn poll(&mut self, env: &mut Env, got: &Answer, call: &mut Call) -> Result<(), NoMemory> {
+        self.go_on(env, got, call);
+        Ok(())
     }
 
     ghost keeps_lengths = { session_next-keeps_lengths };

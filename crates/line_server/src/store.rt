@@ -1,11 +1,12 @@
 // A thread that keeps tables for those that send to it.
 ghost use Rattle.line_server.specs.Stores.{is_invalid, store_by, store_next, store_next-keeps_lengths, store_opening, store_receives, store_received, store_replied, store_tells, told_sender, tables_after};
-ghost use Rattle.std.specs.Prelude.{◌≡◌, IfOk, OnOk};
+ghost use Rattle.std.specs.Prelude.{◌≡◌, OnOk};
 
+use crate::calls::{set_recv, set_reply, set_return, set_word};
 use crate::table::Table;
 use crate::words::was_replied;
 use indexmap::IndexMap;
-use lwp_types::{Answer, Body, Call, Env, LwpErr, Mode, NULL_TID, NoMemory, Text, Tid};
+use lwp_types::{Answer, Body, Call, Env, LwpErr, NULL_TID, NoMemory, Text, Tid};
 use std::alloc::Global;
 use std::marker::Model;
 
@@ -36,23 +37,24 @@ impl Model for StoreBody {
     ghost view = { λ b. record { tables = b.tables.entries; client = b.client; place = b.place } };
 }
 
-// What a sender's text is told, by its own table.
+// Sets what a sender's text is told, by its own table.
 fn tell(
     alloc: Global,
     tables: &mut IndexMap<u64, Table>,
     from: u64,
     text: &Text,
-) -> Result<Text, NoMemory>
-    ensures reply { IfOk result (λ reply. reply ≡ (told_sender from text.now tables.old.entries).reply) }
+    reply: &mut Text,
+) -> Result<(), NoMemory>
+    ensures reply { OnOk result (reply.new ≡ (told_sender from text.now tables.old.entries).reply) }
     ensures after { OnOk result (tables.new.entries ≡ tables_after from text.now tables.old.entries) }
 {
     if let Some(table) = tables.get_mut(&from) {
-        return table.tell(text);
+        return table.tell(text, reply);
     }
     let mut table = Table::new(alloc);
-    let reply = table.tell(text)?;
+    table.tell(text, reply)?;
     tables.insert(from, table)?;
-    Ok(reply)
+    Ok(())
 }
 
 impl StoreBody {
@@ -68,66 +70,63 @@ impl StoreBody {
         }
     }
 
-    fn receive(&mut self) -> Call
-        ensures { (result, self.new) ≡ store_receives self.old }
+    fn receive(&mut self, call: &mut Call)
+        ensures { (call.new, self.new) ≡ store_receives self.old }
     {
         self.place = StorePlace::Recv;
-        Call::Recv {
-            from: None,
-            mode: Mode::Block,
-        }
+        set_recv(call, None);
     }
 
-    fn tell(&mut self, from: Tid, text: &Text) -> Result<Call, NoMemory>
-        ensures { IfOk result (λ call. (call, self.new) ≡ store_tells self.old from text.now) }
+    // The call becomes a reply first, with the letter's own text; then its text is set to what the sender is told.
+    fn tell(&mut self, from: Tid, text: &Text, call: &mut Call) -> Result<(), NoMemory>
+        ensures { OnOk result ((call.new, self.new) ≡ store_tells self.old from text.now) }
     {
-        let reply = tell(self.alloc, &mut self.tables, from.number, text)?;
         self.client = from;
         self.place = StorePlace::Reply;
-        Ok(Call::Reply {
-            to: from,
-            text: reply,
-        })
+        set_reply(call, from, text);
+        if let Call::Reply { text: reply, .. } = call {
+            tell(self.alloc, &mut self.tables, from.number, text, reply)?;
+        }
+        Ok(())
     }
 
-    fn take_letter(&mut self, got: &Answer) -> Result<Call, NoMemory>
-        ensures { IfOk result (λ call. (call, self.new) ≡ store_received self.old got.now) }
+    fn take_letter(&mut self, got: &Answer, call: &mut Call) -> Result<(), NoMemory>
+        ensures { OnOk result ((call.new, self.new) ≡ store_received self.old got.now) }
     {
         match got {
-            Answer::Letter { from, text, .. } => self.tell(*from, text),
-            Answer::Refused(_) => Ok(self.receive()),
-            _ => Ok(Call::Return),
+            Answer::Letter { from, text, .. } => self.tell(*from, text, call)?,
+            Answer::Refused(_) => self.receive(call),
+            _ => set_return(call),
         }
+        Ok(())
     }
 
     // A reply that was too long is made once more, empty.
-    fn take_reply(&mut self, got: &Answer) -> Call
-        ensures { (result, self.new) ≡ store_replied self.old got.now }
+    fn take_reply(&mut self, got: &Answer, call: &mut Call)
+        ensures { (call.new, self.new) ≡ store_replied self.old got.now }
     {
         if let Answer::Refused(LwpErr::InvalidArg) = got {
             self.place = StorePlace::Empty;
-            return Call::Reply {
-                to: self.client,
-                text: Text::empty(),
-            };
+            set_word(call, self.client, b"");
+        } else if was_replied(got) {
+            self.receive(call);
+        } else {
+            set_return(call);
         }
-        if !was_replied(got) {
-            return Call::Return;
-        }
-        self.receive()
     }
 
     // The next call, by the last one.
-    fn go_on(&mut self, got: &Answer) -> Result<Call, NoMemory>
-        ensures { IfOk result (λ call. (call, self.new) ≡ store_by self.old got.now self.old.place) }
+    fn go_on(&mut self, got: &Answer, call: &mut Call) -> Result<(), NoMemory>
+        ensures { OnOk result ((call.new, self.new) ≡ store_by self.old got.now self.old.place) }
     {
         match self.place {
-            StorePlace::Start => Ok(self.receive()),
-            StorePlace::Recv => self.take_letter(got),
-            StorePlace::Reply => Ok(self.take_reply(got)),
-            StorePlace::Empty if was_replied(got) => Ok(self.receive()),
-            StorePlace::Empty => Ok(Call::Return),
+            StorePlace::Start => self.receive(call),
+            StorePlace::Recv => self.take_letter(got, call)?,
+            StorePlace::Reply => self.take_reply(got, call),
+            StorePlace::Empty if was_replied(got) => self.receive(call),
+            StorePlace::Empty => set_return(call),
         }
+        Ok(())
     }
 }
 
@@ -135,8 +134,8 @@ impl Body for StoreBody {
     ghost next = { store_next };
 
     #[tactic(auto, unfolding(crate::specs::Stores::store_next))]
-    fn poll(&mut self, env: &mut Env, got: &Answer) -> Result<Call, NoMemory> {
-        self.go_on(got)
+    fn poll(&mut self, env: &mut Env, got: &Answer, call: &mut Call) -> Result<(), NoMemory> {
+        self.go_on(got, call)
     }
 
     ghost keeps_lengths = { store_next-keeps_lengths };

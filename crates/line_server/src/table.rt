@@ -2,11 +2,11 @@
 ghost use Rattle.line_server.specs.Commands.{command_of};
 ghost use Rattle.line_server.specs.Tables.{at_key, shown, told, told_put, told_del, told_value};
 ghost use Rattle.lwp_types.specs.TextFields.{is_printable, is_text};
-ghost use Rattle.std.specs.Prelude.{◌≡◌, ◌≤◌, [], length, IsTrue, IfOk, OnOk};
+ghost use Rattle.std.specs.Prelude.{◌≡◌, ◌≤◌, [], length, IsTrue, OnOk};
 
 use crate::command::{Asked, command_of};
 use crate::key::Key;
-use crate::words::text_of;
+use crate::words::{set_text, text_of};
 use indexmap::IndexMap;
 use lwp_types::{NoMemory, TEXT_MAX, Text};
 use std::alloc::Global;
@@ -55,52 +55,56 @@ impl Table {
         }
     }
 
-    fn put(&mut self, key: &[u8], value: &[u8]) -> Result<Text, NoMemory>
+    fn put(&mut self, key: &[u8], value: &[u8], reply: &mut Text) -> Result<(), NoMemory>
         requires key { length key.now ≤ 16 }
         requires short { length value.now ≤ 237 }
         requires printable { IsTrue (is_printable value.now) }
-        ensures reply { IfOk result (λ reply. reply ≡ (told_put key.now value.now self.old).reply) }
+        ensures reply { OnOk result (reply.new ≡ (told_put key.now value.now self.old).reply) }
         ensures after { OnOk result (self.new ≡ (told_put key.now value.now self.old).table) }
     {
         let key = Key::new(key);
         if KEYS_MAX <= self.entries.len() && !self.entries.contains_key(&key) {
-            return Ok(text_of(b"full"));
+            set_text(reply, b"full");
+            return Ok(());
         }
         self.entries.insert(key, shown(value))?;
-        Ok(text_of(b"ok"))
+        set_text(reply, b"ok");
+        Ok(())
     }
 
-    fn get(&self, key: &[u8]) -> Text
+    fn get(&self, key: &[u8], reply: &mut Text)
         requires { length key.now ≤ 16 }
-        ensures { result ≡ told_value (at_key key.now self.now) }
+        ensures { reply.new ≡ told_value (at_key key.now self.now) }
     {
         let Some(text) = self.entries.get(&Key::new(key)) else {
-            return text_of(b"none");
+            set_text(reply, b"none");
+            return;
         };
-        *text
+        *reply = *text;
     }
 
-    fn del(&mut self, key: &[u8]) -> Text
+    fn del(&mut self, key: &[u8], reply: &mut Text)
         requires { length key.now ≤ 16 }
-        ensures reply { result ≡ (told_del key.now self.old).reply }
+        ensures reply { reply.new ≡ (told_del key.now self.old).reply }
         ensures after { self.new ≡ (told_del key.now self.old).table }
     {
         match self.entries.swap_remove(&Key::new(key)) {
-            Some(_) => text_of(b"ok"),
-            None => text_of(b"none"),
+            Some(_) => set_text(reply, b"ok"),
+            None => set_text(reply, b"none"),
         }
     }
 
-    /// What a text is replied to. After `NoMemory` the table may be anything.
-    pub fn tell(&mut self, text: &Text) -> Result<Text, NoMemory>
-        ensures reply { IfOk result (λ reply. reply ≡ (told text.now self.old).reply) }
+    /// Sets what a text is replied to. After `NoMemory` the table and the reply may be anything.
+    pub fn tell(&mut self, text: &Text, reply: &mut Text) -> Result<(), NoMemory>
+        ensures reply { OnOk result (reply.new ≡ (told text.now self.old).reply) }
         ensures after { OnOk result (self.new ≡ (told text.now self.old).table) }
     {
         match command_of(text.bytes()) {
-            Some(Asked::Put { key, value }) => self.put(key, value),
-            Some(Asked::Get { key }) => Ok(self.get(key)),
-            Some(Asked::Del { key }) => Ok(self.del(key)),
-            None => Ok(text_of(b"bad")),
+            Some(Asked::Put { key, value }) => self.put(key, value, reply)?,
+            Some(Asked::Get { key }) => self.get(key, reply),
+            Some(Asked::Del { key }) => self.del(key, reply),
+            None => set_text(reply, b"bad"),
         }
+        Ok(())
     }
 }

@@ -13,6 +13,15 @@ pub fn text_of(bytes: &[u8]) -> Text
     Text::new(bytes).unwrap()
 }
 
+/// Makes it the text of these bytes.
+#[inline(never)]
+pub fn set_text(text: &mut Text, bytes: &[u8])
+    requires { IsTrue (is_text bytes.now) }
+    ensures { text.new ≡ bytes.now }
+{
+    *text = text_of(bytes);
+}
+
 /// Whether a reply was taken or refused: any other answer is none to a reply.
 pub fn was_replied(got: &Answer) -> bool
     ensures { result ≡ is_replied got.now }

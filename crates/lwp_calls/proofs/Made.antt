@@ -1,16 +1,19 @@
 -- What a call comes to that tells others nothing, by the case that the machine makes of it.
+use Rattle.death_cleanup.proofs.Exiting.{few_others}
 use Rattle.death_cleanup.specs.Comes.{Answers, CameTo}
 use Rattle.death_cleanup.specs.Ties.{InStep, LawfulParts}
 use Rattle.death_cleanup.specs.View.{state_of}
 use Rattle.death_cleanup.specs.declared.parts.Parts.{Parts}
 use Rattle.lwp_calls.specs.Comes.{ComesTo, IsAsBefore, Told}
 use Rattle.lwp_types.specs.Case.{Case, answered}
+use Rattle.lwp_types.specs.Exits.{exit_case}
 use Rattle.lwp_types.specs.State.{Outcome, State}
 use Rattle.lwp_types.specs.Lawful.{NineParts}
 use Rattle.lwp_types.specs.Step.{own_effects}
 use Rattle.lwp_types.specs.declared.call.Answer.{Answer}
 use Rattle.lwp_types.specs.declared.call.Effect.{Effect}
 use Rattle.lwp_types.specs.declared.call.Effect.TheVariants as effect
+use Rattle.lwp_types.specs.declared.call.ExitCall.{ExitCall}
 use Rattle.std.proofs.Common.{List, None, Option, Some, [], ap, append_assoc, append-nil, arith, length, length-append, subst, sym, ℕ, ◌+◌, ◌++◌, ◌∙◌, ◌∷◌, ◌≡◌, ◌≤◌}
 
 module _ {old new : Parts} {made : Case} where
@@ -49,6 +52,10 @@ module _ {old new : Parts} {made : Case} where
     dying = comes.came.dying;
   }
 
+  -- of a caller that is answered or waits, where others were told nothing
+  pub told-own : {before after : List Effect} {own : Option Answer} → ComesTo old new [] [] made own → (t : ℕ) → after ≡ before ++ own_effects t own → Told old new before after t made
+  told-own {before} comes t told = told-behind (ComesTo-quiet comes before) t told
+
   -- of an answer at once, where others were told nothing
   pub told-alone : {before after : List Effect} {a : Answer} → Answers old new [] [] made a → (t : ℕ) → after ≡ before ++ effect.Answered t a ∷ [] → Told old new before after t made
   told-alone {before} answers t told = told-behind (ComesTo-said answers before) t told
@@ -57,6 +64,13 @@ module _ {old new : Parts} {made : Case} where
 pub told-few : (middle : List Effect) (t : ℕ) (own : Option Answer) → length (middle ++ own_effects t own) ≤ length middle + 1
 told-few middle t None = omega (arith, ap length (append-nil middle))
 told-few middle t (Some a) = omega (arith, length-append middle (effect.Answered t a ∷ []))
+
+pub told-most : (middle after : List Effect) (t : ℕ) (own : Option Answer) (n : ℕ) → length middle ≤ n → after ≡ middle ++ own_effects t own → length after ≤ n + 1
+told-most middle after t own n few told = omega (arith, few, ap length told, told-few middle t own)
+
+-- a call that an exit procedure may make tells others one effect at most
+pub few-told : {old new : Parts} {before after : List Effect} {a : Answer} (t : ℕ) (call : ExitCall) → Answers old new before after (exit_case (state_of old) t call) a → before ≡ [] → length after ≤ 1
+few-told {old} {new} {before} {after} {a} t call answers none = omega (arith, ap length none, ap length answers.came.effects, length-append before (exit_case (state_of old) t call).others, few_others (state_of old) t call)
 
 -- a call after which nothing has changed but places, and then another
 module _ {old mid : Parts} (same : IsAsBefore old mid) where

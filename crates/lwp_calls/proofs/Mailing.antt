@@ -8,13 +8,13 @@ use Rattle.death_cleanup.specs.declared.rows.Kind.{Kind}
 use Rattle.lwp_calls.proofs.Counts.{as_long, length-keys, times-keys}
 use Rattle.lwp_calls.specs.Asks.{first_refusal}
 use Rattle.lwp_calls.specs.Comes.{ComesTo}
-use Rattle.lwp_types.specs.Case.{Case, Check, refused, unanswered, unless, with_zero}
+use Rattle.lwp_types.specs.Case.{Case, Check, refused, unanswered, unless}
 use Rattle.lwp_types.specs.Choice.{is_eligible}
 use Rattle.lwp_types.specs.CountLaws.{count-append, count-filter, count_agree, count_and-le, count_found_and, count_not_found, one}
 use Rattle.lwp_types.specs.Counts.{is_sending, sendings_of}
 use Rattle.lwp_types.specs.Lawful.{NineParts}
-use Rattle.lwp_types.specs.Letters.{as_answer, as_received, is_letter_of, marked_received, post, receive_by, received_from, reply, send, takes_from, unreceived, with_holding, without_letter}
-use Rattle.lwp_types.specs.State.{State, ThreadRow, agent_numbers, is_agent, is_agent_row, is_id, is_not_blocked, is_number, is_thread, numbers, passes, still, thread_of, times_in}
+use Rattle.lwp_types.specs.Letters.{as_answer, as_received, is_letter_of, marked_received, post, receive_by, send, takes_from, unreceived}
+use Rattle.lwp_types.specs.State.{State, ThreadRow, agent_numbers, is_agent_row, is_not_blocked, is_number, is_thread, numbers, passes, still, thread_of, times_in}
 use Rattle.lwp_types.specs.Unblock.{blocked, unblock}
 use Rattle.lwp_types.specs.declared.call.LwpErr.{LwpErr}
 use Rattle.lwp_types.specs.declared.call.LwpErr.TheVariants as error
@@ -31,7 +31,7 @@ use Rattle.rendezvous.specs.Mailbag.{Mailbag, has_letter_of, marked, taken}
 use Rattle.stale_ids.specs.Register.{AreRising, value_of}
 use Rattle.std.proofs.Common.{Bool, List, None, Option, Some, [], ap, arith, cond, eqb, false, length, length-append, map, not, refl, subst, sym, true, ℕ, ◌&&◌, ◌+◌, ◌++◌, ◌<◌, ◌∙◌, ◌∷◌, ◌≡◌, ◌≤◌}
 use Rattle.std.specs.List.{filter, find}
-use Rattle.std.specs.Prelude.{is_none, nat_lt, option_map}
+use Rattle.std.specs.Prelude.{option_map}
 
 -- a call that is refused by the first of its checks that strikes, or isn't refused
 pub unless_struck : (s : State) (checks : List Check) (otherwise : Case) (e : LwpErr) → first_refusal checks ≡ Some e → unless s checks otherwise ≡ refused s e
@@ -267,16 +267,3 @@ awaited_comes parts new t from mail made same came is =
     let there : CameTo parts new [] [] (still (blocked (state_of parts) t (block.Receiving from))) =
     subst (λ (m : Mailbag). CameTo (record parts { mail = m }) new [] [] (still (blocked (state_of (record parts { mail = m })) t (block.Receiving from)))) same came in
     rw is (record { came = there; own = refl })
-
--- a reply is told to one at most
-pub few_replied : (s : State) (t to : ℕ) (text : List ℕ) → length (reply s t to text).others ≤ 1
-unfolding unless
-few_replied s t to text = by_tests (not (is_id s to)) (is_none (received_from s.letters t to)) (passes (λ (letter : Letter). nat_lt letter.room (length text)) (received_from s.letters t to)) (is_agent s to)
-  where
-    by_tests : (a b c e : Bool) → length (cond a (refused s error.NonExist) (cond b (refused s error.NoWait) (cond c (refused s error.InvalidArg)
-        (with_zero (cond e (still (record s { letters = without_letter to s.letters; agents = with_holding to false s.agents })) (unblock (answer.Reply text) to (record s { letters = without_letter to s.letters }))))))).others ≤ 1
-    by_tests true b c e = omega arith
-    by_tests false true c e = omega arith
-    by_tests false false true e = omega arith
-    by_tests false false false true = omega arith
-    by_tests false false false false = omega arith

@@ -3,7 +3,7 @@ use Rattle.agents.specs.Roster as roster
 use Rattle.death_cleanup.specs.Comes.{CameTo}
 use Rattle.death_cleanup.specs.View.{state_of}
 use Rattle.death_cleanup.specs.declared.parts.Parts.{Parts}
-use Rattle.lwp_calls.specs.Pod.{current_of, is_refusal, refuses}
+use Rattle.lwp_calls.specs.Pod.{ForgetsTheDead, RunsExitsOnce, called_by, current_of, is_refusal, refuses}
 use Rattle.lwp_types.specs.Agents.{armed, deliver, deliver_to, event_agent, is_armed, is_for}
 use Rattle.lwp_types.specs.Choice.{choice, is_eligible_in}
 use Rattle.lwp_types.specs.CountLaws.{count-cons, count_found, one}
@@ -20,9 +20,11 @@ use Rattle.lwp_types.specs.declared.rows.AgentRow.{AgentRow}
 use Rattle.lwp_types.specs.declared.rows.Letter.{Letter}
 use Rattle.lwp_calls.proofs.Counts.{times-keys}
 use Rattle.pod_laws.proofs.Chosen.{chosen}
+use Rattle.pod_laws.proofs.Died.{the_dead_are_forgotten}
 use Rattle.pod_laws.proofs.Elements.{find_passes}
 use Rattle.pod_laws.proofs.EveryStep.{Lawful-step}
 use Rattle.pod_laws.proofs.Numbers.{once_rising}
+use Rattle.pod_laws.proofs.OnceCalls.{exits_run_once}
 use Rattle.pod_laws.proofs.Refusals.{refused_step}
 use Rattle.std.proofs.Common.{Bool, List, None, Option, Some, [], ap, append_assoc, arith, cond, count_by, false, not, refl, subst, sym, true, ℕ, ◌&&◌, ◌++◌, ◌∙◌, ◌∷◌, ◌≡◌, ◌≤◌}
 use Rattle.std.proofs.lemmas.Bool.{and_parts, eq-eqb, eqb-true}
@@ -93,17 +95,38 @@ module _ (s : State) (lawful : Lawful s None) (c : Call) (t : ℕ) (turn : curre
     pub stepped : (step s c).after ≡ record (state_of parts) { ended = ends (state_of parts) }
     stepped = ap (λ (out : Outcome). out.after) (step-chosen s t c turn) ∙ ap (λ (now : State). record now { ended = ends now }) (sym carried)
 
-    -- and its effects
-    pub told : (before after : List Effect) → after ≡ before ++ ((case_of s t c).others ++ own_effects t (case_of s t c).own) → before ≡ effect.Called t c ∷ [] → after ++ end_effects (state_of parts) ≡ (step s c).effects
-    told before after tells called =
-        ap (λ es. es ++ end_effects (state_of parts)) tells
-        ∙ ap (λ es. (es ++ ((case_of s t c).others ++ own_effects t (case_of s t c).own)) ++ end_effects (state_of parts)) called
+    -- and its effects, behind the call itself
+    pub told : (before after last : List Effect) → before ≡ [] → after ≡ before ++ ((case_of s t c).others ++ own_effects t (case_of s t c).own) → last ≡ after ++ end_effects (state_of parts) → called_by (current_of s) c ++ last ≡ (step s c).effects
+    told before after last none tells ends =
+        ap (λ o. called_by o c ++ last) turn
+        ∙ ap (λ es. effect.Called t c ∷ es) (ends ∙ ap (λ es. es ++ end_effects (state_of parts)) (tells ∙ ap (λ es. es ++ ((case_of s t c).others ++ own_effects t (case_of s t c).own)) none))
         ∙ ap (λ es. effect.Called t c ∷ es) (append_assoc (case_of s t c).others (own_effects t (case_of s t c).own) (end_effects (state_of parts)))
         ∙ ap (λ now. effect.Called t c ∷ ((case_of s t c).others ++ (own_effects t (case_of s t c).own ++ end_effects now))) carried
         ∙ sym (ap (λ (out : Outcome). out.effects) (step-chosen s t c turn))
 
     pub few_status : parts.exit ≤ 99
     few_status = omega (arith, (Lawful-step s lawful c).nine.levels.2, ap (λ (now : State). now.status) stepped)
+
+-- what is told besides the call itself
+
+forgets-behind : (now : State) (o : Option ℕ) (c : Call) (es : List Effect) → ForgetsTheDead now (called_by o c ++ es) → ForgetsTheDead now es
+forgets-behind now None c es h = h
+forgets-behind now (Some t) c es h = h
+
+runs-behind : (s now : State) (o : Option ℕ) (c : Call) (es : List Effect) → RunsExitsOnce s c now (called_by o c ++ es) → RunsExitsOnce s c now es
+runs-behind s now None c es h = h
+runs-behind s now (Some t) c es h = h
+
+module _ (s now : State) (lawful : Lawful s None) (c : Call) (es : List Effect) (after : now ≡ (step s c).after) (effects : called_by (current_of s) c ++ es ≡ (step s c).effects) where
+  -- whoever died is forgotten
+  pub forgets : ForgetsTheDead now es
+  forgets = forgets-behind now (current_of s) c es
+      (subst (λ (x : State). ForgetsTheDead x (called_by (current_of s) c ++ es)) (sym after) (subst (λ (told : List Effect). ForgetsTheDead (step s c).after told) (sym effects) (the_dead_are_forgotten s lawful c)))
+
+  -- exit procedures ran once
+  pub runs : RunsExitsOnce s c now es
+  runs = runs-behind s now (current_of s) c es
+      (subst (λ (x : State). RunsExitsOnce s c x (called_by (current_of s) c ++ es)) (sym after) (subst (λ (told : List Effect). RunsExitsOnce s c (step s c).after told) (sym effects) (exits_run_once s lawful c)))
 
 -- Deliveries
 

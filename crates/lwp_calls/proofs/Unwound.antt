@@ -1,4 +1,5 @@
 -- Frames that go: what is told meanwhile, and what is left.
+use Rattle.death_cleanup.proofs.Exiting.{few_others}
 use Rattle.death_cleanup.proofs.Leaving.{marks-here}
 use Rattle.death_cleanup.proofs.Unmarking.{marked_again, marks_now, remarked_out, run_exit_so, same_case}
 use Rattle.death_cleanup.proofs.Unwinding.{InStep-stacked, marks-are, stacked-is}
@@ -11,56 +12,31 @@ use Rattle.death_cleanup.specs.declared.parts.Parts.{Parts}
 use Rattle.death_cleanup.specs.declared.rows.Kind.{Kind}
 use Rattle.exc_stack.specs.Stack.{IsInReach, handlers_on_top, settled_at}
 use Rattle.lwp_calls.proofs.Stacks.{stack-fine}
-use Rattle.lwp_calls.proofs.Tables.{break_few, exit_few, unless_few}
-use Rattle.lwp_types.specs.Case.{Case, Check, answered, unless}
+use Rattle.lwp_types.specs.Case.{Case}
 use Rattle.lwp_types.specs.Choice.{is_eligible_in}
 use Rattle.lwp_types.specs.CountLaws.{count-cons}
 use Rattle.lwp_types.specs.Exits.{caught, exit_case, run_exit, unwind}
-use Rattle.lwp_types.specs.Letters.{replied, without_letter, with_holding}
 use Rattle.lwp_types.specs.Marks.{caught_marks, exit_of, exits_of, first_frames, frames, is_frame, later_frames, settled}
-use Rattle.lwp_types.specs.State.{Outcome, State, and_then, for_each, is_agent, is_thread, marked, marks_in, still}
-use Rattle.lwp_types.specs.Unblock.{unblock, zero_answer}
-use Rattle.lwp_types.specs.declared.call.Answer.{Answer}
+use Rattle.lwp_types.specs.State.{Outcome, State, and_then, for_each, is_thread, marked, marks_in}
+use Rattle.lwp_types.specs.Unblock.{zero_answer}
 use Rattle.lwp_types.specs.declared.call.Answer.TheVariants as answer
 use Rattle.lwp_types.specs.declared.call.Effect.{Effect}
 use Rattle.lwp_types.specs.declared.call.Effect.TheVariants as effect
-use Rattle.lwp_types.specs.declared.call.ExitCall.{ExitCall}
-use Rattle.lwp_types.specs.declared.call.ExitCall.TheVariants as exit
 use Rattle.lwp_types.specs.declared.rows.ExitMark.{ExitMark}
 use Rattle.lwp_types.specs.declared.rows.Found.{Found}
 use Rattle.lwp_types.specs.declared.rows.Mark.{Mark}
 use Rattle.lwp_types.specs.declared.rows.Mark.TheVariants as mark
 use Rattle.pod_laws.proofs.MarkLists.{frames_split, stack_from}
 use Rattle.stale_ids.specs.Register.{AreRising, value_of, with_value}
-use Rattle.std.proofs.Common.{Bool, List, None, Some, [], ap, arith, cond, false, length, length-append, refl, reverse, subst, suc, sym, true, zero, ℕ, ◌++◌, ◌+◌, ◌<◌, ◌∙◌, ◌∷◌, ◌≡◌, ◌≤◌}
+use Rattle.std.proofs.Common.{List, None, Some, [], ap, arith, length, length-append, refl, reverse, subst, suc, sym, true, zero, ℕ, ◌++◌, ◌+◌, ◌<◌, ◌∙◌, ◌∷◌, ◌≡◌, ◌≤◌}
 use Rattle.std.proofs.lemmas.List.{length-reverse}
 use Rattle.std.specs.List.{filter_map}
 use Rattle.std.specs.Prelude.{unwrap_or}
 
 -- an exit procedure tells one other at most, and its own result
 
-quiet_few : (s : State) (checks : List Check) (after : State) (a : Answer) → length (unless s checks (answered after a)).others ≤ 1
-quiet_few s checks after a = unless_few s checks (answered after a) 1 (omega arith)
-
-replied_few : (u : ℕ) (text : List ℕ) (s : State) → length (replied u text s).effects ≤ 1
-replied_few u text s = by_agent (is_agent s u)
-  where
-    by_agent : (b : Bool) → length (cond b (still (record s { letters = without_letter u s.letters; agents = with_holding u false s.agents })) (unblock (answer.Reply text) u (record s { letters = without_letter u s.letters }))).effects ≤ 1
-    by_agent true = omega arith
-    by_agent false = omega arith
-
-case_few : (s : State) (t : ℕ) (call : ExitCall) → length (exit_case s t call).others ≤ 1
-case_few s t (exit.MonExit m) = exit_few s t m
-case_few s t (exit.MonBreak m) = break_few s m
-case_few s t (exit.Notify c) = quiet_few s _ _ _
-case_few s t (exit.Broadcast c) = quiet_few s _ _ _
-case_few s t (exit.Reply to text) = unless_few s _ _ 1 (replied_few to text s)
-case_few s t (exit.Resume u) = quiet_few s _ _ _
-case_few s t (exit.SetExit code) = quiet_few s _ _ _
-case_few s t (exit.Note text) = omega arith
-
 run_few : (t : ℕ) (x : ExitMark) (s : State) → length (run_exit t x s).effects ≤ 2
-run_few t x s = omega (arith, case_few s t x.call, length-append (exit_case s t x.call).others (effect.Exited t x.reg x.call (unwrap_or (exit_case s t x.call).own zero_answer) ∷ []))
+run_few t x s = omega (arith, few_others s t x.call, length-append (exit_case s t x.call).others (effect.Exited t x.reg x.call (unwrap_or (exit_case s t x.call).own zero_answer) ∷ []))
 
 each_few : (t : ℕ) (xs : List ExitMark) (s : State) → length (for_each (run_exit t) xs s).effects ≤ length xs + length xs
 unfolding for_each and_then
@@ -92,8 +68,8 @@ module _ (parts : Parts) (lawful : LawfulParts parts) (alone : parts.dying ≡ N
   pub leave-few : length going.effects ≤ 512
   leave-few = unwind_few t depth kept (marks_in (state_of parts) t) (state_of parts) (stack_from (marks_in (state_of parts) t) (stack-fine parts lawful alone t may)).few
 
-  pub came-few : (new : Parts) (before now : List Effect) → CameTo parts new before now going → length before ≤ 1 → length now ≤ 1280
-  came-few new before now came room = omega (arith, room, leave-few, ap length came.effects, length-append before going.effects)
+  pub came-few : (new : Parts) (before now : List Effect) → CameTo parts new before now going → before ≡ [] → length now ≤ 1279
+  came-few new before now came none = omega (arith, ap length none, leave-few, ap length came.effects, length-append before going.effects)
 
 -- the first frames are as many
 

@@ -8,14 +8,20 @@ use Rattle.lwp_types.specs.declared.call.Answer.{Answer}
 use Rattle.lwp_types.specs.declared.call.Answer.TheVariants as answer
 use Rattle.lwp_types.specs.declared.call.Call.{Call}
 use Rattle.lwp_types.specs.declared.call.Effect.{Effect}
+use Rattle.lwp_types.specs.declared.call.Effect.TheVariants as effect
 use Rattle.pod_laws.specs.Forgotten.{IsForgotten, is_died}
 use Rattle.pod_laws.specs.Once.{ExitTest, exits_passing, marks_passing, set_now}
 use Rattle.std.specs.List.{count_by}
-use Rattle.std.specs.Prelude.{Bool, List, None, Option, Some, false, if◌then◌else◌, true, ℕ, ◌+◌, ◌≡◌, ◌≤◌}
+use Rattle.std.specs.Prelude.{Bool, List, None, Option, Some, [], false, if◌then◌else◌, true, ℕ, ◌+◌, ◌∷◌, ◌≡◌, ◌≤◌}
 
 -- the thread whose turn it is; nobody's in a pod that has ended
 abbrev pub current_of : State → Option ℕ
 current_of s = if s.ended then None else choice s
+
+-- the call itself is told first, where it is somebody's turn
+abbrev pub called_by : Option ℕ → Call → List Effect
+called_by None c = []
+called_by (Some t) c = effect.Called t c ∷ []
 
 -- with nobody to run, a pod is idle
 abbrev pub idle_if : Option ℕ → Option PodEnd

@@ -1,5 +1,5 @@
 // Calls on agents.
-ghost use Rattle.std.specs.Prelude.{◌≡◌, ◌<◌, ◌≤◌, false, Some, None, IfOk, IsErr, IsTrue, OnErr, OnOk, [], length};
+ghost use Rattle.std.specs.Prelude.{◌≡◌, ◌<◌, ◌≤◌, false, Some, None, IsErr, IsTrue, OnErr, OnOk, [], length};
 ghost use Rattle.death_cleanup.specs.Comes.{Answers, CameTo};
 ghost use Rattle.death_cleanup.specs.Ties.{InStep, LawfulParts};
 ghost use Rattle.death_cleanup.specs.View.{state_of};
@@ -13,7 +13,7 @@ ghost use Rattle.agents.specs.Roster.{has_agent_for};
 ghost use Rattle.lwp_calls.specs.Asks.{HasAgentPlaces, asks_memory};
 ghost use Rattle.lwp_calls.specs.Comes.{IsAsBefore, Told};
 
-use crate::asks::{next_count, thread_count};
+use crate::asks::{next_count, tell_ids, thread_count};
 use death_cleanup::{Kind, Parts};
 use lwp_types::{AgentCall, Answer, Effects, IdKind, LwpErr, NoMemory, Tid};
 
@@ -33,39 +33,45 @@ pub fn carry_out(
 ) -> Result<(), NoMemory>
     requires lawful { LawfulParts parts.old }
     requires alone { parts.old.dying ≡ None }
-    requires room { length effects.old ≤ 1 }
+    requires room { effects.old ≡ [] }
     ensures ok { OnOk result (Told parts.old parts.new effects.old effects.new tid (case_of (state_of parts.old) tid (agent_call call))) }
-    ensures most { length effects.new ≤ 1281 }
+    ensures most { length effects.new ≤ 1280 }
     ensures err { OnErr result (IsAsBefore parts.old parts.new) }
     ensures memory { IsErr result → IsTrue (asks_memory (agent_call call)) }
 {
-    let own = match call {
-        AgentCall::Create(event) => create(parts, tid, event)?,
-        AgentCall::List => list(parts)?,
-    };
-    effects.answered(tid, own);
-    Ok(())
+    match call {
+        AgentCall::Create(event) => create(parts, tid, event, effects),
+        AgentCall::List => list(parts, tid, effects),
+    }
 }
 
 // An agent of the caller, for an event that has none. What a delivery needs later is reserved now.
-fn create(parts: &mut Parts, caller: Tid, event: u32) -> Result<Answer, NoMemory>
+#[inline(never)]
+fn create(parts: &mut Parts, caller: Tid, event: u32, effects: &mut Effects) -> Result<(), NoMemory>
     requires lawful { LawfulParts parts.old }
     requires alone { parts.old.dying ≡ None }
-    ensures ok { IfOk result (λ a. Answers parts.old parts.new [] [] (make_agent (state_of parts.old) caller event) a) }
+    requires room { effects.old ≡ [] }
+    ensures ok { OnOk result (Told parts.old parts.new effects.old effects.new caller (make_agent (state_of parts.old) caller event)) }
+    ensures most { length effects.new ≤ 1 }
     ensures err { OnErr result (IsAsBefore parts.old parts.new) }
 {
     if event == 0 || event > MOST_EVENT {
-        return Ok(Answer::Refused(LwpErr::InvalidArg));
+        effects.done(caller, Err(LwpErr::InvalidArg));
+        return Ok(());
     }
     let event = event as u8;
     if parts.agents.agent_of(event).is_some() {
-        return Ok(Answer::Refused(LwpErr::InUse));
+        effects.done(caller, Err(LwpErr::InUse));
+        return Ok(());
     }
     if parts.ids.births() >= parts.ids.limit() {
-        return Ok(Answer::Refused(LwpErr::NoRoom));
+        effects.done(caller, Err(LwpErr::NoRoom));
+        return Ok(());
     }
     make_places(parts, event)?;
-    Ok(Answer::Thread(begin(parts, caller, event)))
+    let agent = begin(parts, caller, event);
+    effects.answered(caller, Answer::Thread(agent));
+    Ok(())
 }
 
 // An agent begins. There are places for it.
@@ -110,13 +116,13 @@ fn make_places(parts: &mut Parts, _event: u8) -> Result<(), NoMemory>
 }
 
 // The live agents.
-fn list(parts: &Parts) -> Result<Answer, NoMemory>
-    requires { InStep parts.now }
-    ensures { IfOk result (λ a. Answers parts.now parts.now [] [] (listed (state_of parts.now) kind.Thread (agent_numbers (state_of parts.now).agents)) a) }
+fn list(parts: &Parts, tid: Tid, effects: &mut Effects) -> Result<(), NoMemory>
+    requires step { InStep parts.now }
+    requires room { effects.old ≡ [] }
+    ensures ok { OnOk result (Told parts.now parts.now effects.old effects.new tid (listed (state_of parts.now) kind.Thread (agent_numbers (state_of parts.now).agents))) }
+    ensures most { length effects.new ≤ 1 }
 {
     let list = parts.agents.list()?;
-    Ok(Answer::Ids {
-        kind: IdKind::Thread,
-        list,
-    })
+    tell_ids(tid, IdKind::Thread, list, effects);
+    Ok(())
 }

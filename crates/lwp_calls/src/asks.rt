@@ -1,5 +1,5 @@
-// What several calls ask of the parts, and how a caller begins to wait.
-ghost use Rattle.std.specs.Prelude.{◌≡◌, ◌<◌, ◌+◌, false, length, IfOk, IsTrue, Some, None, []};
+// What several calls ask of the parts and tell their caller, and how one begins to wait.
+ghost use Rattle.std.specs.Prelude.{◌≡◌, ◌<◌, ◌+◌, ◌++◌, ◌∷◌, false, length, IfOk, IsTrue, Some, None, []};
 ghost use Rattle.std.specs.List.{list_all};
 ghost use Rattle.death_cleanup.specs.Comes.{CameTo};
 ghost use Rattle.death_cleanup.specs.Ties.{InStep, LawfulParts};
@@ -8,12 +8,23 @@ ghost use Rattle.lwp_types.specs.Choice.{is_eligible_in};
 ghost use Rattle.lwp_types.specs.Letters.{receivers_of};
 ghost use Rattle.lwp_types.specs.State.{is_not_blocked, is_thread, numbers, priority_in, still};
 ghost use Rattle.lwp_types.specs.Unblock.{blocked};
+ghost use Rattle.lwp_types.specs.declared.call.Answer.TheVariants as answer;
+ghost use Rattle.lwp_types.specs.declared.call.Effect.TheVariants as effect;
 ghost use Rattle.lwp_calls.specs.Asks.{serves};
 
 use death_cleanup::{Awaited, Kind, Parts, note, nth_of, set_block};
-use lwp_types::{Block, IdList, NoMemory, Tid};
+use lwp_types::{Answer, Block, Effects, IdKind, IdList, NoMemory, Tid};
 use stale_ids::Registry;
 use std::alloc::Global;
+
+/// Tells a caller a list. It stands apart, since an answer has room for a text.
+#[inline(never)]
+pub fn tell_ids(tid: Tid, kind: IdKind, list: IdList, effects: &mut Effects)
+    requires { length effects.old < 2048 }
+    ensures { effects.new ≡ effects.old ++ effect.Answered tid (answer.Ids kind list) ∷ [] }
+{
+    effects.answered(tid, Answer::Ids { kind, list });
+}
 
 /// The priority of a thread.
 pub fn prio_of(parts: &Parts, tid: Tid) -> u32

@@ -1,9 +1,9 @@
 // Calls on letters: a sender waits for the reply.
-ghost use Rattle.std.specs.Prelude.{◌≡◌, ◌<◌, ◌≤◌, ◌==◌, ◌∷◌, false, Some, None, IfOk, IsErr, IsTrue, OnErr, OnOk, length, []};
+ghost use Rattle.std.specs.Prelude.{◌≡◌, ◌<◌, ◌≤◌, ◌==◌, ◌∷◌, false, Some, None, IsErr, IsTrue, OnErr, OnOk, length, option_map, []};
 ghost use Rattle.death_cleanup.specs.Comes.{Answers, CameTo};
 ghost use Rattle.death_cleanup.specs.Ties.{InStep, LawfulParts};
 ghost use Rattle.death_cleanup.specs.View.{state_of};
-ghost use Rattle.lwp_types.specs.Case.{listed};
+ghost use Rattle.lwp_types.specs.Case.{answer_by, listed};
 ghost use Rattle.lwp_types.specs.Choice.{is_eligible_in};
 ghost use Rattle.lwp_types.specs.Families.{letter_call};
 ghost use Rattle.lwp_types.specs.Letters.{is_no_source, post, receive, receivers_of, send, senders_to, takes_from};
@@ -14,11 +14,9 @@ ghost use Rattle.rendezvous.specs.Mailbag.{has_letter_of};
 ghost use Rattle.lwp_calls.specs.Asks.{asks_memory, first_refusal};
 ghost use Rattle.lwp_calls.specs.Comes.{ComesTo, IsAsBefore, Told};
 
-use crate::asks::{block, receivers};
-use death_cleanup::{Kind, Parts, is_id, is_thread, reply, wake};
-use lwp_types::{
-    Answer, Block, Effects, IdKind, Letter, LetterCall, LwpErr, Mode, NoMemory, Text, Tid,
-};
+use crate::asks::{block, receivers, tell_ids};
+use death_cleanup::{Kind, Parts, is_id, is_thread, reply, wake_lettered};
+use lwp_types::{Block, Effects, IdKind, Letter, LetterCall, LwpErr, Mode, NoMemory, Text, Tid};
 use std::alloc::Global;
 
 /// A call of this family.
@@ -33,24 +31,29 @@ pub fn carry_out(
     requires lawful { LawfulParts parts.old }
     requires alone { parts.old.dying ≡ None }
     requires may_run { IsTrue (is_eligible_in (state_of parts.old) tid) }
-    requires room { length effects.old ≤ 1 }
+    requires room { effects.old ≡ [] }
     ensures ok { OnOk result (Told parts.old parts.new effects.old effects.new tid (case_of (state_of parts.old) tid (letter_call call.now))) }
-    ensures most { length effects.new ≤ 1281 }
+    ensures most { length effects.new ≤ 1280 }
     ensures err { OnErr result (IsAsBefore parts.old parts.new) }
     ensures memory { IsErr result → IsTrue (asks_memory (letter_call call.now)) }
 {
     let own = match call {
         LetterCall::Send(to, room, text) => send(parts, tid, *to, *room, text, effects),
-        LetterCall::Recv(from, mode) => receive(parts, tid, from, *mode),
+        LetterCall::Recv(from, mode) => {
+            receive(parts, tid, from, *mode, effects);
+            return Ok(());
+        }
         LetterCall::Reply(to, text) => Some(reply(parts, tid, *to, text, effects)),
-        LetterCall::Senders => Some(list_senders(parts, tid)?),
-        LetterCall::Receivers => Some(list_receivers(parts, alloc, tid)?),
+        LetterCall::Senders => return list_senders(parts, tid, effects),
+        LetterCall::Receivers => return list_receivers(parts, alloc, tid, effects),
     };
-    effects.told(tid, own);
+    effects.done_now(tid, own);
     Ok(())
 }
 
-// The caller waits for the reply to its letter.
+// The caller waits for the reply to its letter. It stands apart, so that a reply makes no room for a letter; so do the receive and
+// the lists.
+#[inline(never)]
 fn send(
     parts: &mut Parts,
     caller: Tid,
@@ -58,19 +61,19 @@ fn send(
     room: u8,
     text: &Text,
     effects: &mut Effects,
-) -> Option<Answer>
+) -> Option<Result<i64, LwpErr>>
     requires lawful { LawfulParts parts.old }
     requires alone { parts.old.dying ≡ None }
     requires may_run { IsTrue (is_eligible_in (state_of parts.old) caller) }
-    requires room { length effects.old ≤ 1 }
-    ensures comes { ComesTo parts.old parts.new effects.old effects.new (send (state_of parts.old) caller to room text.now) result }
-    ensures most { length effects.new ≤ 2 }
+    requires room { effects.old ≡ [] }
+    ensures comes { ComesTo parts.old parts.new effects.old effects.new (send (state_of parts.old) caller to room text.now) (option_map answer_by result) }
+    ensures most { length effects.new ≤ 1 }
 {
     if !is_thread(parts, to) {
-        return Some(Answer::Refused(LwpErr::NonExist));
+        return Some(Err(LwpErr::NonExist));
     }
     if caller == to {
-        return Some(Answer::Refused(LwpErr::InvalidArg));
+        return Some(Err(LwpErr::InvalidArg));
     }
     block(parts, caller, Block::Sending);
     let letter = Letter {
@@ -80,7 +83,7 @@ fn send(
         room,
         received: false,
     };
-    post(parts, letter, effects);
+    post(parts, &letter, effects);
     None
 }
 
@@ -108,24 +111,22 @@ fn block_takes(why: Block, sender: Tid) -> bool
 }
 
 /// A letter more, which nobody has received. Who waits for such a letter has it at once, and goes on.
-pub fn post(parts: &mut Parts, letter: Letter, effects: &mut Effects)
+pub fn post(parts: &mut Parts, letter: &Letter, effects: &mut Effects)
     requires step { InStep parts.old }
     requires alone { parts.old.dying ≡ None }
-    requires unread { letter.received ≡ false }
-    requires new { has_letter_of parts.old.mail.letters letter.from ≡ false }
+    requires unread { letter.now.received ≡ false }
+    requires new { has_letter_of parts.old.mail.letters letter.now.from ≡ false }
     requires place { length parts.old.mail.letters < parts.old.mail.places }
     requires room { length effects.old < 2048 }
-    ensures { CameTo parts.old parts.new effects.old effects.new (post letter (state_of parts.old)) }
+    ensures { CameTo parts.old parts.new effects.old effects.new (post letter.now (state_of parts.old)) }
 {
     let received = takes_from(parts, letter.to, letter.from);
-    parts.mail.post_letter(Letter { received, ..letter });
+    parts.mail.post_letter(Letter {
+        received,
+        ..*letter
+    });
     if received {
-        let answer = Answer::Letter {
-            from: letter.from,
-            text: letter.text,
-            room: letter.room,
-        };
-        wake(parts, letter.to, answer, effects);
+        wake_lettered(parts, letter.to, letter, effects);
     }
 }
 
@@ -146,51 +147,54 @@ fn source_refusal(parts: &Parts, caller: Tid, from: &Option<Tid>) -> Option<LwpE
 }
 
 // The caller has the first letter of whom it names, or of anybody. With none it waits, or is refused.
-fn receive(parts: &mut Parts, caller: Tid, from: &Option<Tid>, mode: Mode) -> Option<Answer>
+#[inline(never)]
+fn receive(parts: &mut Parts, caller: Tid, from: &Option<Tid>, mode: Mode, effects: &mut Effects)
     requires step { InStep parts.old }
     requires alone { parts.old.dying ≡ None }
     requires may_run { IsTrue (is_eligible_in (state_of parts.old) caller) }
-    ensures { ComesTo parts.old parts.new [] [] (receive (state_of parts.old) caller from.now mode) result }
+    requires room { effects.old ≡ [] }
+    ensures told { Told parts.old parts.new effects.old effects.new caller (receive (state_of parts.old) caller from.now mode) }
+    ensures most { length effects.new ≤ 1 }
 {
     if let Some(err) = source_refusal(parts, caller, from) {
-        return Some(Answer::Refused(err));
+        effects.done(caller, Err(err));
+        return;
     }
     if let Some(letter) = parts.mail.take_letter(caller, *from) {
-        return Some(Answer::Letter {
-            from: letter.from,
-            text: letter.text,
-            room: letter.room,
-        });
+        effects.lettered(caller, &letter);
+        return;
     }
     match mode {
-        Mode::Poll => Some(Answer::Refused(LwpErr::Timeout)),
-        Mode::Block => {
-            block(parts, caller, Block::Receiving(*from));
-            None
-        }
+        Mode::Poll => effects.done(caller, Err(LwpErr::Timeout)),
+        Mode::Block => block(parts, caller, Block::Receiving(*from)),
     }
 }
 
 // Who sent the letters to the caller, received or not.
-fn list_senders(parts: &Parts, caller: Tid) -> Result<Answer, NoMemory>
-    requires { InStep parts.now }
-    ensures { IfOk result (λ a. Answers parts.now parts.now [] [] (listed (state_of parts.now) kind.Thread (senders_to (state_of parts.now).letters caller)) a) }
+fn list_senders(parts: &Parts, caller: Tid, effects: &mut Effects) -> Result<(), NoMemory>
+    requires step { InStep parts.now }
+    requires room { effects.old ≡ [] }
+    ensures ok { OnOk result (Told parts.now parts.now effects.old effects.new caller (listed (state_of parts.now) kind.Thread (senders_to (state_of parts.now).letters caller))) }
+    ensures most { length effects.new ≤ 1 }
 {
     let list = parts.mail.senders(caller)?;
-    Ok(Answer::Ids {
-        kind: IdKind::Thread,
-        list,
-    })
+    tell_ids(caller, IdKind::Thread, list, effects);
+    Ok(())
 }
 
 // Who waits for a letter of the caller by name.
-fn list_receivers(parts: &Parts, alloc: Global, caller: Tid) -> Result<Answer, NoMemory>
-    requires { InStep parts.now }
-    ensures { IfOk result (λ a. Answers parts.now parts.now [] [] (listed (state_of parts.now) kind.Thread (receivers_of (state_of parts.now) caller)) a) }
+fn list_receivers(
+    parts: &Parts,
+    alloc: Global,
+    caller: Tid,
+    effects: &mut Effects,
+) -> Result<(), NoMemory>
+    requires step { InStep parts.now }
+    requires room { effects.old ≡ [] }
+    ensures ok { OnOk result (Told parts.now parts.now effects.old effects.new caller (listed (state_of parts.now) kind.Thread (receivers_of (state_of parts.now) caller))) }
+    ensures most { length effects.new ≤ 1 }
 {
     let list = receivers(parts, alloc, caller)?;
-    Ok(Answer::Ids {
-        kind: IdKind::Thread,
-        list,
-    })
+    tell_ids(caller, IdKind::Thread, list, effects);
+    Ok(())
 }

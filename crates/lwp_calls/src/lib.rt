@@ -1,10 +1,10 @@
 //! The pod: its parts, and one call at a time by the thread whose turn it is.
 //!
 //! A `Pod` is seen as the machine's state (`lwp_types/specs/State.antt`). `Pod::call` takes it from one state to the next exactly
-//! as the machine's step does, and gives the step's effects in their order; a call that is refused memory leaves the pod as it
-//! was. `Pod::deliver` does the same for an event of the outside. It stands on the parts of `death_cleanup`, which carries out
-//! deaths and exit procedures, and on the laws of `pod_laws`. Each family of calls has its module; `asks` is what they all ask
-//! of the parts, and `pod` makes them.
+//! as the machine's step does, and gives the step's effects in their order, but for the call itself, which comes first; a call
+//! that is refused memory leaves the pod as it was. `Pod::deliver` does the same for an event of the outside. It stands on the
+//! parts of `death_cleanup`, which carries out deaths and exit procedures, and on the laws of `pod_laws`. Each family of calls
+//! has its module; `asks` is what they all ask of the parts, and `pod` makes them.
 #![tactic(auto)]
 
 mod agent_calls;

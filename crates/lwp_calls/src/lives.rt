@@ -1,9 +1,9 @@
 // Calls by which threads come and go.
-ghost use Rattle.std.specs.Prelude.{◌≡◌, ◌<◌, ◌≤◌, ◌+◌, Some, None, IfOk, IsErr, IsTrue, OnErr, OnOk, length, []};
+ghost use Rattle.std.specs.Prelude.{◌≡◌, ◌<◌, ◌≤◌, ◌+◌, Some, None, IsErr, IsTrue, OnErr, OnOk, length, option_map, []};
 ghost use Rattle.death_cleanup.specs.Comes.{Answers, CameTo};
 ghost use Rattle.death_cleanup.specs.Ties.{InStep, LawfulParts};
 ghost use Rattle.death_cleanup.specs.View.{state_of};
-ghost use Rattle.lwp_types.specs.Case.{listed};
+ghost use Rattle.lwp_types.specs.Case.{answer_by, listed};
 ghost use Rattle.lwp_types.specs.Choice.{is_eligible_in};
 ghost use Rattle.lwp_types.specs.Death.{destroy};
 ghost use Rattle.lwp_types.specs.Families.{life_call};
@@ -15,7 +15,7 @@ ghost use Rattle.exc_stack.specs.Stack.{one_frame};
 ghost use Rattle.lwp_calls.specs.Asks.{HasPlaces, asks_memory};
 ghost use Rattle.lwp_calls.specs.Comes.{ComesTo, IsAsBefore, Told};
 
-use crate::asks::{block, next_count, thread_count, threads};
+use crate::asks::{block, next_count, tell_ids, thread_count, threads};
 use death_cleanup::{Kind, Parts, ThreadRec, die, end_agent, is_agent, is_id, is_thread};
 use exc_stack::ExcStack;
 use lwp_types::{Answer, Block, Effects, Flags, IdKind, LifeCall, LwpErr, NoMemory, Tid};
@@ -39,48 +39,61 @@ pub fn carry_out(
     requires lawful { LawfulParts parts.old }
     requires alone { parts.old.dying ≡ None }
     requires may_run { IsTrue (is_eligible_in (state_of parts.old) tid) }
-    requires room { length effects.old ≤ 1 }
+    requires room { effects.old ≡ [] }
     ensures ok { OnOk result (Told parts.old parts.new effects.old effects.new tid (case_of (state_of parts.old) tid (life_call call))) }
-    ensures most { length effects.new ≤ 1281 }
+    ensures most { length effects.new ≤ 1280 }
     ensures err { OnErr result (IsAsBefore parts.old parts.new) }
     ensures memory { IsErr result → IsTrue (asks_memory (life_call call)) }
 {
     let own = match call {
-        LifeCall::Create(number, prio, flags) => Some(create(parts, alloc, number, prio, flags)?),
+        LifeCall::Create(number, prio, flags) => {
+            return create(parts, alloc, tid, number, prio, flags, effects);
+        }
         LifeCall::Destroy(other) => destroy(parts, tid, other, effects),
         LifeCall::Ping(other) => Some(ping(parts, other)),
         LifeCall::Join(other) => join(parts, tid, other),
-        LifeCall::Threads => Some(list(parts, alloc)?),
+        LifeCall::Threads => return list(parts, alloc, tid, effects),
     };
-    effects.told(tid, own);
+    effects.done_now(tid, own);
     Ok(())
 }
 
-// A thread more, which begins in a procedure.
+// A thread more, which begins in a procedure. It stands apart, so that the calls that are answered a number make no room for its
+// answer; so does the list.
+#[inline(never)]
 fn create(
     parts: &mut Parts,
     alloc: Global,
+    caller: Tid,
     number: u32,
     prio: u32,
     flags: Flags,
-) -> Result<Answer, NoMemory>
+    effects: &mut Effects,
+) -> Result<(), NoMemory>
     requires lawful { LawfulParts parts.old }
     requires alone { parts.old.dying ≡ None }
-    ensures ok { IfOk result (λ a. Answers parts.old parts.new [] [] (create (state_of parts.old) number prio flags) a) }
+    requires room { effects.old ≡ [] }
+    ensures ok { OnOk result (Told parts.old parts.new effects.old effects.new caller (create (state_of parts.old) number prio flags)) }
+    ensures most { length effects.new ≤ 1 }
     ensures err { OnErr result (IsAsBefore parts.old parts.new) }
 {
     if number >= parts.procs {
-        return Ok(Answer::Refused(LwpErr::InvalidArg));
+        effects.done(caller, Err(LwpErr::InvalidArg));
+        return Ok(());
     }
     if prio == 0 || prio > parts.sched.maxpri() {
-        return Ok(Answer::Refused(LwpErr::IllPrio));
+        effects.done(caller, Err(LwpErr::IllPrio));
+        return Ok(());
     }
     if thread_count(parts) >= MOST_THREADS || parts.ids.births() >= parts.ids.limit() {
-        return Ok(Answer::Refused(LwpErr::NoRoom));
+        effects.done(caller, Err(LwpErr::NoRoom));
+        return Ok(());
     }
     make_places(parts)?;
     let stack = ExcStack::new(alloc)?;
-    Ok(Answer::Thread(begin(parts, prio, flags, stack)))
+    let tid = begin(parts, prio, flags, stack);
+    effects.answered(caller, Answer::Thread(tid));
+    Ok(())
 }
 
 // Places for one thread more, wherever a thread may have to wait.
@@ -127,65 +140,66 @@ fn begin(parts: &mut Parts, prio: u32, flags: Flags, stack: ExcStack) -> Tid
 }
 
 // An agent ends, or a thread dies.
-fn destroy(parts: &mut Parts, caller: Tid, tid: Tid, effects: &mut Effects) -> Option<Answer>
+fn destroy(
+    parts: &mut Parts,
+    caller: Tid,
+    tid: Tid,
+    effects: &mut Effects,
+) -> Option<Result<i64, LwpErr>>
     requires lawful { LawfulParts parts.old }
     requires alone { parts.old.dying ≡ None }
-    requires room { length effects.old ≤ 1 }
-    ensures comes { ComesTo parts.old parts.new effects.old effects.new (destroy (state_of parts.old) caller tid) result }
-    ensures most { length effects.new ≤ 1280 }
+    requires room { effects.old ≡ [] }
+    ensures comes { ComesTo parts.old parts.new effects.old effects.new (destroy (state_of parts.old) caller tid) (option_map answer_by result) }
+    ensures most { length effects.new ≤ 1279 }
 {
     if is_agent(&parts.agents, tid) {
         end_agent(parts, tid, effects);
-        return Some(Answer::Value(0));
+        return Some(Ok(0));
     }
     if !is_thread(parts, tid) {
-        return Some(Answer::Refused(LwpErr::NonExist));
+        return Some(Err(LwpErr::NonExist));
     }
     die(parts, tid, effects);
-    if caller == tid {
-        None
-    } else {
-        Some(Answer::Value(0))
-    }
+    if caller == tid { None } else { Some(Ok(0)) }
 }
 
 // Whether there is such a thread or agent.
-fn ping(parts: &Parts, tid: Tid) -> Answer
+fn ping(parts: &Parts, tid: Tid) -> Result<i64, LwpErr>
     requires { InStep parts.now }
-    ensures { Answers parts.now parts.now [] [] (ping (state_of parts.now) tid) result }
+    ensures { Answers parts.now parts.now [] [] (ping (state_of parts.now) tid) (answer_by result) }
 {
     if is_id(parts, tid) {
-        Answer::Value(0)
+        Ok(0)
     } else {
-        Answer::Refused(LwpErr::NonExist)
+        Err(LwpErr::NonExist)
     }
 }
 
 // The caller waits for the death of another.
-fn join(parts: &mut Parts, caller: Tid, tid: Tid) -> Option<Answer>
+fn join(parts: &mut Parts, caller: Tid, tid: Tid) -> Option<Result<i64, LwpErr>>
     requires step { InStep parts.old }
     requires alone { parts.old.dying ≡ None }
     requires may_run { IsTrue (is_eligible_in (state_of parts.old) caller) }
-    ensures { ComesTo parts.old parts.new [] [] (join (state_of parts.old) caller tid) result }
+    ensures { ComesTo parts.old parts.new [] [] (join (state_of parts.old) caller tid) (option_map answer_by result) }
 {
     if !is_thread(parts, tid) {
-        return Some(Answer::Refused(LwpErr::NonExist));
+        return Some(Err(LwpErr::NonExist));
     }
     if caller == tid {
-        return Some(Answer::Refused(LwpErr::InvalidArg));
+        return Some(Err(LwpErr::InvalidArg));
     }
     block(parts, caller, Block::Joining(tid));
     None
 }
 
 // The live threads.
-fn list(parts: &Parts, alloc: Global) -> Result<Answer, NoMemory>
-    requires { InStep parts.now }
-    ensures { IfOk result (λ a. Answers parts.now parts.now [] [] (listed (state_of parts.now) kind.Thread (numbers (state_of parts.now).threads)) a) }
+fn list(parts: &Parts, alloc: Global, tid: Tid, effects: &mut Effects) -> Result<(), NoMemory>
+    requires step { InStep parts.now }
+    requires room { effects.old ≡ [] }
+    ensures ok { OnOk result (Told parts.now parts.now effects.old effects.new tid (listed (state_of parts.now) kind.Thread (numbers (state_of parts.now).threads))) }
+    ensures most { length effects.new ≤ 1 }
 {
     let list = threads(parts, alloc)?;
-    Ok(Answer::Ids {
-        kind: IdKind::Thread,
-        list,
-    })
+    tell_ids(tid, IdKind::Thread, list, effects);
+    Ok(())
 }

@@ -1,9 +1,9 @@
 // Calls on monitors.
-ghost use Rattle.std.specs.Prelude.{◌≡◌, ◌≤◌, [], ◌∷◌, false, Some, None, IfOk, IsErr, IsTrue, OnErr, OnOk, length};
+ghost use Rattle.std.specs.Prelude.{◌≡◌, ◌≤◌, [], ◌∷◌, false, Some, None, IfOk, IsErr, IsTrue, OnErr, OnOk, length, option_map};
 ghost use Rattle.death_cleanup.specs.Comes.{Answers};
 ghost use Rattle.death_cleanup.specs.Ties.{InStep, LawfulParts};
 ghost use Rattle.death_cleanup.specs.View.{state_of};
-ghost use Rattle.lwp_types.specs.Case.{listed, unless};
+ghost use Rattle.lwp_types.specs.Case.{answer_by, listed, unless};
 ghost use Rattle.lwp_types.specs.Choice.{is_eligible_in};
 ghost use Rattle.lwp_types.specs.Families.{lock_call};
 ghost use Rattle.lwp_types.specs.Locks.{cond_enter, enter, entered, is_deepest, is_owned_by_other, monitor_create, monitor_destroy, monitor_waiters};
@@ -13,7 +13,7 @@ ghost use Rattle.lwp_types.specs.declared.call.IdKind.TheVariants as kind;
 ghost use Rattle.lwp_calls.specs.Asks.{asks_memory};
 ghost use Rattle.lwp_calls.specs.Comes.{ComesTo, IsAsBefore, Told};
 
-use crate::asks::{block, prio_of};
+use crate::asks::{block, prio_of, tell_ids};
 use death_cleanup::{Parts, monitor_break, monitor_exit};
 use lwp_types::{Answer, Block, Effects, IdKind, LockCall, LwpErr, Mid, NoMemory, Tid};
 
@@ -31,57 +31,63 @@ pub fn carry_out(
     requires lawful { LawfulParts parts.old }
     requires alone { parts.old.dying ≡ None }
     requires may_run { IsTrue (is_eligible_in (state_of parts.old) tid) }
-    requires room { length effects.old ≤ 1 }
+    requires room { effects.old ≡ [] }
     ensures ok { OnOk result (Told parts.old parts.new effects.old effects.new tid (case_of (state_of parts.old) tid (lock_call call))) }
-    ensures most { length effects.new ≤ 1281 }
+    ensures most { length effects.new ≤ 1280 }
     ensures err { OnErr result (IsAsBefore parts.old parts.new) }
     ensures memory { IsErr result → IsTrue (asks_memory (lock_call call)) }
 {
     let own = match call {
-        LockCall::Create => Some(create(parts)?),
+        LockCall::Create => return create(parts, tid, effects),
         LockCall::Destroy(mon) => Some(destroy(parts, mon)),
         LockCall::Enter(mon) => enter(parts, tid, mon),
         LockCall::CondEnter(mon) => Some(cond_enter(parts, tid, mon)),
         LockCall::Exit(mon) => Some(monitor_exit(parts, tid, mon, effects)),
         LockCall::Break(mon) => Some(monitor_break(parts, mon, effects)),
-        LockCall::List => Some(list(parts)?),
-        LockCall::Waiters(mon) => Some(waiters(parts, mon)?),
+        LockCall::List => return list(parts, tid, effects),
+        LockCall::Waiters(mon) => return waiters(parts, tid, mon, effects),
     };
-    effects.told(tid, own);
+    effects.done_now(tid, own);
     Ok(())
 }
 
-// A monitor that nobody holds.
-fn create(parts: &mut Parts) -> Result<Answer, NoMemory>
+// A monitor that nobody holds. It stands apart, so that the calls that are answered a number make no room for its answer; so do
+// the lists.
+#[inline(never)]
+fn create(parts: &mut Parts, tid: Tid, effects: &mut Effects) -> Result<(), NoMemory>
     requires step { InStep parts.old }
     requires alone { parts.old.dying ≡ None }
-    ensures ok { IfOk result (λ a. Answers parts.old parts.new [] [] (monitor_create (state_of parts.old)) a) }
+    requires room { effects.old ≡ [] }
+    ensures ok { OnOk result (Told parts.old parts.new effects.old effects.new tid (monitor_create (state_of parts.old))) }
+    ensures most { length effects.new ≤ 1 }
     ensures err { OnErr result (IsAsBefore parts.old parts.new) }
 {
     let Some(mon) = parts.mons.create()? else {
-        return Ok(Answer::Refused(LwpErr::NoRoom));
+        effects.done(tid, Err(LwpErr::NoRoom));
+        return Ok(());
     };
-    Ok(Answer::Monitor(mon))
+    effects.answered(tid, Answer::Monitor(mon));
+    Ok(())
 }
 
 // A monitor that nobody uses is gone, and its conditions with it.
-fn destroy(parts: &mut Parts, mon: Mid) -> Answer
+fn destroy(parts: &mut Parts, mon: Mid) -> Result<i64, LwpErr>
     requires lawful { LawfulParts parts.old }
     requires alone { parts.old.dying ≡ None }
-    ensures { Answers parts.old parts.new [] [] (monitor_destroy (state_of parts.old) mon) result }
+    ensures { Answers parts.old parts.new [] [] (monitor_destroy (state_of parts.old) mon) (answer_by result) }
 {
     if !parts.mons.is_live(mon) {
-        return Answer::Refused(LwpErr::NonExist);
+        return Err(LwpErr::NonExist);
     }
     if parts.mons.owner(mon).is_some() {
-        return Answer::Refused(LwpErr::InUse);
+        return Err(LwpErr::InUse);
     }
     if parts.conds.waited_of(mon) {
-        return Answer::Refused(LwpErr::InUse);
+        return Err(LwpErr::InUse);
     }
     parts.mons.destroy(mon);
     parts.conds.destroy_of(mon);
-    Answer::Value(0)
+    Ok(0)
 }
 
 // Whether another than the thread holds the monitor.
@@ -96,28 +102,28 @@ fn is_others(parts: &Parts, tid: Tid, mon: Mid) -> bool
 }
 
 // The thread enters a monitor that it needn't wait for, unless it is in as deep as can be.
-fn go_in(parts: &mut Parts, tid: Tid, mon: Mid) -> Answer
+fn go_in(parts: &mut Parts, tid: Tid, mon: Mid) -> Result<i64, LwpErr>
     requires step { InStep parts.old }
     requires alone { parts.old.dying ≡ None }
     requires lives { IsTrue (member mon (state_of parts.old).monitors) }
     requires open { is_owned_by_other (state_of parts.old).locks tid mon ≡ false }
-    ensures { Answers parts.old parts.new [] [] (unless (state_of parts.old) (is_deepest (state_of parts.old) tid mon ∷ []) (entered (state_of parts.old) tid mon)) result }
+    ensures { Answers parts.old parts.new [] [] (unless (state_of parts.old) (is_deepest (state_of parts.old) tid mon ∷ []) (entered (state_of parts.old) tid mon)) (answer_by result) }
 {
     if parts.mons.depth(mon) >= MOST_DEPTH {
-        return Answer::Refused(LwpErr::NoRoom);
+        return Err(LwpErr::NoRoom);
     }
-    Answer::Value(i64::from(parts.mons.enter(mon, tid)))
+    Ok(i64::from(parts.mons.enter(mon, tid)))
 }
 
 // The caller enters the monitor, or waits for it behind all others.
-fn enter(parts: &mut Parts, caller: Tid, mon: Mid) -> Option<Answer>
+fn enter(parts: &mut Parts, caller: Tid, mon: Mid) -> Option<Result<i64, LwpErr>>
     requires lawful { LawfulParts parts.old }
     requires alone { parts.old.dying ≡ None }
     requires may_run { IsTrue (is_eligible_in (state_of parts.old) caller) }
-    ensures { ComesTo parts.old parts.new [] [] (enter (state_of parts.old) caller mon) result }
+    ensures { ComesTo parts.old parts.new [] [] (enter (state_of parts.old) caller mon) (option_map answer_by result) }
 {
     if !parts.mons.is_live(mon) {
-        return Some(Answer::Refused(LwpErr::NonExist));
+        return Some(Err(LwpErr::NonExist));
     }
     if !is_others(parts, caller, mon) {
         return Some(go_in(parts, caller, mon));
@@ -129,43 +135,44 @@ fn enter(parts: &mut Parts, caller: Tid, mon: Mid) -> Option<Answer>
 }
 
 // The caller enters the monitor, and is refused where it would have to wait.
-fn cond_enter(parts: &mut Parts, caller: Tid, mon: Mid) -> Answer
+fn cond_enter(parts: &mut Parts, caller: Tid, mon: Mid) -> Result<i64, LwpErr>
     requires step { InStep parts.old }
     requires alone { parts.old.dying ≡ None }
-    ensures { Answers parts.old parts.new [] [] (cond_enter (state_of parts.old) caller mon) result }
+    ensures { Answers parts.old parts.new [] [] (cond_enter (state_of parts.old) caller mon) (answer_by result) }
 {
     if !parts.mons.is_live(mon) {
-        return Answer::Refused(LwpErr::NonExist);
+        return Err(LwpErr::NonExist);
     }
     if is_others(parts, caller, mon) {
-        return Answer::Refused(LwpErr::InUse);
+        return Err(LwpErr::InUse);
     }
     go_in(parts, caller, mon)
 }
 
 // The live monitors.
-fn list(parts: &Parts) -> Result<Answer, NoMemory>
-    requires { InStep parts.now }
-    ensures { IfOk result (λ a. Answers parts.now parts.now [] [] (listed (state_of parts.now) kind.Monitor (state_of parts.now).monitors) a) }
+fn list(parts: &Parts, tid: Tid, effects: &mut Effects) -> Result<(), NoMemory>
+    requires step { InStep parts.now }
+    requires room { effects.old ≡ [] }
+    ensures ok { OnOk result (Told parts.now parts.now effects.old effects.new tid (listed (state_of parts.now) kind.Monitor (state_of parts.now).monitors)) }
+    ensures most { length effects.new ≤ 1 }
 {
     let list = parts.mons.list()?;
-    Ok(Answer::Ids {
-        kind: IdKind::Monitor,
-        list,
-    })
+    tell_ids(tid, IdKind::Monitor, list, effects);
+    Ok(())
 }
 
 // Who waits to enter the monitor.
-fn waiters(parts: &Parts, mon: Mid) -> Result<Answer, NoMemory>
-    requires { InStep parts.now }
-    ensures { IfOk result (λ a. Answers parts.now parts.now [] [] (monitor_waiters (state_of parts.now) mon) a) }
+fn waiters(parts: &Parts, tid: Tid, mon: Mid, effects: &mut Effects) -> Result<(), NoMemory>
+    requires step { InStep parts.now }
+    requires room { effects.old ≡ [] }
+    ensures ok { OnOk result (Told parts.now parts.now effects.old effects.new tid (monitor_waiters (state_of parts.now) mon)) }
+    ensures most { length effects.new ≤ 1 }
 {
     if !parts.mons.is_live(mon) {
-        return Ok(Answer::Refused(LwpErr::NonExist));
+        effects.done(tid, Err(LwpErr::NonExist));
+        return Ok(());
     }
     let list = parts.mons.waiters(mon)?;
-    Ok(Answer::Ids {
-        kind: IdKind::Thread,
-        list,
-    })
+    tell_ids(tid, IdKind::Thread, list, effects);
+    Ok(())
 }

@@ -1,11 +1,12 @@
 // Calls on the caller's stack: procedures, handlers, exit procedures.
-ghost use Rattle.std.specs.Prelude.{◌≡◌, ◌<◌, ◌≤◌, [], Some, None, IfOk, IfSome, IsErr, IsTrue, OnErr, OnOk, length, not};
+ghost use Rattle.std.specs.Prelude.{◌≡◌, ◌<◌, ◌≤◌, [], Some, None, IfOk, IfSome, IsErr, IsTrue, OnErr, OnOk, length, not, option_map};
 ghost use Rattle.std.specs.Result.{result_err};
 ghost use Rattle.death_cleanup.specs.Comes.{Answers};
 ghost use Rattle.death_cleanup.specs.Moves.{kind_marked, kind_marks};
 ghost use Rattle.death_cleanup.specs.Ties.{InStep, LawfulParts};
 ghost use Rattle.death_cleanup.specs.View.{state_of};
 ghost use Rattle.exc_stack.specs.Stack.{IsInReach, handlers_on_top, has_all_frames, is_full, refusal_on, settled_at, unhandled, with_frame, with_mark};
+ghost use Rattle.lwp_types.specs.Case.{answer_by};
 ghost use Rattle.lwp_types.specs.Choice.{is_eligible_in};
 ghost use Rattle.lwp_types.specs.Death.{return_from};
 ghost use Rattle.lwp_types.specs.Exits.{caught, exc_notify, raise};
@@ -36,9 +37,9 @@ pub fn carry_out(
     requires lawful { LawfulParts parts.old }
     requires alone { parts.old.dying ≡ None }
     requires may_run { IsTrue (is_eligible_in (state_of parts.old) tid) }
-    requires room { length effects.old ≤ 1 }
+    requires room { effects.old ≡ [] }
     ensures ok { OnOk result (Told parts.old parts.new effects.old effects.new tid (case_of (state_of parts.old) tid (mark_call call.now))) }
-    ensures most { length effects.new ≤ 1281 }
+    ensures most { length effects.new ≤ 1280 }
     ensures err { OnErr result (IsAsBefore parts.old parts.new) }
     ensures memory { IsErr result → IsTrue (asks_memory (mark_call call.now)) }
 {
@@ -48,12 +49,21 @@ pub fn carry_out(
         MarkCall::Handle(pattern, func, arg) => Some(handle(parts, tid, *pattern, *func, *arg)?),
         MarkCall::Unhandle => Some(unhandle(parts, tid)),
         MarkCall::OnExit(exit) => Some(on_exit(parts, tid, exit)?),
-        MarkCall::Raise(pattern) => Some(raise(parts, tid, *pattern, effects)),
-        MarkCall::ExcNotify(pattern) => Some(notify(parts, tid, *pattern, effects)),
-        MarkCall::Bound(pattern) => Some(bound(parts, tid, *pattern)),
+        MarkCall::Raise(pattern) => {
+            raise(parts, tid, *pattern, effects);
+            return Ok(());
+        }
+        MarkCall::ExcNotify(pattern) => {
+            notify(parts, tid, *pattern, effects);
+            return Ok(());
+        }
+        MarkCall::Bound(pattern) => {
+            bound(parts, tid, *pattern, effects);
+            return Ok(());
+        }
         MarkCall::UniqPatt => Some(unique_pattern(parts)),
     };
-    effects.told(tid, own);
+    effects.done_now(tid, own);
     Ok(())
 }
 
@@ -83,15 +93,17 @@ fn set_handler(kind: &mut Kind, pattern: Pattern, func: Func, arg: u32) -> Resul
     }
 }
 
-// An exit procedure more on a stack. The answer is false where there is no room for it.
-fn set_exit(kind: &mut Kind, reg: u64, exit: ExitCall) -> Result<bool, NoMemory>
+// An exit procedure more on a stack. The answer is false where there is no room for it. It stands apart, so that nobody else makes
+// room for its text.
+#[inline(never)]
+fn set_exit(kind: &mut Kind, reg: u64, exit: &ExitCall) -> Result<bool, NoMemory>
     requires { 0 < length (kind_marks (Some kind.old)) }
     ensures room { IfOk result (λ set. set ≡ not (is_full (kind_marks (Some kind.old)))) }
-    ensures ok { OnOk result (kind.new ≡ kind_marked (with_mark (Mark.Exit reg exit) (kind_marks (Some kind.old))) kind.old) }
+    ensures ok { OnOk result (kind.new ≡ kind_marked (with_mark (Mark.Exit reg exit.now) (kind_marks (Some kind.old))) kind.old) }
     ensures err { OnErr result (kind.new ≡ kind.old) }
 {
     match kind {
-        Kind::Thread(rec) => rec.stack.on_exit(reg, exit),
+        Kind::Thread(rec) => rec.stack.on_exit(reg, *exit),
         Kind::Agent => Ok(false),
     }
 }
@@ -128,24 +140,24 @@ fn is_no_pattern(pattern: u32) -> bool
 }
 
 // A frame more.
-fn call_procedure(parts: &mut Parts, tid: Tid, number: u32) -> Result<Answer, NoMemory>
+fn call_procedure(parts: &mut Parts, tid: Tid, number: u32) -> Result<Result<i64, LwpErr>, NoMemory>
     requires lawful { LawfulParts parts.old }
     requires alone { parts.old.dying ≡ None }
     requires may_run { IsTrue (is_eligible_in (state_of parts.old) tid) }
-    ensures ok { IfOk result (λ a. Answers parts.old parts.new [] [] (call_procedure (state_of parts.old) tid number) a) }
+    ensures ok { IfOk result (λ done. Answers parts.old parts.new [] [] (call_procedure (state_of parts.old) tid number) (answer_by done)) }
     ensures err { OnErr result (IsAsBefore parts.old parts.new) }
 {
     if number >= parts.procs {
-        return Ok(Answer::Refused(LwpErr::InvalidArg));
+        return Ok(Err(LwpErr::InvalidArg));
     }
     let Some(kind) = parts.ids.get_mut(tid.number) else {
-        return Ok(Answer::Refused(LwpErr::NonExist));
+        return Ok(Err(LwpErr::NonExist));
     };
     let entered = enter_frame(kind)?;
     if !entered {
-        return Ok(Answer::Refused(LwpErr::NoRoom));
+        return Ok(Err(LwpErr::NoRoom));
     }
-    Ok(Answer::Value(0))
+    Ok(Ok(0))
 }
 
 // Whether a handler can't be set for this pattern.
@@ -165,63 +177,63 @@ fn handle(
     pattern: Pattern,
     func: Func,
     arg: u32,
-) -> Result<Answer, NoMemory>
+) -> Result<Result<i64, LwpErr>, NoMemory>
     requires lawful { LawfulParts parts.old }
     requires alone { parts.old.dying ≡ None }
     requires may_run { IsTrue (is_eligible_in (state_of parts.old) tid) }
-    ensures ok { IfOk result (λ a. Answers parts.old parts.new [] [] (handle (state_of parts.old) tid pattern func arg) a) }
+    ensures ok { IfOk result (λ done. Answers parts.old parts.new [] [] (handle (state_of parts.old) tid pattern func arg) (answer_by done)) }
     ensures err { OnErr result (IsAsBefore parts.old parts.new) }
 {
     if is_bad(pattern) {
-        return Ok(Answer::Refused(LwpErr::InvalidArg));
+        return Ok(Err(LwpErr::InvalidArg));
     }
     let Some(kind) = parts.ids.get_mut(tid.number) else {
-        return Ok(Answer::Refused(LwpErr::NonExist));
+        return Ok(Err(LwpErr::NonExist));
     };
     let set = set_handler(kind, pattern, func, arg)?;
     if !set {
-        return Ok(Answer::Refused(LwpErr::NoRoom));
+        return Ok(Err(LwpErr::NoRoom));
     }
-    Ok(Answer::Value(0))
+    Ok(Ok(0))
 }
 
 // The topmost mark goes, if it is a handler.
-fn unhandle(parts: &mut Parts, tid: Tid) -> Answer
+fn unhandle(parts: &mut Parts, tid: Tid) -> Result<i64, LwpErr>
     requires lawful { LawfulParts parts.old }
     requires alone { parts.old.dying ≡ None }
     requires may_run { IsTrue (is_eligible_in (state_of parts.old) tid) }
-    ensures { Answers parts.old parts.new [] [] (unhandle (state_of parts.old) tid) result }
+    ensures { Answers parts.old parts.new [] [] (unhandle (state_of parts.old) tid) (answer_by result) }
 {
     let Some(kind) = parts.ids.get_mut(tid.number) else {
-        return Answer::Refused(LwpErr::NonExist);
+        return Err(LwpErr::NonExist);
     };
     match take_handler(kind) {
-        Ok(()) => Answer::Value(0),
-        Err(err) => Answer::Refused(err),
+        Ok(()) => Ok(0),
+        Err(err) => Err(err),
     }
 }
 
 // An exit procedure more, in the present frame; the answer is its number.
-fn on_exit(parts: &mut Parts, tid: Tid, exit: &ExitCall) -> Result<Answer, NoMemory>
+fn on_exit(parts: &mut Parts, tid: Tid, exit: &ExitCall) -> Result<Result<i64, LwpErr>, NoMemory>
     requires lawful { LawfulParts parts.old }
     requires alone { parts.old.dying ≡ None }
     requires may_run { IsTrue (is_eligible_in (state_of parts.old) tid) }
-    ensures ok { IfOk result (λ a. Answers parts.old parts.new [] [] (on_exit (state_of parts.old) tid exit.now) a) }
+    ensures ok { IfOk result (λ done. Answers parts.old parts.new [] [] (on_exit (state_of parts.old) tid exit.now) (answer_by done)) }
     ensures err { OnErr result (IsAsBefore parts.old parts.new) }
 {
     let reg = parts.registration;
     if reg >= MOST_REGISTRATIONS {
-        return Ok(Answer::Refused(LwpErr::NoRoom));
+        return Ok(Err(LwpErr::NoRoom));
     }
     let Some(kind) = parts.ids.get_mut(tid.number) else {
-        return Ok(Answer::Refused(LwpErr::NonExist));
+        return Ok(Err(LwpErr::NonExist));
     };
-    let set = set_exit(kind, reg, *exit)?;
+    let set = set_exit(kind, reg, exit)?;
     if !set {
-        return Ok(Answer::Refused(LwpErr::NoRoom));
+        return Ok(Err(LwpErr::NoRoom));
     }
     parts.registration = reg + 1;
-    Ok(Answer::Value(reg as i64))
+    Ok(Ok(reg as i64))
 }
 
 // The handler by which the thread catches an exception of this number.
@@ -240,36 +252,43 @@ fn found(parts: &Parts, tid: Tid, pattern: u32) -> Option<Found>
     found_on(kind, pattern)
 }
 
-// What the handler was set with.
-fn bound(parts: &Parts, tid: Tid, pattern: u32) -> Answer
+// What the handler was set with. It stands apart, so that the calls that are answered a number make no room for its answer; so does
+// a catch.
+#[inline(never)]
+fn bound(parts: &Parts, tid: Tid, pattern: u32, effects: &mut Effects)
     requires lawful { LawfulParts parts.now }
     requires alone { parts.now.dying ≡ None }
     requires may_run { IsTrue (is_eligible_in (state_of parts.now) tid) }
-    ensures { Answers parts.now parts.now [] [] (bound (state_of parts.now) tid pattern) result }
+    requires room { effects.old ≡ [] }
+    ensures told { Told parts.now parts.now effects.old effects.new tid (bound (state_of parts.now) tid pattern) }
+    ensures most { length effects.new ≤ 1 }
 {
     if is_no_pattern(pattern) {
-        return Answer::Refused(LwpErr::InvalidArg);
+        return effects.done(tid, Err(LwpErr::InvalidArg));
     }
     let Some(handler) = found(parts, tid, pattern) else {
-        return Answer::Refused(LwpErr::NonExist);
+        return effects.done(tid, Err(LwpErr::NonExist));
     };
-    Answer::Bound {
-        func: handler.func,
-        arg: handler.arg,
-    }
+    effects.answered(
+        tid,
+        Answer::Bound {
+            func: handler.func,
+            arg: handler.arg,
+        },
+    );
 }
 
 // A number of an exception that was never given before.
-fn unique_pattern(parts: &mut Parts) -> Answer
+fn unique_pattern(parts: &mut Parts) -> Result<i64, LwpErr>
     requires step { InStep parts.old }
-    ensures { Answers parts.old parts.new [] [] (unique_pattern (state_of parts.old)) result }
+    ensures { Answers parts.old parts.new [] [] (unique_pattern (state_of parts.old)) (answer_by result) }
 {
     let pattern = parts.pattern;
     if pattern > MOST_PATTERN {
-        return Answer::Refused(LwpErr::NoRoom);
+        return Err(LwpErr::NoRoom);
     }
     parts.pattern = pattern + 1;
-    Answer::Value(i64::from(pattern))
+    Ok(i64::from(pattern))
 }
 
 // How many procedures are on a stack.
@@ -298,13 +317,13 @@ fn frames(parts: &Parts, tid: Tid) -> u32
 }
 
 // The topmost frame goes, or the caller dies.
-fn return_from(parts: &mut Parts, tid: Tid, effects: &mut Effects) -> Option<Answer>
+fn return_from(parts: &mut Parts, tid: Tid, effects: &mut Effects) -> Option<Result<i64, LwpErr>>
     requires lawful { LawfulParts parts.old }
     requires alone { parts.old.dying ≡ None }
     requires may_run { IsTrue (is_eligible_in (state_of parts.old) tid) }
-    requires room { length effects.old ≤ 1 }
-    ensures comes { ComesTo parts.old parts.new effects.old effects.new (return_from (state_of parts.old) tid) result }
-    ensures most { length effects.new ≤ 1280 }
+    requires room { effects.old ≡ [] }
+    ensures comes { ComesTo parts.old parts.new effects.old effects.new (return_from (state_of parts.old) tid) (option_map answer_by result) }
+    ensures most { length effects.new ≤ 1279 }
 {
     let count = frames(parts, tid);
     if count < 2 {
@@ -312,7 +331,7 @@ fn return_from(parts: &mut Parts, tid: Tid, effects: &mut Effects) -> Option<Ans
         return None;
     }
     leave_frames(parts, tid, count - 1, effects);
-    Some(Answer::Value(0))
+    Some(Ok(0))
 }
 
 // In the topmost frame of a stack, the handlers from this number on go.
@@ -327,64 +346,68 @@ fn settle(kind: &mut Kind, mark: u32)
 }
 
 // The exception is caught: the stack is cut back to the handler's frame, and the handler goes.
-fn catch(parts: &mut Parts, tid: Tid, pattern: u32, handler: Found, effects: &mut Effects) -> Answer
+#[inline(never)]
+fn catch(parts: &mut Parts, tid: Tid, pattern: u32, handler: Found, effects: &mut Effects)
     requires lawful { LawfulParts parts.old }
     requires alone { parts.old.dying ≡ None }
     requires may_run { IsTrue (is_eligible_in (state_of parts.old) tid) }
     requires reach { IsInReach (marks_in (state_of parts.old) tid) handler }
-    requires room { length effects.old ≤ 1 }
-    ensures comes { Answers parts.old parts.new effects.old effects.new (caught (state_of parts.old) tid pattern handler) result }
+    requires room { effects.old ≡ [] }
+    ensures told { Told parts.old parts.new effects.old effects.new tid (caught (state_of parts.old) tid pattern handler) }
     ensures most { length effects.new ≤ 1280 }
 {
-    let answer = Answer::Caught {
-        depth: handler.depth,
-        mark: handler.mark,
-        pattern,
-    };
     leave_frames(parts, tid, handler.depth, effects);
     let Some(kind) = parts.ids.get_mut(tid.number) else {
-        return answer;
+        return;
     };
     settle(kind, handler.mark);
-    answer
+    effects.answered(
+        tid,
+        Answer::Caught {
+            depth: handler.depth,
+            mark: handler.mark,
+            pattern,
+        },
+    );
 }
 
 // The caller goes on where the handler was set.
-fn raise(parts: &mut Parts, tid: Tid, pattern: u32, effects: &mut Effects) -> Answer
+fn raise(parts: &mut Parts, tid: Tid, pattern: u32, effects: &mut Effects)
     requires lawful { LawfulParts parts.old }
     requires alone { parts.old.dying ≡ None }
     requires may_run { IsTrue (is_eligible_in (state_of parts.old) tid) }
-    requires room { length effects.old ≤ 1 }
-    ensures comes { Answers parts.old parts.new effects.old effects.new (raise (state_of parts.old) tid pattern) result }
+    requires room { effects.old ≡ [] }
+    ensures told { Told parts.old parts.new effects.old effects.new tid (raise (state_of parts.old) tid pattern) }
     ensures most { length effects.new ≤ 1280 }
 {
     if is_no_pattern(pattern) {
-        return Answer::Refused(LwpErr::InvalidArg);
+        return effects.done(tid, Err(LwpErr::InvalidArg));
     }
     let Some(handler) = found(parts, tid, pattern) else {
-        return Answer::Refused(LwpErr::NonExist);
+        return effects.done(tid, Err(LwpErr::NonExist));
     };
-    catch(parts, tid, pattern, handler, effects)
+    catch(parts, tid, pattern, handler, effects);
 }
 
 // The same, but the handler may answer in place of catching.
-fn notify(parts: &mut Parts, tid: Tid, pattern: u32, effects: &mut Effects) -> Answer
+fn notify(parts: &mut Parts, tid: Tid, pattern: u32, effects: &mut Effects)
     requires lawful { LawfulParts parts.old }
     requires alone { parts.old.dying ≡ None }
     requires may_run { IsTrue (is_eligible_in (state_of parts.old) tid) }
-    requires room { length effects.old ≤ 1 }
-    ensures comes { Answers parts.old parts.new effects.old effects.new (exc_notify (state_of parts.old) tid pattern) result }
+    requires room { effects.old ≡ [] }
+    ensures told { Told parts.old parts.new effects.old effects.new tid (exc_notify (state_of parts.old) tid pattern) }
     ensures most { length effects.new ≤ 1280 }
 {
     if is_no_pattern(pattern) {
-        return Answer::Refused(LwpErr::InvalidArg);
+        return effects.done(tid, Err(LwpErr::InvalidArg));
     }
     let Some(handler) = found(parts, tid, pattern) else {
-        return Answer::Refused(LwpErr::NonExist);
+        return effects.done(tid, Err(LwpErr::NonExist));
     };
+    let arg = i64::from(handler.arg);
     match handler.func {
-        Func::Give => Answer::Value(i64::from(handler.arg)),
-        Func::Sum => Answer::Value(i64::from(handler.arg) + i64::from(pattern)),
+        Func::Give => effects.done(tid, Ok(arg)),
+        Func::Sum => effects.done(tid, Ok(arg + i64::from(pattern))),
         Func::Nothing => catch(parts, tid, pattern, handler, effects),
     }
 }

@@ -1,11 +1,13 @@
 // Calls on the numbers of a pod, or on nothing at all.
-ghost use Rattle.std.specs.Prelude.{◌≡◌, ◌≤◌, length, [], None};
+ghost use Rattle.std.specs.Prelude.{◌≡◌, ◌≤◌, ◌++◌, ◌∷◌, length, option_map, [], None};
 ghost use Rattle.death_cleanup.specs.Comes.{Answers};
 ghost use Rattle.death_cleanup.specs.Ties.{InStep};
 ghost use Rattle.death_cleanup.specs.View.{state_of};
+ghost use Rattle.lwp_types.specs.Case.{answer_by};
 ghost use Rattle.lwp_types.specs.Families.{number_call};
 ghost use Rattle.lwp_types.specs.Step.{case_of};
 ghost use Rattle.lwp_types.specs.Threads.{pod_exit, set_maxpri};
+ghost use Rattle.lwp_types.specs.declared.call.Effect.TheVariants as effect;
 ghost use Rattle.lwp_calls.specs.Comes.{ComesTo, Told};
 
 use death_cleanup::{Parts, set_exit};
@@ -21,42 +23,51 @@ const MOST_PRIORITY: u32 = 255;
 pub fn carry_out(parts: &mut Parts, tid: Tid, call: &NumberCall<'_>, effects: &mut Effects)
     requires step { InStep parts.old }
     requires alone { parts.old.dying ≡ None }
-    requires room { length effects.old ≤ 1 }
+    requires room { effects.old ≡ [] }
     ensures told { Told parts.old parts.new effects.old effects.new tid (case_of (state_of parts.old) tid (number_call call.now)) }
-    ensures most { length effects.new ≤ 1281 }
+    ensures most { length effects.new ≤ 1280 }
 {
     let own = match call {
-        NumberCall::Me => Some(Answer::Thread(tid)),
+        NumberCall::Me => return tell_itself(tid, effects),
         NumberCall::SetMaxPri(prio) => Some(set_maxpri(parts, *prio)),
         NumberCall::SetExit(code) => Some(set_exit(parts, *code)),
-        NumberCall::GetExit => Some(Answer::Value(i64::from(parts.exit))),
+        NumberCall::GetExit => Some(Ok(i64::from(parts.exit))),
         NumberCall::PodExit(code) => pod_exit(parts, *code),
-        NumberCall::Say(_) => Some(Answer::Value(0)),
+        NumberCall::Say(_) => Some(Ok(0)),
     };
-    effects.told(tid, own);
+    effects.done_now(tid, own);
+}
+
+// The caller learns which thread it is. It stands apart, so that the other calls make no room for this answer.
+#[inline(never)]
+fn tell_itself(tid: Tid, effects: &mut Effects)
+    requires { effects.old ≡ [] }
+    ensures { effects.new ≡ effects.old ++ effect.Answered tid (Answer.Thread tid) ∷ [] }
+{
+    effects.answered(tid, Answer::Thread(tid));
 }
 
 // The greatest priority grows.
-fn set_maxpri(parts: &mut Parts, prio: u32) -> Answer
+fn set_maxpri(parts: &mut Parts, prio: u32) -> Result<i64, LwpErr>
     requires step { InStep parts.old }
     requires alone { parts.old.dying ≡ None }
-    ensures { Answers parts.old parts.new [] [] (set_maxpri (state_of parts.old) prio) result }
+    ensures { Answers parts.old parts.new [] [] (set_maxpri (state_of parts.old) prio) (answer_by result) }
 {
     if prio < parts.sched.maxpri() || prio > MOST_PRIORITY {
-        return Answer::Refused(LwpErr::IllPrio);
+        return Err(LwpErr::IllPrio);
     }
     parts.sched.set_maxpri(prio);
-    Answer::Value(0)
+    Ok(0)
 }
 
 // The pod ends here.
-fn pod_exit(parts: &mut Parts, code: u32) -> Option<Answer>
+fn pod_exit(parts: &mut Parts, code: u32) -> Option<Result<i64, LwpErr>>
     requires step { InStep parts.old }
     requires alone { parts.old.dying ≡ None }
-    ensures { ComesTo parts.old parts.new [] [] (pod_exit (state_of parts.old) code) result }
+    ensures { ComesTo parts.old parts.new [] [] (pod_exit (state_of parts.old) code) (option_map answer_by result) }
 {
     if code > MOST_STATUS {
-        return Some(Answer::Refused(LwpErr::InvalidArg));
+        return Some(Err(LwpErr::InvalidArg));
     }
     parts.exit = code;
     parts.ended = true;

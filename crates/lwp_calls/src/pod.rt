@@ -13,7 +13,7 @@ ghost use Rattle.lwp_types.specs.State.{is_id, opening};
 ghost use Rattle.lwp_types.specs.Step.{case_of, step, end_effects, ends};
 ghost use Rattle.lwp_calls.specs.Asks.{asks_memory};
 ghost use Rattle.lwp_calls.specs.Comes.{IsAsBefore, Told};
-ghost use Rattle.lwp_calls.specs.Pod.{ForgetsTheDead, RunsExitsOnce, current_of, ending_of, is_refusal};
+ghost use Rattle.lwp_calls.specs.Pod.{ForgetsTheDead, RunsExitsOnce, called_by, current_of, ending_of, is_refusal};
 
 use crate::asks::all_serve;
 use crate::letters::post;
@@ -70,10 +70,11 @@ impl Model for Pod {
 fn beginner(alloc: Global, flags: Flags) -> Result<ThreadRec, NoMemory>
     ensures { IfOk result (λ rec. rec ≡ record { flags = flags; block = Block.Not; stack = one_frame }) }
 {
+    let stack = ExcStack::new(alloc)?;
     Ok(ThreadRec {
         flags,
         block: Block::Not,
-        stack: ExcStack::new(alloc)?,
+        stack,
     })
 }
 
@@ -183,11 +184,12 @@ impl Pod {
         self.parts.agents.next_armed(from)
     }
 
-    /// One call of the thread whose turn it is. `effects` is emptied first, and then has what the step did, in order.
+    /// One call of the thread whose turn it is. `effects` is emptied first, and then has what the step did besides the call itself,
+    /// in order.
     pub fn call(&mut self, call: &Call, effects: &mut Effects) -> Result<(), NoMemory>
         requires { IsSome (current_of self.old) }
         ensures after { OnOk result (self.new ≡ (step self.old call.now).after) }
-        ensures effects { OnOk result (effects.new ≡ (step self.old call.now).effects) }
+        ensures effects { OnOk result (called_by (current_of self.old) call.now ++ effects.new ≡ (step self.old call.now).effects) }
         ensures err { OnErr result (self.new ≡ self.old) }
         ensures err_effects { OnErr result (effects.new ≡ []) }
         ensures memory { IsErr result → IsTrue (asks_memory call.now) }
@@ -198,7 +200,6 @@ impl Pod {
     {
         effects.clear();
         let tid = self.current().unwrap();
-        effects.called(tid, call);
         match carry_out(&mut self.parts, self.alloc, tid, call, effects) {
             Ok(()) => {
                 self.next = finish(&mut self.parts, effects);
@@ -248,7 +249,7 @@ fn deliver(parts: &mut Parts, event: u8, text: Text, effects: &mut Effects)
         room: AGENT_ROOM,
         received: false,
     };
-    post(parts, letter, effects);
+    post(parts, &letter, effects);
 }
 
 // What the call comes to, before the end of the pod is tested. The caller's answer, if it has one now, is told last.
@@ -262,9 +263,9 @@ fn carry_out(
     requires lawful { LawfulParts parts.old }
     requires alone { parts.old.dying ≡ None }
     requires may_run { IsTrue (is_eligible_in (state_of parts.old) tid) }
-    requires room { length effects.old ≤ 1 }
+    requires room { effects.old ≡ [] }
     ensures ok { OnOk result (Told parts.old parts.new effects.old effects.new tid (case_of (state_of parts.old) tid call.now)) }
-    ensures most { length effects.new ≤ 1281 }
+    ensures most { length effects.new ≤ 1280 }
     ensures err { OnErr result (IsAsBefore parts.old parts.new) }
     ensures memory { IsErr result → IsTrue (asks_memory call.now) }
 {

@@ -3,6 +3,7 @@ ghost use Rattle.std.specs.Prelude.{◌≡◌, ◌≤◌, length, Some, IsTrue, 
 ghost use Rattle.death_cleanup.specs.Comes.{Answers};
 ghost use Rattle.death_cleanup.specs.Ties.{InStep};
 ghost use Rattle.death_cleanup.specs.View.{state_of};
+ghost use Rattle.lwp_types.specs.Case.{answer_by};
 ghost use Rattle.lwp_types.specs.Choice.{is_eligible_in};
 ghost use Rattle.lwp_types.specs.Families.{turn_call};
 ghost use Rattle.lwp_types.specs.Step.{case_of};
@@ -11,7 +12,7 @@ ghost use Rattle.lwp_types.specs.Threads.{resched, set_priority, suspend, yield_
 
 use crate::asks::{may_run, prio_of};
 use death_cleanup::{Parts, is_thread, resume};
-use lwp_types::{Answer, Effects, LwpErr, Tid, TurnCall};
+use lwp_types::{Effects, LwpErr, Tid, TurnCall};
 
 /// A call of this family.
 #[inline(never)]
@@ -19,84 +20,84 @@ pub fn carry_out(parts: &mut Parts, tid: Tid, call: TurnCall, effects: &mut Effe
     requires step { InStep parts.old }
     requires alone { parts.old.dying ≡ None }
     requires may_run { IsTrue (is_eligible_in (state_of parts.old) tid) }
-    requires room { length effects.old ≤ 1 }
+    requires room { effects.old ≡ [] }
     ensures told { Told parts.old parts.new effects.old effects.new tid (case_of (state_of parts.old) tid (turn_call call)) }
-    ensures most { length effects.new ≤ 1281 }
+    ensures most { length effects.new ≤ 1280 }
 {
-    let own = match call {
+    let done = match call {
         TurnCall::Yield(to) => yield_to(parts, tid, to),
         TurnCall::Resched(prio) => resched(parts, tid, prio),
         TurnCall::SetPri(other, prio) => set_priority(parts, other, prio),
         TurnCall::Suspend(other) => suspend(parts, other),
         TurnCall::Resume(other) => resume(parts, other),
     };
-    effects.answered(tid, own);
+    effects.done(tid, done);
 }
 
 // Another goes ahead of the caller, or all others of its priority do.
-fn yield_to(parts: &mut Parts, caller: Tid, to: Tid) -> Answer
+fn yield_to(parts: &mut Parts, caller: Tid, to: Tid) -> Result<i64, LwpErr>
     requires step { InStep parts.old }
     requires alone { parts.old.dying ≡ None }
     requires may_run { IsTrue (is_eligible_in (state_of parts.old) caller) }
-    ensures { Answers parts.old parts.new [] [] (yield_to (state_of parts.old) caller to) result }
+    ensures { Answers parts.old parts.new [] [] (yield_to (state_of parts.old) caller to) (answer_by result) }
 {
     if !is_thread(parts, to) {
-        return Answer::Refused(LwpErr::NonExist);
+        return Err(LwpErr::NonExist);
     }
     if prio_of(parts, to) != prio_of(parts, caller) {
-        return Answer::Refused(LwpErr::IllPrio);
+        return Err(LwpErr::IllPrio);
     }
     if !may_run(parts, to) {
-        return Answer::Refused(LwpErr::InvalidArg);
+        return Err(LwpErr::InvalidArg);
     }
     parts.sched.yield_to(caller, to);
-    Answer::Value(0)
+    Ok(0)
 }
 
 // The first of a priority goes last.
-fn resched(parts: &mut Parts, caller: Tid, prio: u32) -> Answer
+fn resched(parts: &mut Parts, caller: Tid, prio: u32) -> Result<i64, LwpErr>
     requires step { InStep parts.old }
     requires alone { parts.old.dying ≡ None }
     requires may_run { IsTrue (is_eligible_in (state_of parts.old) caller) }
-    ensures { Answers parts.old parts.new [] [] (resched (state_of parts.old) caller prio) result }
+    ensures { Answers parts.old parts.new [] [] (resched (state_of parts.old) caller prio) (answer_by result) }
 {
     if prio == 0 || prio > parts.sched.maxpri() {
-        return Answer::Refused(LwpErr::IllPrio);
+        return Err(LwpErr::IllPrio);
     }
     if prio > prio_of(parts, caller) {
-        return Answer::Refused(LwpErr::InvalidArg);
+        return Err(LwpErr::InvalidArg);
     }
     parts.sched.resched(prio);
-    Answer::Value(0)
+    Ok(0)
 }
 
 // A thread has another priority, also in what it waits for.
-fn set_priority(parts: &mut Parts, tid: Tid, prio: u32) -> Answer
+fn set_priority(parts: &mut Parts, tid: Tid, prio: u32) -> Result<i64, LwpErr>
     requires step { InStep parts.old }
     requires alone { parts.old.dying ≡ None }
-    ensures { Answers parts.old parts.new [] [] (set_priority (state_of parts.old) tid prio) result }
+    ensures { Answers parts.old parts.new [] [] (set_priority (state_of parts.old) tid prio) (answer_by result) }
 {
     if !is_thread(parts, tid) {
-        return Answer::Refused(LwpErr::NonExist);
+        return Err(LwpErr::NonExist);
     }
     if prio == 0 || prio > parts.sched.maxpri() {
-        return Answer::Refused(LwpErr::IllPrio);
+        return Err(LwpErr::IllPrio);
     }
     let before = parts.sched.set_prio(tid, prio);
     parts.mons.requeue(tid, prio);
     parts.conds.requeue(tid, prio);
-    Answer::Value(i64::from(before))
+    Ok(i64::from(before))
 }
 
 // A thread may not run until it is resumed.
-fn suspend(parts: &mut Parts, tid: Tid) -> Answer
+fn suspend(parts: &mut Parts, tid: Tid) -> Result<i64, LwpErr>
     requires step { InStep parts.old }
     requires alone { parts.old.dying ≡ None }
-    ensures { Answers parts.old parts.new [] [] (suspend (state_of parts.old) tid) result }
+    ensures { Answers parts.old parts.new [] [] (suspend (state_of parts.old) tid) (answer_by result) }
 {
     if !is_thread(parts, tid) {
-        return Answer::Refused(LwpErr::NonExist);
+        return Err(LwpErr::NonExist);
     }
     parts.sched.suspend(tid);
-    Answer::Value(0)
+    Ok(0)
 }

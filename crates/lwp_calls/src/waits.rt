@@ -1,9 +1,9 @@
 // Calls on conditions.
-ghost use Rattle.std.specs.Prelude.{◌≡◌, ◌≤◌, Some, None, IfOk, IsErr, IsTrue, OnErr, OnOk, length, []};
+ghost use Rattle.std.specs.Prelude.{◌≡◌, ◌≤◌, Some, None, IfOk, IsErr, IsTrue, OnErr, OnOk, length, option_map, []};
 ghost use Rattle.death_cleanup.specs.Comes.{Answers};
 ghost use Rattle.death_cleanup.specs.Ties.{InStep, LawfulParts};
 ghost use Rattle.death_cleanup.specs.View.{state_of};
-ghost use Rattle.lwp_types.specs.Case.{listed};
+ghost use Rattle.lwp_types.specs.Case.{answer_by, listed};
 ghost use Rattle.lwp_types.specs.Choice.{is_eligible_in};
 ghost use Rattle.lwp_types.specs.Families.{wait_call};
 ghost use Rattle.lwp_types.specs.Step.{case_of};
@@ -12,7 +12,7 @@ ghost use Rattle.lwp_types.specs.declared.call.IdKind.TheVariants as kind;
 ghost use Rattle.lwp_calls.specs.Asks.{asks_memory};
 ghost use Rattle.lwp_calls.specs.Comes.{ComesTo, IsAsBefore, Told};
 
-use crate::asks::{block, prio_of};
+use crate::asks::{block, prio_of, tell_ids};
 use conditions::WaitRec;
 use death_cleanup::{Parts, broadcast, cond_send, is_last, notify, release};
 use lwp_types::{Answer, Block, Cid, Effects, IdKind, LwpErr, Mid, NoMemory, Tid, WaitCall};
@@ -28,72 +28,84 @@ pub fn carry_out(
     requires lawful { LawfulParts parts.old }
     requires alone { parts.old.dying ≡ None }
     requires may_run { IsTrue (is_eligible_in (state_of parts.old) tid) }
-    requires room { length effects.old ≤ 1 }
+    requires room { effects.old ≡ [] }
     ensures ok { OnOk result (Told parts.old parts.new effects.old effects.new tid (case_of (state_of parts.old) tid (wait_call call))) }
-    ensures most { length effects.new ≤ 1281 }
+    ensures most { length effects.new ≤ 1280 }
     ensures err { OnErr result (IsAsBefore parts.old parts.new) }
     ensures memory { IsErr result → IsTrue (asks_memory (wait_call call)) }
 {
     let own = match call {
-        WaitCall::Create(mon) => Some(create(parts, mon)?),
+        WaitCall::Create(mon) => return create(parts, tid, mon, effects),
         WaitCall::Destroy(cond) => Some(destroy(parts, cond)),
         WaitCall::Wait(cond) => wait(parts, tid, cond, effects),
         WaitCall::Notify(cond) => Some(notify(parts, tid, cond)),
         WaitCall::Broadcast(cond) => Some(broadcast(parts, tid, cond)),
         WaitCall::Send(cond, to) => Some(cond_send(parts, tid, cond, to)),
-        WaitCall::List => Some(list(parts)?),
-        WaitCall::Waiters(cond) => Some(waiters(parts, cond)?),
+        WaitCall::List => return list(parts, tid, effects),
+        WaitCall::Waiters(cond) => return waiters(parts, tid, cond, effects),
     };
-    effects.told(tid, own);
+    effects.done_now(tid, own);
     Ok(())
 }
 
-// A condition of the monitor.
-fn create(parts: &mut Parts, mon: Mid) -> Result<Answer, NoMemory>
+// A condition of the monitor. It stands apart, so that the calls that are answered a number make no room for its answer; so do the
+// lists.
+#[inline(never)]
+fn create(parts: &mut Parts, tid: Tid, mon: Mid, effects: &mut Effects) -> Result<(), NoMemory>
     requires step { InStep parts.old }
     requires alone { parts.old.dying ≡ None }
-    ensures ok { IfOk result (λ a. Answers parts.old parts.new [] [] (condition_create (state_of parts.old) mon) a) }
+    requires room { effects.old ≡ [] }
+    ensures ok { OnOk result (Told parts.old parts.new effects.old effects.new tid (condition_create (state_of parts.old) mon)) }
+    ensures most { length effects.new ≤ 1 }
     ensures err { OnErr result (IsAsBefore parts.old parts.new) }
 {
     if !parts.mons.is_live(mon) {
-        return Ok(Answer::Refused(LwpErr::NonExist));
+        effects.done(tid, Err(LwpErr::NonExist));
+        return Ok(());
     }
     let Some(cond) = parts.conds.create(mon)? else {
-        return Ok(Answer::Refused(LwpErr::NoRoom));
+        effects.done(tid, Err(LwpErr::NoRoom));
+        return Ok(());
     };
-    Ok(Answer::Cond(cond))
+    effects.answered(tid, Answer::Cond(cond));
+    Ok(())
 }
 
 // A condition that nobody waits on is gone.
-fn destroy(parts: &mut Parts, cond: Cid) -> Answer
+fn destroy(parts: &mut Parts, cond: Cid) -> Result<i64, LwpErr>
     requires step { InStep parts.old }
     requires alone { parts.old.dying ≡ None }
-    ensures { Answers parts.old parts.new [] [] (condition_destroy (state_of parts.old) cond) result }
+    ensures { Answers parts.old parts.new [] [] (condition_destroy (state_of parts.old) cond) (answer_by result) }
 {
     if parts.conds.monitor_of(cond).is_none() {
-        return Answer::Refused(LwpErr::NonExist);
+        return Err(LwpErr::NonExist);
     }
     if parts.conds.waited(cond) {
-        return Answer::Refused(LwpErr::InUse);
+        return Err(LwpErr::InUse);
     }
     parts.conds.destroy(cond);
-    Answer::Value(0)
+    Ok(0)
 }
 
 // The caller waits on the condition, and gives its monitor up however deep it is in.
-fn wait(parts: &mut Parts, caller: Tid, cond: Cid, effects: &mut Effects) -> Option<Answer>
+fn wait(
+    parts: &mut Parts,
+    caller: Tid,
+    cond: Cid,
+    effects: &mut Effects,
+) -> Option<Result<i64, LwpErr>>
     requires lawful { LawfulParts parts.old }
     requires alone { parts.old.dying ≡ None }
     requires may_run { IsTrue (is_eligible_in (state_of parts.old) caller) }
-    requires room { length effects.old ≤ 1 }
-    ensures comes { ComesTo parts.old parts.new effects.old effects.new (wait (state_of parts.old) caller cond) result }
-    ensures most { length effects.new ≤ 2 }
+    requires room { effects.old ≡ [] }
+    ensures comes { ComesTo parts.old parts.new effects.old effects.new (wait (state_of parts.old) caller cond) (option_map answer_by result) }
+    ensures most { length effects.new ≤ 1 }
 {
     let Some(mon) = parts.conds.monitor_of(cond) else {
-        return Some(Answer::Refused(LwpErr::NonExist));
+        return Some(Err(LwpErr::NonExist));
     };
     if !is_last(&parts.mons, caller, mon) {
-        return Some(Answer::Refused(LwpErr::NotOwned));
+        return Some(Err(LwpErr::NotOwned));
     }
     let depth = parts.mons.depth(mon);
     let prio = prio_of(parts, caller);
@@ -109,28 +121,29 @@ fn wait(parts: &mut Parts, caller: Tid, cond: Cid, effects: &mut Effects) -> Opt
 }
 
 // The live conditions.
-fn list(parts: &Parts) -> Result<Answer, NoMemory>
-    requires { InStep parts.now }
-    ensures { IfOk result (λ a. Answers parts.now parts.now [] [] (listed (state_of parts.now) kind.Cond (condition_numbers (state_of parts.now).conditions)) a) }
+fn list(parts: &Parts, tid: Tid, effects: &mut Effects) -> Result<(), NoMemory>
+    requires step { InStep parts.now }
+    requires room { effects.old ≡ [] }
+    ensures ok { OnOk result (Told parts.now parts.now effects.old effects.new tid (listed (state_of parts.now) kind.Cond (condition_numbers (state_of parts.now).conditions))) }
+    ensures most { length effects.new ≤ 1 }
 {
     let list = parts.conds.list()?;
-    Ok(Answer::Ids {
-        kind: IdKind::Cond,
-        list,
-    })
+    tell_ids(tid, IdKind::Cond, list, effects);
+    Ok(())
 }
 
 // Who waits on the condition.
-fn waiters(parts: &Parts, cond: Cid) -> Result<Answer, NoMemory>
-    requires { InStep parts.now }
-    ensures { IfOk result (λ a. Answers parts.now parts.now [] [] (condition_waiters (state_of parts.now) cond) a) }
+fn waiters(parts: &Parts, tid: Tid, cond: Cid, effects: &mut Effects) -> Result<(), NoMemory>
+    requires step { InStep parts.now }
+    requires room { effects.old ≡ [] }
+    ensures ok { OnOk result (Told parts.now parts.now effects.old effects.new tid (condition_waiters (state_of parts.now) cond)) }
+    ensures most { length effects.new ≤ 1 }
 {
     if parts.conds.monitor_of(cond).is_none() {
-        return Ok(Answer::Refused(LwpErr::NonExist));
+        effects.done(tid, Err(LwpErr::NonExist));
+        return Ok(());
     }
     let list = parts.conds.waiters(cond)?;
-    Ok(Answer::Ids {
-        kind: IdKind::Thread,
-        list,
-    })
+    tell_ids(tid, IdKind::Thread, list, effects);
+    Ok(())
 }

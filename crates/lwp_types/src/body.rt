@@ -1,5 +1,5 @@
 // What a thread runs.
-ghost use Rattle.std.specs.Prelude.{◌≡◌, ◌<◌, ℕ, List, length, slice_get, Some, IfOk};
+ghost use Rattle.std.specs.Prelude.{◌≡◌, ◌<◌, ℕ, List, length, slice_get, Some, IfOk, OnOk};
 ghost use Rattle.lwp_types.specs.Names.{Names, KeepsLengths};
 ghost use Rattle.lwp_types.specs.declared.call.Call.{Call};
 ghost use Rattle.lwp_types.specs.declared.call.Answer.{Answer};
@@ -11,9 +11,9 @@ use crate::{Answer, Call, Env, NoMemory, Text};
 pub trait Body: Drop {
     ghost next: { Self → Names → Answer → Call × Self × Names };
 
-    /// The next call. After `NoMemory` the body isn't polled again.
-    fn poll(&mut self, env: &mut Env, got: &Answer) -> Result<Call, NoMemory>
-        ensures { IfOk result (λ call. next self.old env.old got.now ≡ (call, self.new, env.new)) };
+    /// Sets the next call, whatever stood there. After `NoMemory` the body isn't polled again.
+    fn poll(&mut self, env: &mut Env, got: &Answer, call: &mut Call) -> Result<(), NoMemory>
+        ensures { OnOk result (next self.old env.old got.now ≡ (call.new, self.new, env.new)) };
 
     ghost keeps_lengths: { (body : Self) (names : Names) (got : Answer) → KeepsLengths names (next body names got).2 };
 }

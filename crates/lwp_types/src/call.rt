@@ -1,4 +1,8 @@
 // What a thread may ask of the pod, how it is answered, and what a step does.
+ghost use Rattle.std.specs.Prelude.{◌≡◌};
+ghost use Rattle.lwp_types.specs.Case.{answer_by};
+
+use crate::rows::Letter;
 use crate::{Cid, IdList, Mid, Text, Tid};
 
 /// Why a call is refused. `NoError` is the number 0 and is never answered.
@@ -66,6 +70,112 @@ pub enum Answer {
     Caught { depth: u32, mark: u32, pattern: u32 },
     Ids { kind: IdKind, list: IdList },
     Refused(LwpErr),
+}
+
+impl Answer {
+    /// The answer to a call that was carried out, with a number, or refused.
+    pub fn of(done: Result<i64, LwpErr>) -> Answer
+        ensures { result ≡ answer_by done }
+    {
+        match done {
+            Ok(value) => Answer::Value(value),
+            Err(error) => Answer::Refused(error),
+        }
+    }
+
+    /// A letter, as the thread that receives it is answered.
+    pub fn letter(letter: &Letter) -> Answer
+        ensures { result ≡ Answer.Letter letter.now.from letter.now.text letter.now.room }
+    {
+        Answer::Letter {
+            from: letter.from,
+            text: letter.text,
+            room: letter.room,
+        }
+    }
+
+    // Whatever it was, it is another. It stands apart from those that set it in place, since it has room for a text.
+    #[inline(never)]
+    fn become_done(&mut self, done: Result<i64, LwpErr>)
+        ensures { self.new ≡ answer_by done }
+    {
+        *self = Answer::of(done);
+    }
+
+    #[inline(never)]
+    fn become_letter(&mut self, from: Tid, text: &Text, room: u8)
+        ensures { self.new ≡ Answer.Letter from text.now room }
+    {
+        *self = Answer::Letter {
+            from,
+            text: *text,
+            room,
+        };
+    }
+
+    #[inline(never)]
+    fn become_reply(&mut self, text: &Text)
+        ensures { self.new ≡ Answer.Reply text.now }
+    {
+        *self = Answer::Reply(*text);
+    }
+
+    fn set_value(&mut self, value: i64)
+        ensures { self.new ≡ Answer.Value value }
+    {
+        match self {
+            Answer::Value(given) => *given = value,
+            other => other.become_done(Ok(value)),
+        }
+    }
+
+    fn set_refused(&mut self, error: LwpErr)
+        ensures { self.new ≡ Answer.Refused error }
+    {
+        match self {
+            Answer::Refused(given) => *given = error,
+            other => other.become_done(Err(error)),
+        }
+    }
+
+    /// Makes it the answer to a call that was carried out, with a number, or refused. Where it was of the same kind before, only
+    /// what that holds is set; the same of `set_letter` and `set_reply`.
+    pub fn set_done(&mut self, done: Result<i64, LwpErr>)
+        ensures { self.new ≡ answer_by done }
+    {
+        match done {
+            Ok(value) => self.set_value(value),
+            Err(error) => self.set_refused(error),
+        }
+    }
+
+    /// Makes it a letter.
+    pub fn set_letter(&mut self, from: Tid, text: &Text, room: u8)
+        ensures { self.new ≡ Answer.Letter from text.now room }
+    {
+        match self {
+            Answer::Letter {
+                from: sender,
+                text: given,
+                room: most,
+            } => {
+                *sender = from;
+                *given = *text;
+                *most = room;
+            }
+            other => other.become_letter(from, text, room),
+        }
+    }
+
+    /// Makes it a reply.
+    pub fn set_reply(&mut self, text: &Text)
+        ensures { self.new ≡ Answer.Reply text.now }
+    {
+        match self {
+            Answer::Reply(given) => *given = *text,
+            other => other.become_reply(text),
+        }
+    }
 }
 
 /// A call that an exit procedure makes: one of the eight that neither block, raise nor kill.

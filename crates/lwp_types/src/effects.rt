@@ -1,10 +1,11 @@
 // The effects of one step.
-ghost use Rattle.std.specs.Prelude.{◌≡◌, ◌<◌, [], ◌∷◌, ◌++◌, length, IfOk, MatchOption, slice_index_or};
+ghost use Rattle.std.specs.Prelude.{◌≡◌, ◌<◌, [], ◌∷◌, ◌++◌, length, option_map, IfOk, MatchOption, slice_index_or};
+ghost use Rattle.lwp_types.specs.Case.{answer_by};
 ghost use Rattle.lwp_types.specs.Step.{own_effects};
 ghost use Rattle.lwp_types.specs.declared.call.Effect.TheVariants as effect;
 
 use crate::call::Effect;
-use crate::{Answer, Call, NoMemory, Tid};
+use crate::{Answer, Letter, LwpErr, NoMemory, Text, Tid};
 use std::alloc::Global;
 use std::marker::Model;
 
@@ -31,22 +32,6 @@ impl Model for Effects {
     ghost invariant = { λ e. (2048 ≤ vec_capacity e.places) × (e.used ≤ length e.places.items) };
 }
 
-// Makes a place that of a call.
-fn set_called(place: &mut Effect, tid: Tid, call: &Call)
-    ensures { place.new ≡ effect.Called tid call.now }
-{
-    match place {
-        Effect::Called {
-            tid: caller,
-            call: made,
-        } => {
-            *caller = tid;
-            *made = *call;
-        }
-        other => *other = Effect::Called { tid, call: *call },
-    }
-}
-
 // Makes a place that of an answer.
 fn set_answered(place: &mut Effect, tid: Tid, answer: Answer)
     ensures { place.new ≡ effect.Answered tid answer }
@@ -60,6 +45,76 @@ fn set_answered(place: &mut Effect, tid: Tid, answer: Answer)
             *given = answer;
         }
         other => *other = Effect::Answered { tid, answer },
+    }
+}
+
+// The same, of a call that was carried out or refused. What has room for a text stands apart from what sets a place where an answer
+// lay, here and in the two below.
+#[inline(never)]
+fn become_done(place: &mut Effect, tid: Tid, done: Result<i64, LwpErr>)
+    ensures { place.new ≡ effect.Answered tid (answer_by done) }
+{
+    set_answered(place, tid, Answer::of(done));
+}
+
+fn set_done(place: &mut Effect, tid: Tid, done: Result<i64, LwpErr>)
+    ensures { place.new ≡ effect.Answered tid (answer_by done) }
+{
+    match place {
+        Effect::Answered {
+            tid: caller,
+            answer,
+        } => {
+            *caller = tid;
+            answer.set_done(done);
+        }
+        other => become_done(other, tid, done),
+    }
+}
+
+// The same, of a thread that gets a letter.
+#[inline(never)]
+fn become_lettered(place: &mut Effect, tid: Tid, letter: &Letter)
+    ensures { place.new ≡ effect.Answered tid (Answer.Letter letter.now.from letter.now.text letter.now.room) }
+{
+    set_answered(place, tid, Answer::letter(letter));
+}
+
+fn set_lettered(place: &mut Effect, tid: Tid, letter: &Letter)
+    ensures { place.new ≡ effect.Answered tid (Answer.Letter letter.now.from letter.now.text letter.now.room) }
+{
+    match place {
+        Effect::Answered {
+            tid: caller,
+            answer,
+        } => {
+            *caller = tid;
+            answer.set_letter(letter.from, &letter.text, letter.room);
+        }
+        other => become_lettered(other, tid, letter),
+    }
+}
+
+// The same, of a thread whose letter is replied to.
+#[inline(never)]
+fn become_replied(place: &mut Effect, tid: Tid, text: &Text)
+    ensures { place.new ≡ effect.Answered tid (Answer.Reply text.now) }
+{
+    set_answered(place, tid, Answer::Reply(*text));
+}
+
+fn set_replied(place: &mut Effect, tid: Tid, text: &Text)
+    ensures { place.new ≡ effect.Answered tid (Answer.Reply text.now) }
+{
+    match place {
+        Effect::Answered {
+            tid: caller,
+            answer,
+        } => {
+            *caller = tid;
+            answer.set_reply(text);
+        }
+        other => become_replied(other, tid, text),
     }
 }
 
@@ -111,15 +166,6 @@ impl Effects {
         self.used += 1;
     }
 
-    // A call more, behind all places so far.
-    #[inline(never)]
-    fn push_called(&mut self, tid: Tid, call: &Call)
-        requires { length self.old < 2048 }
-        ensures { self.new ≡ self.old ++ effect.Called tid call.now ∷ [] }
-    {
-        self.push(Effect::Called { tid, call: *call });
-    }
-
     // An answer more, behind all places so far.
     #[inline(never)]
     fn push_answered(&mut self, tid: Tid, answer: Answer)
@@ -129,17 +175,28 @@ impl Effects {
         self.push(Effect::Answered { tid, answer });
     }
 
-    /// The call that a thread makes, at the end. It takes no memory.
-    pub fn called(&mut self, tid: Tid, call: &Call)
+    #[inline(never)]
+    fn push_done(&mut self, tid: Tid, done: Result<i64, LwpErr>)
         requires { length self.old < 2048 }
-        ensures { self.new ≡ self.old ++ effect.Called tid call.now ∷ [] }
+        ensures { self.new ≡ self.old ++ effect.Answered tid (answer_by done) ∷ [] }
     {
-        if self.used < self.places.len() {
-            set_called(&mut self.places[self.used], tid, call);
-            self.used += 1;
-        } else {
-            self.push_called(tid, call);
-        }
+        self.push_answered(tid, Answer::of(done));
+    }
+
+    #[inline(never)]
+    fn push_lettered(&mut self, tid: Tid, letter: &Letter)
+        requires { length self.old < 2048 }
+        ensures { self.new ≡ self.old ++ effect.Answered tid (Answer.Letter letter.now.from letter.now.text letter.now.room) ∷ [] }
+    {
+        self.push_answered(tid, Answer::letter(letter));
+    }
+
+    #[inline(never)]
+    fn push_replied(&mut self, tid: Tid, text: &Text)
+        requires { length self.old < 2048 }
+        ensures { self.new ≡ self.old ++ effect.Answered tid (Answer.Reply text.now) ∷ [] }
+    {
+        self.push_answered(tid, Answer::Reply(*text));
     }
 
     /// The answer that a thread is given, at the end. It takes no memory.
@@ -162,6 +219,56 @@ impl Effects {
     {
         if let Some(answer) = own {
             self.answered(tid, answer);
+        }
+    }
+
+    /// What a thread's call came to, a number or the error that it is refused for, at the end. It takes no memory.
+    #[inline(always)]
+    pub fn done(&mut self, tid: Tid, done: Result<i64, LwpErr>)
+        requires { length self.old < 2048 }
+        ensures { self.new ≡ self.old ++ effect.Answered tid (answer_by done) ∷ [] }
+    {
+        if self.used < self.places.len() {
+            set_done(&mut self.places[self.used], tid, done);
+            self.used += 1;
+        } else {
+            self.push_done(tid, done);
+        }
+    }
+
+    /// The same, if the thread has an answer now.
+    pub fn done_now(&mut self, tid: Tid, own: Option<Result<i64, LwpErr>>)
+        requires { length self.old < 2048 }
+        ensures { self.new ≡ self.old ++ own_effects tid (option_map answer_by own) }
+    {
+        if let Some(done) = own {
+            self.done(tid, done);
+        }
+    }
+
+    /// The letter that a thread gets, at the end. It takes no memory.
+    pub fn lettered(&mut self, tid: Tid, letter: &Letter)
+        requires { length self.old < 2048 }
+        ensures { self.new ≡ self.old ++ effect.Answered tid (Answer.Letter letter.now.from letter.now.text letter.now.room) ∷ [] }
+    {
+        if self.used < self.places.len() {
+            set_lettered(&mut self.places[self.used], tid, letter);
+            self.used += 1;
+        } else {
+            self.push_lettered(tid, letter);
+        }
+    }
+
+    /// The reply that a thread gets to its letter, at the end. It takes no memory.
+    pub fn replied(&mut self, tid: Tid, text: &Text)
+        requires { length self.old < 2048 }
+        ensures { self.new ≡ self.old ++ effect.Answered tid (Answer.Reply text.now) ∷ [] }
+    {
+        if self.used < self.places.len() {
+            set_replied(&mut self.places[self.used], tid, text);
+            self.used += 1;
+        } else {
+            self.push_replied(tid, text);
         }
     }
 

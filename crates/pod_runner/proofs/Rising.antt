@@ -1,5 +1,5 @@
 -- Rows whose numbers rise, and where the row of a thread is found among them.
-use Rattle.std.proofs.Common.{◌≢◌, ◌≡◌, ◌≤◌, ◌<◌, ℕ, zero, suc, ◌+◌, List, [], ◌∷◌, ◌++◌, Bool, true, false, cond, length, get_or, set, ap, ◌∙◌, refl, sym, subst, inl, inr, arith}
+use Rattle.std.proofs.Common.{◌≢◌, ◌≡◌, ◌≤◌, ◌<◌, ℕ, zero, suc, ◌+◌, List, [], ◌∷◌, ◌++◌, Bool, true, false, cond, length, get_or, set, take, ap, ◌∙◌, refl, sym, subst, inl, inr, arith}
 use Rattle.std.specs.List.{AllByRecursion, remove}
 use Rattle.std.specs.Prelude.{Some, slice_get, slice_set, ◌⊎◌, ◌==◌}
 use Rattle.lwp_types.specs.declared.call.Answer.{Answer}
@@ -145,6 +145,13 @@ module _ {B : Type 0} where
           → cond b rs (r ∷ without_row t rs) ≡ remove (r ∷ rs) (cond b 0 (suc (place_of t rs)))
       by_head true rest h = refl
       by_head false rest h = ap (λ l. r ∷ l) (rest (omega (arith, h)))
+
+  -- the last row goes, and the others stay where they are
+  pub remove_last : (rows : List (Row B)) (i : ℕ) → i + 1 ≡ length rows → remove rows i ≡ take i rows
+  remove_last [] i last = absurd (omega (arith, last))
+  remove_last (r ∷ []) zero last = refl
+  remove_last (r ∷ s ∷ rs) zero last = absurd (omega (arith, last))
+  remove_last (r ∷ rs) (suc i) last = ap (λ (xs : List (Row B)). r ∷ xs) (remove_last rs i (omega (arith, last)))
 
   pub without_row_at : (t : ℕ) (rows : List (Row B)) (i : ℕ) → i ≡ place_of t rows → i < length rows → without_row t rows ≡ remove rows i
   without_row_at t rows i at within = without_row-place t rows (omega (arith, at, within)) ∙ ap (remove rows) (sym at)

@@ -10,10 +10,10 @@ ghost use Rattle.pod_runner.specs.Session.{move, row_opened, taken};
 
 use crate::row_list::RowList;
 use crate::rows::{proc_of, settle};
-use crate::written::set_lines;
+use crate::written::{set_call_lines, set_lines};
 use crate::{Phase, Took};
 use lwp_calls::{Pod, PodEnd};
-use lwp_types::{Body, Effects, Env, NoMemory, PodParams, Program, Text, Tid};
+use lwp_types::{Body, Call, Effects, Env, NoMemory, PodParams, Program, Text, Tid};
 use std::alloc::Global;
 
 /// A pod with its threads' bodies.
@@ -23,6 +23,8 @@ pub(crate) struct Parts<B> {
     pub(crate) rows: RowList<B>,
     pub(crate) env: Env,
     pub(crate) effects: Effects,
+    // The call of the last step. It has room for a text, so the next one is set where it lies.
+    pub(crate) call: Call,
 }
 
 impl<B: Body> Parts<B> {
@@ -51,6 +53,7 @@ impl<B: Body> Parts<B> {
             rows,
             env,
             effects,
+            call: Call::Return,
         })
     }
 
@@ -144,14 +147,10 @@ impl<B: Body> Parts<B> {
         ensures { OnOk result (Moves names.now None (move B.next (P.bodies program.now) (live_of self.old)) (live_of self.new) out.new.items) }
     {
         self.env.set_me(tid);
-        // The call has room for a text, and is looked at where it lies.
-        let polled = self.rows.poll_at(i, &mut self.env);
-        let Ok(call) = &polled else {
-            return Err(NoMemory);
-        };
-        let born = proc_of(call);
-        self.pod.call(call, &mut self.effects)?;
-        set_lines(out, &self.effects, None, names)?;
+        self.rows.poll_at(i, &mut self.env, &mut self.call)?;
+        let born = proc_of(&self.call);
+        self.pod.call(&self.call, &mut self.effects)?;
+        set_call_lines(out, tid, &self.call, &self.effects, names)?;
         settle(&mut self.rows, program, born, &self.effects)?;
         Ok(())
     }

@@ -41,8 +41,9 @@ fn copy_list(alloc: Global, list: &IdList) -> Result<IdList, NoMemory>
     Ok(copy)
 }
 
-// Sets an answer to what another is, in place, since an answer has room for a text.
-fn set_answer(alloc: Global, to: &mut Answer, answer: &Answer) -> Result<(), NoMemory>
+// The same answer once more. It stands apart, since it has room for a text.
+#[inline(never)]
+fn copy_answer(alloc: Global, to: &mut Answer, answer: &Answer) -> Result<(), NoMemory>
     ensures { OnOk result (to.new ≡ answer.now) }
 {
     *to = match answer {
@@ -78,12 +79,26 @@ fn set_answer(alloc: Global, to: &mut Answer, answer: &Answer) -> Result<(), NoM
     Ok(())
 }
 
+// Sets an answer to what another is. The answers that come most are set where one of their kind lay.
+fn set_answer(alloc: Global, to: &mut Answer, answer: &Answer) -> Result<(), NoMemory>
+    ensures { OnOk result (to.new ≡ answer.now) }
+{
+    match answer {
+        Answer::Value(value) => to.set_done(Ok(*value)),
+        Answer::Refused(error) => to.set_done(Err(*error)),
+        Answer::Letter { from, text, room } => to.set_letter(*from, text, *room),
+        Answer::Reply(text) => to.set_reply(text),
+        _ => copy_answer(alloc, to, answer)?,
+    }
+    Ok(())
+}
+
 // Polls the body of a row, which keeps its answer.
-fn poll_row<B: Body>(row: &mut Row<B>, env: &mut Env) -> Result<Call, NoMemory>
-    ensures polls { IfOk result (λ call. (B.next row.old.body env.old row.old.answer ≡ (call, row.new.body, env.new)) × (row.new.answer ≡ row.old.answer)) }
+fn poll_row<B: Body>(row: &mut Row<B>, env: &mut Env, call: &mut Call) -> Result<(), NoMemory>
+    ensures polls { OnOk result ((B.next row.old.body env.old row.old.answer ≡ (call.new, row.new.body, env.new)) × (row.new.answer ≡ row.old.answer)) }
     ensures same { row.new.tid ≡ row.old.tid }
 {
-    row.body.poll(env, &row.answer)
+    row.body.poll(env, &row.answer, call)
 }
 
 // The place of a thread's row, or how many rows there are.
@@ -128,6 +143,23 @@ fn searched<B>(rows: &Vec<Row<B>>, tid: Tid) -> usize
     rows.len()
 }
 
+// Whether the thread's row is at a place, if the numbers rise.
+fn is_at<B>(rows: &Vec<Row<B>>, tid: Tid, at: usize) -> bool
+    ensures { IsTrue result → AreRising rows.now.items → place_of tid rows.now.items ≡ at }
+{
+    at < rows.len() && rows[at].tid == tid
+}
+
+// Where a thread's row is most likely to be: as far behind the oldest as it was born after that, or last. So a row is found at once
+// where nobody has died between them, and so is the youngest.
+fn likely_place<B>(rows: &Vec<Row<B>>, tid: Tid) -> usize {
+    if rows.is_empty() {
+        return 0;
+    }
+    let behind = tid.number.saturating_sub(rows[0].tid.number) as usize;
+    behind.min(rows.len() - 1)
+}
+
 // Whether all rows are of older threads, if their numbers rise.
 fn are_older<B>(rows: &Vec<Row<B>>, tid: Tid) -> bool
     ensures { IsTrue result → AreRising rows.now.items → ComesLast tid rows.now.items }
@@ -162,17 +194,27 @@ fn take_out<B: Drop>(rows: &mut Vec<Row<B>>, i: usize, tid: Tid)
     ensures rising { AreRising rows.old.items → AreRising rows.new.items }
 {
     let _ = tid;
-    rows.remove(i);
+    if i + 1 == rows.len() {
+        // The last row isn't moved out.
+        rows.truncate(i);
+    } else {
+        rows.remove(i);
+    }
 }
 
 // Polls the body of the row at a place.
-fn poll_in<B: Body>(rows: &mut Vec<Row<B>>, i: usize, env: &mut Env) -> Result<Call, NoMemory>
+fn poll_in<B: Body>(
+    rows: &mut Vec<Row<B>>,
+    i: usize,
+    env: &mut Env,
+    call: &mut Call,
+) -> Result<(), NoMemory>
     requires { i < length rows.old.items }
-    ensures polls { IfOk result (λ call. (row : Row B) → slice_get rows.old.items i ≡ Some row → Polls B.next row env.old call i rows.old.items rows.new.items env.new) }
+    ensures polls { OnOk result ((row : Row B) → slice_get rows.old.items i ≡ Some row → Polls B.next row env.old call.new i rows.old.items rows.new.items env.new) }
     ensures rising { AreRising rows.old.items → AreRising rows.new.items }
 {
     let row = &mut rows[i];
-    poll_row(row, env)
+    poll_row(row, env, call)
 }
 
 impl<B> RowList<B> {
@@ -198,13 +240,17 @@ impl<B> RowList<B> {
     pub fn place(&self, tid: Tid) -> usize
         ensures { result ≡ place_of tid self.now }
     {
-        if self.rising {
-            if self.last < self.rows.len() && self.rows[self.last].tid == tid {
-                return self.last;
-            }
-            return searched(&self.rows, tid);
+        if !self.rising {
+            return scanned(&self.rows, tid);
         }
-        scanned(&self.rows, tid)
+        if is_at(&self.rows, tid, self.last) {
+            return self.last;
+        }
+        let likely = likely_place(&self.rows, tid);
+        if is_at(&self.rows, tid, likely) {
+            return likely;
+        }
+        searched(&self.rows, tid)
     }
 
     // One row more, the last.
@@ -246,14 +292,14 @@ impl<B> RowList<B> {
     }
 
     /// Polls the body of the row at a place.
-    pub fn poll_at(&mut self, i: usize, env: &mut Env) -> Result<Call, NoMemory>
+    pub fn poll_at(&mut self, i: usize, env: &mut Env, call: &mut Call) -> Result<(), NoMemory>
     where
         B: Body,
         requires { i < length self.old }
-        ensures { IfOk result (λ call. (row : Row B) → slice_get self.old i ≡ Some row → Polls B.next row env.old call i self.old self.new env.new) }
+        ensures { OnOk result ((row : Row B) → slice_get self.old i ≡ Some row → Polls B.next row env.old call.new i self.old self.new env.new) }
     {
         self.last = i;
-        poll_in(&mut self.rows, i, env)
+        poll_in(&mut self.rows, i, env, call)
     }
 
     /// The row of a new thread, if there is such a procedure.

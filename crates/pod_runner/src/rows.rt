@@ -39,6 +39,7 @@ fn bear<B: Body, P: Program<B>>(
     }
 }
 
+#[inline(always)]
 fn settle_one<B: Body, P: Program<B>>(
     rows: &mut RowList<B>,
     program: &P,
@@ -61,6 +62,7 @@ fn settle_one<B: Body, P: Program<B>>(
 }
 
 /// What the effects of a step do to the rows, one after the other.
+#[inline(always)]
 pub fn settle<B: Body, P: Program<B>>(
     rows: &mut RowList<B>,
     program: &P,

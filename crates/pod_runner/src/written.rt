@@ -1,14 +1,16 @@
 // Writing.
-ghost use Rattle.std.specs.Prelude.{◌≡◌, ◌++◌, [], IfOk, OnOk, OnErr, option_copied};
+ghost use Rattle.std.specs.Prelude.{◌≡◌, ◌++◌, ◌∷◌, [], IfOk, OnOk, OnErr, None, option_copied};
 ghost use Rattle.lwp_types.specs.Streams.{appended, HasCause};
+ghost use Rattle.lwp_types.specs.declared.call.Effect.TheVariants as Effect;
 ghost use Rattle.pod_runner.specs.Run.{AppendsCut};
 ghost use Rattle.trace_text.specs.Lines.{step_lines};
 
-use lwp_types::{Effects, Failed, Line, NoMemory, Sink, Text};
+use lwp_types::{Call, Effects, Failed, Line, NoMemory, Sink, Text, Tid};
 use std::alloc::Global;
-use trace_text::add_step_lines;
+use trace_text::{add_call_line, add_step_lines};
 
 /// Writes the bytes, or fails after some of them, before the last.
+#[inline(always)]
 pub fn write_all<K: Sink>(sink: &mut K, bytes: &[u8]) -> Result<(), Failed>
     ensures ok { OnOk result (K.written sink.new ≡ appended (K.written sink.old) bytes.now) }
     ensures err { OnErr result (AppendsCut (K.written sink.old) (K.written sink.new) [] bytes.now) }
@@ -33,6 +35,23 @@ pub(crate) fn set_lines(
 {
     out.clear();
     add_step_lines(out, effects, took, names)
+}
+
+/// Puts the lines of a call in the place of what was there: that of the call itself, and a line for each effect, where the
+/// procedures have these names.
+#[inline(always)]
+pub(crate) fn set_call_lines(
+    out: &mut Vec<u8>,
+    tid: Tid,
+    call: &Call,
+    effects: &Effects,
+    names: &[Text],
+) -> Result<(), NoMemory>
+    ensures { OnOk result (out.new.items ≡ step_lines names.now None (Effect.Called tid call.now ∷ effects.now)) }
+{
+    out.clear();
+    add_call_line(out, tid, call, names)?;
+    add_step_lines(out, effects, None, names)
 }
 
 /// The lines of a step: a line for each effect, where this line was taken, if any, and the procedures have these names.

@@ -1,5 +1,5 @@
 -- A statement that is passed over.
-use Rattle.std.proofs.Common.{◌≡◌, ◌<◌, ◌+◌, ℕ, suc, Bool, true, false, List, drop, drop-cons, length, refl, sym, ap, ◌∙◌, arith}
+use Rattle.std.proofs.Common.{◌≡◌, ◌<◌, ◌+◌, ℕ, suc, Bool, true, false, List, drop, drop-cons, length, sym, ap, ◌∙◌, arith}
 use Rattle.lwp_types.specs.declared.call.Answer.{Answer}
 use Rattle.script_body.specs.Walk.{next_stmt}
 use Rattle.script_body.specs.declared.walk.At.{At}

@@ -4,7 +4,7 @@ ghost use Rattle.script_text.specs.Script.{proc_number, proc_places};
 ghost use Rattle.script_body.specs.Calls.{call_of};
 ghost use Rattle.script_body.specs.ScriptBody.{script_opening, frame_above, back_at, taken_caught, unhandled, with_frame, returned, with_sender_by, taken_by, taken_refused, taken_plain, taken, stmt_after, behind};
 
-use crate::calls::call_of;
+use crate::calls::{set_call, set_return};
 use crate::frame::Frame;
 use crate::names::name_by;
 use crate::numbers::{has_numbers, proc_number, stmts_at};
@@ -210,14 +210,16 @@ impl<'s> Body for ScriptBody<'s> {
     ghost next = { script_next };
 
     #[tactic(auto, unfolding(crate::specs::ScriptBody::script_next))]
-    fn poll(&mut self, env: &mut Env, got: &Answer) -> Result<Call, NoMemory> {
+    fn poll(&mut self, env: &mut Env, got: &Answer, call: &mut Call) -> Result<(), NoMemory> {
         let made = self.last;
         if !self.take(got)? {
-            return Ok(Call::Return);
+            set_return(call);
+            return Ok(());
         }
         name_by(env, got, &made);
         let stmt = self.go_on(got);
-        Ok(call_of(self.script, self.sender, env, &stmt))
+        set_call(self.script, self.sender, env, &stmt, call);
+        Ok(())
     }
 
     ghost keeps_lengths = { script_next-keeps_lengths };

@@ -1,11 +1,19 @@
-// What the statements of a script call.
+// What the statements of a script call. A call is set where the last one lay.
 ghost use Rattle.std.specs.Prelude.{◌≡◌, ◌<◌, ◌≤◌, ◌^◌, length, option_map};
-ghost use Rattle.script_text.specs.Script.{proc_places};
+ghost use Rattle.lwp_types.specs.declared.call.Call.TheVariants as call_kind;
+ghost use Rattle.script_text.specs.Script.{proc_places, text_at};
 ghost use Rattle.script_body.specs.Calls.{who_id, exit_call_of, plain_call, lock_call, thread_call, call_of};
 
 use crate::numbers::proc_number;
 use lwp_types::{Call, Env, ExitCall, NULL_TID, Tid};
 use script_text::{ExitStmt, Script, Stmt, Texts, Who};
+
+/// Makes it a return.
+pub fn set_return(call: &mut Call)
+    ensures { call.new ≡ call_kind.Return }
+{
+    *call = Call::Return;
+}
 
 fn who_id(sender: Tid, env: &Env, who: Who) -> Tid
     ensures { result ≡ who_id sender env.now who }
@@ -46,77 +54,113 @@ fn exit_call_of(texts: &Texts, sender: Tid, env: &Env, exit: &ExitStmt) -> ExitC
     }
 }
 
-// A statement that names nothing.
+// A letter. What has room for a text stands apart, here and in the three below, so that the other calls clear none.
 #[inline(never)]
-fn plain_call(texts: &Texts, stmt: &Stmt) -> Call
-    ensures { result ≡ plain_call texts.now stmt.now }
+fn set_send(texts: &Texts, to: Tid, room: u8, place: u32, call: &mut Call)
+    ensures { call.new ≡ call_kind.Send to room (text_at texts.now place) }
+{
+    *call = Call::Send {
+        to,
+        room,
+        text: texts.get(place as usize),
+    };
+}
+
+#[inline(never)]
+fn set_reply(texts: &Texts, to: Tid, place: u32, call: &mut Call)
+    ensures { call.new ≡ call_kind.Reply to (text_at texts.now place) }
+{
+    *call = Call::Reply {
+        to,
+        text: texts.get(place as usize),
+    };
+}
+
+#[inline(never)]
+fn set_say(texts: &Texts, place: u32, call: &mut Call)
+    ensures { call.new ≡ call_kind.Say (text_at texts.now place) }
+{
+    *call = Call::Say {
+        text: texts.get(place as usize),
+    };
+}
+
+#[inline(never)]
+fn set_on_exit(texts: &Texts, sender: Tid, env: &Env, exit: &ExitStmt, call: &mut Call)
+    ensures { call.new ≡ call_kind.OnExit (exit_call_of texts.now sender env.now exit.now) }
+{
+    *call = Call::OnExit {
+        call: exit_call_of(texts, sender, env, exit),
+    };
+}
+
+// A statement that names nothing.
+fn set_plain_call(texts: &Texts, stmt: &Stmt, call: &mut Call)
+    ensures { call.new ≡ plain_call texts.now stmt.now }
 {
     match stmt {
-        Stmt::Resched { prio } => Call::Resched { prio: *prio },
-        Stmt::SetMaxPri { prio } => Call::SetMaxPri { prio: *prio },
-        Stmt::Me => Call::Me,
-        Stmt::SetExit { code } => Call::SetExit { code: *code },
-        Stmt::GetExit => Call::GetExit,
-        Stmt::PodExit { code } => Call::PodExit { code: *code },
-        Stmt::Threads => Call::Threads,
-        Stmt::Senders => Call::Senders,
-        Stmt::Receivers => Call::Receivers,
-        Stmt::MonCreate { .. } => Call::MonCreate,
-        Stmt::Monitors => Call::Monitors,
-        Stmt::Conds => Call::Conds,
-        Stmt::Handle { pattern, func, arg } => Call::Handle {
+        Stmt::Resched { prio } => *call = Call::Resched { prio: *prio },
+        Stmt::SetMaxPri { prio } => *call = Call::SetMaxPri { prio: *prio },
+        Stmt::Me => *call = Call::Me,
+        Stmt::SetExit { code } => *call = Call::SetExit { code: *code },
+        Stmt::GetExit => *call = Call::GetExit,
+        Stmt::PodExit { code } => *call = Call::PodExit { code: *code },
+        Stmt::Threads => *call = Call::Threads,
+        Stmt::Senders => *call = Call::Senders,
+        Stmt::Receivers => *call = Call::Receivers,
+        Stmt::MonCreate { .. } => *call = Call::MonCreate,
+        Stmt::Monitors => *call = Call::Monitors,
+        Stmt::Conds => *call = Call::Conds,
+        Stmt::Handle { pattern, func, arg } => *call = Call::Handle {
             pattern: *pattern,
             func: *func,
             arg: *arg,
         },
-        Stmt::Unhandle => Call::Unhandle,
-        Stmt::Raise { pattern } => Call::Raise { pattern: *pattern },
-        Stmt::ExcNotify { pattern } => Call::ExcNotify { pattern: *pattern },
-        Stmt::Bound { pattern } => Call::Bound { pattern: *pattern },
-        Stmt::UniqPatt => Call::UniqPatt,
-        Stmt::Agent { event, .. } => Call::Agent { event: *event },
-        Stmt::Agents => Call::Agents,
-        Stmt::Say { text } => Call::Say {
-            text: texts.get(*text as usize),
-        },
+        Stmt::Unhandle => *call = Call::Unhandle,
+        Stmt::Raise { pattern } => *call = Call::Raise { pattern: *pattern },
+        Stmt::ExcNotify { pattern } => *call = Call::ExcNotify { pattern: *pattern },
+        Stmt::Bound { pattern } => *call = Call::Bound { pattern: *pattern },
+        Stmt::UniqPatt => *call = Call::UniqPatt,
+        Stmt::Agent { event, .. } => *call = Call::Agent { event: *event },
+        Stmt::Agents => *call = Call::Agents,
+        Stmt::Say { text } => set_say(texts, *text, call),
         // A return; and what makes no call, for which nobody asks.
-        _ => Call::Return,
+        _ => *call = Call::Return,
     }
 }
 
 // A statement that names monitors or conditions, or nothing.
-#[inline(never)]
-fn lock_call(texts: &Texts, sender: Tid, env: &Env, stmt: &Stmt) -> Call
-    ensures { result ≡ lock_call texts.now sender env.now stmt.now }
+fn set_lock_call(texts: &Texts, sender: Tid, env: &Env, stmt: &Stmt, call: &mut Call)
+    ensures { call.new ≡ lock_call texts.now sender env.now stmt.now }
 {
     match stmt {
-        Stmt::CvCreate { mon, .. } => Call::CvCreate { mon: env.mon(*mon) },
-        Stmt::MonDestroy { mon } => Call::MonDestroy { mon: env.mon(*mon) },
-        Stmt::Enter { mon } => Call::Enter { mon: env.mon(*mon) },
-        Stmt::CondEnter { mon } => Call::CondEnter { mon: env.mon(*mon) },
-        Stmt::MonExit { mon } => Call::MonExit { mon: env.mon(*mon) },
-        Stmt::MonBreak { mon } => Call::MonBreak { mon: env.mon(*mon) },
-        Stmt::MonWaiters { mon } => Call::MonWaiters { mon: env.mon(*mon) },
-        Stmt::CvDestroy { cond } => Call::CvDestroy {
+        Stmt::CvCreate { mon, .. } => *call = Call::CvCreate { mon: env.mon(*mon) },
+        Stmt::MonDestroy { mon } => *call = Call::MonDestroy { mon: env.mon(*mon) },
+        Stmt::Enter { mon } => *call = Call::Enter { mon: env.mon(*mon) },
+        Stmt::CondEnter { mon } => *call = Call::CondEnter { mon: env.mon(*mon) },
+        Stmt::MonExit { mon } => *call = Call::MonExit { mon: env.mon(*mon) },
+        Stmt::MonBreak { mon } => *call = Call::MonBreak { mon: env.mon(*mon) },
+        Stmt::MonWaiters { mon } => *call = Call::MonWaiters { mon: env.mon(*mon) },
+        Stmt::CvDestroy { cond } => *call = Call::CvDestroy {
             cond: env.cond(*cond),
         },
-        Stmt::Wait { cond } => Call::Wait {
+        Stmt::Wait { cond } => *call = Call::Wait {
             cond: env.cond(*cond),
         },
-        Stmt::Notify { cond } => Call::Notify {
+        Stmt::Notify { cond } => *call = Call::Notify {
             cond: env.cond(*cond),
         },
-        Stmt::Broadcast { cond } => Call::Broadcast {
+        Stmt::Broadcast { cond } => *call = Call::Broadcast {
             cond: env.cond(*cond),
         },
-        Stmt::CvSend { cond, who } => Call::CvSend {
+        Stmt::CvSend { cond, who } => *call = Call::CvSend {
             cond: env.cond(*cond),
             tid: who_id(sender, env, *who),
         },
-        Stmt::CvWaiters { cond } => Call::CvWaiters {
+        Stmt::CvWaiters { cond } => *call = Call::CvWaiters {
             cond: env.cond(*cond),
         },
-        _ => plain_call(texts, stmt),
+        _ => set_plain_call(texts, stmt, call),
     }
 }
 
@@ -130,45 +174,36 @@ fn source_of(sender: Tid, env: &Env, from: &Option<Who>) -> Option<Tid>
 }
 
 // A statement that names threads, or anything but procedures.
-fn thread_call(texts: &Texts, sender: Tid, env: &Env, stmt: &Stmt) -> Call
-    ensures { result ≡ thread_call texts.now sender env.now stmt.now }
+fn set_thread_call(texts: &Texts, sender: Tid, env: &Env, stmt: &Stmt, call: &mut Call)
+    ensures { call.new ≡ thread_call texts.now sender env.now stmt.now }
 {
     let id = |who: &Who| who_id(sender, env, *who);
     match stmt {
-        Stmt::Destroy { who } => Call::Destroy { tid: id(who) },
-        Stmt::Ping { who } => Call::Ping { tid: id(who) },
-        Stmt::Yield { to } => Call::Yield { to: id(to) },
-        Stmt::Suspend { who } => Call::Suspend { tid: id(who) },
-        Stmt::Resume { who } => Call::Resume { tid: id(who) },
-        Stmt::Join { who } => Call::Join { tid: id(who) },
-        Stmt::SetPri { who, prio } => Call::SetPri {
+        Stmt::Destroy { who } => *call = Call::Destroy { tid: id(who) },
+        Stmt::Ping { who } => *call = Call::Ping { tid: id(who) },
+        Stmt::Yield { to } => *call = Call::Yield { to: id(to) },
+        Stmt::Suspend { who } => *call = Call::Suspend { tid: id(who) },
+        Stmt::Resume { who } => *call = Call::Resume { tid: id(who) },
+        Stmt::Join { who } => *call = Call::Join { tid: id(who) },
+        Stmt::SetPri { who, prio } => *call = Call::SetPri {
             tid: id(who),
             prio: *prio,
         },
-        Stmt::Send { to, room, text } => Call::Send {
-            to: id(to),
-            room: *room,
-            text: texts.get(*text as usize),
-        },
-        Stmt::Recv { from, mode } => Call::Recv {
+        Stmt::Send { to, room, text } => set_send(texts, id(to), *room, *text, call),
+        Stmt::Recv { from, mode } => *call = Call::Recv {
             from: source_of(sender, env, from),
             mode: *mode,
         },
-        Stmt::Reply { to, text } => Call::Reply {
-            to: id(to),
-            text: texts.get(*text as usize),
-        },
-        Stmt::OnExit { exit } => Call::OnExit {
-            call: exit_call_of(texts, sender, env, exit),
-        },
-        _ => lock_call(texts, sender, env, stmt),
+        Stmt::Reply { to, text } => set_reply(texts, id(to), *text, call),
+        Stmt::OnExit { exit } => set_on_exit(texts, sender, env, exit, call),
+        _ => set_lock_call(texts, sender, env, stmt, call),
     }
 }
 
-/// The call of a statement, in a thread whose last letter came from `sender`.
-pub fn call_of(script: &Script, sender: Tid, env: &Env, stmt: &Stmt) -> Call
+/// Sets the call of a statement, in a thread whose last letter came from `sender`, whatever stood there.
+pub fn set_call(script: &Script, sender: Tid, env: &Env, stmt: &Stmt, call: &mut Call)
     requires { length (proc_places script.now) < 2 ^ 32 }
-    ensures { result ≡ call_of script.now sender env.now stmt.now }
+    ensures { call.new ≡ call_of script.now sender env.now stmt.now }
 {
     match stmt {
         Stmt::Create {
@@ -176,14 +211,14 @@ pub fn call_of(script: &Script, sender: Tid, env: &Env, stmt: &Stmt) -> Call
             prio,
             flags,
             ..
-        } => Call::Create {
+        } => *call = Call::Create {
             proc: proc_number(script, *proc),
             prio: *prio,
             flags: *flags,
         },
-        Stmt::CallProc { proc } => Call::CallProc {
+        Stmt::CallProc { proc } => *call = Call::CallProc {
             proc: proc_number(script, *proc),
         },
-        _ => thread_call(&script.texts, sender, env, stmt),
+        _ => set_thread_call(&script.texts, sender, env, stmt, call),
     }
 }

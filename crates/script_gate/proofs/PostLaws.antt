@@ -10,7 +10,8 @@ use Rattle.script_lines.specs.Line.{IsLine, IsPhrase, SlotFits, phrase_text}
 use Rattle.script_text.specs.Meaning.{added, added_at, draft_of, empty_draft, entered, named, places_of, raised, script_of}
 use Rattle.script_lines.specs.Phrase.{Phrase}
 use Rattle.script_text.specs.Script.{line_of}
-use Rattle.script_lines.specs.Table.{role_of, slots_of}
+use Rattle.script_lines.proofs.TableLaws.{only_of_role}
+use Rattle.script_lines.specs.Table.{row_of, role_of, slots_of}
 use Rattle.script_text.specs.declared.draft.Draft.{Draft}
 use Rattle.script_text.specs.declared.draft.Places.{Places}
 use Rattle.script_text.specs.declared.reader.Declared.{Declared}
@@ -88,10 +89,8 @@ may-post (n ∷ ns) (suc c) h = let more = may-post ns c h in (omega (arith, mor
 
 -- the number of a client is 15 at most, and its event 1 to 31
 client_fits : (o : Op) (p : Phrase) → role_of o ≡ role.Client → AllByRecursion (SlotFits p) (slots_of o) → (p.client ≤ 15) × (1 ≤ p.event) × (p.event ≤ 31)
-client_fits o p e h = elim o as (λ x. role_of x ≡ role.Client → AllByRecursion (SlotFits p) (slots_of x) → (p.client ≤ 15) × (1 ≤ p.event) × (p.event ≤ 31)) [
-  | op.Client ↦ λ f g. (g.0, g.1.0.0, g.1.0.1)
-  | _ ↦ λ f g. absurd cc
-] e h
+unfolding row_of
+client_fits o p e h = let g = subst (λ x. AllByRecursion (SlotFits p) (slots_of x)) (only_of_role role.Client op.Client refl o e) h in (g.0, g.1.0.0, g.1.0.1)
 
 kept : (n : ℕ) (d e : Draft) → Posted n d → e.posted ≡ d.posted → e.script.clients ≡ d.script.clients → e.script.posts ≡ d.script.posts → Posted (suc n) e
 kept n d e h posted clients posts = record {

@@ -20,12 +20,13 @@ use Rattle.script_lines.specs.declared.table.Whom.{Whom}
 use Rattle.script_lines.specs.declared.table.Whom.TheVariants as whom
 use Rattle.script_lines.specs.Phrase.{Phrase}
 use Rattle.script_lines.specs.Words.{is_lowercase, is_name, is_name_byte, is_reserved}
-use Rattle.script_lines.specs.Table.{key_of, slots_of}
+use Rattle.script_lines.specs.Table.{Row, key_of, slots_of}
 use Rattle.trace_text.specs.Lines.{spaced, flags_text, mode_text, pattern_text, func_text}
 use Rattle.script_lines.specs.Line.{who_text, built_text, test_text, SourceFits, TestFits, PatternFits, BuiltFits, slot_text, phrase_text, SlotFits, IsPhrase}
 use Rattle.script_lines.specs.Reading.{flags_by, phrase_at}
+use Rattle.script_lines.proofs.TableLaws.{on_rows}
 use Rattle.script_lines.proofs.WordLemmas.{both}
-use Rattle.script_lines.proofs.PhraseLaws.{on_all, phrase_found, who_is_source}
+use Rattle.script_lines.proofs.PhraseLaws.{phrase_found, who_is_source}
 
 number_length : (n : ℕ) → n < 2 ^ 32 → length (decimal n) ≤ 10
 number_length n h = length-decimal-le 10 n (omega arith) (omega (arith, h)) (omega (arith, h))
@@ -115,7 +116,7 @@ slots_length p (k ∷ ks) h = omega (arith, slot_length p k h.0, slots_length p 
 
 phrase_length : (p : Phrase) → IsPhrase p → length (phrase_text p) ≤ 980
 phrase_length p h =
-    let row = on_all (λ o. leb (length (key_of o) + 241 * length (slots_of o)) 980) refl p.op in
+    let row = on_rows (λ (r : Row). leb (length r.key + 241 * length r.slots) 980) refl p.op in
     omega (arith, leb-true (length (key_of p.op) + 241 * length (slots_of p.op)) 980 row, slots_length p (slots_of p.op) h, length-append (key_of p.op) (flat_map (slot_text p) (slots_of p.op)))
 
 said_length : (line : List ℕ) (p : Phrase) → phrase_at line ≡ Some p → length line ≤ 980

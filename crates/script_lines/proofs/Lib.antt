@@ -1,4 +1,5 @@
 pub mod WordLemmas
+pub mod TableLaws
 pub mod PhraseLaws
 pub mod PrintableLaws
 pub mod LengthLaws

@@ -1,5 +1,5 @@
 -- Reading a line and writing a phrase undo each other.
-use Rattle.std.proofs.Common.{◌≡◌, ℕ, zero, suc, ◌+◌, ◌≤◌, ◌<◌, ◌^◌, Bool, true, false, not, ◌&&◌, ◌||◌, cond, eqb, ltb, leb, List, [], ◌∷◌, ◌++◌, length, take, drop, Some, None, refl, sym, ap, subst, ◌∙◌, arith, inl, inr, slice_get}
+use Rattle.std.proofs.Common.{◌≡◌, ℕ, suc, ◌+◌, ◌≤◌, ◌<◌, ◌^◌, Bool, true, false, not, ◌&&◌, ◌||◌, cond, eqb, ltb, leb, List, [], ◌∷◌, ◌++◌, length, take, drop, Some, None, refl, sym, ap, subst, ◌∙◌, arith, inl, inr}
 use Rattle.std.specs.Prelude.{Option, option_map, option_and_then, codes}
 use Rattle.std.specs.List.{flat_map, AllByRecursion, list_all}
 use Rattle.std.specs.Str.{bytes_eq, all_ascii_digits}
@@ -10,10 +10,14 @@ use Rattle.std.proofs.lemmas.Option.{cond_some, option_and_then_some}
 use Rattle.std.proofs.lemmas.List.{append-nil, take_at, drop_at, take-append-drop, take-append-le, drop-append-le, length-drop}
 use Rattle.std.proofs.lemmas.Slice.Eq.{bytes_eq-Decides}
 use Rattle.std.proofs.lemmas.Fmt.{digits_decimal}
+use denote.Enum.Bare.{sameb, same_true}
+use Rattle.script_lines.specs.contracts.table.Kind.{the_type as kind_type}
+use Rattle.script_lines.specs.contracts.table.Role.{the_type as role_type}
 use Rattle.script_lines.specs.declared.table.Op.{Op}
 use Rattle.script_lines.specs.declared.table.Op.TheVariants as op
 use Rattle.script_lines.specs.declared.table.Kind.{Kind}
 use Rattle.script_lines.specs.declared.table.Kind.TheVariants as kind
+use Rattle.script_lines.specs.declared.table.Role.TheVariants as role
 use Rattle.script_lines.specs.declared.table.Whom.{Whom}
 use Rattle.script_lines.specs.declared.table.Whom.TheVariants as whom
 use Rattle.script_lines.specs.declared.table.Test.{Test}
@@ -27,126 +31,13 @@ use Rattle.lwp_types.specs.declared.call.Pattern.{Pattern}
 use Rattle.lwp_types.specs.declared.call.Pattern.TheVariants as pattern
 use Rattle.script_lines.specs.Phrase.{Phrase}
 use Rattle.script_lines.specs.Words.{is_lowercase, is_reserved, is_name, is_name_byte, number_at, reach}
-use Rattle.script_lines.specs.Table.{op_in, op_at, ops, slots_of, key_of, is_half, key_length, rows_under}
+use Rattle.script_lines.specs.Table.{Row, key_of, role_of, slots_of, has, starts, op_at, is_half, key_length}
 use Rattle.lwp_types.specs.TextFields.{is_text}
 use Rattle.trace_text.specs.Lines.{spaced, flags_text, mode_text, pattern_text, func_text}
 use Rattle.script_lines.specs.Line.{who_text, built_text, test_text, WhoFits, SourceFits, TestFits, PatternFits, IsEvent, BuiltFits, slot_text, phrase_text, SlotFits, IsPhrase, blank, copy_slot, copy_slots, needed, IsNeeded}
 use Rattle.script_lines.specs.Reading.{flags_by, all_flags, flags_in, flags_at, within_room, room_at, client_at, event_at, pattern_at, func_at, who_at, source_at, name_in, mode_at, value_at, test_at, spaced_name, session_at, built_at, fill_word, fill_text, fill_test, fill_built, fill_spaced, slot_at, fill, phrase_at}
+use Rattle.script_lines.proofs.TableLaws.{on_rows, op_found, op_again}
 use Rattle.script_lines.proofs.WordLemmas.{both, Stops, reach-append, reach_in, number_again, number_found, own}
-
--- ---- Rows.
-
-op_in_found : (os : List Op) (w : List ℕ) (o : Op) → op_in os w ≡ Some o → w ≡ key_of o
-op_in_found [] w o e = absurd cc
-op_in_found (x ∷ os) w o e = elim (bytes_eq (key_of x) w) as (λ v. bytes_eq (key_of x) w ≡ v → cond v (Some x) (op_in os w) ≡ Some o → w ≡ key_of o) [
-  | true ↦ λ t f. let h : x ≡ o = cc in sym ((bytes_eq-Decides (key_of x) w).0 t) ∙ ap key_of h
-  | false ↦ λ t f. op_in_found os w o f
-] refl e
-
-pub op_found : (w : List ℕ) (o : Op) → op_at w ≡ Some o → w ≡ key_of o
-unfolding op_at
-op_found [] o e = absurd cc
-op_found (b ∷ bs) o e = op_in_found (rows_under b) (b ∷ bs) o e
-
--- where each row stands in the table
-standing : (o : Op) → (k : ℕ) × (slice_get ops k ≡ Some o)
-standing op.Lwp = (0, refl)
-standing op.Pod = (1, refl)
-standing op.Limit = (2, refl)
-standing op.Client = (3, refl)
-standing op.Native = (4, refl)
-standing op.Proc = (5, refl)
-standing op.Post = (6, refl)
-standing op.Create = (7, refl)
-standing op.Destroy = (8, refl)
-standing op.Ping = (9, refl)
-standing op.Yield = (10, refl)
-standing op.Suspend = (11, refl)
-standing op.Resume = (12, refl)
-standing op.Join = (13, refl)
-standing op.Resched = (14, refl)
-standing op.SetPri = (15, refl)
-standing op.SetMaxPri = (16, refl)
-standing op.Me = (17, refl)
-standing op.SetExit = (18, refl)
-standing op.GetExit = (19, refl)
-standing op.PodExit = (20, refl)
-standing op.Threads = (21, refl)
-standing op.Send = (22, refl)
-standing op.Recv = (23, refl)
-standing op.Reply = (24, refl)
-standing op.Senders = (25, refl)
-standing op.Receivers = (26, refl)
-standing op.MonCreate = (27, refl)
-standing op.CvCreate = (28, refl)
-standing op.MonDestroy = (29, refl)
-standing op.Enter = (30, refl)
-standing op.CondEnter = (31, refl)
-standing op.MonExit = (32, refl)
-standing op.MonBreak = (33, refl)
-standing op.MonWaiters = (34, refl)
-standing op.Monitors = (35, refl)
-standing op.CvDestroy = (36, refl)
-standing op.Wait = (37, refl)
-standing op.Notify = (38, refl)
-standing op.Broadcast = (39, refl)
-standing op.CvSend = (40, refl)
-standing op.CvWaiters = (41, refl)
-standing op.Conds = (42, refl)
-standing op.CallProc = (43, refl)
-standing op.Return = (44, refl)
-standing op.Handle = (45, refl)
-standing op.Unhandle = (46, refl)
-standing op.Raise = (47, refl)
-standing op.ExcNotify = (48, refl)
-standing op.Bound = (49, refl)
-standing op.UniqPatt = (50, refl)
-standing op.ExitMonExit = (51, refl)
-standing op.ExitMonBreak = (52, refl)
-standing op.ExitNotify = (53, refl)
-standing op.ExitBroadcast = (54, refl)
-standing op.ExitReply = (55, refl)
-standing op.ExitResume = (56, refl)
-standing op.ExitSetExit = (57, refl)
-standing op.ExitNote = (58, refl)
-standing op.Agent = (59, refl)
-standing op.Agents = (60, refl)
-standing op.Say = (61, refl)
-standing op.Skip = (62, refl)
-standing op.Again = (63, refl)
-
-all_at : {A : Type 0} (f : A → Bool) (xs : List A) (k : ℕ) (x : A) → list_all f xs ≡ true → slice_get xs k ≡ Some x → f x ≡ true
-all_at f [] k x h e = absurd cc
-all_at f (y ∷ xs) zero x h e = let same : y ≡ x = cc in subst (λ z. f z ≡ true) same (both (f y) (list_all f xs) h).0
-all_at f (y ∷ xs) (suc k) x h e = all_at f xs k x (both (f y) (list_all f xs) h).1 e
-
--- what holds of all rows holds of each
-pub on_all : (f : Op → Bool) → list_all f ops ≡ true → (o : Op) → f o ≡ true
-on_all f h o = let s = standing o in all_at f ops s.0 o h s.1
-
--- rows that stand at the same place are one
-same_row : (a b : Op) → eqb (standing a).0 (standing b).0 ≡ true → a ≡ b
-same_row a b e =
-    let s = standing a in
-    let t = standing b in
-    let there : slice_get ops t.0 ≡ Some a = subst (λ k. slice_get ops k ≡ Some a) (eqb-true s.0 t.0 e) s.1 in
-    let one : Some a ≡ Some b = sym there ∙ t.1 in
-    cc
-
--- the answer is this row
-is_found : Op → Option Op → Bool
-is_found o None = false
-is_found o (Some x) = eqb (standing x).0 (standing o).0
-
-found : (o : Op) (answer : Option Op) → is_found o answer ≡ true → answer ≡ Some o
-unfolding is_found
-found o None e = absurd cc
-found o (Some x) e = ap (λ (y : Op). Some y) (same_row x o e)
-
--- every row is found by its key
-pub op_again : (o : Op) → op_at (key_of o) ≡ Some o
-unfolding op_at rows_under is_found standing
-op_again o = found o (op_at (key_of o)) (on_all (λ x. is_found x (op_at (key_of x))) refl o)
 
 -- ---- Keys are whole, whatever comes behind them.
 
@@ -197,7 +88,7 @@ whole_by w r h s = elim (is_one_word w) as (λ v. is_one_word w ≡ v → (v || 
 ] refl h
 
 pub key_is_whole : (o : Op) (r : List ℕ) → reach 32 r ≡ 0 → key_length (key_of o ++ r) ≡ length (key_of o)
-key_is_whole o r s = whole_by (key_of o) r (on_all (λ x. is_one_word (key_of x) || is_two_words (key_of x)) refl o) s
+key_is_whole o r s = whole_by (key_of o) r (on_rows (λ (x : Row). is_one_word x.key || is_two_words x.key) refl o) s
 
 -- ---- Slots of different kinds don't touch each other.
 
@@ -258,7 +149,7 @@ is_row [] = true
 is_row (k ∷ ks) = (absent k ks && is_row ks) && (not (takes_rest k) || is_last ks)
 
 rows : (o : Op) → is_row (slots_of o) ≡ true
-rows o = on_all (λ x. is_row (slots_of x)) refl o
+rows o = on_rows (λ (x : Row). is_row x.slots) refl o
 
 -- what a phrase has in a slot: a phrase with nothing else
 abbrev slot_value : Phrase → Kind → Phrase
@@ -975,3 +866,21 @@ phrase_needed line p e =
     let same : phrase_at line ≡ phrase_at (phrase_text p) = ap phrase_at f.1 in
     let both_are : Some (needed p) ≡ Some p = sym again ∙ sym same ∙ e in
     cc
+
+-- ---- Lines that start a procedure.
+
+-- a slot of a row fits
+slot_fits : (p : Phrase) (k : Kind) (ks : List Kind) → AllByRecursion (SlotFits p) ks → has k ks ≡ true → SlotFits p k
+slot_fits p k [] h e = absurd cc
+slot_fits p k (j ∷ js) h e = elim (sameb kind_type j k) as (λ v. sameb kind_type j k ≡ v → (v || has k js) ≡ true → SlotFits p k) [
+  | true ↦ λ same f. subst (SlotFits p) (same_true kind_type tt j k same) h.0
+  | false ↦ λ same f. slot_fits p k js h.1 f
+] refl e
+
+-- they name one
+pub start_is_named : (p : Phrase) → IsPhrase p → starts p.op ≡ true → is_name p.procedure ≡ true
+start_is_named p h s = slot_fits p kind.Procedure (slots_of p.op) h (both (sameb role_type (role_of p.op) role.Statement) (has kind.Procedure (slots_of p.op)) s).1
+
+-- they are statements
+pub start_is_statement : (o : Op) → starts o ≡ true → role_of o ≡ role.Statement
+start_is_statement o s = same_true role_type tt (role_of o) role.Statement (both (sameb role_type (role_of o) role.Statement) (has kind.Procedure (slots_of o)) s).0

@@ -24,12 +24,13 @@ use Rattle.script_lines.specs.declared.table.Whom.{Whom}
 use Rattle.script_lines.specs.declared.table.Whom.TheVariants as whom
 use Rattle.script_lines.specs.Phrase.{Phrase}
 use Rattle.script_lines.specs.Words.{is_name}
-use Rattle.script_lines.specs.Table.{key_of, slots_of}
+use Rattle.script_lines.specs.Table.{Row, key_of, slots_of}
 use Rattle.trace_text.specs.Lines.{spaced, flags_text, mode_text, pattern_text, func_text}
 use Rattle.script_lines.specs.Line.{who_text, built_text, test_text, SourceFits, TestFits, PatternFits, BuiltFits, slot_text, phrase_text, SlotFits, IsPhrase}
 use Rattle.script_lines.specs.Reading.{flags_by, phrase_at}
+use Rattle.script_lines.proofs.TableLaws.{on_rows}
 use Rattle.script_lines.proofs.WordLemmas.{both, name_is_text, own}
-use Rattle.script_lines.proofs.PhraseLaws.{on_all, phrase_found, who_is_source}
+use Rattle.script_lines.proofs.PhraseLaws.{phrase_found, who_is_source}
 
 printable_append : (xs ys : List ℕ) → is_printable xs ≡ true → is_printable ys ≡ true → is_printable (xs ++ ys) ≡ true
 printable_append xs ys h k = rw (list_all-append (λ b. leb 32 b && leb b 126) xs ys, h, k) refl
@@ -126,7 +127,7 @@ slots_are_printable p [] h = refl
 slots_are_printable p (k ∷ ks) h = printable_append (slot_text p k) (flat_map (slot_text p) ks) (slot_is_printable p k h.0) (slots_are_printable p ks h.1)
 
 pub phrase_is_printable : (p : Phrase) → IsPhrase p → is_printable (phrase_text p) ≡ true
-phrase_is_printable p h = printable_append (key_of p.op) (flat_map (slot_text p) (slots_of p.op)) (on_all (λ o. is_printable (key_of o)) refl p.op) (slots_are_printable p (slots_of p.op) h)
+phrase_is_printable p h = printable_append (key_of p.op) (flat_map (slot_text p) (slots_of p.op)) (on_rows (λ (r : Row). is_printable r.key) refl p.op) (slots_are_printable p (slots_of p.op) h)
 
 -- a line that says something is printable
 pub said_is_printable : (line : List ℕ) (p : Phrase) → phrase_at line ≡ Some p → is_printable line ≡ true

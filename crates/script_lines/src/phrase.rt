@@ -401,7 +401,7 @@ fn key_length(line: &[u8]) -> usize
 }
 
 /// What the line says, if its row of the table has what stands in it.
-#[tactic(auto, unfolding(crate::specs::Reading::phrase_at))]
+#[tactic(auto, unfolding(crate::specs::Reading::phrase_at, crate::specs::Table::row_of))]
 pub fn phrase_at(line: &[u8]) -> Option<Phrase<'_>>
     ensures { result ≡ phrase_at line.now }
 {

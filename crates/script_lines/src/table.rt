@@ -1,6 +1,7 @@
-// The table of lines.
-ghost use Rattle.std.specs.Prelude.{◌≡◌};
-ghost use Rattle.script_lines.specs.Table.{key_of, role_of, slots_of, says, starts, starts_any, rows_under, op_in, op_at};
+// The table of lines. A new kind of line is a variant of `Op` and a row of `ROWS` at the same place, among those of its first letter,
+// and the same row in `rows` of specs/Table.antt. If the first of its two words is a new one, `is_half` needs it.
+ghost use Rattle.std.specs.Prelude.{◌≡◌, ◌<◌, ℕ, List, map, IsTrue};
+ghost use Rattle.script_lines.specs.Table.{read, key_of, role_of, slots_of, has, says, starts, starts_any, first_letter, rises, op_in, op_at};
 
 /// What stands in a slot of a line.
 #[derive(Clone, Copy, PartialEq, Eq)]
@@ -41,60 +42,39 @@ pub enum Kind {
     Text,
 }
 
-/// A row of the table: a kind of line.
+/// A row of the table: a kind of line. They stand in the order of the table.
 #[derive(Clone, Copy, PartialEq, Eq)]
 pub enum Op {
-    Lwp,
-    Pod,
-    Limit,
-    Client,
-    Native,
-    Proc,
-    Post,
-    Create,
-    Destroy,
-    Ping,
-    Yield,
-    Suspend,
-    Resume,
-    Join,
-    Resched,
-    SetPri,
-    SetMaxPri,
-    Me,
-    SetExit,
-    GetExit,
-    PodExit,
-    Threads,
-    Send,
-    Recv,
-    Reply,
-    Senders,
-    Receivers,
-    MonCreate,
-    CvCreate,
-    MonDestroy,
-    Enter,
-    CondEnter,
-    MonExit,
-    MonBreak,
-    MonWaiters,
-    Monitors,
-    CvDestroy,
-    Wait,
-    Notify,
+    Agent,
+    Agents,
+    Again,
     Broadcast,
+    Bound,
+    Create,
+    Client,
+    CvCreate,
+    CondEnter,
+    CvDestroy,
     CvSend,
     CvWaiters,
     Conds,
     CallProc,
-    Return,
-    Handle,
-    Unhandle,
-    Raise,
+    Destroy,
+    Enter,
     ExcNotify,
-    Bound,
-    UniqPatt,
+    GetExit,
+    Handle,
+    Join,
+    Lwp,
+    Limit,
+    MonCreate,
+    MonDestroy,
+    MonExit,
+    MonBreak,
+    MonWaiters,
+    Monitors,
+    Native,
+    Notify,
     ExitMonExit,
     ExitMonBreak,
     ExitNotify,
@@ -103,11 +83,32 @@ pub enum Op {
     ExitResume,
     ExitSetExit,
     ExitNote,
-    Agent,
-    Agents,
+    Post,
+    Pod,
+    Proc,
+    Ping,
+    PodExit,
+    Resume,
+    Resched,
+    Recv,
+    Reply,
+    Receivers,
+    Return,
+    Raise,
     Say,
+    Send,
     Skip,
-    Again,
+    Suspend,
+    SetPri,
+    SetMaxPri,
+    Me,
+    SetExit,
+    Senders,
+    Threads,
+    Unhandle,
+    UniqPatt,
+    Wait,
+    Yield,
 }
 
 /// The part that a line plays in a script. A statement is one that makes a call.
@@ -125,99 +126,220 @@ pub enum Role {
     Again,
 }
 
-// A row of the table: how a line begins, the part that it plays, and its slots.
-type Row = (&'static [u8], Role, &'static [Kind]);
+// A row of the table: an operation, how its line begins, the part that the line plays, and its slots.
+type Row = (Op, &'static [u8], Role, &'static [Kind]);
 
-// The table, in the order of the operations.
+// The table. Its rows stand in the order of the operations, which is that of the first letters of their keys; among those of one
+// letter the most frequent stand first.
 static ROWS: [Row; 64] = [
-    (b"lwp", Role::Header, &[Kind::Number]),
-    (b"pod", Role::Pod, &[Kind::Number]),
-    (b"limit births", Role::Limit, &[Kind::Number]),
-    (b"client", Role::Client, &[Kind::Client, Kind::Event]),
-    (b"native", Role::Native, &[Kind::Procedure, Kind::Built]),
-    (b"proc", Role::Proc, &[Kind::Procedure]),
-    (b"post", Role::Post, &[Kind::Client, Kind::Text]),
     (
+        Op::Agent,
+        b"agent",
+        Role::Statement,
+        &[Kind::Thread, Kind::Number],
+    ),
+    (Op::Agents, b"agents", Role::Statement, &[]),
+    (Op::Again, b"again", Role::Again, &[]),
+    (
+        Op::Broadcast,
+        b"broadcast",
+        Role::Statement,
+        &[Kind::Condition],
+    ),
+    (Op::Bound, b"bound", Role::Statement, &[Kind::Number]),
+    (
+        Op::Create,
         b"create",
         Role::Statement,
         &[Kind::Thread, Kind::Procedure, Kind::Number, Kind::Flags],
     ),
-    (b"destroy", Role::Statement, &[Kind::Who]),
-    (b"ping", Role::Statement, &[Kind::Who]),
-    (b"yield", Role::Statement, &[Kind::Who]),
-    (b"suspend", Role::Statement, &[Kind::Who]),
-    (b"resume", Role::Statement, &[Kind::Who]),
-    (b"join", Role::Statement, &[Kind::Who]),
-    (b"resched", Role::Statement, &[Kind::Number]),
-    (b"setpri", Role::Statement, &[Kind::Who, Kind::Number]),
-    (b"setmaxpri", Role::Statement, &[Kind::Number]),
-    (b"self", Role::Statement, &[]),
-    (b"setexit", Role::Statement, &[Kind::Number]),
-    (b"getexit", Role::Statement, &[]),
-    (b"podexit", Role::Statement, &[Kind::Number]),
-    (b"threads", Role::Statement, &[]),
     (
-        b"send",
-        Role::Statement,
-        &[Kind::Who, Kind::Room, Kind::Text],
+        Op::Client,
+        b"client",
+        Role::Client,
+        &[Kind::Client, Kind::Event],
     ),
-    (b"recv", Role::Statement, &[Kind::Source, Kind::Mode]),
-    (b"reply", Role::Statement, &[Kind::Who, Kind::Text]),
-    (b"senders", Role::Statement, &[]),
-    (b"receivers", Role::Statement, &[]),
-    (b"moncreate", Role::Statement, &[Kind::Monitor]),
     (
+        Op::CvCreate,
         b"cvcreate",
         Role::Statement,
         &[Kind::Condition, Kind::Monitor],
     ),
-    (b"mondestroy", Role::Statement, &[Kind::Monitor]),
-    (b"enter", Role::Statement, &[Kind::Monitor]),
-    (b"condenter", Role::Statement, &[Kind::Monitor]),
-    (b"monexit", Role::Statement, &[Kind::Monitor]),
-    (b"monbreak", Role::Statement, &[Kind::Monitor]),
-    (b"monwaiters", Role::Statement, &[Kind::Monitor]),
-    (b"monitors", Role::Statement, &[]),
-    (b"cvdestroy", Role::Statement, &[Kind::Condition]),
-    (b"wait", Role::Statement, &[Kind::Condition]),
-    (b"notify", Role::Statement, &[Kind::Condition]),
-    (b"broadcast", Role::Statement, &[Kind::Condition]),
-    (b"cvsend", Role::Statement, &[Kind::Condition, Kind::Who]),
-    (b"cvwaiters", Role::Statement, &[Kind::Condition]),
-    (b"conditions", Role::Statement, &[]),
-    (b"call", Role::Statement, &[Kind::Procedure]),
-    (b"return", Role::Statement, &[]),
     (
+        Op::CondEnter,
+        b"condenter",
+        Role::Statement,
+        &[Kind::Monitor],
+    ),
+    (
+        Op::CvDestroy,
+        b"cvdestroy",
+        Role::Statement,
+        &[Kind::Condition],
+    ),
+    (
+        Op::CvSend,
+        b"cvsend",
+        Role::Statement,
+        &[Kind::Condition, Kind::Who],
+    ),
+    (
+        Op::CvWaiters,
+        b"cvwaiters",
+        Role::Statement,
+        &[Kind::Condition],
+    ),
+    (Op::Conds, b"conditions", Role::Statement, &[]),
+    (Op::CallProc, b"call", Role::Statement, &[Kind::Procedure]),
+    (Op::Destroy, b"destroy", Role::Statement, &[Kind::Who]),
+    (Op::Enter, b"enter", Role::Statement, &[Kind::Monitor]),
+    (
+        Op::ExcNotify,
+        b"excnotify",
+        Role::Statement,
+        &[Kind::Number],
+    ),
+    (Op::GetExit, b"getexit", Role::Statement, &[]),
+    (
+        Op::Handle,
         b"handle",
         Role::Statement,
         &[Kind::Pattern, Kind::Func, Kind::Number],
     ),
-    (b"unhandle", Role::Statement, &[]),
-    (b"raise", Role::Statement, &[Kind::Number]),
-    (b"excnotify", Role::Statement, &[Kind::Number]),
-    (b"bound", Role::Statement, &[Kind::Number]),
-    (b"uniqpatt", Role::Statement, &[]),
-    (b"onexit monexit", Role::Statement, &[Kind::Monitor]),
-    (b"onexit monbreak", Role::Statement, &[Kind::Monitor]),
-    (b"onexit notify", Role::Statement, &[Kind::Condition]),
-    (b"onexit broadcast", Role::Statement, &[Kind::Condition]),
-    (b"onexit reply", Role::Statement, &[Kind::Who, Kind::Text]),
-    (b"onexit resume", Role::Statement, &[Kind::Who]),
-    (b"onexit setexit", Role::Statement, &[Kind::Number]),
-    (b"onexit note", Role::Statement, &[Kind::Text]),
-    (b"agent", Role::Statement, &[Kind::Thread, Kind::Number]),
-    (b"agents", Role::Statement, &[]),
-    (b"say", Role::Statement, &[Kind::Text]),
-    (b"skip", Role::Skip, &[Kind::Test]),
-    (b"again", Role::Again, &[]),
+    (Op::Join, b"join", Role::Statement, &[Kind::Who]),
+    (Op::Lwp, b"lwp", Role::Header, &[Kind::Number]),
+    (Op::Limit, b"limit births", Role::Limit, &[Kind::Number]),
+    (
+        Op::MonCreate,
+        b"moncreate",
+        Role::Statement,
+        &[Kind::Monitor],
+    ),
+    (
+        Op::MonDestroy,
+        b"mondestroy",
+        Role::Statement,
+        &[Kind::Monitor],
+    ),
+    (Op::MonExit, b"monexit", Role::Statement, &[Kind::Monitor]),
+    (Op::MonBreak, b"monbreak", Role::Statement, &[Kind::Monitor]),
+    (
+        Op::MonWaiters,
+        b"monwaiters",
+        Role::Statement,
+        &[Kind::Monitor],
+    ),
+    (Op::Monitors, b"monitors", Role::Statement, &[]),
+    (
+        Op::Native,
+        b"native",
+        Role::Native,
+        &[Kind::Procedure, Kind::Built],
+    ),
+    (Op::Notify, b"notify", Role::Statement, &[Kind::Condition]),
+    (
+        Op::ExitMonExit,
+        b"onexit monexit",
+        Role::Statement,
+        &[Kind::Monitor],
+    ),
+    (
+        Op::ExitMonBreak,
+        b"onexit monbreak",
+        Role::Statement,
+        &[Kind::Monitor],
+    ),
+    (
+        Op::ExitNotify,
+        b"onexit notify",
+        Role::Statement,
+        &[Kind::Condition],
+    ),
+    (
+        Op::ExitBroadcast,
+        b"onexit broadcast",
+        Role::Statement,
+        &[Kind::Condition],
+    ),
+    (
+        Op::ExitReply,
+        b"onexit reply",
+        Role::Statement,
+        &[Kind::Who, Kind::Text],
+    ),
+    (
+        Op::ExitResume,
+        b"onexit resume",
+        Role::Statement,
+        &[Kind::Who],
+    ),
+    (
+        Op::ExitSetExit,
+        b"onexit setexit",
+        Role::Statement,
+        &[Kind::Number],
+    ),
+    (Op::ExitNote, b"onexit note", Role::Statement, &[Kind::Text]),
+    (Op::Post, b"post", Role::Post, &[Kind::Client, Kind::Text]),
+    (Op::Pod, b"pod", Role::Pod, &[Kind::Number]),
+    (Op::Proc, b"proc", Role::Proc, &[Kind::Procedure]),
+    (Op::Ping, b"ping", Role::Statement, &[Kind::Who]),
+    (Op::PodExit, b"podexit", Role::Statement, &[Kind::Number]),
+    (Op::Resume, b"resume", Role::Statement, &[Kind::Who]),
+    (Op::Resched, b"resched", Role::Statement, &[Kind::Number]),
+    (
+        Op::Recv,
+        b"recv",
+        Role::Statement,
+        &[Kind::Source, Kind::Mode],
+    ),
+    (
+        Op::Reply,
+        b"reply",
+        Role::Statement,
+        &[Kind::Who, Kind::Text],
+    ),
+    (Op::Receivers, b"receivers", Role::Statement, &[]),
+    (Op::Return, b"return", Role::Statement, &[]),
+    (Op::Raise, b"raise", Role::Statement, &[Kind::Number]),
+    (Op::Say, b"say", Role::Statement, &[Kind::Text]),
+    (
+        Op::Send,
+        b"send",
+        Role::Statement,
+        &[Kind::Who, Kind::Room, Kind::Text],
+    ),
+    (Op::Skip, b"skip", Role::Skip, &[Kind::Test]),
+    (Op::Suspend, b"suspend", Role::Statement, &[Kind::Who]),
+    (
+        Op::SetPri,
+        b"setpri",
+        Role::Statement,
+        &[Kind::Who, Kind::Number],
+    ),
+    (
+        Op::SetMaxPri,
+        b"setmaxpri",
+        Role::Statement,
+        &[Kind::Number],
+    ),
+    (Op::Me, b"self", Role::Statement, &[]),
+    (Op::SetExit, b"setexit", Role::Statement, &[Kind::Number]),
+    (Op::Senders, b"senders", Role::Statement, &[]),
+    (Op::Threads, b"threads", Role::Statement, &[]),
+    (Op::Unhandle, b"unhandle", Role::Statement, &[]),
+    (Op::UniqPatt, b"uniqpatt", Role::Statement, &[]),
+    (Op::Wait, b"wait", Role::Statement, &[Kind::Condition]),
+    (Op::Yield, b"yield", Role::Statement, &[Kind::Who]),
 ];
 
 impl Op {
     // The row of the table.
+    #[tactic(auto, unfolding(crate::specs::Table::row_of))]
     fn row(self) -> &'static Row
-        ensures key { result.now.0.now ≡ key_of self }
-        ensures role { result.now.1 ≡ role_of self }
-        ensures slots { result.now.2.now ≡ slots_of self }
+        ensures key { result.now.1.now ≡ key_of self }
+        ensures role { result.now.2 ≡ role_of self }
+        ensures slots { result.now.3.now ≡ slots_of self }
     {
         &ROWS[self as usize]
     }
@@ -226,45 +348,42 @@ impl Op {
     pub fn key(self) -> &'static [u8]
         ensures { result.now ≡ key_of self }
     {
-        self.row().0
+        self.row().1
     }
 
     /// The part that the line plays.
     pub fn role(self) -> Role
         ensures { result ≡ role_of self }
     {
-        self.row().1
+        self.row().2
     }
 
     /// The slots behind the key.
     pub fn slots(self) -> &'static [Kind]
         ensures { result.now ≡ slots_of self }
     {
-        self.row().2
+        self.row().3
     }
 
     /// Whether the line ends with a text.
     pub fn says(self) -> bool
         ensures { result ≡ says self }
     {
-        matches!(
-            self,
-            Op::Post | Op::Send | Op::Reply | Op::ExitReply | Op::ExitNote | Op::Say
-        )
+        has(self.slots(), Kind::Text)
     }
 
     /// Whether the line starts a procedure that some line must declare.
     pub fn starts(self) -> bool
         ensures { result ≡ starts self }
     {
-        matches!(self, Op::Create | Op::CallProc)
+        self.role() == Role::Statement && has(self.slots(), Kind::Procedure)
     }
 
     /// Whether the procedure that it starts may be a built-in one.
     pub fn starts_any(self) -> bool
         ensures { result ≡ starts_any self }
     {
-        self == Op::Create
+        self.starts() && has(self.slots(), Kind::Thread)
     }
 
     /// The row with this key.
@@ -274,89 +393,52 @@ impl Op {
     {
         match key {
             [] => None,
-            [letter, ..] => among(rows_under(*letter), key),
+            [letter, ..] => among(rows_from(&ROWS, *letter), key),
         }
     }
 }
 
-#[tactic(auto, unfolding(crate::specs::Table::rows_under))]
-fn rows_under(letter: u8) -> &'static [Op]
-    ensures { result.now ≡ rows_under letter }
+fn has(slots: &[Kind], kind: Kind) -> bool
+    ensures { result ≡ has kind slots.now }
 {
-    match letter {
-        b'a' => &[Op::Agent, Op::Agents, Op::Again],
-        b'b' => &[Op::Broadcast, Op::Bound],
-        b'c' => &[
-            Op::Create,
-            Op::Client,
-            Op::CvCreate,
-            Op::CondEnter,
-            Op::CvDestroy,
-            Op::CvSend,
-            Op::CvWaiters,
-            Op::Conds,
-            Op::CallProc,
-        ],
-        b'd' => &[Op::Destroy],
-        b'e' => &[Op::Enter, Op::ExcNotify],
-        b'g' => &[Op::GetExit],
-        b'h' => &[Op::Handle],
-        b'j' => &[Op::Join],
-        b'l' => &[Op::Lwp, Op::Limit],
-        b'm' => &[
-            Op::MonCreate,
-            Op::MonDestroy,
-            Op::MonExit,
-            Op::MonBreak,
-            Op::MonWaiters,
-            Op::Monitors,
-        ],
-        b'n' => &[Op::Native, Op::Notify],
-        b'o' => &[
-            Op::ExitMonExit,
-            Op::ExitMonBreak,
-            Op::ExitNotify,
-            Op::ExitBroadcast,
-            Op::ExitReply,
-            Op::ExitResume,
-            Op::ExitSetExit,
-            Op::ExitNote,
-        ],
-        b'p' => &[Op::Post, Op::Pod, Op::Proc, Op::Ping, Op::PodExit],
-        b'r' => &[
-            Op::Resume,
-            Op::Resched,
-            Op::Recv,
-            Op::Reply,
-            Op::Receivers,
-            Op::Return,
-            Op::Raise,
-        ],
-        b's' => &[
-            Op::Say,
-            Op::Send,
-            Op::Skip,
-            Op::Suspend,
-            Op::SetPri,
-            Op::SetMaxPri,
-            Op::Me,
-            Op::SetExit,
-            Op::Senders,
-        ],
-        b't' => &[Op::Threads],
-        b'u' => &[Op::Unhandle, Op::UniqPatt],
-        b'w' => &[Op::Wait],
-        b'y' => &[Op::Yield],
-        _ => &[],
+    for slot in slots {
+        if *slot == kind {
+            return true;
+        }
     }
+    false
 }
 
-fn among(ops: &[Op], key: &[u8]) -> Option<Op>
-    ensures { result ≡ op_in ops.now key.now }
+// The letter with which the row's key begins.
+fn letter_of(row: &Row) -> u8
+    requires { 0 < first_letter (read row.now).key }
+    ensures { result ≡ first_letter (read row.now).key }
 {
-    for op in ops {
-        if op.key() == key {
-            return Some(*op);
+    row.1[0]
+}
+
+// The rows without most of those that have an earlier letter: by steps that halve, rows are passed over where the last of them has one.
+fn rows_from(rows: &[Row], letter: u8) -> &[Row]
+    requires { IsTrue (rises 1 (map read rows.now)) }
+    ensures { (key : List ℕ) → first_letter key ≡ letter → op_in (map read result.now) key ≡ op_in (map read rows.now) key }
+{
+    let mut first = 0;
+    let mut step = rows.len() / 2;
+    while step > 0 {
+        if letter_of(&rows[first + step - 1]) < letter {
+            first += step;
+        }
+        step /= 2;
+    }
+    &rows[first..]
+}
+
+fn among(rows: &[Row], key: &[u8]) -> Option<Op>
+    ensures { result ≡ op_in (map read rows.now) key.now }
+{
+    for row in rows {
+        if row.1 == key {
+            return Some(row.0);
         }
     }
     None

@@ -6,6 +6,7 @@ use Rattle.std.specs.List.{AllByRecursion, list_all}
 use Rattle.std.proofs.lemmas.Bool.{ne_eqb, leb-true, eqb-true}
 use Rattle.std.proofs.lemmas.List.{append-nil}
 use Rattle.std.proofs.lemmas.List.Sums.{fold-append}
+use Rattle.script_lines.specs.Table.{row_of}
 use Rattle.script_lines.specs.declared.table.Role.TheVariants as role
 use Rattle.script_lines.specs.declared.table.Op.TheVariants as op
 use Rattle.script_lines.specs.Phrase.{Phrase}
@@ -74,6 +75,7 @@ are_names : (c : ℕ) → c < 16 → (is_name (115 ∷ decimal c) ≡ true) × (
 are_names c h = both (is_name (115 ∷ decimal c)) (is_name (97 ∷ decimal c)) (below (λ c. (is_name (115 ∷ decimal c) && is_name (97 ∷ decimal c)) ≡ true) 16 letters_name c h)
 
 is_client_line : (l : ClientLine) (c : ℕ) → c < 16 → IsLine (client_phrase l c)
+unfolding row_of
 is_client_line line.Client c h = ((omega arith, ((omega arith, omega arith), tt)), refl)
 is_client_line line.Native c h = (((are_names c h).0, (inr ((omega arith, omega arith), refl), tt)), refl)
 is_client_line line.Create c h = (((are_names c h).1, ((are_names c h).0, (omega arith, (tt, tt)))), refl)
@@ -84,6 +86,7 @@ pub are_client_lines : (l : ClientLine) (n : ℕ) → n ≤ 16 → AllByRecursio
 are_client_lines l n h = all_gathered IsLine (λ c. client_phrase l c ∷ []) n (λ c lt. (is_client_line l c (omega arith), tt))
 
 pub are_lines : (t : ℕ) → t ≤ 16 → AllByRecursion IsLine (head t)
+unfolding row_of
 are_lines t h =
     let bodies : AllByRecursion IsLine (body t) = (((refl, (refl, (omega arith, (tt, tt)))), refl), all_append IsLine (client_phrases line.Create t) (client_phrases line.Join t) (are_client_lines line.Create t h) (are_client_lines line.Join t h)) in
     let natives : AllByRecursion IsLine (store ∷ client_phrases line.Native t) = (((refl, (inl (refl, refl), tt)), refl), are_client_lines line.Native t h) in
@@ -112,6 +115,7 @@ session_text : (c : ℕ) (w : List ℕ) → built_text (c + 1) w ≡ codes "sess
 session_text c w = rw (ne_eqb (c + 1) 0 (λ z. omega arith)) refl
 
 client_spelt : (l : ClientLine) (c : ℕ) → client_line l c ≡ spelling (client_phrase l c ∷ [])
+unfolding row_of
 client_spelt line.Client c = ap (λ (l : List ℕ). codes "client " ++ l) (line_end (decimal c) (32 ∷ decimal (c + 1)))
 client_spelt line.Native c = rw (session_text c (codes "db")) (ap (λ (l : List ℕ). codes "native s" ++ l)
     (ap (λ (l : List ℕ). decimal c ++ (codes " session " ++ l)) (sym (append_assoc (decimal (c + 1)) (codes " db") (10 ∷ [])))
@@ -126,9 +130,11 @@ pub clients_spelt : (l : ClientLine) (n : ℕ) → each (client_line l) n ≡ sp
 clients_spelt l n = spelt_each (client_line l) (λ c. client_phrase l c ∷ []) n (λ c lt. client_spelt l c)
 
 procedure_spelt : (t : ℕ) → procedure t ≡ spelling (main ∷ body t)
+unfolding row_of
 procedure_spelt t = rw (two_written, clients_spelt line.Create t, clients_spelt line.Join t, spelling_append (client_phrases line.Create t) (client_phrases line.Join t)) refl
 
 declarations_spelt : (t : ℕ) → declarations t ≡ spelling (front t)
+unfolding row_of
 declarations_spelt t = rw (one_written, two_written, clients_spelt line.Client t, clients_spelt line.Native t, spelling_append (client_phrases line.Client t) (store ∷ client_phrases line.Native t)) refl
 
 -- the lines before the posts
@@ -152,7 +158,7 @@ check t = stands start (head t)
     && leb (length (heading t)) 10000
 
 checked : AllBelow (λ t. check (suc t) ≡ true) 16
-unfolding digits
+unfolding digits row_of
 checked = ((((((((((((((((tt, refl), refl), refl), refl), refl), refl), refl), refl), refl), refl), refl), refl), refl), refl), refl), refl)
 
 pub record Heads (t : ℕ) : Type 0 where
@@ -195,6 +201,7 @@ heads (suc t) some few = heads_by (suc t) (below (λ t. check (suc t) ≡ true) 
 
 -- the procedure has begun
 pub has_procedure : (t : ℕ) → is_some (draft_of (head t)).current ≡ true
+unfolding row_of
 has_procedure t =
     let e : draft_of (head t) ≡ fold added (added (draft_of (front t)) main) (body t) = fold-append added empty_draft (front t) (main ∷ body t) in
     rw e (some_behind (added (draft_of (front t)) main) (body t) refl)

@@ -3,6 +3,7 @@ use Rattle.std.proofs.Common.{◌≡◌, ℕ, ◌*◌, ◌<◌, ◌≤◌, true,
 use Rattle.std.specs.Prelude.{IsTrue, is_some, option_to_list, codes}
 use Rattle.std.specs.List.{AllByRecursion}
 use Rattle.std.proofs.lemmas.List.Sums.{fold-append}
+use Rattle.script_lines.specs.Table.{row_of}
 use Rattle.script_text.specs.declared.draft.Draft.{Draft}
 use Rattle.script_text.specs.declared.reader.Declared.{Declared}
 use Rattle.script_text.specs.declared.script.Proc.{Proc}
@@ -41,6 +42,7 @@ text_is seed threads lines few =
 
 -- posts start no procedure
 posts_declared : (seed threads lines : ℕ) (d : Declared) → AllByRecursion (λ q. IsTrue (is_declared d q)) (posts seed threads lines)
+unfolding row_of
 posts_declared seed threads lines d =
     all_append (λ q. IsTrue (is_declared d q)) (rounds_say seed threads lines) (client_phrases line.Quit threads)
     (all_gathered (λ q. IsTrue (is_declared d q)) (λ i. round_says threads (past seed (i * threads)) i) lines (λ i lt. all_gathered (λ q. IsTrue (is_declared d q)) _ threads (λ c l. (refl, tt))))

@@ -13,6 +13,7 @@ use Rattle.std.proofs.lemmas.Fmt.{digits_decimal, length-decimal-le}
 use Rattle.std.proofs.lemmas.Nat.{mod_below}
 use Rattle.std.proofs.lemmas.Str.Parse.{IsNumeralModel, numerals_by_fold}
 use Rattle.lwp_types.specs.TextFields.{is_printable, is_text}
+use Rattle.script_lines.specs.Table.{row_of}
 use Rattle.script_text.specs.declared.reader.Declared.{Declared}
 use Rattle.script_lines.specs.declared.table.Role.TheVariants as role
 use Rattle.script_lines.specs.Phrase.{Phrase}
@@ -81,12 +82,14 @@ abbrev drawn_post : ℕ → ℕ → ℕ → Phrase
 drawn_post x i c = post c (drawn_command x i)
 
 post_is_line : (c : ℕ) (text : List ℕ) → c < 16 → Written text → IsLine (post c text)
+unfolding row_of
 post_is_line c text h w =
     let fits : leb (length text) 240 ≡ true = le-leb (length text) 240 (omega (arith, w.short)) in
     let is : is_text text ≡ true = rw (fits, w.printable) refl in
     ((omega arith, (is, tt)), refl)
 
 post_spelt : (c : ℕ) (text : List ℕ) → spaced text ≡ 32 ∷ text → codes "post " ++ (decimal c ++ (codes " " ++ (text ++ codes "\n"))) ≡ spelling (post c text ∷ [])
+unfolding row_of
 post_spelt c text h = rw h (ap (λ (l : List ℕ). codes "post " ++ l) (line_end (decimal c) (32 ∷ text)))
 
 pub post_length : (x i c : ℕ) → c < 16 → i < 10000 → length (post_line x i c) ≤ 40
@@ -160,6 +163,7 @@ most_behind threads c n d known s inside lt r = elim (cases_lt d c) [
 ]
 
 one_post : (threads c n : ℕ) (known : Declared) (s : Place) (text : List ℕ) → c < threads → n < 20000 → IsReady threads c n known s → Posted threads (suc c) n known s (post c text ∷ [])
+unfolding row_of
 one_post threads c n known s text inside few r =
     let fewer : ltb (slice_index_or s.posted c 20000) 20000 ≡ true = lt-ltb (slice_index_or s.posted c 20000) 20000 (omega (arith, r.low c (omega arith) inside)) in
     record {

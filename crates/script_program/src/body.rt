@@ -17,11 +17,11 @@ impl<'s> Body for ThreadBody<'s> {
 
     ghost next = { body_next };
 
-    fn poll(&mut self, env: &mut Env, got: &Answer) -> Result<Call, NoMemory> {
+    fn poll(&mut self, env: &mut Env, got: &Answer, call: &mut Call) -> Result<(), NoMemory> {
         match self {
-            ThreadBody::Scripted(body) => body.poll(env, got),
-            ThreadBody::Serving(body) => body.poll(env, got),
-            ThreadBody::Storing(body) => body.poll(env, got),
+            ThreadBody::Scripted(body) => body.poll(env, got, call),
+            ThreadBody::Serving(body) => body.poll(env, got, call),
+            ThreadBody::Storing(body) => body.poll(env, got, call),
         }
     }
 

@@ -18,7 +18,7 @@ use Rattle.script_text.specs.declared.script.Stmt.{Stmt}
 use Rattle.script_text.specs.declared.script.Stmt.TheVariants as stmt
 use Rattle.script_lines.specs.Phrase.{Phrase}
 use Rattle.script_lines.specs.Words.{is_name}
-use Rattle.script_lines.specs.Table.{role_of, slots_of, says}
+use Rattle.script_lines.specs.Table.{row_of, role_of, slots_of, says}
 use Rattle.script_lines.specs.Line.{WhoFits, SourceFits, BuiltFits, SlotFits, IsLine, blank, copy_slots}
 use Rattle.script_text.specs.Meaning.{enter, place, place_of, named, spoken, places_of, who_of, from_of, statement_of, native_kind, entered, added_at, added}
 use Rattle.line_writer.specs.Building.{proc_line}
@@ -183,6 +183,7 @@ SaidBy role.Skip o N T at p = (st : Stmt) × (statement_of o at p ≡ Some st) �
 SaidBy role.Again o N T at p = (st : Stmt) × (statement_of o at p ≡ Some st) × (stmt_line N T st ≡ p)
 
 said_by : (N : Names) (T : List (List ℕ)) (at : Places) (p : Phrase) (o : Op) → Backs o N T at p → AllByRecursion (SlotFits p) (slots_of o) → copy_slots (slots_of o) p (blank o) ≡ p → SaidBy (role_of o) o N T at p
+unfolding row_of
 said_by N T at p op.Lwp b f e = tt
 said_by N T at p op.Pod b f e = tt
 said_by N T at p op.Limit b f e = tt

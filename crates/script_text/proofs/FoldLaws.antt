@@ -1,8 +1,6 @@
 -- What a reader answers at the end is the verdict on the lines.
 use Rattle.std.proofs.Common.{◌≡◌, ℕ, suc, ◌+◌, ◌≤◌, true, false, ◌&&◌, cond, List, [], ◌∷◌, ◌++◌, length, fold, Option, Some, None, Result, Ok, Err, refl, sym, ap, subst, ◌∙◌, arith}
 use Rattle.lwp_types.specs.TextFields.{is_printable}
-use Rattle.script_lines.specs.declared.table.Op.{Op}
-use Rattle.script_lines.specs.declared.table.Op.TheVariants as op
 use Rattle.script_lines.specs.declared.table.Role.{Role}
 use Rattle.script_lines.specs.declared.table.Role.TheVariants as role
 use Rattle.script_lines.specs.Phrase.{Phrase}
@@ -22,7 +20,7 @@ use Rattle.script_text.specs.Meaning.{added}
 use Rattle.script_text.specs.Spelling.{reason_behind, reason_at, judge_said, judge, at_line, read_on, noted, declared_in, finish, verdict_by}
 use Rattle.script_text.specs.Track.{judge_told, judge_alone, mention_of, took, judged, knows, step, start, first_missing, answer_by, answer_at}
 use Rattle.script_lines.proofs.WordLemmas.{both}
-use Rattle.script_lines.proofs.PhraseLaws.{phrase_found}
+use Rattle.script_lines.proofs.PhraseLaws.{phrase_found, start_is_statement}
 use Rattle.script_text.proofs.SaidLaws.{said_declares, starting_word}
 use Rattle.script_text.proofs.TrackLaws.{fold_push, first_undeclared, undeclared_push, Tracks, tracks_more}
 
@@ -62,14 +60,6 @@ alone_err d before line why e = elim (is_printable line) as (λ v. cond v (judge
   ] f
 ] e
 
--- what starts a procedure is a statement
-starts_in_role : (o : Op) → starts o ≡ true → role_of o ≡ role.Statement
-starts_in_role o s = elim o as (λ x. starts x ≡ true → role_of x ≡ role.Statement) [
-  | op.Create ↦ λ f. refl
-  | op.CallProc ↦ λ f. refl
-  | _ ↦ λ f. absurd cc
-] s
-
 undeclared_starts : (d : Declared) (p : Phrase) → is_declared d p ≡ false → starts p.op ≡ true
 undeclared_starts d p e = elim (starts p.op) as (λ v. cond v (has d (starts_any p.op) p.procedure) true ≡ false → v ≡ true) [
   | true ↦ λ f. refl
@@ -92,7 +82,7 @@ behind_statement stages.Posts h = absurd cc
 undeclared_reason : (d : Declared) (before : List Phrase) (line : List ℕ) (p : Phrase) → Alone before line p → is_declared d p ≡ false → reason_at before line ≡ reason.Statement
 undeclared_reason d before line p a e =
     let s : starts p.op ≡ true = undeclared_starts d p e in
-    let r : role_of p.op ≡ role.Statement = starts_in_role p.op s in
+    let r : role_of p.op ≡ role.Statement = start_is_statement p.op s in
     let f : follows (stage_of before) (role_of p.op) ≡ true = (both (follows (stage_of before) (role_of p.op)) (keeps_rule (declared_of before) (posted_of before) (role_of p.op) p) a.stands).0 in
     rw (starting_word line p a.said s, a.said, r) (behind_statement (stage_of before) (subst (λ (x : Role). follows (stage_of before) x ≡ true) r f))
 

@@ -18,7 +18,8 @@ use Rattle.script_text.specs.declared.script.Proc.{Proc}
 use Rattle.script_text.specs.declared.script.Script.{Script}
 use Rattle.script_text.specs.declared.script.Stmt.{Stmt}
 use Rattle.script_lines.specs.Phrase.{Phrase}
-use Rattle.script_lines.specs.Table.{role_of, slots_of}
+use Rattle.script_lines.proofs.TableLaws.{only_of_role}
+use Rattle.script_lines.specs.Table.{row_of, role_of, slots_of}
 use Rattle.script_lines.specs.Line.{phrase_text, SlotFits, IsPhrase, IsLine}
 use Rattle.script_text.specs.Grammar.{declared_of, posted_of, opened, stage_after, stage_of, follows, keeps_rule, may_stand, AllStand, spelling, SpelledBy, Spells}
 use Rattle.script_text.specs.Limits.{IsWithinLimits}
@@ -272,10 +273,8 @@ Bears d = (1 ≤ d.script.births) × (d.script.births < 2 ^ 32)
 
 -- the number of a limit is one of 32 bits
 limit_fits : (o : Op) (p : Phrase) → role_of o ≡ role.Limit → AllByRecursion (SlotFits p) (slots_of o) → p.number < 2 ^ 32
-limit_fits o p e h = elim o as (λ x. role_of x ≡ role.Limit → AllByRecursion (SlotFits p) (slots_of x) → p.number < 2 ^ 32) [
-  | op.Limit ↦ λ f g. g.0
-  | _ ↦ λ f g. absurd cc
-] e h
+unfolding row_of
+limit_fits o p e h = (subst (λ x. AllByRecursion (SlotFits p) (slots_of x)) (only_of_role role.Limit op.Limit refl o e) h).0
 
 bears_more : (r : Role) (known : Declared) (posted : List ℕ) (at : Places) (d : Draft) (p : Phrase) → role_of p.op ≡ r → keeps_rule known posted r p ≡ true → IsPhrase p → Bears d → Bears (added_at r at d p)
 bears_more role.Header known posted at d p e k f h = h

@@ -18,7 +18,8 @@ use Rattle.script_text.specs.declared.script.Proc.{Proc}
 use Rattle.script_text.specs.declared.script.Script.{Script}
 use Rattle.script_text.specs.declared.script.Stmt.{Stmt}
 use Rattle.script_lines.specs.Phrase.{Phrase}
-use Rattle.script_lines.specs.Table.{role_of, slots_of}
+use Rattle.script_lines.proofs.TableLaws.{only_of_role}
+use Rattle.script_lines.specs.Table.{row_of, role_of, slots_of}
 use Rattle.script_lines.specs.Line.{phrase_text, IsLine, blank, copy_slots, ended}
 use Rattle.script_text.specs.Grammar.{opened, stage_after, stage_of, follows, declares, declared_of, nothing, keeps_rule, may_stand_at, AllStand, spelling, SpelledBy, Spells}
 use Rattle.script_text.specs.Meaning.{named, places_of, statement_of, grown, raised, pushed, entered, added_at, added, empty_draft, draft_of, script_of, closed}
@@ -350,17 +351,24 @@ from_at (p ∷ ps) before h =
 
 -- ---- The first lines.
 
+header_first : (r : Role) → follows stages.Start r ≡ true → r ≡ role.Header
+header_first r f = elim r as (λ x. follows stages.Start x ≡ true → x ≡ role.Header) [ role.Header ↦ λ e. refl | _ ↦ λ e. absurd cc ] f
+
 op_header : (o : Op) → follows stages.Start (role_of o) ≡ true → o ≡ op.Lwp
-op_header o f = elim o as (λ x. follows stages.Start (role_of x) ≡ true → x ≡ op.Lwp) [ op.Lwp ↦ λ e. refl | _ ↦ λ e. absurd cc ] f
+op_header o f = only_of_role role.Header op.Lwp refl o (header_first (role_of o) f)
+
+pod_second : (r : Role) → follows stages.Header r ≡ true → r ≡ role.Pod
+pod_second r f = elim r as (λ x. follows stages.Header x ≡ true → x ≡ role.Pod) [ role.Pod ↦ λ e. refl | _ ↦ λ e. absurd cc ] f
 
 op_pod : (o : Op) → follows stages.Header (role_of o) ≡ true → o ≡ op.Pod
-op_pod o f = elim o as (λ x. follows stages.Header (role_of x) ≡ true → x ≡ op.Pod) [ op.Pod ↦ λ e. refl | _ ↦ λ e. absurd cc ] f
+op_pod o f = only_of_role role.Pod op.Pod refl o (pod_second (role_of o) f)
 
 -- a line that fills the slots of its row is made of them
 by_its_row : (p : Phrase) (o : Op) → p.op ≡ o → IsLine p → copy_slots (slots_of o) p (blank o) ≡ p
 by_its_row p o e h = subst (λ (x : Op). copy_slots (slots_of x) p (blank x) ≡ p) e h.1
 
 first_line : (known : Declared) (posted : List ℕ) (p : Phrase) → IsLine p → may_stand_at stages.Start known posted p ≡ true → p ≡ number_line op.Lwp 1
+unfolding row_of
 first_line known posted p l h =
     let u = both (follows stages.Start (role_of p.op)) (keeps_rule known posted (role_of p.op) p) h in
     let o = op_header p.op u.0 in
@@ -368,19 +376,27 @@ first_line known posted p l h =
     sym (by_its_row p op.Lwp o l) ∙ ap (number_line op.Lwp) (eqb-true p.number 1 one)
 
 second_line : (known : Declared) (posted : List ℕ) (p : Phrase) → IsLine p → may_stand_at stages.Header known posted p ≡ true → p ≡ number_line op.Pod p.number
+unfolding row_of
 second_line known posted p l h =
     let u = both (follows stages.Header (role_of p.op)) (keeps_rule known posted (role_of p.op) p) h in
     sym (by_its_row p op.Pod (op_pod p.op u.0) l)
 
+limit_line : (p : Phrase) → p.op ≡ op.Limit → IsLine p → p ≡ number_line op.Limit p.number
+unfolding row_of
+limit_line p o l = sym (by_its_row p op.Limit o l)
+
 -- the limit is the third line, or there is none
 third_line : (p : Phrase) → IsLine p → follows stages.Pod (role_of p.op) ≡ true → (p ≡ number_line op.Limit p.number) ⊎ (follows stages.Clients (role_of p.op) ≡ true) × (stage_after stages.Pod (role_of p.op) ≡ stage_after stages.Clients (role_of p.op))
-third_line p l f = elim p.op as (λ x. p.op ≡ x → follows stages.Pod (role_of x) ≡ true → (p ≡ number_line op.Limit p.number) ⊎ (follows stages.Clients (role_of x) ≡ true) × (stage_after stages.Pod (role_of x) ≡ stage_after stages.Clients (role_of x))) [
-  | op.Limit ↦ λ o e. inl (sym (by_its_row p op.Limit o l))
-  | op.Client ↦ λ o e. inr (refl, refl)
-  | op.Native ↦ λ o e. inr (refl, refl)
-  | op.Proc ↦ λ o e. inr (refl, refl)
-  | _ ↦ λ o e. absurd cc
-] refl f
+third_line p l f = by_role (role_of p.op) refl f
+  where
+    by_role : (r : Role) → role_of p.op ≡ r → follows stages.Pod r ≡ true → (p ≡ number_line op.Limit p.number) ⊎ (follows stages.Clients r ≡ true) × (stage_after stages.Pod r ≡ stage_after stages.Clients r)
+    by_role r e g = elim r as (λ x. role_of p.op ≡ x → follows stages.Pod x ≡ true → (p ≡ number_line op.Limit p.number) ⊎ (follows stages.Clients x ≡ true) × (stage_after stages.Pod x ≡ stage_after stages.Clients x)) [
+      | role.Limit ↦ λ e g. inl (limit_line p (only_of_role role.Limit op.Limit refl p.op e) l)
+      | role.Client ↦ λ e g. inr (refl, refl)
+      | role.Native ↦ λ e g. inr (refl, refl)
+      | role.Proc ↦ λ e g. inr (refl, refl)
+      | _ ↦ λ e g. absurd cc
+    ] e g
 
 -- where a client may come next, a line may come that may come behind the pod, but for a limit
 from_pod : (known : Declared) (d : Draft) (p : Phrase) (ps : List Phrase) → (follows stages.Clients (role_of p.op) ≡ true) × (stage_after stages.Pod (role_of p.op) ≡ stage_after stages.Clients (role_of p.op)) → AllAt stages.Pod known d (p ∷ ps) → AllAt stages.Clients known d (p ∷ ps)
@@ -440,6 +456,7 @@ spells_back text s ps h e = (
 
 -- with no limit line
 plain_back : (text : List ℕ) (s : Script) (m : ℕ) (rest : List Phrase) → SpelledBy text s (headed m rest) → AllAt stages.Clients nothing (podded m 4294967295) rest → Spells (printed s) s
+unfolding row_of
 plain_back text s m rest h a = spells_back text s (headed m rest) h (ap lines_of h.script_is ∙ lines_back m 4294967295 rest a h.are_lines.1.1)
 
 -- without a limit line that says what is so without it
@@ -451,6 +468,7 @@ shorter m rest =
     omega (arith, length-append a (b ++ spelling rest), length-append b (spelling rest), length-append a (b ++ (c ++ spelling rest)), length-append b (c ++ spelling rest), length-append c (spelling rest))
 
 default_back : (text : List ℕ) (s : Script) (m : ℕ) (rest : List Phrase) → SpelledBy text s (headed m (number_line op.Limit 4294967295 ∷ rest)) → AllAt stages.Clients nothing (podded m 4294967295) rest → Spells (printed s) s
+unfolding row_of
 default_back text s m rest h a =
     let stand = to_at (headed m (number_line op.Limit 4294967295 ∷ rest)) [] h.stand in
     plain_back (spelling (headed m rest)) s m rest (record {
@@ -465,6 +483,7 @@ default_back text s m rest h a =
 
 -- with a limit line
 limit_back : (text : List ℕ) (s : Script) (m n : ℕ) (rest : List Phrase) → SpelledBy text s (headed m (number_line op.Limit n ∷ rest)) → AllAt stages.Clients nothing (podded m n) rest → Spells (printed s) s
+unfolding row_of
 limit_back text s m n rest h a = elim (eqb n 4294967295) as (λ v. eqb n 4294967295 ≡ v → Spells (printed s) s) [
   | true ↦ λ t.
       let e : n ≡ 4294967295 = eqb-true n 4294967295 t in
@@ -475,6 +494,7 @@ limit_back text s m n rest h a = elim (eqb n 4294967295) as (λ v. eqb n 4294967
 ] refl
 
 headed_back : (text : List ℕ) (s : Script) (m : ℕ) (rest : List Phrase) → SpelledBy text s (headed m rest) → Spells (printed s) s
+unfolding row_of
 headed_back text s m [] h = plain_back text s m [] h tt
 headed_back text s m (p ∷ rest) h =
     let all = (to_at (headed m (p ∷ rest)) [] h.stand).1.1 in
@@ -488,6 +508,7 @@ headed_back text s m (p ∷ rest) h =
     by_kind (inr c) a = plain_back text s m (p ∷ rest) h (from_pod nothing (podded m 4294967295) p rest c a)
 
 pub prints_back : (s : Script) (text : List ℕ) → Spells text s → Spells (printed s) s
+unfolding row_of
 prints_back s text h = by_lines h.0 h.1
   where
     by_two : (p q : Phrase) (ps : List Phrase) → p ≡ number_line op.Lwp 1 → SpelledBy text s (p ∷ q ∷ ps) → Spells (printed s) s

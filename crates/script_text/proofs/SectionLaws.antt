@@ -11,6 +11,7 @@ use Rattle.script_lines.specs.Phrase.{Phrase}
 use Rattle.line_writer.specs.Building.{number_line}
 use Rattle.script_text.specs.Printing.{limit_lines, client_lines, native_line, proc_lines, post_line, body_lines, printed}
 use Rattle.script_text.specs.declared.script.Names.{Names}
+use Rattle.script_lines.specs.Table.{row_of}
 use Rattle.script_text.specs.declared.script.Native.{Native}
 use Rattle.script_text.specs.declared.script.Post.{Post}
 use Rattle.script_text.specs.declared.script.Proc.{Proc}
@@ -20,6 +21,7 @@ pub limit_none : (births : ℕ) → eqb births 4294967295 ≡ true → spelling 
 limit_none births e = ap (λ v. spelling (cond v [] (number_line op.Limit births ∷ []))) e
 
 pub limit_some : (births : ℕ) → eqb births 4294967295 ≡ false → spelling (limit_lines births) ≡ codes "limit births " ++ (decimal births ++ codes "\n")
+unfolding row_of
 limit_some births e =
     ap (λ v. spelling (cond v [] (number_line op.Limit births ∷ []))) e
     ∙ append-nil (ended (phrase_text (number_line op.Limit births)))

@@ -4,8 +4,6 @@ use Rattle.std.specs.List.{AllByRecursion}
 use Rattle.std.specs.Str.{bytes_eq}
 use Rattle.std.proofs.lemmas.List.{get_or_append_left}
 use Rattle.std.proofs.lemmas.Slice.Eq.{bytes_eq-Decides}
-use Rattle.script_lines.specs.declared.table.Op.{Op}
-use Rattle.script_lines.specs.declared.table.Op.TheVariants as op
 use Rattle.script_lines.specs.declared.table.Role.{Role}
 use Rattle.script_lines.specs.declared.table.Role.TheVariants as role
 use Rattle.script_lines.specs.Phrase.{Phrase}
@@ -17,8 +15,9 @@ use Rattle.script_text.specs.declared.draft.Draft.{Draft}
 use Rattle.script_text.specs.declared.reader.Mention.{Mention}
 use Rattle.script_lines.specs.Words.{is_name}
 use Rattle.script_lines.proofs.WordLemmas.{name_is_text}
-use Rattle.script_lines.specs.Table.{role_of, slots_of, starts, starts_any}
-use Rattle.script_lines.specs.Line.{SlotFits, IsPhrase}
+use Rattle.script_lines.proofs.PhraseLaws.{start_is_named}
+use Rattle.script_lines.specs.Table.{role_of, starts, starts_any}
+use Rattle.script_lines.specs.Line.{IsPhrase}
 use Rattle.script_text.specs.Grammar.{stage_after, stage_of, declares, declared_of, nothing, has, is_declared}
 use Rattle.script_text.specs.Meaning.{contains_name, is_some_text, place, place_of, places_of, named, enter, added_at, added, entered, empty_draft, draft_of}
 use Rattle.script_text.specs.Track.{name_at, mention_of, first_missing}
@@ -118,22 +117,11 @@ undeclared_push d k (p ∷ ps) q = elim (is_declared d p) as (λ v. cond v (firs
   | false ↦ refl
 ]
 
--- a line that starts a procedure names one
-names_one : (p : Phrase) → IsPhrase p → starts p.op ≡ true → is_name p.procedure ≡ true
-names_one p h s = by_row p p.op h s
-  where
-    by_row : (p : Phrase) (o : Op) → AllByRecursion (SlotFits p) (slots_of o) → starts o ≡ true → is_name p.procedure ≡ true
-    by_row p o h s = elim o as (λ x. AllByRecursion (SlotFits p) (slots_of x) → starts x ≡ true → is_name p.procedure ≡ true) [
-      | op.Create ↦ λ f t. f.1.0
-      | op.CallProc ↦ λ f t. f.0
-      | _ ↦ λ f t. absurd cc
-    ] h s
-
 -- the mention of one line
 mention_tells : (d : Declared) (names : List (List ℕ)) (k : ℕ) (p : Phrase) → IsPhrase p → AreNamed (enter names p.procedure) (mention_of k (enter names p.procedure) p) × (first_missing d (enter names p.procedure) (mention_of k (enter names p.procedure) p) ≡ cond (is_declared d p) None (Some k))
 mention_tells d names k p h = elim (starts p.op) as (λ v. starts p.op ≡ v → AreNamed (enter names p.procedure) (cond v (record { line = k; name = place_of (enter names p.procedure) p.procedure; any = starts_any p.op } ∷ []) []) × (first_missing d (enter names p.procedure) (cond v (record { line = k; name = place_of (enter names p.procedure) p.procedure; any = starts_any p.op } ∷ []) []) ≡ cond (cond v (has d (starts_any p.op) p.procedure) true) None (Some k))) [
   | true ↦ λ e.
-      let is = names_one p h e in
+      let is = start_is_named p h e in
       let there = place_there (enter names p.procedure) p.procedure (entered_there names p.procedure is) in
       rw (name_place (enter names p.procedure) p.procedure is) ((there.0, tt), rw there.1 refl)
   | false ↦ λ e. (tt, refl)

@@ -83,28 +83,6 @@ impl NameList {
         self.keys.contains(name)
     }
 
-    // Where the name first stands, or how many names there are.
-    fn place(&self, name: &[u8]) -> usize
-        ensures { result ≡ place self.now name.now }
-    {
-        match self.keys.get_index_of(name) {
-            Some(place) => place,
-            None => self.names.len(),
-        }
-    }
-
-    /// The name's number, or how many names there are if it is none of them; 0 for the empty word. No memory holds more names
-    /// than a `u32` counts.
-    pub fn number(&self, name: &[u8]) -> Result<u32, NoMemory>
-        ensures number { IfOk result (λ n. n ≡ place_of self.now name.now) }
-        ensures err { OnErr result (4294967296 ≤ place_of self.now name.now) }
-    {
-        match name {
-            [] => Ok(0),
-            [_, ..] => counted(self.place(name)),
-        }
-    }
-
     // Puts a word at the end that isn't empty and is none of these, if it is a text.
     fn add(&mut self, name: &[u8]) -> Result<(), NoMemory>
         requires some { 0 < length name.now }

@@ -193,6 +193,7 @@ fn add_limit(out: &mut Vec<u8>, births: u64) -> Result<(), NoMemory>
 }
 
 // A client and its event.
+#[tactic(auto, unfolding(script_lines::specs::Table::row_of))]
 fn add_client(out: &mut Vec<u8>, client: u64, event: u8) -> Result<(), NoMemory>
     ensures { OnOk result (out.new.items ≡ out.old.items ++ ended (phrase_text (client_line client event))) }
 {
@@ -224,6 +225,7 @@ fn native_line<'s>(names: &'s Names, native: Native) -> Phrase<'s>
     }
 }
 
+#[tactic(auto, unfolding(script_lines::specs::Table::row_of))]
 fn add_natives(out: &mut Vec<u8>, names: &Names, natives: &[Native]) -> Result<(), NoMemory>
     ensures { OnOk result (out.new.items ≡ out.old.items ++ spelling (map (native_line names.now) natives.now)) }
 {
@@ -233,6 +235,7 @@ fn add_natives(out: &mut Vec<u8>, names: &Names, natives: &[Native]) -> Result<(
     Ok(())
 }
 
+#[tactic(auto, unfolding(script_lines::specs::Table::row_of))]
 fn add_statements(
     out: &mut Vec<u8>,
     names: &Names,
@@ -247,6 +250,7 @@ fn add_statements(
     Ok(())
 }
 
+#[tactic(auto, unfolding(script_lines::specs::Table::row_of))]
 fn add_procs(
     out: &mut Vec<u8>,
     names: &Names,
@@ -269,6 +273,7 @@ fn post_line<'s>(texts: &'s Texts, post: Post) -> Phrase<'s>
     line_writer::post_line(post.client, texts.bytes(post.text as usize))
 }
 
+#[tactic(auto, unfolding(script_lines::specs::Table::row_of))]
 fn add_posts(out: &mut Vec<u8>, texts: &Texts, posts: &[Post]) -> Result<(), NoMemory>
     ensures { OnOk result (out.new.items ≡ out.old.items ++ spelling (map (post_line texts.now) posts.now)) }
 {

@@ -51,12 +51,12 @@ const ASKING: [Call; 15] = [
     Call::Agents,
 ];
 
-// How many effects the call of whoever's turn it is has; none if it is nobody's turn, or memory is refused.
-fn makes(pod: &mut Pod, effects: &mut Effects, call: &Call) -> usize {
+// How many effects the call of whoever's turn it is has besides itself; None if it is nobody's turn, or memory is refused.
+fn makes(pod: &mut Pod, effects: &mut Effects, call: &Call) -> Option<usize> {
     if pod.current().is_none() || pod.call(call, effects).is_err() {
-        return 0;
+        return None;
     }
-    effects.len()
+    Some(effects.len())
 }
 
 // How many effects the event has; none if it isn't armed.
@@ -82,7 +82,7 @@ fn is_answered(effects: &Effects) -> bool {
 // Whether whoever asks for memory is given it. Then the first thread lives, another, and the first one's agent.
 fn gives_memory(pod: &mut Pod, effects: &mut Effects) -> bool {
     for call in &ASKING {
-        if makes(pod, effects, call) != 2 || !is_answered(effects) {
+        if makes(pod, effects, call) != Some(1) || !is_answered(effects) {
             return false;
         }
     }
@@ -92,8 +92,8 @@ fn gives_memory(pod: &mut Pod, effects: &mut Effects) -> bool {
 // The first thread waits for its agent, and the other dies: it is nobody's turn.
 fn waits(pod: &mut Pod, effects: &mut Effects, agent: Tid) -> bool {
     let (from, mode) = (Some(agent), Mode::Block);
-    makes(pod, effects, &Call::Recv { from, mode }) == 1
-        && makes(pod, effects, &Call::Return) == 2
+    makes(pod, effects, &Call::Recv { from, mode }) == Some(0)
+        && makes(pod, effects, &Call::Return) == Some(1)
         && pod.ending() == Some(PodEnd::Idle)
 }
 
@@ -103,12 +103,12 @@ fn takes_an_event(pod: &mut Pod, effects: &mut Effects, agent: Tid) -> bool {
     delivers(pod, effects, 5) == 2
         && is_answered(effects)
         && delivers(pod, effects, 5) == 0
-        && makes(pod, effects, &Call::Reply { to, text }) == 2
+        && makes(pod, effects, &Call::Reply { to, text }) == Some(1)
         && pod.armed(5)
 }
 
 fn ends(pod: &mut Pod, effects: &mut Effects) -> bool {
-    makes(pod, effects, &Call::PodExit { code: 98 }) == 2
+    makes(pod, effects, &Call::PodExit { code: 98 }) == Some(1)
         && pod.ending() == Some(PodEnd::Ended(98))
         && pod.current().is_none()
 }

@@ -1,7 +1,5 @@
-use lwp_types::NoMemory;
 use script_text::*;
 use std::alloc::Global;
-use std::test::Fail;
 
 const FIRST_RUN: &[u8] =
     b"lwp 1\npod 1\nproc main\ncreate a worker 1 -\nyield self\nproc worker\nsay hi\n";
@@ -63,21 +61,4 @@ fn is_printed_back(alloc: Global) -> Result<bool, ReadErr> {
 #[test]
 fn prints_every_row_back(rt: HostRuntime) {
     assert!(rt; matches!(is_printed_back(rt.alloc()), Ok(true)));
-}
-
-fn numbers(names: &mut NameList) -> Result<bool, NoMemory> {
-    let rows: [(&[u8], u32); 4] = [(b"b", 0), (b"a", 1), (b"b", 0), (b"c7", 2)];
-    for (name, number) in rows {
-        names.enter(name)?;
-        if names.number(name)? != number {
-            return Ok(false);
-        }
-    }
-    Ok((names.len(), names.as_slice().len()) == (3, 3) && !names.contains(b"c"))
-}
-
-#[test]
-fn numbers_names_as_they_come(rt: HostRuntime) -> Result<(), Fail> {
-    assert!(rt; numbers(&mut NameList::new(rt.alloc()))?);
-    Ok(())
 }

@@ -7,7 +7,8 @@ use std::test::Fail;
 fn waits(body: &mut StoreBody, env: &mut Env) -> Result<bool, NoMemory> {
     // The checker asks for the types that a call holds.
     let _inside: Option<(Call, ExitCall, Answer)> = None;
-    let call = body.poll(env, &Answer::Value(0))?;
+    let mut call = Call::Return;
+    body.poll(env, &Answer::Value(0), &mut call)?;
     Ok(matches!(call, Call::Recv { .. }))
 }
 
@@ -24,7 +25,8 @@ fn tells(
     let from = Tid { number: from };
     let text = Text::new(text).unwrap_or(Text::empty());
     let room = 240;
-    let call = body.poll(env, &Answer::Letter { from, text, room })?;
+    let mut call = Call::Return;
+    body.poll(env, &Answer::Letter { from, text, room }, &mut call)?;
     let is_told = match call {
         Call::Reply { to, text } => to == from && text.bytes() == told,
         _ => false,

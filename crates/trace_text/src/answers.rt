@@ -70,6 +70,7 @@ fn add_negative(out: &mut Vec<u8>, value: i64) -> Result<(), NoMemory>
     add_word(out, buffer.format(value).as_bytes())
 }
 
+#[inline(always)]
 fn add_value(out: &mut Vec<u8>, value: i64) -> Result<(), NoMemory>
     ensures { OnOk result (out.new.items ≡ out.old.items ++ answer_text (Answer.Value value)) }
 {

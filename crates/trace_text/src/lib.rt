@@ -14,5 +14,5 @@ mod lines;
 mod words;
 
 pub use ends::{Halt, end_lines};
-pub use lines::{add_step_lines, trace_line};
+pub use lines::{add_call_line, add_step_lines, trace_line};
 pub use words::{add_flags, add_number, add_pattern, add_spaced, add_text, func_word, mode_word};

@@ -4,10 +4,11 @@ ghost use Rattle.trace_text.specs.Lines.{taken_text, delivered_text, line_text, 
 
 use crate::answers::add_answer;
 use crate::calls::{add_call, add_exit};
-use crate::words::{add_id, add_number, add_spaced, add_word, add_word_number};
+use crate::words::{add_byte, add_id, add_number, add_spaced, add_word, add_word_number};
 use lwp_types::{Answer, Call, Effect, Effects, ExitCall, Line, NoMemory, Text, Tid};
 use std::alloc::Global;
 
+#[inline(never)]
 fn add_taken(out: &mut Vec<u8>, event: u8, line: &Line) -> Result<(), NoMemory>
     ensures { OnOk result (out.new.items ≡ out.old.items ++ taken_text event line.now) }
 {
@@ -17,6 +18,7 @@ fn add_taken(out: &mut Vec<u8>, event: u8, line: &Line) -> Result<(), NoMemory>
     add_spaced(out, line.text.bytes())
 }
 
+#[inline(always)]
 fn add_called(out: &mut Vec<u8>, procs: &[Text], tid: Tid, call: &Call) -> Result<(), NoMemory>
     ensures { OnOk result (out.new.items ≡ out.old.items ++ line_text procs.now None (Effect.Called tid call.now)) }
 {
@@ -25,6 +27,7 @@ fn add_called(out: &mut Vec<u8>, procs: &[Text], tid: Tid, call: &Call) -> Resul
     add_call(out, procs, tid, call)
 }
 
+#[inline(always)]
 fn add_answered(out: &mut Vec<u8>, tid: Tid, answer: &Answer) -> Result<(), NoMemory>
     ensures { OnOk result (out.new.items ≡ out.old.items ++ line_text [] None (Effect.Answered tid answer.now)) }
 {
@@ -32,6 +35,7 @@ fn add_answered(out: &mut Vec<u8>, tid: Tid, answer: &Answer) -> Result<(), NoMe
     add_answer(out, answer)
 }
 
+#[inline(never)]
 fn add_exited(out: &mut Vec<u8>, reg: u64, call: &ExitCall, answer: &Answer) -> Result<(), NoMemory>
     ensures { OnOk result (out.new.items ≡ out.old.items ++ line_text [] None (Effect.Exited 0 reg call.now answer.now)) }
 {
@@ -58,6 +62,7 @@ fn add_delivered(out: &mut Vec<u8>, event: u8, took: Option<&Line>) -> Result<()
     }
 }
 
+#[inline(always)]
 fn add_line(
     out: &mut Vec<u8>,
     e: &Effect,
@@ -82,6 +87,7 @@ fn add_line(
 }
 
 // The line of an effect, with its newline.
+#[inline(always)]
 fn add_ended(
     out: &mut Vec<u8>,
     e: &Effect,
@@ -91,12 +97,27 @@ fn add_ended(
     ensures { OnOk result (out.new.items ≡ out.old.items ++ ended_line (line_text names.now (option_copied took.entry) e.now)) }
 {
     add_line(out, e, took, names)?;
-    out.push(b'\n')?;
-    Ok(())
+    add_byte(out, b'\n')
+}
+
+/// The line of a call that a thread makes, with its newline; `names` are the procedures' names by number. After an error some of it
+/// may stand there.
+#[inline(always)]
+pub fn add_call_line(
+    out: &mut Vec<u8>,
+    tid: Tid,
+    call: &Call,
+    names: &[Text],
+) -> Result<(), NoMemory>
+    ensures { OnOk result (out.new.items ≡ out.old.items ++ ended_line (line_text names.now None (Effect.Called tid call.now))) }
+{
+    add_called(out, names, tid, call)?;
+    add_byte(out, b'\n')
 }
 
 /// The lines of a step: a line for each effect. `took` is the line that was taken in that step, if any, and `names` are the
 /// procedures' names by number. After an error some of the lines may stand there.
+#[inline(always)]
 pub fn add_step_lines(
     out: &mut Vec<u8>,
     effects: &Effects,

@@ -14,6 +14,27 @@ pub fn add_text(out: &mut Vec<u8>, text: &[u8]) -> Result<(), NoMemory>
     Ok(())
 }
 
+// A byte where there may be no room for it yet. It stands apart, so that where there is room nothing is saved and restored.
+#[inline(never)]
+fn push_byte(out: &mut Vec<u8>, byte: u8) -> Result<(), NoMemory>
+    ensures { OnOk result (out.new.items ≡ out.old.items ++ byte ∷ []) }
+{
+    out.push(byte)?;
+    Ok(())
+}
+
+// A byte.
+#[inline(always)]
+pub(crate) fn add_byte(out: &mut Vec<u8>, byte: u8) -> Result<(), NoMemory>
+    ensures { OnOk result (out.new.items ≡ out.old.items ++ byte ∷ []) }
+{
+    if out.len() < out.capacity() {
+        out.push_reserved(byte);
+        return Ok(());
+    }
+    push_byte(out, byte)
+}
+
 // A short word, byte by byte, which costs less than a copy does.
 pub(crate) fn add_word(out: &mut Vec<u8>, word: &[u8]) -> Result<(), NoMemory>
     ensures { OnOk result (out.new.items ≡ out.old.items ++ word.now) }
@@ -30,13 +51,14 @@ pub fn add_spaced(out: &mut Vec<u8>, text: &[u8]) -> Result<(), NoMemory>
     ensures { OnOk result (out.new.items ≡ out.old.items ++ spaced text.now) }
 {
     if !text.is_empty() {
-        out.push(b' ')?;
+        add_byte(out, b' ')?;
         out.extend_from_slice(text)?;
     }
     Ok(())
 }
 
 // A number of any length.
+#[inline(never)]
 fn add_digits(out: &mut Vec<u8>, n: u64) -> Result<(), NoMemory>
     ensures { OnOk result (out.new.items ≡ out.old.items ++ decimal n) }
 {
@@ -46,24 +68,25 @@ fn add_digits(out: &mut Vec<u8>, n: u64) -> Result<(), NoMemory>
 
 /// A number in decimal. It needs no memory but for the bytes so far.
 #[tactic(auto, using(std::proofs::lemmas::Fmt::decimal_digit))]
+#[inline(always)]
 pub fn add_number(out: &mut Vec<u8>, n: u64) -> Result<(), NoMemory>
     ensures { OnOk result (out.new.items ≡ out.old.items ++ decimal n) }
 {
     if n < 10 {
-        out.push(b'0' + n as u8)?;
-        return Ok(());
+        return add_byte(out, b'0' + n as u8);
     }
     add_digits(out, n)
 }
 
 // A number behind its letter, or `none` for the number that nobody has.
+#[inline(always)]
 pub(crate) fn add_id(out: &mut Vec<u8>, letter: u8, n: u64) -> Result<(), NoMemory>
     ensures { OnOk result (out.new.items ≡ out.old.items ++ id_text (letter ∷ []) n) }
 {
     if n == u64::MAX {
         return add_word(out, b"none");
     }
-    out.push(letter)?;
+    add_byte(out, letter)?;
     add_number(out, n)
 }
 

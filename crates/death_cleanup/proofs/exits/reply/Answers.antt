@@ -30,11 +30,11 @@ returns-then-is_agent c =
           (reply-made (state_of c.args.parts.now) c.args.tid c.args.to c.args.text.now (sym c.if-not-is_id.ensures) fine));
     }
 
-pub wake-requires-clause-step : goal.wake-requires-clause-step
-wake-requires-clause-step c = rw c.in_default.ensures.ok (InStep-lighter c.args.parts.now c.args.to c.requires.lawful.step)
+pub wake_replied-requires-clause-step : goal.wake_replied-requires-clause-step
+wake_replied-requires-clause-step c = rw c.in_default.ensures.ok (InStep-lighter c.args.parts.now c.args.to c.requires.lawful.step)
 
-pub wake-requires-clause-waits : goal.wake-requires-clause-waits
-wake-requires-clause-waits c =
+pub wake_replied-requires-clause-waits : goal.wake_replied-requires-clause-waits
+wake_replied-requires-clause-waits c =
     let fine : refusal (received_from c.args.parts.now.mail.letters c.args.tid c.args.to) (length c.args.text.now) ≡ None = rw (← c.bytes-len.ensures.same) (sym c.reply.ensures.cause ∙ ap result_err c.in_default.is) in
     sender-waits c.args.parts.now c.args.to c.requires.lawful c.args.tid
     (reply-some (state_of c.args.parts.now) c.args.tid c.args.to c.args.text.now fine) (thread-is (state_of c.args.parts.now) c.args.to (sym c.if-not-is_id.ensures) (sym c.if-is_agent.ensures))
@@ -45,6 +45,6 @@ returns c =
     let is : replied c.args.to c.args.text.now (state_of c.args.parts.now) ≡ unblock (answer.Reply c.args.text.now) c.args.to (state_of (record c.args.parts.now { mail = c.reply.new.self })) =
     rw c.in_default.ensures.ok (replied-thread c.args.parts.now c.args.to c.args.text.now (sym c.if-is_agent.ensures)) in
     record {
-      answers = answers_zero _ _ _ _ (replied c.args.to c.args.text.now (state_of c.args.parts.now)) _ (came_as _ _ _ _ _ _ _ c.wake.ensures.came refl is)
+      answers = answers_zero _ _ _ _ (replied c.args.to c.args.text.now (state_of c.args.parts.now)) _ (came_as _ _ _ _ _ _ _ c.wake_replied.ensures.came refl is)
           (reply-made (state_of c.args.parts.now) c.args.tid c.args.to c.args.text.now (sym c.if-not-is_id.ensures) fine);
     }

@@ -7,20 +7,20 @@ use Rattle.std.proofs.Common.{sym, ◌∙◌}
 pub first_waiting-requires : goal.first_waiting-requires
 first_waiting-requires c = c.loop-other.invariant.step.noted
 
-pub wake-requires-clause-step : goal.wake-requires-clause-step
-wake-requires-clause-step c = c.loop-other.invariant.step
+pub wake_done-requires-clause-step : goal.wake_done-requires-clause-step
+wake_done-requires-clause-step c = c.loop-other.invariant.step
 
-pub wake-requires-clause-waits : goal.wake-requires-clause-waits
-wake-requires-clause-waits c = turn_waits c.args.what c.args.tid c.args.parts.now c.args.effects.now c.loop-other.parts c.loop-other.effects c.loop-other.invariant c.in-Some.other (sym c.first_waiting.ensures ∙ c.in-Some.is)
+pub wake_done-requires-clause-waits : goal.wake_done-requires-clause-waits
+wake_done-requires-clause-waits c = turn_waits c.args.what c.args.tid c.args.parts.now c.args.effects.now c.loop-other.parts c.loop-other.effects c.loop-other.invariant c.in-Some.other (sym c.first_waiting.ensures ∙ c.in-Some.is)
 
-pub wake-requires-clause-room : goal.wake-requires-clause-room
-wake-requires-clause-room c = turn_room c.args.what c.args.tid c.args.parts.now c.args.effects.now c.loop-other.parts c.loop-other.effects c.loop-other.invariant c.in-Some.other (sym c.first_waiting.ensures ∙ c.in-Some.is)
+pub wake_done-requires-clause-room : goal.wake_done-requires-clause-room
+wake_done-requires-clause-room c = turn_room c.args.what c.args.tid c.args.parts.now c.args.effects.now c.loop-other.parts c.loop-other.effects c.loop-other.invariant c.in-Some.other (sym c.first_waiting.ensures ∙ c.in-Some.is)
 
 pub loop-other-smaller : goal.loop-other-smaller
-loop-other-smaller c = turn_fewer c.args.what c.args.tid c.args.parts.now c.args.effects.now c.loop-other.parts c.loop-other.effects c.loop-other.invariant c.in-Some.other (sym c.first_waiting.ensures ∙ c.in-Some.is) c.wake.new.parts c.wake.new.effects (rw c.answer.ensures at c.wake.ensures.came)
+loop-other-smaller c = turn_fewer c.args.what c.args.tid c.args.parts.now c.args.effects.now c.loop-other.parts c.loop-other.effects c.loop-other.invariant c.in-Some.other (sym c.first_waiting.ensures ∙ c.in-Some.is) c.wake_done.new.parts c.wake_done.new.effects (rw c.answer.ensures at c.wake_done.ensures.came)
 
 pub loop-other-preserved : goal.loop-other-preserved
-loop-other-preserved c = turn_on c.args.what c.args.tid c.args.parts.now c.args.effects.now c.loop-other.parts c.loop-other.effects c.loop-other.invariant c.in-Some.other (sym c.first_waiting.ensures ∙ c.in-Some.is) c.wake.new.parts c.wake.new.effects (rw c.answer.ensures at c.wake.ensures.came)
+loop-other-preserved c = turn_on c.args.what c.args.tid c.args.parts.now c.args.effects.now c.loop-other.parts c.loop-other.effects c.loop-other.invariant c.in-Some.other (sym c.first_waiting.ensures ∙ c.in-Some.is) c.wake_done.new.parts c.wake_done.new.effects (rw c.answer.ensures at c.wake_done.ensures.came)
 
 pub returns : goal.returns
 returns c = record { came = over c.args.what c.args.tid c.args.parts.now c.args.effects.now c.loop-other.parts c.loop-other.effects c.loop-other.invariant (sym c.first_waiting.ensures ∙ c.in_default.is) }

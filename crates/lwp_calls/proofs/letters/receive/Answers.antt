@@ -1,27 +1,27 @@
 use Rattle.death_cleanup.proofs.Keeping.{InStep-mail}
 use Rattle.death_cleanup.specs.View.{state_of}
-use Rattle.lwp_calls.proofs.Made.{ComesTo-is}
+use Rattle.lwp_calls.proofs.Made.{ComesTo-is, told-own}
 use Rattle.lwp_calls.proofs.Mailing.{awaited-is, awaited_comes, polled-is, received-is, unless_passed, unless_struck, untouched}
 use Rattle.lwp_calls.proofs.letters.receive.Goals as goal
 use Rattle.rendezvous.specs.Mailbag.{taken}
-use Rattle.std.proofs.Common.{refl, sym, ◌∙◌}
+use Rattle.std.proofs.Common.{append-nil, refl, sym, ◌∙◌}
 
-pub returns-in-Some : goal.returns-in-Some
-returns-in-Some c = ComesTo-is (unless_struck (state_of c.args.parts.now) _ _ c.in-Some.err (sym c.source_refusal.ensures ∙ c.in-Some.is)) c.requires.step refl
+pub returns-in-Some-clause-told : goal.returns-in-Some-clause-told
+returns-in-Some-clause-told c = told-own (ComesTo-is (unless_struck (state_of c.args.parts.now) _ _ c.in-Some.err (sym c.source_refusal.ensures ∙ c.in-Some.is)) c.requires.step refl) c.args.caller c.done.ensures
 
-pub returns-in-Some-take_letter : goal.returns-in-Some-take_letter
-returns-in-Some-take_letter c = rw c.take_letter.ensures.after (ComesTo-is (unless_passed (state_of c.args.parts.now) _ _ (sym c.source_refusal.ensures ∙ c.in_default.is)
+pub returns-in-Some-take_letter-clause-told : goal.returns-in-Some-take_letter-clause-told
+returns-in-Some-take_letter-clause-told c = rw c.take_letter.ensures.after (told-own (ComesTo-is (unless_passed (state_of c.args.parts.now) _ _ (sym c.source_refusal.ensures ∙ c.in_default.is)
     ∙ received-is c.args.parts.now c.args.caller c.args.from.now c.args.mode c.in-Some-take_letter.letter (sym c.take_letter.ensures.value ∙ c.in-Some-take_letter.is))
-    (InStep-mail c.args.parts.now c.requires.step (taken c.args.parts.now.mail c.args.caller c.args.from.now) refl) refl)
+    (InStep-mail c.args.parts.now c.requires.step (taken c.args.parts.now.mail c.args.caller c.args.from.now) refl) refl) c.args.caller c.lettered.ensures)
 
-pub returns-in-Poll : goal.returns-in-Poll
-returns-in-Poll c =
+pub returns-in-Poll-clause-told : goal.returns-in-Poll-clause-told
+returns-in-Poll-clause-told c =
     let none = sym c.take_letter.ensures.value ∙ c.in_default-take_letter.is in
     rw (c.take_letter.ensures.after, untouched c.args.parts.now c.args.caller c.args.from.now none, c.in-Poll.is)
-    (ComesTo-is (unless_passed (state_of c.args.parts.now) _ _ (sym c.source_refusal.ensures ∙ c.in_default.is) ∙ polled-is c.args.parts.now c.args.caller c.args.from.now none) c.requires.step refl)
+    (told-own (ComesTo-is (unless_passed (state_of c.args.parts.now) _ _ (sym c.source_refusal.ensures ∙ c.in_default.is) ∙ polled-is c.args.parts.now c.args.caller c.args.from.now none) c.requires.step refl) c.args.caller c.done-in-Poll.ensures)
 
-pub returns-in-Block : goal.returns-in-Block
-returns-in-Block c =
+pub returns-in-Block-clause-told : goal.returns-in-Block-clause-told
+returns-in-Block-clause-told c =
     let none = sym c.take_letter.ensures.value ∙ c.in_default-take_letter.is in
-    rw c.in-Block.is (awaited_comes c.args.parts.now c.block.new.parts c.args.caller c.args.from.now c.take_letter.new.self _ (c.take_letter.ensures.after ∙ untouched c.args.parts.now c.args.caller c.args.from.now none) c.block.ensures
-    (unless_passed (state_of c.args.parts.now) _ _ (sym c.source_refusal.ensures ∙ c.in_default.is) ∙ awaited-is c.args.parts.now c.args.caller c.args.from.now none))
+    rw c.in-Block.is (told-own (awaited_comes c.args.parts.now c.block.new.parts c.args.caller c.args.from.now c.take_letter.new.self _ (c.take_letter.ensures.after ∙ untouched c.args.parts.now c.args.caller c.args.from.now none) c.block.ensures
+    (unless_passed (state_of c.args.parts.now) _ _ (sym c.source_refusal.ensures ∙ c.in_default.is) ∙ awaited-is c.args.parts.now c.args.caller c.args.from.now none)) c.args.caller (sym (append-nil c.args.effects.now)))

@@ -10,7 +10,7 @@ use Rattle.lwp_types.specs.declared.call.LwpErr.TheVariants as error
 use Rattle.std.proofs.Common.{ap, arith, length, length-append, refl, sym}
 
 pub end_agent-requires-clause-room : goal.end_agent-requires-clause-room
-end_agent-requires-clause-room c = omega (arith, c.requires.room, few_told (state_of c.args.parts.now) (nine c.args.parts.now c.requires.lawful c.requires.alone) c.args.tid)
+end_agent-requires-clause-room c = omega (arith, ap length c.requires.room, few_told (state_of c.args.parts.now) (nine c.args.parts.now c.requires.lawful c.requires.alone) c.args.tid)
 
 pub returns-then-is_agent-clause-comes : goal.returns-then-is_agent-clause-comes
 returns-then-is_agent-clause-comes c = ComesTo-answers (answers_zero c.args.parts.now c.end_agent.new.parts c.args.effects.now c.end_agent.new.effects (end_agent c.args.tid (state_of c.args.parts.now)) _ c.end_agent.ensures.came (destroy-agent (state_of c.args.parts.now) c.args.caller c.args.tid (sym c.if-is_agent.ensures)))
@@ -18,7 +18,7 @@ returns-then-is_agent-clause-comes c = ComesTo-answers (answers_zero c.args.part
 pub returns-then-is_agent-clause-most : goal.returns-then-is_agent-clause-most
 returns-then-is_agent-clause-most c = omega (
   arith,
-  c.requires.room,
+  ap length c.requires.room,
   ap length c.end_agent.ensures.came.effects,
   length-append c.args.effects.now (end_agent c.args.tid (state_of c.args.parts.now)).effects,
   few_told (state_of c.args.parts.now) (nine c.args.parts.now c.requires.lawful c.requires.alone) c.args.tid,

@@ -1,6 +1,6 @@
-use Rattle.std.proofs.Common.{◌≡◌, drop}
-use Rattle.script_lines.specs.Table.{op_in}
+use Rattle.std.proofs.Common.{◌≡◌, map, drop}
+use Rattle.script_lines.specs.Table.{read, op_in}
 use Rattle.script_lines.proofs.table.among.Given as goal
 
-abbrev pub invariant-loop-op : goal.invariant-loop-op
-invariant-loop-op l = op_in (drop l.op-index l.ops) l.key ≡ op_in l.ops l.key
+abbrev pub invariant-loop-row : goal.invariant-loop-row
+invariant-loop-row l = op_in (map read (drop l.row-index l.rows)) l.key ≡ op_in (map read l.rows) l.key

@@ -1,18 +1,13 @@
 use Rattle.death_cleanup.specs.View.{state_of}
 use Rattle.lwp_calls.proofs.Agree.{choice-same}
-use Rattle.lwp_calls.proofs.Pods.{few_status, refusal-leaves, stepped, told}
+use Rattle.lwp_calls.proofs.Pods.{few_status, forgets, refusal-leaves, runs, stepped, told}
 use Rattle.lwp_calls.proofs.pod.Pod.call.Goals as goal
-use Rattle.lwp_calls.specs.Pod.{ForgetsTheDead, RunsExitsOnce, current_of}
+use Rattle.lwp_calls.specs.Pod.{called_by, current_of}
 use Rattle.lwp_types.specs.Choice as machine
-use Rattle.lwp_types.specs.State.{State}
 use Rattle.lwp_types.specs.Step.{step}
-use Rattle.lwp_types.specs.declared.call.Effect.{Effect}
-use Rattle.lwp_types.specs.declared.call.Effect.TheVariants as effect
-use Rattle.pod_laws.proofs.Died.{the_dead_are_forgotten}
 use Rattle.pod_laws.proofs.EveryStep.{Lawful-step}
-use Rattle.pod_laws.proofs.OnceCalls.{exits_run_once}
 use Rattle.pod_sched.specs.Schedule as sched
-use Rattle.std.proofs.Common.{List, None, Some, [], ap, subst, sym, ◌++◌, ◌∙◌, ◌∷◌, ◌≡◌}
+use Rattle.std.proofs.Common.{None, Some, ap, sym, ◌++◌, ◌∙◌, ◌≡◌}
 
 pub finish-self-inside-requires-clause-status : goal.finish-self-inside-requires-clause-status
 finish-self-inside-requires-clause-status c =
@@ -43,8 +38,8 @@ returns-in-Ok-clause-after c =
 pub returns-in-Ok-clause-effects : goal.returns-in-Ok-clause-effects
 returns-in-Ok-clause-effects c =
     let turn : current_of (state_of c.self.inside.parts) ≡ Some c.unwrap-tid.result = (rw (← c.self.view_is) at (sym c.current.ensures.value ∙ c.unwrap-tid.ensures)) in
-    let effects : c.finish-self-inside.new.effects ≡ (step (state_of c.self.inside.parts) c.args.call.now).effects =
-    c.finish-self-inside.ensures.effects ∙ told (state_of c.self.inside.parts) c.self.invariant.0 c.args.call.now c.unwrap-tid.result turn c.carry_out.new.parts c.in-Ok.ensures.ok.state c.called.new.self c.carry_out.new.effects c.in-Ok.ensures.ok.effects (c.called.ensures ∙ ap (λ (es : List Effect). es ++ effect.Called c.unwrap-tid.result c.args.call.now ∷ []) c.clear.ensures) in
+    let effects : called_by (current_of (state_of c.self.inside.parts)) c.args.call.now ++ c.finish-self-inside.new.effects ≡ (step (state_of c.self.inside.parts) c.args.call.now).effects =
+    told (state_of c.self.inside.parts) c.self.invariant.0 c.args.call.now c.unwrap-tid.result turn c.carry_out.new.parts c.in-Ok.ensures.ok.state c.clear.new.self c.carry_out.new.effects c.finish-self-inside.new.effects c.clear.ensures c.in-Ok.ensures.ok.effects c.finish-self-inside.ensures.effects in
     rw (← c.self.view_is) effects
 
 pub returns-in-Ok-clause-lawful : goal.returns-in-Ok-clause-lawful
@@ -63,16 +58,14 @@ pub returns-in-Ok-clause-dead : goal.returns-in-Ok-clause-dead
 returns-in-Ok-clause-dead c =
     let turn : current_of (state_of c.self.inside.parts) ≡ Some c.unwrap-tid.result = (rw (← c.self.view_is) at (sym c.current.ensures.value ∙ c.unwrap-tid.ensures)) in
     let after : state_of c.finish-self-inside.new.parts ≡ (step (state_of c.self.inside.parts) c.args.call.now).after = c.finish-self-inside.ensures.after ∙ sym (stepped (state_of c.self.inside.parts) c.self.invariant.0 c.args.call.now c.unwrap-tid.result turn c.carry_out.new.parts c.in-Ok.ensures.ok.state) in
-    let effects : c.finish-self-inside.new.effects ≡ (step (state_of c.self.inside.parts) c.args.call.now).effects =
-    c.finish-self-inside.ensures.effects ∙ told (state_of c.self.inside.parts) c.self.invariant.0 c.args.call.now c.unwrap-tid.result turn c.carry_out.new.parts c.in-Ok.ensures.ok.state c.called.new.self c.carry_out.new.effects c.in-Ok.ensures.ok.effects (c.called.ensures ∙ ap (λ (es : List Effect). es ++ effect.Called c.unwrap-tid.result c.args.call.now ∷ []) c.clear.ensures) in
-    let there : ForgetsTheDead (step (state_of c.self.inside.parts) c.args.call.now).after (step (state_of c.self.inside.parts) c.args.call.now).effects = the_dead_are_forgotten (state_of c.self.inside.parts) c.self.invariant.0 c.args.call.now in
-    subst (λ (s : State). ForgetsTheDead s c.finish-self-inside.new.effects) (sym after) (subst (λ (es : List Effect). ForgetsTheDead (step (state_of c.self.inside.parts) c.args.call.now).after es) (sym effects) there)
+    let effects : called_by (current_of (state_of c.self.inside.parts)) c.args.call.now ++ c.finish-self-inside.new.effects ≡ (step (state_of c.self.inside.parts) c.args.call.now).effects =
+    told (state_of c.self.inside.parts) c.self.invariant.0 c.args.call.now c.unwrap-tid.result turn c.carry_out.new.parts c.in-Ok.ensures.ok.state c.clear.new.self c.carry_out.new.effects c.finish-self-inside.new.effects c.clear.ensures c.in-Ok.ensures.ok.effects c.finish-self-inside.ensures.effects in
+    forgets (state_of c.self.inside.parts) (state_of c.finish-self-inside.new.parts) c.self.invariant.0 c.args.call.now c.finish-self-inside.new.effects after effects
 
 pub returns-in-Ok-clause-exits : goal.returns-in-Ok-clause-exits
 returns-in-Ok-clause-exits c =
     let turn : current_of (state_of c.self.inside.parts) ≡ Some c.unwrap-tid.result = (rw (← c.self.view_is) at (sym c.current.ensures.value ∙ c.unwrap-tid.ensures)) in
     let after : state_of c.finish-self-inside.new.parts ≡ (step (state_of c.self.inside.parts) c.args.call.now).after = c.finish-self-inside.ensures.after ∙ sym (stepped (state_of c.self.inside.parts) c.self.invariant.0 c.args.call.now c.unwrap-tid.result turn c.carry_out.new.parts c.in-Ok.ensures.ok.state) in
-    let effects : c.finish-self-inside.new.effects ≡ (step (state_of c.self.inside.parts) c.args.call.now).effects =
-    c.finish-self-inside.ensures.effects ∙ told (state_of c.self.inside.parts) c.self.invariant.0 c.args.call.now c.unwrap-tid.result turn c.carry_out.new.parts c.in-Ok.ensures.ok.state c.called.new.self c.carry_out.new.effects c.in-Ok.ensures.ok.effects (c.called.ensures ∙ ap (λ (es : List Effect). es ++ effect.Called c.unwrap-tid.result c.args.call.now ∷ []) c.clear.ensures) in
-    let there : RunsExitsOnce (state_of c.self.inside.parts) c.args.call.now (step (state_of c.self.inside.parts) c.args.call.now).after (step (state_of c.self.inside.parts) c.args.call.now).effects = exits_run_once (state_of c.self.inside.parts) c.self.invariant.0 c.args.call.now in
-    rw (← c.self.view_is) (subst (λ (s : State). RunsExitsOnce (state_of c.self.inside.parts) c.args.call.now s c.finish-self-inside.new.effects) (sym after) (subst (λ (es : List Effect). RunsExitsOnce (state_of c.self.inside.parts) c.args.call.now (step (state_of c.self.inside.parts) c.args.call.now).after es) (sym effects) there))
+    let effects : called_by (current_of (state_of c.self.inside.parts)) c.args.call.now ++ c.finish-self-inside.new.effects ≡ (step (state_of c.self.inside.parts) c.args.call.now).effects =
+    told (state_of c.self.inside.parts) c.self.invariant.0 c.args.call.now c.unwrap-tid.result turn c.carry_out.new.parts c.in-Ok.ensures.ok.state c.clear.new.self c.carry_out.new.effects c.finish-self-inside.new.effects c.clear.ensures c.in-Ok.ensures.ok.effects c.finish-self-inside.ensures.effects in
+    rw (← c.self.view_is) (runs (state_of c.self.inside.parts) (state_of c.finish-self-inside.new.parts) c.self.invariant.0 c.args.call.now c.finish-self-inside.new.effects after effects)

@@ -1,12 +1,12 @@
 use Rattle.std.proofs.Common.{ap, ◌≡◌, ◌∙◌, refl}
 use Rattle.script_text.specs.declared.script.Stmt.TheVariants as stmt
 use Rattle.script_body.specs.Calls.{lock_call, plain_call}
-use Rattle.script_body.proofs.calls.lock_call.Goals as goal
+use Rattle.script_body.proofs.calls.set_lock_call.Goals as goal
 
 pub returns-in_default : goal.returns-in_default
 returns-in_default c =
     let other = c.in_default in
-    elim c.args.stmt.now as (λ s. c.args.stmt.now ≡ s → c.plain_call.result ≡ lock_call c.args.texts.now c.args.sender c.args.env.now s) [
+    elim c.args.stmt.now as (λ s. c.args.stmt.now ≡ s → c.set_plain_call.new.call ≡ lock_call c.args.texts.now c.args.sender c.args.env.now s) [
       | stmt.CvCreate x y ↦ λ e. absurd (other.not-CvCreate x y e)
       | stmt.MonDestroy x ↦ λ e. absurd (other.not-MonDestroy x e)
       | stmt.Enter x ↦ λ e. absurd (other.not-Enter x e)
@@ -20,5 +20,5 @@ returns-in_default c =
       | stmt.Broadcast x ↦ λ e. absurd (other.not-Broadcast x e)
       | stmt.CvSend x y ↦ λ e. absurd (other.not-CvSend x y e)
       | stmt.CvWaiters x ↦ λ e. absurd (other.not-CvWaiters x e)
-      | _ ↦ λ e. c.plain_call.ensures ∙ ap (plain_call c.args.texts.now) e
+      | _ ↦ λ e. c.set_plain_call.ensures ∙ ap (plain_call c.args.texts.now) e
     ] refl

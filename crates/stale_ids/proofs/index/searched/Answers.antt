@@ -1,7 +1,7 @@
 use Rattle.std.proofs.Common.{rules}
 use Rattle.std.proofs.lemmas.List.Sorted.{answers_always}
 use Rattle.stale_ids.proofs.IndexLemmas.{searched}
-use Rattle.stale_ids.proofs.index.place_of.Goals as goal
+use Rattle.stale_ids.proofs.index.searched.Goals as goal
 
 -- the search compares by the number of each place
 pub returns : goal.returns
