@@ -16,7 +16,7 @@ unset-above word e fits above = ap (λ n. eqb n 1) (bit_at_above word 32 e fits 
 pub noted-none : IsNoted [] 0
 noted-none e = ap (λ n. eqb n 1) (bit_at-zero e)
 
-one_back : (b : Bool) → eqb (cond b 1 0) 1 ≡ b
+pub one_back : (b : Bool) → eqb (cond b 1 0) 1 ≡ b
 one_back true = refl
 one_back false = refl
 

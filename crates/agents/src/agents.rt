@@ -5,7 +5,7 @@ ghost use Rattle.lwp_types.specs.Agents.{event_agent, is_armed};
 ghost use Rattle.lwp_types.specs.State.{agent_numbers, agent_of, all_below};
 ghost use Rattle.agents.specs.Roster.{IsInBirthOrder, created, destroyed, first_of, has_agent_for, held, is_listed, no_agents, released, reserved, without_first};
 
-use crate::marks::{has_bit, next_bit, noted};
+use crate::marks::{has_bit, next_bit, noted, noted_again, with_bit};
 use crate::rows::{agent_for, first_of, numbers, row_of, set_holding, take_out};
 use lwp_types::{AgentRow, IdList, NoMemory, Tid};
 use std::alloc::Global;
@@ -114,7 +114,7 @@ impl Agents {
     {
         if let Some(row) = agent_for(&self.rows, event) {
             set_holding(&mut self.rows, row.number, true);
-            self.armed = noted(&self.rows);
+            self.armed = with_bit(self.armed, row.event, false);
         }
     }
 
@@ -123,8 +123,10 @@ impl Agents {
         requires { IsTrue (is_listed self.old.agents a) }
         ensures { self.new ≡ released self.old a }
     {
-        set_holding(&mut self.rows, a, false);
-        self.armed = noted(&self.rows);
+        if let Some(row) = row_of(&self.rows, a) {
+            set_holding(&mut self.rows, a, false);
+            self.armed = noted_again(self.armed, &self.rows, row.event);
+        }
     }
 
     /// The agent is gone, and its event is free.

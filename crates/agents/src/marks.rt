@@ -2,12 +2,14 @@
 ghost use Rattle.std.specs.Prelude.{◌≡◌, ◌≢◌, ◌<◌, ◌≤◌, if◌then◌else◌, ℕ, All, IfNone, IfSome};
 ghost use Rattle.std.specs.Int.{bit_at};
 ghost use Rattle.std.specs.Slice.Scan.{HoldsNowhere, IsFirstPlace};
+ghost use Rattle.lwp_types.specs.Agents.{is_armed};
 ghost use Rattle.agents.specs.Kept.{IsNoted, is_set};
 
+use crate::rows::agent_for;
 use lwp_types::AgentRow;
 
 // The word with this bit set, or not.
-fn with_bit(word: u32, bit: u8, on: bool) -> u32
+pub fn with_bit(word: u32, bit: u8, on: bool) -> u32
     requires { bit < 32 }
     ensures here { bit_at result bit ≡ (if on then 1 else 0) }
     ensures others { (i : ℕ) → i < 32 → i ≢ bit → bit_at result i ≡ bit_at word i }
@@ -32,6 +34,16 @@ pub fn noted(rows: &[AgentRow]) -> u32
         word = with_bit(word, row.event, !row.holding);
     }
     word
+}
+
+// The word after a change of the agents for this event alone.
+pub fn noted_again(word: u32, rows: &[AgentRow], event: u8) -> u32
+    requires { event < 32 }
+    ensures here { bit_at result event ≡ (if is_armed rows.now event then 1 else 0) }
+    ensures others { (i : ℕ) → i < 32 → i ≢ event → bit_at result i ≡ bit_at word i }
+{
+    let armed = agent_for(rows, event).is_some_and(|row| !row.holding);
+    with_bit(word, event, armed)
 }
 
 // Whether the bit is set.

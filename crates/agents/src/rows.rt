@@ -1,8 +1,9 @@
 // The rows of the agents: which one is meant, and what becomes of it.
-ghost use Rattle.std.specs.Prelude.{◌≡◌, vec_capacity, IfOk};
+ghost use Rattle.std.specs.Prelude.{◌≡◌, vec_capacity, IfOk, IsTrue};
 ghost use Rattle.lwp_types.specs.Agents.{event_agent, without_agent};
 ghost use Rattle.lwp_types.specs.Letters.{with_holding};
-ghost use Rattle.lwp_types.specs.State.{agent_numbers, agent_of};
+ghost use Rattle.lwp_types.specs.State.{agent_numbers, agent_of, rises};
+ghost use Rattle.agents.specs.Kept.{IsAgentAt};
 ghost use Rattle.agents.specs.Roster.{first_of};
 
 use lwp_types::{AgentRow, IdList, NoMemory, Tid};
@@ -15,10 +16,34 @@ pub fn agent_for(rows: &[AgentRow], event: u8) -> Option<AgentRow>
     rows.iter().copied().find(|row| row.event == event)
 }
 
+// Where the agent most likely stands: as far behind the oldest as it was born after that. So those are found at once between whose
+// births there was no other. A wrong place costs a search, and nothing else.
+fn likely_place(rows: &[AgentRow], agent: Tid) -> usize {
+    match rows {
+        [oldest, ..] => agent.number.saturating_sub(oldest.number.number) as usize,
+        [] => 0,
+    }
+}
+
+// Whether the agent stands there.
+fn is_at(rows: &[AgentRow], agent: Tid, at: usize) -> bool
+    ensures { IsTrue result → IsAgentAt agent rows.now at }
+{
+    match rows.get(at) {
+        Some(row) => row.number == agent,
+        None => false,
+    }
+}
+
 // The agent of this number.
 pub fn row_of(rows: &[AgentRow], agent: Tid) -> Option<AgentRow>
+    requires { IsTrue (rises (agent_numbers rows.now)) }
     ensures { result ≡ agent_of rows.now agent }
 {
+    let likely = likely_place(rows, agent);
+    if is_at(rows, agent, likely) {
+        return Some(rows[likely]);
+    }
     rows.iter().copied().find(|row| row.number == agent)
 }
 
@@ -31,9 +56,15 @@ pub fn first_of(rows: &[AgentRow], owner: Tid) -> Option<AgentRow>
 
 // Says of the agent whether it holds a message.
 pub fn set_holding(rows: &mut Vec<AgentRow>, agent: Tid, holding: bool)
+    requires { IsTrue (rises (agent_numbers rows.old.items)) }
     ensures items { rows.new.items ≡ with_holding agent holding rows.old.items }
     ensures capacity { vec_capacity rows.new ≡ vec_capacity rows.old }
 {
+    let likely = likely_place(rows, agent);
+    if is_at(rows, agent, likely) {
+        rows[likely].holding = holding;
+        return;
+    }
     for row in rows.iter_mut() {
         if row.number == agent {
             row.holding = holding;

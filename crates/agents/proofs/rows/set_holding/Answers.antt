@@ -1,3 +1,4 @@
+use Rattle.agents.proofs.Standing.{held_there}
 use Rattle.agents.proofs.rows.set_holding.Goals.{else-eq, then-eq}
 use Rattle.agents.proofs.rows.set_holding.Goals as goal
 use Rattle.lwp_types.specs.Letters.{holding_set}
@@ -13,3 +14,9 @@ loop-row-preserved c =
       | then-eq w ↦ let here = sym c.eq.ensures ∙ w.if-eq.true in more _ (omega (arith, len)) len at.invariant (rw here refl) _ w.row-items-is
       | else-eq w ↦ let other = sym c.eq.ensures ∙ w.if-eq.false in more _ (omega (arith, len)) len at.invariant (rw other refl) _ w.row-items-is
     ]
+
+pub returns-then-is_at-clause-items : goal.returns-then-is_at-clause-items
+returns-then-is_at-clause-items c =
+    let at = rw c.deref-2.ensures.value at c.is_at.ensures c.if-is_at.true in
+    let row = c.index_mut.result.now in
+    rw c.index_mut.ensures.value (held_there c.args.agent c.args.holding c.args.rows.now.items c.likely_place-likely.result row c.requires at.within (at.number row))
