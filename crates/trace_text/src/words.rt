@@ -1,5 +1,5 @@
 // The words that lines are made of. Each function but those that answer a word puts its part at the end of the bytes so far.
-ghost use Rattle.std.specs.Prelude.{◌≡◌, ◌++◌, ◌∷◌, [], OnOk};
+ghost use Rattle.std.specs.Prelude.{◌≡◌, ◌<◌, ◌≤◌, ◌+◌, ◌++◌, ◌∷◌, [], OnOk};
 ghost use Rattle.std.specs.Fmt.{decimal};
 ghost use Rattle.trace_text.specs.Lines.{spaced, id_text, who_text, proc_text, flags_text, letter_if, mode_text, pattern_text, func_text};
 
@@ -57,13 +57,48 @@ pub fn add_spaced(out: &mut Vec<u8>, text: &[u8]) -> Result<(), NoMemory>
     Ok(())
 }
 
-// A number of any length.
+// A number of any length. It stands apart, so that a shorter one makes no room for so many digits.
 #[inline(never)]
 fn add_digits(out: &mut Vec<u8>, n: u64) -> Result<(), NoMemory>
     ensures { OnOk result (out.new.items ≡ out.old.items ++ decimal n) }
 {
     let mut buffer = Buffer::new();
     add_word(out, buffer.format(n).as_bytes())
+}
+
+// The digit of a number below 10.
+fn digit(n: u64) -> u8
+    requires { n < 10 }
+    ensures { result ≡ 48 + n }
+{
+    b'0' + n as u8
+}
+
+// A number of two digits or of three; digit by digit, which costs less than to write them elsewhere and copy them.
+fn add_two_or_three(out: &mut Vec<u8>, n: u64) -> Result<(), NoMemory>
+    requires least { 10 ≤ n }
+    requires most { n < 1000 }
+    ensures { OnOk result (out.new.items ≡ out.old.items ++ decimal n) }
+{
+    out.reserve(3)?;
+    if n >= 100 {
+        out.push_reserved(digit(n / 100));
+    }
+    out.push_reserved(digit(n / 10 % 10));
+    out.push_reserved(digit(n % 10));
+    Ok(())
+}
+
+// A number of two digits or more.
+#[inline(never)]
+fn add_longer(out: &mut Vec<u8>, n: u64) -> Result<(), NoMemory>
+    requires { 10 ≤ n }
+    ensures { OnOk result (out.new.items ≡ out.old.items ++ decimal n) }
+{
+    if n < 1000 {
+        return add_two_or_three(out, n);
+    }
+    add_digits(out, n)
 }
 
 /// A number in decimal. It needs no memory but for the bytes so far.
@@ -75,7 +110,7 @@ pub fn add_number(out: &mut Vec<u8>, n: u64) -> Result<(), NoMemory>
     if n < 10 {
         return add_byte(out, b'0' + n as u8);
     }
-    add_digits(out, n)
+    add_longer(out, n)
 }
 
 // A number behind its letter, or `none` for the number that nobody has.
