@@ -1,3 +1,4 @@
 pub mod Asks
 pub mod Comes
+pub mod Opening
 pub mod Pod

@@ -51,8 +51,7 @@ pub fn carry_out(
     Ok(())
 }
 
-// The caller waits for the reply to its letter. It stands apart, so that a reply makes no room for a letter; so do the receive and
-// the lists.
+// The caller waits for the reply to its letter. It stands apart, so that a reply makes no room for a letter; so does the receive.
 #[inline(never)]
 fn send(
     parts: &mut Parts,

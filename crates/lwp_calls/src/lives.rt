@@ -59,7 +59,7 @@ pub fn carry_out(
 }
 
 // A thread more, which begins in a procedure. It stands apart, so that the calls that are answered a number make no room for its
-// answer; so does the list.
+// answer.
 #[inline(never)]
 fn create(
     parts: &mut Parts,

@@ -51,8 +51,7 @@ pub fn carry_out(
     Ok(())
 }
 
-// A monitor that nobody holds. It stands apart, so that the calls that are answered a number make no room for its answer; so do
-// the lists.
+// A monitor that nobody holds. It stands apart, so that the calls that are answered a number make no room for its answer.
 #[inline(never)]
 fn create(parts: &mut Parts, tid: Tid, effects: &mut Effects) -> Result<(), NoMemory>
     requires step { InStep parts.old }

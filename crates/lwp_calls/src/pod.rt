@@ -13,6 +13,7 @@ ghost use Rattle.lwp_types.specs.State.{is_id, opening};
 ghost use Rattle.lwp_types.specs.Step.{case_of, step, end_effects, ends};
 ghost use Rattle.lwp_calls.specs.Asks.{asks_memory};
 ghost use Rattle.lwp_calls.specs.Comes.{IsAsBefore, Told};
+ghost use Rattle.lwp_calls.specs.Opening.{no_thread};
 ghost use Rattle.lwp_calls.specs.Pod.{ForgetsTheDead, RunsExitsOnce, called_by, current_of, ending_of, is_refusal};
 
 use crate::asks::all_serve;
@@ -78,23 +79,17 @@ fn beginner(alloc: Global, flags: Flags) -> Result<ThreadRec, NoMemory>
     })
 }
 
-// The parts of a pod as it is made.
-fn first_parts(alloc: Global, params: PodParams) -> Result<Parts, NoMemory>
+// The parts of a pod with nobody in it.
+fn no_thread(alloc: Global, params: PodParams) -> Result<Parts, NoMemory>
     requires least { 1 ≤ params.maxpri }
     requires most { params.maxpri ≤ 255 }
-    requires births { 1 ≤ params.births }
-    ensures state { IfOk result (λ parts. state_of parts ≡ opening params) }
-    ensures step { IfOk result (λ parts. InStep parts) }
-    ensures alone { IfOk result (λ parts. parts.dying ≡ None) }
+    ensures { IfOk result (λ parts. parts ≡ no_thread params) }
 {
-    let flags = Flags {
-        suspended: false,
-        nolastrites: false,
-        server: false,
-    };
-    let mut parts = Parts {
+    let sched = Sched::new(alloc, params.maxpri)?;
+    let named = Named::new(alloc)?;
+    Ok(Parts {
         ids: Registry::new(alloc, params.births),
-        sched: Sched::new(alloc, params.maxpri)?,
+        sched,
         mail: Mail::new(alloc),
         mons: Monitors::new(alloc, params.births),
         conds: Conds::new(alloc, params.births),
@@ -106,16 +101,46 @@ fn first_parts(alloc: Global, params: PodParams) -> Result<Parts, NoMemory>
         pattern: 1_073_741_824,
         dying: None,
         last_prio: 0,
-        named: Named::new(alloc)?,
-    };
+        named,
+    })
+}
+
+// The first thread begins, in a pod with nobody in it.
+fn first_thread(parts: &mut Parts, alloc: Global, params: PodParams) -> Result<(), NoMemory>
+    requires least { 1 ≤ params.maxpri }
+    requires births { 1 ≤ params.births }
+    requires empty { parts.old ≡ no_thread params }
+    ensures state { OnOk result (state_of parts.new ≡ opening params) }
+    ensures step { OnOk result (InStep parts.new) }
+    ensures alone { OnOk result (parts.new.dying ≡ None) }
+{
     parts.ids.reserve(1)?;
     parts.sched.reserve(1)?;
     parts.mail.reserve(1)?;
     parts.mons.reserve(1)?;
     parts.conds.reserve(1)?;
+    let flags = Flags {
+        suspended: false,
+        nolastrites: false,
+        server: false,
+    };
     let first = beginner(alloc, flags)?;
     parts.sched.admit(Tid { number: 0 }, params.maxpri, false);
     let _ = parts.ids.insert(Kind::Thread(first));
+    Ok(())
+}
+
+// The parts of a pod as it is made.
+fn first_parts(alloc: Global, params: PodParams) -> Result<Parts, NoMemory>
+    requires least { 1 ≤ params.maxpri }
+    requires most { params.maxpri ≤ 255 }
+    requires births { 1 ≤ params.births }
+    ensures state { IfOk result (λ parts. state_of parts ≡ opening params) }
+    ensures step { IfOk result (λ parts. InStep parts) }
+    ensures alone { IfOk result (λ parts. parts.dying ≡ None) }
+{
+    let mut parts = no_thread(alloc, params)?;
+    first_thread(&mut parts, alloc, params)?;
     Ok(parts)
 }
 

@@ -48,8 +48,7 @@ pub fn carry_out(
     Ok(())
 }
 
-// A condition of the monitor. It stands apart, so that the calls that are answered a number make no room for its answer; so do the
-// lists.
+// A condition of the monitor. It stands apart, so that the calls that are answered a number make no room for its answer.
 #[inline(never)]
 fn create(parts: &mut Parts, tid: Tid, mon: Mid, effects: &mut Effects) -> Result<(), NoMemory>
     requires step { InStep parts.old }

@@ -8,7 +8,7 @@ ghost use Rattle.script_text.specs.Declaring.{only_name, spaced_word, proc_on, n
 ghost use Rattle.script_text.specs.Grammar.{has, keeps_rule, may_stand_at};
 ghost use Rattle.script_text.specs.Spelling.{Gives, word_reason, reason_behind, reason_of, noted};
 ghost use Rattle.script_text.specs.Meaning.{enter};
-ghost use Rattle.script_text.specs.Track.{mention_of, first_missing};
+ghost use Rattle.script_text.specs.Track.{first_missing, mention_of, name_at};
 
 use crate::Script;
 use crate::counts::Counts;
@@ -174,16 +174,22 @@ fn may_stand_at(stage: Stage, declared: &Declared, posted: &Counts, phrase: &Phr
     stage.allows(role) && keeps_rule(declared, posted, role, phrase)
 }
 
+// Whether the procedure that a line mentions is declared.
+fn is_known(declared: &Declared, names: &[Text], mention: &Mention) -> bool
+    ensures { result ≡ has declared.now mention.now.any (name_at names.now mention.now.name) }
+{
+    match names.get(mention.name as usize) {
+        None => declared.has(mention.any, &[]),
+        Some(name) => declared.has(mention.any, name.bytes()),
+    }
+}
+
 // The line of the first mention of a procedure that isn't declared.
 fn first_missing(declared: &Declared, names: &[Text], mentions: &[Mention]) -> Option<u32>
     ensures { result ≡ first_missing declared.now names.now mentions.now }
 {
     for mention in mentions {
-        let is_declared = match names.get(mention.name as usize) {
-            None => declared.has(mention.any, &[]),
-            Some(name) => declared.has(mention.any, name.bytes()),
-        };
-        if !is_declared {
+        if !is_known(declared, names, mention) {
             return Some(mention.line);
         }
     }
