@@ -9,7 +9,4 @@ pub mod ScriptLaws
 pub mod LimitLaws
 pub mod KeptLaws
 pub mod PieceLaws
-pub mod BackLaws
-pub mod PrintLaws
-pub mod SectionLaws
 pub mod FirstBadLaws

@@ -6,7 +6,6 @@ use Rattle.script_lines.specs.Phrase.{Phrase}
 use Rattle.script_lines.specs.Line.{phrase_text, IsLine}
 use Rattle.script_text.specs.Grammar.{AllStand, may_stand, is_declared, Spells}
 use Rattle.script_text.specs.Meaning.{script_of}
-use Rattle.script_text.specs.Printing.{printed}
 use Rattle.script_text.specs.Spelling.{cut, declared_in, reason_at, verdict}
 use Rattle.script_text.specs.declared.reader.Declared.{Declared}
 use Rattle.script_text.specs.declared.reason.Reason.{Reason}
@@ -20,10 +19,6 @@ SpellsOne text = (s t : Script) → Spells text s → Spells text t → s ≡ t
 -- the verdict on a text is a script exactly where the text spells it
 abbrev pub IsVerdict : List ℕ → Type 0
 IsVerdict text = (s : Script) → (Spells text s ↔ (verdict text ≡ Ok s))
-
--- the printed text of a script that some text spells is a spelling of it too
-abbrev pub PrintsBack : Script → Type 0
-PrintsBack s = (text : List ℕ) → Spells text s → Spells (printed s) s
 
 -- ---- The first bad line.
 

@@ -8,5 +8,4 @@ pub mod Spelling
 pub mod Track
 pub mod Kept
 pub mod Pieces
-pub mod Printing
 pub mod Laws

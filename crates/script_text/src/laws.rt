@@ -1,7 +1,6 @@
 // Laws on texts and scripts.
 ghost use Rattle.std.specs.Prelude.{ℕ, List};
-ghost use Rattle.script_text.specs.Laws.{SpellsOne, IsVerdict, PrintsBack, IsBlamed};
-ghost use Rattle.script_text.specs.declared.script.Script.{Script};
+ghost use Rattle.script_text.specs.Laws.{SpellsOne, IsVerdict, IsBlamed};
 
 /// A text spells one script at most.
 pub fn one_script()
@@ -11,11 +10,6 @@ pub fn one_script()
 /// The verdict on a text is a script exactly where the text spells it.
 pub fn spelt_is_verdict()
     ensures { (text : List ℕ) → IsVerdict text }
-{}
-
-/// The printed text of a script that some text spells is a spelling of it, so what is printed is read as it was.
-pub fn printed_is_spelt()
-    ensures { (s : Script) → PrintsBack s }
 {}
 
 /// Where the verdict on a text is the number of a line and a reason, all lines before it are good where they stand, and this

@@ -5,8 +5,8 @@
 //! with the first reason that fits. The reader answers the verdict, so it reads a script exactly where one is spelt. A text
 //! spells one script at most, and a pod can be made for each.
 //!
-//! The crate stands on the words of `lwp_types`, on `script_lines` and `line_writer` for single lines, on `trace_text` for what
-//! scripts and traces write alike, on the search for a byte of `memchr`, and, so that a name is found at once, on `indexmap`.
+//! The crate stands on the words of `lwp_types`, on `script_lines` for single lines, on the search for a byte of `memchr`, and, so
+//! that a name is found at once, on `indexmap`. `script_printer` writes a script back.
 #![tactic(auto)]
 
 mod counts;
@@ -14,7 +14,6 @@ mod draft;
 mod laws;
 mod names;
 mod pieces;
-mod printing;
 mod reader;
 mod reading;
 mod reason;
@@ -22,10 +21,9 @@ mod script;
 mod stage;
 mod texts;
 
-pub use laws::{first_bad_is_blamed, one_script, printed_is_spelt, spelt_is_verdict};
+pub use laws::{first_bad_is_blamed, one_script, spelt_is_verdict};
 pub use names::NameList;
 pub use pieces::ScriptReader;
-pub use printing::print_script;
 pub use reading::read_script;
 pub use reason::{ReadErr, Reason};
 pub use script::{ExitStmt, Names, Native, NativeKind, Post, Proc, Script, Stmt, Who};

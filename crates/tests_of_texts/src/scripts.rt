@@ -1,3 +1,4 @@
+use script_printer::print_script;
 use script_text::*;
 use std::alloc::Global;
 

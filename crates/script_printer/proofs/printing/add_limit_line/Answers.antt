@@ -1,7 +1,7 @@
 use Rattle.std.proofs.Common.{◌≡◌, ◌++◌, ℕ, List, ap, append_assoc, subst, ◌∙◌}
 use Rattle.std.specs.Fmt.{decimal}
 use Rattle.std.specs.Prelude.{OnOk, codes}
-use Rattle.script_text.proofs.printing.add_limit_line.Goals as goal
+use Rattle.script_printer.proofs.printing.add_limit_line.Goals as goal
 
 pub returns : goal.returns
 returns c =

@@ -4,17 +4,18 @@ ghost use Rattle.std.specs.Fmt.{decimal};
 ghost use Rattle.std.specs.List.{flat_map};
 ghost use Rattle.script_lines.specs.Line.{phrase_text, ended};
 ghost use Rattle.script_text.specs.Grammar.{spelling};
-ghost use Rattle.script_text.specs.Printing.{with_who, with_source, exit_line, plain_line, lock_line, stmt_line, limit_lines, client_line, client_lines, native_line, proc_lines, post_line, printed};
+ghost use Rattle.script_printer.specs.Printing.{with_who, with_source, exit_line, plain_line, lock_line, stmt_line, limit_lines, client_line, client_lines, native_line, proc_lines, post_line, printed};
 ghost use Rattle.script_text.specs.Track.{name_at};
 
-use crate::names::NameList;
-use crate::{ExitStmt, Names, Native, NativeKind, Post, Proc, Script, Stmt, Texts, Who};
 use line_writer::{
     add_line, agent_line, cond_line, create_line, cv_create_line, handle_line, mon_line,
     number_line, proc_line, receive_line, send_line, skip_line, text_line, with_session, with_whom,
 };
 use lwp_types::NoMemory;
 use script_lines::{Op, Phrase, Whom, blank};
+use script_text::{
+    ExitStmt, NameList, Names, Native, NativeKind, Post, Proc, Script, Stmt, Texts, Who,
+};
 use std::alloc::Global;
 use trace_text::{add_number, add_text};
 

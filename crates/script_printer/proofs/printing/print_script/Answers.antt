@@ -3,9 +3,9 @@ use Rattle.std.specs.List.{flat_map}
 use Rattle.script_lines.specs.Line.{ended, phrase_text}
 use Rattle.script_text.specs.Grammar.{spelling}
 use Rattle.script_lines.specs.Phrase.{Phrase}
-use Rattle.script_text.specs.Printing.{client_lines, native_line, proc_lines, post_line, limit_lines}
-use Rattle.script_text.proofs.SectionLaws.{printed_in_turn}
-use Rattle.script_text.proofs.printing.print_script.Goals as goal
+use Rattle.script_printer.specs.Printing.{client_lines, native_line, proc_lines, post_line, limit_lines}
+use Rattle.script_printer.proofs.SectionLaws.{printed_in_turn}
+use Rattle.script_printer.proofs.printing.print_script.Goals as goal
 
 pub returns : goal.returns
 returns c =
