@@ -1,6 +1,6 @@
 // Scripts with one thing wrong.
 ghost use Rattle.std.specs.Prelude.{◌≡◌, IfOk};
-ghost use Rattle.corpus.specs.Rows.{damaged};
+ghost use Rattle.corpus.specs.Damages.{damaged};
 
 use lwp_types::NoMemory;
 use std::alloc::Global;

@@ -2,8 +2,8 @@
 //!
 //! `data/rows` is a table, a row a line: a name, the file with the script, the file with the text that is wanted, the status that
 //! is wanted, and the program's words. Each row is run through `lwp_serve::top` over streams in memory, and one line is printed
-//! for it: `same`, or else the first line that differs, or the status where all lines are the same. `compare` is proved to say
-//! so, over `first_difference`. What the files hold no contract can say.
+//! for it: `same`, or else the first line that differs, or the status where all lines are the same. `compare` of `stored_rows` is
+//! proved to say so. What the files hold no contract can say.
 //!
 //! How the text is compared is said by the last part of its file's name:
 //!
@@ -15,35 +15,26 @@
 //! A row is added by its files, its line in `data/rows`, and its line in `stdout`: `sed 's/ .*/: same/' data/rows > stdout`. Its
 //! text is worked out by hand, and never taken from the program.
 //!
-//! The crate stands on `lwp_serve`, and on the streams of `lwp_types`.
+//! The crate stands on `lwp_serve`, on the rows of `stored_rows`, and on the streams of `lwp_types`.
 #![tactic(auto)]
 
 mod damage;
-mod difference;
 mod outcome;
-mod row;
-mod verdict;
 
 use lwp_types::NoMemory;
 use outcome::{Outcome, damaged_sessions, session};
-use row::{Row, row_of};
 use std::alloc::Global;
-use std::io::{ErrorKind, Write};
 use std::process::ExitCode;
 use std::sync::Wait;
 use std::thread::Threads;
 use std::{fs, io};
-use verdict::{Verdict, compare, ending};
+use stored_rows::{Row, Verdict, compare, ending, io_error, print_verdict, row_of};
 
 fn main(rt: HostRuntime) -> ExitCode {
     match print_rows(&rt, &rt) {
         Ok(true) => ExitCode::SUCCESS,
         Ok(false) | Err(_) => ExitCode::FAILURE,
     }
-}
-
-fn io_error(_: NoMemory) -> io::Error {
-    ErrorKind::OutOfMemory.into()
 }
 
 // Prints a line for each row, and answers whether all are the same.
@@ -69,7 +60,7 @@ fn print_row<R: Threads + Wait + Sync>(
     threads: &R,
     row: &Row<'_>,
 ) -> io::Result<bool> {
-    let (Ok(script), Ok(wanted)) = (fs::read(rt, row.script), fs::read(rt, row.text)) else {
+    let (Ok(script), Ok(wanted)) = (fs::read(rt, row.given), fs::read(rt, row.wanted)) else {
         println!(rt; "{}: a file is missing", row.name)?;
         return Ok(false);
     };
@@ -87,7 +78,7 @@ fn outcome_of<R: Threads + Wait + Sync>(
     row: &Row<'_>,
     script: &[u8],
 ) -> Result<Outcome, NoMemory> {
-    if row.text.ends_with(".damages") {
+    if row.wanted.ends_with(".damages") {
         damaged_sessions(threads, alloc, &row.words, script)
     } else {
         session(threads, alloc, &row.words, script)
@@ -96,32 +87,9 @@ fn outcome_of<R: Threads + Wait + Sync>(
 
 // As much of the text as is compared.
 fn compared<'t>(row: &Row<'_>, text: &'t [u8], count: usize) -> &'t [u8] {
-    if row.text.ends_with(".tail") {
+    if row.wanted.ends_with(".tail") {
         ending(text, count)
     } else {
         text
-    }
-}
-
-// A line without the newline that ends it.
-fn without_end(line: &[u8]) -> &[u8] {
-    match line {
-        [text @ .., b'\n'] => text,
-        _ => line,
-    }
-}
-
-fn print_verdict(rt: &HostRuntime, name: &str, said: &Verdict<'_>) -> io::Result<()> {
-    match said {
-        Verdict::Same => println!(rt; "{name}: same"),
-        Verdict::Status(status) => println!(rt; "{name}: status {status}"),
-        Verdict::Line(difference) => {
-            print!(rt; "{name}: line {}: ", difference.number)?;
-            let mut out = rt.stdout();
-            out.write_all(without_end(difference.found))?;
-            out.write_all(b", and not: ")?;
-            out.write_all(without_end(difference.wanted))?;
-            out.write_all(b"\n")
-        }
     }
 }

@@ -2,16 +2,17 @@
 //!
 //! `data/rows` is a table, a row a line: a name, the file with the trace, the file with what is wanted, the status that is wanted,
 //! and the words. What is wanted is the page, or what is said on standard error. Each row is run over streams in memory, and one
-//! line is printed for it: `same`, or `differs`. The pages were looked at in a browser before they were stored.
+//! line is printed for it: `same`, or the first line that differs, or the status where all lines are the same. The pages were
+//! looked at in a browser before they were stored.
 //!
 //! Behind the rows comes a trace of 6,001 calls, of which 5,000 are drawn.
 #![tactic(auto)]
 
 use lwp_types::{MemSink, MemSource, NoMemory};
 use std::alloc::Global;
-use std::io::ErrorKind;
 use std::process::ExitCode;
 use std::{fs, io};
+use stored_rows::{Row, Verdict, compare, io_error, print_verdict, row_of};
 use trace_view::{fault_text, status_of, view};
 
 // A page has room for so many bytes, of which the sink takes at most so many at once.
@@ -22,52 +23,11 @@ const PER_CALL: usize = 1000;
 // So many times the long trace says the same.
 const ROUNDS: u32 = 6_000;
 
-/// A row: its name, the files with the trace and with what is wanted, the status that is wanted, and the words.
-#[derive(Drop)]
-struct Row<'t> {
-    name: &'t str,
-    trace: &'t str,
-    wanted: &'t str,
-    status: u8,
-    words: Vec<String>,
-}
-
 fn main(rt: HostRuntime) -> ExitCode {
     match print_rows(&rt) {
         Ok(true) => ExitCode::SUCCESS,
         Ok(false) | Err(_) => ExitCode::FAILURE,
     }
-}
-
-fn io_error(_: NoMemory) -> io::Error {
-    ErrorKind::OutOfMemory.into()
-}
-
-// The row that a line writes, if it has all four words of one in front.
-fn row_of(alloc: Global, line: &str) -> Result<Option<Row<'_>>, NoMemory> {
-    let mut parts = line.split_whitespace();
-    let (Some(name), Some(trace), Some(wanted), Some(status)) = (
-        parts.next(),
-        parts.next(),
-        parts.next(),
-        parts.next(),
-    ) else {
-        return Ok(None);
-    };
-    let Ok(status) = status.parse::<u8>() else {
-        return Ok(None);
-    };
-    let mut words = Vec::new(alloc);
-    for word in parts {
-        words.push(word.to_string(alloc)?)?;
-    }
-    Ok(Some(Row {
-        name,
-        trace,
-        wanted,
-        status,
-        words,
-    }))
 }
 
 // What a trace comes to: the page, or what is said on standard error; and the status.
@@ -98,16 +58,16 @@ fn print_rows(rt: &HostRuntime) -> io::Result<bool> {
     Ok(all_same)
 }
 
+// Draws a row's trace, prints its line, and answers whether it is the same.
 fn print_row(rt: &HostRuntime, row: &Row<'_>) -> io::Result<bool> {
-    let (Ok(trace), Ok(wanted)) = (fs::read(rt, row.trace), fs::read(rt, row.wanted)) else {
+    let (Ok(trace), Ok(wanted)) = (fs::read(rt, row.given), fs::read(rt, row.wanted)) else {
         println!(rt; "{}: a file is missing", row.name)?;
         return Ok(false);
     };
     let (status, text) = outcome(rt.alloc(), &row.words, trace.as_slice()).map_err(io_error)?;
-    let same = status == row.status && text.as_slice() == wanted.as_slice();
-    let word = if same { "same" } else { "differs" };
-    println!(rt; "{}: {word}", row.name)?;
-    Ok(same)
+    let said = compare(status, text.as_slice(), row.status, wanted.as_slice());
+    print_verdict(rt, row.name, &said)?;
+    Ok(matches!(said, Verdict::Same))
 }
 
 fn long_trace(alloc: Global) -> Result<Vec<u8>, NoMemory> {

@@ -2,12 +2,13 @@
 use lwp_types::NoMemory;
 use std::alloc::Global;
 
-/// A row: its name, the files with the script and the text that is wanted, the status that is wanted, and the program's words.
+/// A row: its name, the file that is given, the file with the text that is wanted, the status that is wanted, and the program's
+/// words.
 #[derive(Drop)]
 pub struct Row<'t> {
     pub name: &'t str,
-    pub script: &'t str,
-    pub text: &'t str,
+    pub given: &'t str,
+    pub wanted: &'t str,
     pub status: u8,
     pub words: Vec<String>,
 }
@@ -15,7 +16,7 @@ pub struct Row<'t> {
 /// The row that a line writes, if it has all four words of one in front.
 pub fn row_of(alloc: Global, line: &str) -> Result<Option<Row<'_>>, NoMemory> {
     let mut parts = line.split_whitespace();
-    let (Some(name), Some(script), Some(text), Some(status)) = (
+    let (Some(name), Some(given), Some(wanted), Some(status)) = (
         parts.next(),
         parts.next(),
         parts.next(),
@@ -32,8 +33,8 @@ pub fn row_of(alloc: Global, line: &str) -> Result<Option<Row<'_>>, NoMemory> {
     }
     Ok(Some(Row {
         name,
-        script,
-        text,
+        given,
+        wanted,
         status,
         words,
     }))

@@ -1,6 +1,6 @@
 // What is said of a row.
 ghost use Rattle.std.specs.Prelude.{◌≡◌};
-ghost use Rattle.corpus.specs.Rows.{Says, ending};
+ghost use Rattle.stored_rows.specs.Rows.{Says, ending};
 
 use crate::difference::{Difference, first_difference};
 

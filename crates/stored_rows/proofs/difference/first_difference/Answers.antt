@@ -1,10 +1,10 @@
 use Rattle.std.proofs.Common.{rules, arith, ◌≡◌, ◌≤◌, ◌+◌, ◌-◌, [], length, suc, take}
 use Rattle.std.proofs.lemmas.List.{length-drop, nil_from_length}
 use Rattle.std.proofs.lemmas.Slice.Eq.{bytes_eq-Decides}
-use Rattle.corpus.specs.Lines.{line_end}
-use Rattle.corpus.proofs.LineLaws.{all_same, first_is, has_byte, one_more_left, one_more_same}
-use Rattle.corpus.proofs.difference.first_difference.Goals as goal
-use Rattle.corpus.proofs.difference.first_difference.Goals.{then-not-is_empty, else-not-is_empty+then-not-is_empty-2}
+use Rattle.stored_rows.specs.Lines.{line_end}
+use Rattle.stored_rows.proofs.LineLaws.{all_same, first_is, has_byte, one_more_left, one_more_same}
+use Rattle.stored_rows.proofs.difference.first_difference.Goals as goal
+use Rattle.stored_rows.proofs.difference.first_difference.Goals.{then-not-is_empty, else-not-is_empty+then-not-is_empty-2}
 
 pub returns-then-ne-clause-first : goal.returns-then-ne-clause-first
 returns-then-ne-clause-first c =

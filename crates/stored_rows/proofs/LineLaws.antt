@@ -1,6 +1,6 @@
 -- The lines of a text, one after the other.
 use Rattle.std.proofs.Common.{List, [], ap, arith, cond, drop, eqb, false, length, refl, suc, sym, take, true, zero, ℕ, ◌++◌, ◌+◌, ◌∷◌, ◌≡◌, ◌≤◌}
-use Rattle.corpus.specs.Lines.{first_of, line_end, lines, onto_first}
+use Rattle.stored_rows.specs.Lines.{first_of, line_end, lines, onto_first}
 
 -- lines joined are the text
 abbrev pub joined : List (List ℕ) → List ℕ

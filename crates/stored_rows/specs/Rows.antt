@@ -1,15 +1,8 @@
--- What a row runs, and what is said of it.
-use Rattle.corpus.specs.Lines.{IsFirstDifference, lines}
-use Rattle.corpus.specs.declared.damage.Damage.{Damage}
-use Rattle.corpus.specs.declared.damage.Damage.TheVariants as damage
-use Rattle.corpus.specs.declared.verdict.Verdict.{Verdict}
-use Rattle.corpus.specs.declared.verdict.Verdict.TheVariants as verdict
-use Rattle.std.specs.Prelude.{Bool, List, drop, false, if◌then◌else◌, length, slice_index, slice_set, take, ℕ, ◌-◌, ◌==◌, ◌||◌, ◌≡◌}
-
--- a script with one thing wrong: it ends early, or one byte of it is zero
-abbrev pub damaged : Damage → List ℕ → List ℕ
-damaged (damage.Cut n) script = take n script
-damaged (damage.Zero n) script = slice_set script n 0
+-- What is said of a row.
+use Rattle.std.specs.Prelude.{Bool, List, drop, false, if◌then◌else◌, length, slice_index, ℕ, ◌-◌, ◌==◌, ◌||◌, ◌≡◌}
+use Rattle.stored_rows.specs.Lines.{IsFirstDifference, lines}
+use Rattle.stored_rows.specs.declared.verdict.Verdict.{Verdict}
+use Rattle.stored_rows.specs.declared.verdict.Verdict.TheVariants as verdict
 
 -- whether a line begins at this byte
 abbrev pub begins_line : ℕ → List ℕ → Bool

@@ -1,6 +1,6 @@
 use Rattle.std.proofs.Common.{◌≡◌, ◌≤◌, ◌+◌, ◌-◌, drop, length, take}
-use Rattle.corpus.specs.Lines.{lines}
-use Rattle.corpus.proofs.difference.first_difference.Given as goal
+use Rattle.stored_rows.specs.Lines.{lines}
+use Rattle.stored_rows.proofs.difference.first_difference.Given as goal
 
 abbrev pub invariant-loop-left : goal.invariant-loop-left
 invariant-loop-left l = record {
