@@ -6,7 +6,7 @@ ghost use Rattle.lwp_types.specs.State.{agent_numbers, agent_of, rises};
 ghost use Rattle.agents.specs.Kept.{IsAgentAt};
 ghost use Rattle.agents.specs.Roster.{first_of};
 
-use lwp_types::{AgentRow, IdList, NoMemory, Tid};
+use lwp_types::{AgentRow, IdList, NoMemory, Tid, likely_place};
 use std::alloc::Global;
 
 // The first agent of the event.
@@ -16,12 +16,11 @@ pub fn agent_for(rows: &[AgentRow], event: u8) -> Option<AgentRow>
     rows.iter().copied().find(|row| row.event == event)
 }
 
-// Where the agent most likely stands: as far behind the oldest as it was born after that. So those are found at once between whose
-// births there was no other. A wrong place costs a search, and nothing else.
-fn likely_place(rows: &[AgentRow], agent: Tid) -> usize {
-    match rows {
-        [oldest, ..] => agent.number.saturating_sub(oldest.number.number) as usize,
-        [] => 0,
+// Where the agent most likely stands.
+fn guessed(rows: &[AgentRow], agent: Tid) -> usize {
+    match rows.first() {
+        Some(oldest) => likely_place(agent.number, oldest.number.number, rows.len()),
+        None => 0,
     }
 }
 
@@ -40,7 +39,7 @@ pub fn row_of(rows: &[AgentRow], agent: Tid) -> Option<AgentRow>
     requires { IsTrue (rises (agent_numbers rows.now)) }
     ensures { result ≡ agent_of rows.now agent }
 {
-    let likely = likely_place(rows, agent);
+    let likely = guessed(rows, agent);
     if is_at(rows, agent, likely) {
         return Some(rows[likely]);
     }
@@ -60,7 +59,7 @@ pub fn set_holding(rows: &mut Vec<AgentRow>, agent: Tid, holding: bool)
     ensures items { rows.new.items ≡ with_holding agent holding rows.old.items }
     ensures capacity { vec_capacity rows.new ≡ vec_capacity rows.old }
 {
-    let likely = likely_place(rows, agent);
+    let likely = guessed(rows, agent);
     if is_at(rows, agent, likely) {
         rows[likely].holding = holding;
         return;

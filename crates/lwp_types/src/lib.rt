@@ -26,7 +26,7 @@ pub use env::Env;
 pub use family::{
     AgentCall, Family, LetterCall, LifeCall, LockCall, MarkCall, NumberCall, TurnCall, WaitCall,
 };
-pub use ids::{Cid, Mid, NULL_CID, NULL_MID, NULL_TID, NoMemory, Tid};
+pub use ids::{Cid, Mid, NULL_CID, NULL_MID, NULL_TID, NoMemory, Tid, likely_place};
 pub use memory::{MemSink, MemSource};
 pub use rows::{AgentRow, Block, CondRow, ExitMark, Found, Letter, Lock, Mark, Request, WaitRow};
 pub use sequence::{IdList, Sequence};

@@ -5,7 +5,7 @@ ghost use Rattle.pod_runner.specs.Polls.{AreRising, ComesLast, Polls, place_of};
 ghost use Rattle.pod_runner.specs.declared.session.Row.{Row};
 
 use crate::Row;
-use lwp_types::{Answer, Body, Call, Env, IdList, NoMemory, Program, Tid};
+use lwp_types::{Answer, Body, Call, Env, IdList, NoMemory, Program, Tid, likely_place};
 use std::alloc::Global;
 use std::marker::Model;
 
@@ -150,14 +150,12 @@ fn is_at<B>(rows: &Vec<Row<B>>, tid: Tid, at: usize) -> bool
     at < rows.len() && rows[at].tid == tid
 }
 
-// Where a thread's row is most likely to be: as far behind the oldest as it was born after that, or last. So a row is found at once
-// where nobody has died between them, and so is the youngest.
-fn likely_place<B>(rows: &Vec<Row<B>>, tid: Tid) -> usize {
-    if rows.is_empty() {
-        return 0;
+// Where a thread's row most likely is.
+fn guessed<B>(rows: &Vec<Row<B>>, tid: Tid) -> usize {
+    match rows.first() {
+        Some(oldest) => likely_place(tid.number, oldest.tid.number, rows.len()),
+        None => 0,
     }
-    let behind = tid.number.saturating_sub(rows[0].tid.number) as usize;
-    behind.min(rows.len() - 1)
 }
 
 // Whether all rows are of older threads, if their numbers rise.
@@ -246,7 +244,7 @@ impl<B> RowList<B> {
         if is_at(&self.rows, tid, self.last) {
             return self.last;
         }
-        let likely = likely_place(&self.rows, tid);
+        let likely = guessed(&self.rows, tid);
         if is_at(&self.rows, tid, likely) {
             return likely;
         }

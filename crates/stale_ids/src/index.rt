@@ -2,6 +2,8 @@
 ghost use Rattle.std.specs.Prelude.{IfNone, IfSome, IsTrue};
 ghost use Rattle.stale_ids.specs.Index.{IsAbsent, IsAt, IsRising};
 
+use lwp_types::likely_place;
+
 /// A number, and the key of its value.
 #[derive(Clone, Copy)]
 pub struct Place {
@@ -9,14 +11,11 @@ pub struct Place {
     pub slot: usize,
 }
 
-// Where a number is most likely to stand: as far behind the oldest as it was born after that, or last. So the living are found at
-// once where nobody has died between them, and so is the youngest.
-fn likely_place(index: &[Place], number: u64) -> usize {
-    match index {
-        [oldest, younger @ ..] => (number.saturating_sub(oldest.number) as usize).min(
-            younger.len(),
-        ),
-        [] => 0,
+// Where a number most likely stands.
+fn guessed(index: &[Place], number: u64) -> usize {
+    match index.first() {
+        Some(oldest) => likely_place(number, oldest.number, index.len()),
+        None => 0,
     }
 }
 
@@ -45,7 +44,7 @@ pub fn place_of(index: &[Place], number: u64) -> Option<usize>
     ensures absent { IfNone result (IsAbsent number index.now) }
     ensures found { IfSome result (IsAt number index.now) }
 {
-    let likely = likely_place(index, number);
+    let likely = guessed(index, number);
     if is_at(index, number, likely) {
         return Some(likely);
     }

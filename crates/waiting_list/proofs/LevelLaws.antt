@@ -9,7 +9,7 @@ use Rattle.std.proofs.lemmas.Bool.{eqb-true, ne_eqb, eq-eqb}
 use Rattle.std.proofs.lemmas.List.Quantifiers.{position-Some}
 use Rattle.std.proofs.lemmas.List.Sums.{sum_by-append, sum_by-cons, sum_by-remove, sum_by-set}
 use Rattle.std.specs.List.{AllByRecursion, filter, position, remove, sum_by}
-use Rattle.waiting_list.proofs.Only.{count_unplaced}
+use Rattle.lwp_types.specs.OnlyLaws.{count_unplaced}
 use Rattle.waiting_list.specs.Levels.{AreSome, count_in, counted, is_level, is_level_for, one_at, top_of, total}
 use Rattle.waiting_list.specs.declared.levels.Level.{Level}
 

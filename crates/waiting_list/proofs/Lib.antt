@@ -1,3 +1,2 @@
-pub mod Only
 pub mod LevelLaws
 pub mod LineLaws

@@ -10,7 +10,7 @@ use Rattle.std.proofs.lemmas.List.{length-set, length_push}
 use Rattle.std.specs.List.{filter, find, fold, list_any, position, remove}
 use Rattle.std.specs.Option.{OnSome}
 use Rattle.waiting_list.proofs.LevelLaws.{length-le-total, no_top, top_is}
-use Rattle.waiting_list.proofs.Only.{count_at, remove_only, set_only}
+use Rattle.lwp_types.specs.OnlyLaws.{count_at, remove_only, set_only}
 use Rattle.waiting_list.specs.Kept.{IsKept, count_of}
 use Rattle.waiting_list.specs.Levels.{AreSome, counted, one_at, top_of, total}
 use Rattle.waiting_list.specs.Line.{is_for, is_thread, priority_set}

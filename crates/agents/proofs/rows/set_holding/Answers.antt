@@ -19,4 +19,4 @@ pub returns-then-is_at-clause-items : goal.returns-then-is_at-clause-items
 returns-then-is_at-clause-items c =
     let at = rw c.deref-2.ensures.value at c.is_at.ensures c.if-is_at.true in
     let row = c.index_mut.result.now in
-    rw c.index_mut.ensures.value (held_there c.args.agent c.args.holding c.args.rows.now.items c.likely_place-likely.result row c.requires at.within (at.number row))
+    rw c.index_mut.ensures.value (held_there c.args.agent c.args.holding c.args.rows.now.items c.guessed-likely.result row c.requires at.within (at.number row))

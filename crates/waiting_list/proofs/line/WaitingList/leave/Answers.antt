@@ -1,6 +1,6 @@
 use Rattle.std.proofs.Common.{ap, arith, sym, ◌∙◌}
 use Rattle.waiting_list.proofs.LineLaws.{IsKept-left, counted_there, left_there, if_taken, within}
-use Rattle.waiting_list.proofs.Only.{count_unplaced, filter_none}
+use Rattle.lwp_types.specs.OnlyLaws.{count_unplaced, filter_none}
 use Rattle.waiting_list.proofs.line.WaitingList.leave.Goals as goal
 use Rattle.waiting_list.specs.Line.{is_thread}
 

@@ -1,6 +1,6 @@
 use Rattle.std.proofs.Common.{ap, cond, sym}
 use Rattle.waiting_list.proofs.LineLaws.{IsKept-prioritized, counted_there, prioritized_there, room_again}
-use Rattle.waiting_list.proofs.Only.{count_unplaced, map_none}
+use Rattle.lwp_types.specs.OnlyLaws.{count_unplaced, map_none}
 use Rattle.waiting_list.proofs.line.WaitingList.set_prio.Goals as goal
 use Rattle.waiting_list.specs.Line.{is_thread, priority_set}
 
