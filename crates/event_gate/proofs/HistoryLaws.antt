@@ -3,21 +3,21 @@ use Rattle.std.proofs.Common.{◌≡◌, ◌≢◌, ℕ, Bool, List, [], ◌∷�
 use Rattle.std.proofs.lemmas.List.FromFn.{get_or-map-range_with_len}
 use Rattle.lwp_types.specs.declared.call.Line.{Line}
 use Rattle.event_gate.specs.Port.{of}
-use Rattle.event_gate.specs.Shelves.{Shelf, bare, event_of, full, lines_for, moved, shelf_of, stocked, taken_from}
+use Rattle.event_gate.specs.Shelves.{Shelf, Shelves, bare, event_of, full, lines_for, moved, shelf_of, stocked, taken_from}
 use Rattle.event_gate.specs.History.{ClientsKeepHistory, GatesKeepHistory, IsGateHistory}
 use Rattle.event_gate.proofs.Lines.{cond_other, cond_same, of-append, same_or}
 
-abbrev all_of : Shelf → List Line
+abbrev all_of : Shelf Line → List Line
 all_of s = s.taken ++ s.left
 
 -- a take moves a line from those left to those taken
-whole_still : (s : Shelf) → all_of (moved s) ≡ all_of s
+whole_still : (s : Shelf Line) → all_of (moved s) ≡ all_of s
 whole_still s = append_assoc s.taken (take 1 s.left) (drop 1 s.left) ∙ ap (λ l. s.taken ++ l) (take-append-drop 1 s.left)
 
 begins : (events : List ℕ) (posts : List Line) → IsGateHistory events posts (stocked events posts)
 begins events posts e low = ap all_of (get_or-map-range_with_len (full events posts) 0 256 e e bare low (omega arith))
 
-keeps : (events : List ℕ) (posts : List Line) (shelves : List Shelf) (e : ℕ) → length shelves ≡ 256 → IsGateHistory events posts shelves → IsGateHistory events posts (taken_from shelves e)
+keeps : (events : List ℕ) (posts : List Line) (shelves : Shelves) (e : ℕ) → length shelves ≡ 256 → IsGateHistory events posts shelves → IsGateHistory events posts (taken_from shelves e)
 keeps events posts shelves e long h d low = ⊎_elim
     (λ (same : e ≡ d).
     ap (λ k. all_of (shelf_of (taken_from shelves e) k)) (sym same) ∙ ap all_of (get_or-set_same shelves e (moved (shelf_of shelves e)) bare (omega (arith, long, same, low))) ∙ whole_still (shelf_of shelves e) ∙ ap (λ k. all_of (shelf_of shelves k)) same ∙ h d low)
@@ -45,5 +45,5 @@ of_event events (l ∷ ls) c =
 
 pub clients_keep_history : ClientsKeepHistory
 clients_keep_history events posts shelves c low h =
-    let s : Shelf = shelf_of shelves (event_of events c) in
+    let s : Shelf Line = shelf_of shelves (event_of events c) in
     sym (of-append c s.taken s.left) ∙ ap (of c) (h (event_of events c) low) ∙ of_event events posts c

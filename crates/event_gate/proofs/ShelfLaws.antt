@@ -7,13 +7,13 @@ use Rattle.std.proofs.lemmas.List.Elements.{filter-append}
 use Rattle.std.proofs.lemmas.List.Sums.{count_by-le-length, sum_by-set, sum_by-le-sum_by}
 use Rattle.lwp_types.specs.declared.call.Line.{Line}
 use Rattle.lwp_types.specs.CountLaws.{one, count-cons, count-push}
-use Rattle.event_gate.specs.Shelves.{Shelf, bare, moved, with_line, shelf_of, taken_from, added_to, left_of_client, left_in_all, event_of, lines_for, full, stocked}
+use Rattle.event_gate.specs.Shelves.{Shelf, Shelves, bare, moved, with_one_more, shelf_of, taken_from, added_to, left_of_client, left_in_all, event_of, lines_for, full, stocked}
 use Rattle.event_gate.proofs.Lines.{same_or, cond_same, cond_other}
 
 abbrev is_of : ℕ → Line → Bool
 is_of c l = eqb l.client c
 
-abbrev count_of : ℕ → Shelf → ℕ
+abbrev count_of : ℕ → Shelf Line → ℕ
 count_of c s = count_by (is_of c) s.left
 
 first_rest : (ls : List Line) (x : Line) → slice_get ls 0 ≡ Some x → ls ≡ x ∷ drop 1 ls
@@ -21,51 +21,51 @@ first_rest [] x e = absurd (cc e)
 first_rest (y ∷ ys) x e = cc e
 
 -- how many of c's lines are left of a shelf from which x is taken
-count_first : (c : ℕ) (s : Shelf) (x : Line) → slice_get s.left 0 ≡ Some x → count_of c s ≡ one (eqb x.client c) + count_of c (moved s)
+count_first : (c : ℕ) (s : Shelf Line) (x : Line) → slice_get s.left 0 ≡ Some x → count_of c s ≡ one (eqb x.client c) + count_of c (moved s)
 count_first c s x e = ap (count_by (is_of c)) (first_rest s.left x e) ∙ count-cons (is_of c) x (drop 1 s.left)
 
 -- how many of c's lines are left in all where x is taken
-one_less : (c : ℕ) (shelves : List Shelf) (e : ℕ) (x : Line) → e < length shelves → slice_get (shelf_of shelves e).left 0 ≡ Some x → left_of_client c (taken_from shelves e) + one (eqb x.client c) ≡ left_of_client c shelves
+one_less : (c : ℕ) (shelves : Shelves) (e : ℕ) (x : Line) → e < length shelves → slice_get (shelf_of shelves e).left 0 ≡ Some x → left_of_client c (taken_from shelves e) + one (eqb x.client c) ≡ left_of_client c shelves
 one_less c shelves e x there first =
     let s = sum_by-set (count_of c) shelves e (moved (shelf_of shelves e)) bare there in
     let n = count_first c (shelf_of shelves e) x first in
     omega (arith, s, n)
 
-one_more : (c : ℕ) (shelves : List Shelf) (e : ℕ) (x : Line) → e < length shelves → left_of_client c (added_to shelves e x) ≡ left_of_client c shelves + one (eqb x.client c)
+one_more : (c : ℕ) (shelves : Shelves) (e : ℕ) (x : Line) → e < length shelves → left_of_client c (added_to shelves e x) ≡ left_of_client c shelves + one (eqb x.client c)
 one_more c shelves e x there =
-    let s = sum_by-set (count_of c) shelves e (with_line (shelf_of shelves e) x) bare there in
+    let s = sum_by-set (count_of c) shelves e (with_one_more (shelf_of shelves e) x) bare there in
     let n = count-push (is_of c) (shelf_of shelves e).left x in
     omega (arith, s, n)
 
-pub one_left : (shelves : List Shelf) (e : ℕ) (x : Line) → e < length shelves → slice_get (shelf_of shelves e).left 0 ≡ Some x → 1 ≤ left_of_client x.client shelves
+pub one_left : (shelves : Shelves) (e : ℕ) (x : Line) → e < length shelves → slice_get (shelf_of shelves e).left 0 ≡ Some x → 1 ≤ left_of_client x.client shelves
 one_left shelves e x there first =
     let s = one_less x.client shelves e x there first in
     let n : one (eqb x.client x.client) ≡ 1 = ap one (eq-eqb x.client x.client refl) in
     omega (arith, s, n)
 
-abbrev Counts : List ℕ → List Shelf → Type 0
+abbrev Counts : List ℕ → Shelves → Type 0
 Counts left shelves = (c : ℕ) → slice_index left c ≡ left_of_client c shelves
 
 -- the counts where one client's is another
-recounted : (left : List ℕ) (was now : List Shelf) (i n : ℕ) → Counts left was → i < length left → n ≡ left_of_client i now → ((c : ℕ) → i ≢ c → left_of_client c now ≡ left_of_client c was) → Counts (set left i n) now
+recounted : (left : List ℕ) (was now : Shelves) (i n : ℕ) → Counts left was → i < length left → n ≡ left_of_client i now → ((c : ℕ) → i ≢ c → left_of_client c now ≡ left_of_client c was) → Counts (set left i n) now
 recounted left was now i n h there mine others c = ⊎_elim
     (λ (same : i ≡ c). ap (λ k. get_or (set left i n) k 0) (sym same) ∙ get_or-set_same left i n 0 there ∙ mine ∙ ap (λ k. left_of_client k now) same)
     (λ (other : i ≢ c). get_or-set_other left i c n 0 (λ s. other (sym s)) ∙ h c ∙ sym (others c other))
     (same_or i c)
 
-pub counts_taken : (left : List ℕ) (shelves : List Shelf) (e : ℕ) (x : Line) → Counts left shelves → e < length shelves → x.client < length left → slice_get (shelf_of shelves e).left 0 ≡ Some x → Counts (set left x.client (slice_index left x.client - 1)) (taken_from shelves e)
+pub counts_taken : (left : List ℕ) (shelves : Shelves) (e : ℕ) (x : Line) → Counts left shelves → e < length shelves → x.client < length left → slice_get (shelf_of shelves e).left 0 ≡ Some x → Counts (set left x.client (slice_index left x.client - 1)) (taken_from shelves e)
 counts_taken left shelves e x h there known first =
     recounted left shelves (taken_from shelves e) x.client (slice_index left x.client - 1) h known
     (let s = one_less x.client shelves e x there first in let n : one (eqb x.client x.client) ≡ 1 = ap one (eq-eqb x.client x.client refl) in let m = h x.client in omega (arith, s, n, m))
     (λ c other. let s = one_less c shelves e x there first in let n : one (eqb x.client c) ≡ 0 = ap one (ne_eqb x.client c other) in omega (arith, s, n))
 
-pub counts_added : (left : List ℕ) (shelves : List Shelf) (e : ℕ) (x : Line) → Counts left shelves → e < length shelves → x.client < length left → Counts (set left x.client (slice_index left x.client + 1)) (added_to shelves e x)
+pub counts_added : (left : List ℕ) (shelves : Shelves) (e : ℕ) (x : Line) → Counts left shelves → e < length shelves → x.client < length left → Counts (set left x.client (slice_index left x.client + 1)) (added_to shelves e x)
 counts_added left shelves e x h there known =
     recounted left shelves (added_to shelves e x) x.client (slice_index left x.client + 1) h known
     (let s = one_more x.client shelves e x there in let n : one (eqb x.client x.client) ≡ 1 = ap one (eq-eqb x.client x.client refl) in let m = h x.client in omega (arith, s, n, m))
     (λ c other. let s = one_more c shelves e x there in let n : one (eqb x.client c) ≡ 0 = ap one (ne_eqb x.client c other) in omega (arith, s, n))
 
-pub within_all : (c : ℕ) (shelves : List Shelf) → left_of_client c shelves ≤ left_in_all shelves
+pub within_all : (c : ℕ) (shelves : Shelves) → left_of_client c shelves ≤ left_in_all shelves
 within_all c shelves = sum_by-le-sum_by (count_of c) (λ s. length s.left) shelves (λ s. count_by-le-length (is_of c) s.left)
 
 lines_more : (events : List ℕ) (ps : List Line) (x : Line) (e : ℕ) → event_of events x.client ≡ e → lines_for events (ps ++ x ∷ []) e ≡ lines_for events ps e ++ x ∷ []
@@ -74,10 +74,10 @@ lines_more events ps x e same = filter-append (λ (l : Line). eqb (event_of even
 lines_same : (events : List ℕ) (ps : List Line) (x : Line) (e : ℕ) → event_of events x.client ≢ e → lines_for events (ps ++ x ∷ []) e ≡ lines_for events ps e
 lines_same events ps x e other = filter-append (λ (l : Line). eqb (event_of events l.client) e) ps (x ∷ []) ∙ ap (λ l. lines_for events ps e ++ l) (cond_other (event_of events x.client) e (x ∷ []) [] other) ∙ append-nil (lines_for events ps e)
 
-abbrev of_range : List ℕ → List Line → ℕ → ℕ → List Shelf
+abbrev of_range : List ℕ → List Line → ℕ → ℕ → Shelves
 of_range events ps a n = map (full events ps) (range_with_len a n)
 
-abbrev full_of : List Line → Shelf
+abbrev full_of : List Line → Shelf Line
 full_of ls = record { taken = []; left = ls }
 
 range_same : (events : List ℕ) (ps : List Line) (x : Line) (a n : ℕ) → event_of events x.client < a → of_range events ps a n ≡ of_range events (ps ++ x ∷ []) a n
@@ -89,7 +89,7 @@ range_same events ps x a (suc n) low =
 range_more : (events : List ℕ) (ps : List Line) (x : Line) (a n i : ℕ) → i < n → event_of events x.client ≡ a + i → added_to (of_range events ps a n) i x ≡ of_range events (ps ++ x ∷ []) a n
 range_more events ps x a zero i low e = absurd (omega arith)
 range_more events ps x a (suc n) zero low e =
-    let head : with_line (full events ps a) x ≡ full events (ps ++ x ∷ []) a = ap full_of (sym (lines_more events ps x a (omega (arith, e)))) in
+    let head : with_one_more (full events ps a) x ≡ full events (ps ++ x ∷ []) a = ap full_of (sym (lines_more events ps x a (omega (arith, e)))) in
     ap (λ s. s ∷ of_range events ps (a + 1) n) head ∙ ap (λ l. full events (ps ++ x ∷ []) a ∷ l) (range_same events ps x (a + 1) n (omega (arith, e)))
 range_more events ps x a (suc n) (suc i) low e =
     let head : full events ps a ≡ full events (ps ++ x ∷ []) a = ap full_of (sym (lines_same events ps x a (λ f. absurd (omega (arith, e, f))))) in
@@ -105,9 +105,9 @@ range_none events a (suc n) = ap (λ l. bare ∷ l) (range_none events (a + 1) n
 pub stocked_none : (events : List ℕ) → stocked events [] ≡ replicate 256 bare
 stocked_none events = range_none events 0 256
 
-pub all_more : (shelves : List Shelf) (e : ℕ) (x : Line) → e < length shelves → left_in_all (added_to shelves e x) ≡ left_in_all shelves + 1
+pub all_more : (shelves : Shelves) (e : ℕ) (x : Line) → e < length shelves → left_in_all (added_to shelves e x) ≡ left_in_all shelves + 1
 all_more shelves e x there =
-    let s = sum_by-set (λ (s : Shelf). length s.left) shelves e (with_line (shelf_of shelves e) x) bare there in
+    let s = sum_by-set (λ (s : Shelf Line). length s.left) shelves e (with_one_more (shelf_of shelves e) x) bare there in
     let n = length-append (shelf_of shelves e).left (x ∷ []) in
     omega (arith, s, n)
 
@@ -124,33 +124,33 @@ no_counts c = all_zero 256 c ∙ sym (none_left 256 c)
     none_left (suc n) c = none_left n c
 
 -- the shelf that was found there
-pub found_shelf : (shelves : List Shelf) (e : ℕ) (s : Shelf) → e < length shelves → s ≡ get_or shelves e s → s ≡ shelf_of shelves e
+pub found_shelf : (shelves : Shelves) (e : ℕ) (s : Shelf Line) → e < length shelves → s ≡ get_or shelves e s → s ≡ shelf_of shelves e
 found_shelf [] e s there is = absurd (omega arith)
 found_shelf (x ∷ xs) zero s there is = is
 found_shelf (x ∷ xs) (suc e) s there is = found_shelf xs e s (omega arith) is
 
-pub take_at : (left : List ℕ) (shelves : List Shelf) (e i n : ℕ) (s w : Shelf) (x : Line) → Counts left shelves → e < length shelves → i < length left → s ≡ get_or shelves e s → w ≡ moved s → slice_get s.left 0 ≡ Some x → i ≡ x.client → n ≡ get_or left i n
+pub take_at : (left : List ℕ) (shelves : Shelves) (e i n : ℕ) (s w : Shelf Line) (x : Line) → Counts left shelves → e < length shelves → i < length left → s ≡ get_or shelves e s → w ≡ moved s → slice_get s.left 0 ≡ Some x → i ≡ x.client → n ≡ get_or left i n
     → (1 ≤ n) × Counts (set left i (n - 1)) (set shelves e w)
 take_at left shelves e i n s w x h there known s_is w_is first i_is n_is =
     let same : s ≡ shelf_of shelves e = found_shelf shelves e s there s_is in
     let count : n ≡ slice_index left x.client = n_is ∙ get_or_default left i n 0 known ∙ ap (λ k. get_or left k 0) i_is in
-    let next : slice_get (shelf_of shelves e).left 0 ≡ Some x = ap (λ (t : Shelf). slice_get t.left 0) (sym same) ∙ first in (
+    let next : slice_get (shelf_of shelves e).left 0 ≡ Some x = ap (λ (t : Shelf Line). slice_get t.left 0) (sym same) ∙ first in (
       let a = one_left shelves e x there next in let b = h x.client in omega (arith, a, b, count),
-      subst (λ (y : Shelf × ℕ × ℕ). Counts (set left y.1 (y.2 - 1)) (set shelves e y.0)) (λ k. (sym (w_is ∙ ap moved same) k, sym i_is k, sym count k))
+      subst (λ (y : Shelf Line × ℕ × ℕ). Counts (set left y.1 (y.2 - 1)) (set shelves e y.0)) (λ k. (sym (w_is ∙ ap moved same) k, sym i_is k, sym count k))
           (counts_taken left shelves e x h there (let b = i_is in omega (arith, b)) next),
     )
 
-pub add_at : (left : List ℕ) (shelves : List Shelf) (e i n : ℕ) (s w : Shelf) (x : Line) → Counts left shelves → e < length shelves → i < length left → s ≡ get_or shelves e s → w ≡ with_line s x → i ≡ x.client → n ≡ get_or left i n
+pub add_at : (left : List ℕ) (shelves : Shelves) (e i n : ℕ) (s w : Shelf Line) (x : Line) → Counts left shelves → e < length shelves → i < length left → s ≡ get_or shelves e s → w ≡ with_one_more s x → i ≡ x.client → n ≡ get_or left i n
     → (n ≤ left_in_all shelves) × Counts (set left i (n + 1)) (set shelves e w)
 add_at left shelves e i n s w x h there known s_is w_is i_is n_is =
     let same : s ≡ shelf_of shelves e = found_shelf shelves e s there s_is in
     let count : n ≡ slice_index left x.client = n_is ∙ get_or_default left i n 0 known ∙ ap (λ k. get_or left k 0) i_is in (
       let a = within_all x.client shelves in let b = h x.client in omega (arith, a, b, count),
-      subst (λ (y : Shelf × ℕ × ℕ). Counts (set left y.1 (y.2 + 1)) (set shelves e y.0)) (λ k. (sym (w_is ∙ ap (λ (t : Shelf). with_line t x) same) k, sym i_is k, sym count k))
+      subst (λ (y : Shelf Line × ℕ × ℕ). Counts (set left y.1 (y.2 + 1)) (set shelves e y.0)) (λ k. (sym (w_is ∙ ap (λ (t : Shelf Line). with_one_more t x) same) k, sym i_is k, sym count k))
           (counts_added left shelves e x h there (let b = i_is in omega (arith, b))),
     )
 
-pub add_next : (events : List ℕ) (posts : List Line) (i e : ℕ) (x : Line) (gate w : List Shelf) → i < length posts → x ≡ get_or posts i x → gate ≡ stocked events (take i posts) → left_in_all gate ≡ i → e ≡ slice_index events x.client → e < 256 → w ≡ added_to gate e x
+pub add_next : (events : List ℕ) (posts : List Line) (i e : ℕ) (x : Line) (gate w : Shelves) → i < length posts → x ≡ get_or posts i x → gate ≡ stocked events (take i posts) → left_in_all gate ≡ i → e ≡ slice_index events x.client → e < 256 → w ≡ added_to gate e x
     → (w ≡ stocked events (take (i + 1) posts)) × (left_in_all w ≡ i + 1)
 add_next events posts i e x gate w lt x_is gate_is all e_is low w_is =
     let long : length gate ≡ 256 = ap length gate_is ∙ length-map-range_with_len (full events (take i posts)) 0 256 in
@@ -159,7 +159,7 @@ add_next events posts i e x gate w lt x_is gate_is all e_is low w_is =
       ap left_in_all w_is ∙ all_more gate e x (omega (arith, low, long)) ∙ ap (λ k. k + 1) all,
     )
 
-pub begins : (events : List ℕ) (gate : List Shelf) → gate ≡ replicate 256 bare → (gate ≡ stocked events []) × (left_in_all gate ≡ 0)
+pub begins : (events : List ℕ) (gate : Shelves) → gate ≡ replicate 256 bare → (gate ≡ stocked events []) × (left_in_all gate ≡ 0)
 begins events gate is = (is ∙ sym (stocked_none events), ap left_in_all is ∙ none_in 256)
   where
     none_in : (n : ℕ) → left_in_all (replicate n bare) ≡ 0

@@ -1,12 +1,12 @@
 // The outside of a pod, as whoever runs the pod sees it.
-ghost use Rattle.std.specs.Prelude.{◌≡◌, List};
-ghost use Rattle.event_gate.specs.Shelves.{Shelf, first_left, left_of_client, taken_from};
+ghost use Rattle.std.specs.Prelude.{◌≡◌};
+ghost use Rattle.event_gate.specs.Shelves.{Shelves, first_left, left_of_client, taken_from};
 
 use lwp_types::Line;
 
 /// Lines by event, seen as those taken and those left of each, in order.
 pub trait Gate {
-    ghost stock: { Self → List Shelf };
+    ghost stock: { Self → Shelves };
 
     /// The first line left of the event, which is then taken.
     fn take(&mut self, event: u8) -> Option<Line>

@@ -2,7 +2,8 @@
 //! threads post while the pod runs.
 //!
 //! A gate is two lists of each event, the lines taken and the lines left (`specs/Shelves.antt`). A take gives the first line
-//! left of its event, so of each client the lines taken and then those left are what it posts (`specs/History.antt`).
+//! left of its event, so of each client the lines taken and then those left are what it posts (`specs/History.antt`). A `Shelf`
+//! is the two lists of one event, of lines or of whatever else a gate makes its lines of.
 //!
 //! A port is one queue and the two kinds of ends that it has. Each client has a `Poster`, and the runner has the one `Taker`.
 //! What holds at each step of any of them is the rule of the port (`specs/Port.antt`): what was pushed is what was popped and
@@ -36,5 +37,6 @@ pub use list_gate::ListGate;
 pub use open::open_port;
 pub use poster::{PostPass, PostRefused, Poster};
 pub use posts::{NoGate, PostEnd, PostGate, post_all};
+pub use shelf::Shelf;
 pub use taker::Taker;
 pub use view::{Told, View};

@@ -15,23 +15,23 @@ const EVENTS: usize = 256;
 #[derive(Drop)]
 pub struct ListGate {
     // By the number of the event.
-    shelves: Vec<Shelf>,
+    shelves: Vec<Shelf<Line>>,
     // By the number of the client, how many of its lines are left.
     left: Vec<u32>,
 }
 
 impl Model for ListGate {
-    ghost use Rattle.event_gate.specs.Shelves.{Shelf, left_of_client};
-    ghost use Rattle.std.specs.Prelude.{ℕ, List, length, slice_index, ◌≡◌};
+    ghost use Rattle.event_gate.specs.Shelves.{Shelves, left_of_client};
+    ghost use Rattle.std.specs.Prelude.{ℕ, length, slice_index, ◌≡◌};
 
-    ghost Value = { List Shelf };
+    ghost Value = { Shelves };
 
     ghost view = { λ s. s.shelves.items };
 
     ghost invariant = { λ s. (length s.shelves.items ≡ 256) × (length s.left.items ≡ 256) × ((c : ℕ) → slice_index s.left.items c ≡ left_of_client c s.shelves.items) };
 }
 
-fn bare_shelves(alloc: Global) -> Result<Vec<Shelf>, NoMemory>
+fn bare_shelves(alloc: Global) -> Result<Vec<Shelf<Line>>, NoMemory>
     ensures { IfOk result (λ v. v.items ≡ replicate 256 bare) }
 {
     let mut shelves = Vec::new(alloc);

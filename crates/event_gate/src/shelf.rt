@@ -1,57 +1,61 @@
-// The lines of one event.
-ghost use Rattle.std.specs.Prelude.{◌≡◌, IfOk, OnOk};
+// The items of one event.
+ghost use Rattle.std.specs.Prelude.{◌≡◌, OnOk};
 ghost use Rattle.std.specs.List.{slice_get};
-ghost use Rattle.event_gate.specs.Shelves.{bare, moved, with_line};
+ghost use Rattle.event_gate.specs.Shelves.{bare, moved, with_one_more};
 
-use lwp_types::{Line, NoMemory};
+use lwp_types::NoMemory;
 use std::alloc::Global;
 use std::marker::Model;
 
-/// The lines of one event, seen as those taken and those left.
+/// The items of one event in order, seen as those taken and those left.
 #[derive(Drop)]
-pub(crate) struct Shelf {
-    lines: Vec<Line>,
+pub struct Shelf<T> {
+    items: Vec<T>,
     // How many were taken.
     taken: usize,
 }
 
-impl Model for Shelf {
+impl<T> Model for Shelf<T> {
     ghost use Rattle.event_gate.specs.Shelves.{Shelf};
     ghost use Rattle.std.specs.Prelude.{◌≤◌, drop, take, vec_len};
 
-    ghost Value = { Shelf };
+    ghost Value = { Shelf T };
 
-    ghost view = { λ s. record { taken = take s.taken s.lines.items; left = drop s.taken s.lines.items } };
+    ghost view = { λ s. record { taken = take s.taken s.items.items; left = drop s.taken s.items.items } };
 
-    ghost invariant = { λ s. s.taken ≤ vec_len s.lines };
+    ghost invariant = { λ s. s.taken ≤ vec_len s.items };
 }
 
-impl Shelf {
-    /// No lines.
-    pub(crate) fn new(alloc: Global) -> Shelf
+impl<T> Shelf<T> {
+    /// No items.
+    pub fn new(alloc: Global) -> Shelf<T>
         ensures { result ≡ bare }
     {
         Shelf {
-            lines: Vec::new(alloc),
+            items: Vec::new(alloc),
             taken: 0,
         }
     }
 
-    /// One line more, at the end.
-    pub(crate) fn add(&mut self, line: Line) -> Result<(), NoMemory>
-        ensures { OnOk result (self.new ≡ with_line self.old line) }
+    /// One item more, at the end.
+    pub fn add(&mut self, item: T) -> Result<(), NoMemory>
+    where
+        T: Drop,
+        ensures { OnOk result (self.new ≡ with_one_more self.old item) }
     {
-        self.lines.push(line)?;
+        self.items.push(item)?;
         Ok(())
     }
 
-    /// The first line left, which is then taken.
-    pub(crate) fn next(&mut self) -> Option<Line>
-        ensures line { result ≡ slice_get self.old.left 0 }
+    /// The first item left, which is then taken.
+    pub fn next(&mut self) -> Option<T>
+    where
+        T: Copy,
+        ensures item { result ≡ slice_get self.old.left 0 }
         ensures after { self.new ≡ moved self.old }
     {
-        let line = self.lines.get(self.taken).copied()?;
+        let item = self.items.get(self.taken).copied()?;
         self.taken += 1;
-        Some(line)
+        Some(item)
     }
 }

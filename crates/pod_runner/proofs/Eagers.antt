@@ -5,7 +5,7 @@ use Rattle.std.specs.List.{fold, list_any, range_with_len, slice_get}
 use Rattle.std.specs.Slice.Scan.{HoldsNowhere}
 use Rattle.std.proofs.lemmas.Bool.Decides.{nat_tests}
 use Rattle.std.proofs.lemmas.List.Sums.{sum_by-set}
-use Rattle.event_gate.specs.Shelves.{Shelf, bare, first_left, left_in_all, moved, shelf_of, taken_from}
+use Rattle.event_gate.specs.Shelves.{Shelf, Shelves, bare, first_left, left_in_all, moved, shelf_of, taken_from}
 use Rattle.lwp_types.specs.Agents.{armed}
 use Rattle.lwp_types.specs.Choice.{choice}
 use Rattle.lwp_types.specs.declared.call.Line.{Line}
@@ -18,34 +18,34 @@ use Rattle.pod_runner.specs.Session.{move, taken}
 -- ---- lines left
 
 -- with no line left, a take changes nothing
-moved-none : (s : Shelf) → slice_get s.left 0 ≡ None → moved s ≡ s
+moved-none : (s : Shelf Line) → slice_get s.left 0 ≡ None → moved s ≡ s
 moved-none s h = by_left s.taken s.left h
   where
     by_left : (taken left : List Line) → slice_get left 0 ≡ None → moved (record { taken = taken; left = left }) ≡ record { taken = taken; left = left }
     by_left taken [] h = ap (λ t. record { taken = t; left = [] }) (append-nil taken)
     by_left taken (x ∷ left) h = absurd (cc)
 
-pub taken_from-none : (shelves : List Shelf) (e : ℕ) → first_left shelves e ≡ None → taken_from shelves e ≡ shelves
+pub taken_from-none : (shelves : Shelves) (e : ℕ) → first_left shelves e ≡ None → taken_from shelves e ≡ shelves
 taken_from-none [] e h = refl
 taken_from-none (s ∷ shelves) zero h = ap (λ t. t ∷ shelves) (moved-none s h)
 taken_from-none (s ∷ shelves) (suc e) h = ap (λ t. s ∷ t) (taken_from-none shelves e h)
 
 -- with one left, one fewer is left then
-one_less : (s : Shelf) (x : Line) → slice_get s.left 0 ≡ Some x → length (drop 1 s.left) + 1 ≡ length s.left
+one_less : (s : Shelf Line) (x : Line) → slice_get s.left 0 ≡ Some x → length (drop 1 s.left) + 1 ≡ length s.left
 one_less s x h = by_left s.left h
   where
     by_left : (left : List Line) → slice_get left 0 ≡ Some x → length (drop 1 left) + 1 ≡ length left
     by_left [] h = absurd (cc)
     by_left (y ∷ left) h = omega arith
 
-within : (shelves : List Shelf) (e : ℕ) (x : Line) → first_left shelves e ≡ Some x → e < length shelves
+within : (shelves : Shelves) (e : ℕ) (x : Line) → first_left shelves e ≡ Some x → e < length shelves
 within [] e x h = absurd (cc)
 within (s ∷ shelves) zero x h = omega arith
 within (s ∷ shelves) (suc e) x h = let n = within shelves e x h in omega (arith, n)
 
-fewer_left : (shelves : List Shelf) (e : ℕ) (x : Line) → first_left shelves e ≡ Some x → left_in_all (taken_from shelves e) + 1 ≡ left_in_all shelves
+fewer_left : (shelves : Shelves) (e : ℕ) (x : Line) → first_left shelves e ≡ Some x → left_in_all (taken_from shelves e) + 1 ≡ left_in_all shelves
 fewer_left shelves e x h =
-    let s = sum_by-set (λ (s : Shelf). length s.left) shelves e (moved (shelf_of shelves e)) bare (within shelves e x h) in
+    let s = sum_by-set (λ (s : Shelf Line). length s.left) shelves e (moved (shelf_of shelves e)) bare (within shelves e x h) in
     let n = one_less (shelf_of shelves e) x h in
     omega (arith, s, n)
 

@@ -1,8 +1,8 @@
 -- Where a run stands, and whether its session is over.
-use Rattle.std.proofs.Common.{◌≡◌, ◌≢◌, ◌≤◌, ℕ, ◌+◌, List, Bool, true, false, cond, None, Some, ap, ◌∙◌, refl, sym, length, inl, inr, arith}
+use Rattle.std.proofs.Common.{◌≡◌, ◌≢◌, ◌≤◌, ℕ, ◌+◌, Bool, true, false, cond, None, Some, ap, ◌∙◌, refl, sym, length, inl, inr, arith}
 use Rattle.std.specs.Prelude.{Option, is_some, nat_le, nat_lt, ◌⊎◌}
 use Rattle.std.proofs.lemmas.Bool.Decides.{nat_tests}
-use Rattle.event_gate.specs.Shelves.{Shelf}
+use Rattle.event_gate.specs.Shelves.{Shelves}
 use Rattle.lwp_types.specs.Choice.{choice}
 use Rattle.lwp_types.specs.State.{State}
 use Rattle.pod_runner.specs.Eager.{Plan, Planned, advanced, boundary, one_call, plan_over, round, state_of}
@@ -14,7 +14,7 @@ use Rattle.trace_text.specs.declared.ends.Halt.TheVariants as halts
 use Rattle.pod_runner.proofs.Eagers.{boundary-or}
 
 -- in phase Turn a session isn't over, and somebody may run
-turn-both : (s : State) (turns calls : ℕ) (left : List Shelf) → phase_of s turns calls ≡ phase.Turn → (over turns s calls left ≡ None) × (is_some (choice s) ≡ true)
+turn-both : (s : State) (turns calls : ℕ) (left : Shelves) → phase_of s turns calls ≡ phase.Turn → (over turns s calls left ≡ None) × (is_some (choice s) ≡ true)
 turn-both s turns calls left h = by_end s.ended (choice s) h
   where
     by_count : (a b : Bool) → nat_lt calls turns ≡ a → nat_le turns calls ≡ b → cond a phase.Turn phase.Spent ≡ phase.Turn → cond b (Some halts.Spent) None ≡ None
@@ -28,11 +28,11 @@ turn-both s turns calls left h = by_end s.ended (choice s) h
     by_end false None h = absurd (cc)
     by_end false (Some t) h = (by_count (nat_lt calls turns) (nat_le turns calls) refl refl h, refl)
 
-pub over-turn : (s : State) (turns calls : ℕ) (left : List Shelf) → phase_of s turns calls ≡ phase.Turn → over turns s calls left ≡ None
+pub over-turn : (s : State) (turns calls : ℕ) (left : Shelves) → phase_of s turns calls ≡ phase.Turn → over turns s calls left ≡ None
 over-turn s turns calls left h = (turn-both s turns calls left h).0
 
 -- in phase Idle nobody may run, and it is over unless a line can be taken
-idle-both : (s : State) (turns calls : ℕ) (left : List Shelf) → phase_of s turns calls ≡ phase.Idle
+idle-both : (s : State) (turns calls : ℕ) (left : Shelves) → phase_of s turns calls ≡ phase.Idle
     → (over turns s calls left ≡ cond (is_wanted s left) None (Some halts.Stuck)) × (is_some (choice s) ≡ false)
 idle-both s turns calls left h = by_end s.ended (choice s) h
   where

@@ -5,7 +5,7 @@ use Rattle.std.specs.Prelude.{Option, Result, Ok, Err, OnOk, OnErr, IsErrAnd}
 use Rattle.std.specs.List.{fold, range_with_len}
 use Rattle.std.specs.Slice.Scan.{HoldsNowhere}
 use Rattle.std.proofs.lemmas.List.Sums.{fold-append}
-use Rattle.event_gate.specs.Shelves.{Shelf, first_left, left_in_all, taken_from}
+use Rattle.event_gate.specs.Shelves.{Shelves, first_left, left_in_all, taken_from}
 use Rattle.lwp_types.specs.Agents.{armed}
 use Rattle.lwp_types.specs.Poll.{Next}
 use Rattle.lwp_types.specs.declared.call.Line.{Line}
@@ -67,10 +67,10 @@ module _ {B P : Type 0} (next : Next B) (bodies : P → List B) (procs : P → L
 
   -- ---- one after the other
 
-  abbrev Came : {T : Type 0} → Stream → (Planned B → Plan B → Plan B) → Played P → Played P → List Shelf → List Shelf → Result T RunErr → Type 0
+  abbrev Came : {T : Type 0} → Stream → (Planned B → Plan B → Plan B) → Played P → Played P → Shelves → Shelves → Result T RunErr → Type 0
   Came s by old new stock left r = Does next bodies procs s by old new stock left r
 
-  pub does-nothing : {T : Type 0} (w : Option (List ℕ)) (f : ℕ) (run : Played P) (stock : List Shelf) (x : T)
+  pub does-nothing : {T : Type 0} (w : Option (List ℕ)) (f : ℕ) (run : Played P) (stock : Shelves) (x : T)
       → run.failed ≡ false → IsDefined (setting_of next bodies run) run.takes run.calls → run.calls ≤ run.turns
       → Came (stream w w f f) (λ planned plan. plan) run run stock stock (Ok x)
   does-nothing w f run stock x sound made room = record {
@@ -84,7 +84,7 @@ module _ {B P : Type 0} (next : Next B) (bodies : P → List B) (procs : P → L
   }
 
   -- what it comes to may be told otherwise
-  pub does-by : {T : Type 0} (s : Stream) (f g : Planned B → Plan B → Plan B) (old new : Played P) (stock left : List Shelf) (r : Result T RunErr)
+  pub does-by : {T : Type 0} (s : Stream) (f g : Planned B → Plan B → Plan B) (old new : Played P) (stock left : Shelves) (r : Result T RunErr)
       → f (planned_of next bodies old) (plan_now next bodies old stock) ≡ g (planned_of next bodies old) (plan_now next bodies old stock)
       → Came s f old new stock left r → Came s g old new stock left r
   does-by s f g old new stock left r e h = record {
@@ -97,7 +97,7 @@ module _ {B P : Type 0} (next : Next B) (bodies : P → List B) (procs : P → L
     part = subst (λ p. OnErr r (IsFirstPart (plan_now next bodies new left) p)) e h.part;
   }
 
-  pub does-then : {T U : Type 0} (a b c : Option (List ℕ)) (i j k : ℕ) (f g : Planned B → Plan B → Plan B) (old mid new : Played P) (stock some left : List Shelf) (x : T) (r : Result U RunErr)
+  pub does-then : {T U : Type 0} (a b c : Option (List ℕ)) (i j k : ℕ) (f g : Planned B → Plan B → Plan B) (old mid new : Played P) (stock some left : Shelves) (x : T) (r : Result U RunErr)
       → Came (stream a b i j) f old mid stock some (Ok x) → Came (stream b c j k) g mid new some left r
       → Came (stream a c i k) (λ planned plan. g planned (f planned plan)) old new stock left r
   does-then a b c i j k f g old mid new stock some left x r p q =
@@ -114,7 +114,7 @@ module _ {B P : Type 0} (next : Next B) (bodies : P → List B) (procs : P → L
       }
 
   -- where the first fails, so does the whole
-  pub does-part : (T U : Type 0) (s : Stream) (f g : Planned B → Plan B → Plan B) (old new : Played P) (stock left : List Shelf) (e : RunErr)
+  pub does-part : (T U : Type 0) (s : Stream) (f g : Planned B → Plan B → Plan B) (old new : Played P) (stock left : Shelves) (e : RunErr)
       → IsFirstPart (f (planned_of next bodies old) (plan_now next bodies old stock)) (g (planned_of next bodies old) (f (planned_of next bodies old) (plan_now next bodies old stock)))
       → Came {T = T} s f old new stock left (Err e)
       → Came {T = U} s (λ planned plan. g planned (f planned plan)) old new stock left (Err e)
@@ -128,7 +128,7 @@ module _ {B P : Type 0} (next : Next B) (bodies : P → List B) (procs : P → L
     part = first-then (plan_now next bodies new left) (f (planned_of next bodies old) (plan_now next bodies old stock)) _ p.part more;
   }
 
-  pub does-err : (T : Type 0) (s : Stream) (by : Planned B → Plan B → Plan B) (old new : Played P) (stock left : List Shelf) (r : Result T RunErr) (e : RunErr)
+  pub does-err : (T : Type 0) (s : Stream) (by : Planned B → Plan B → Plan B) (old new : Played P) (stock left : Shelves) (r : Result T RunErr) (e : RunErr)
       → IsErrAnd r (λ given. given ≡ e) → Came {T = T} s by old new stock left (Err e) → Came s by old new stock left r
   does-err T s by old new stock left (Ok x) e is h = absurd is
   does-err T s by old new stock left (Err given) e is h = subst (λ given. Came {T = T} s by old new stock left (Err given)) (sym is) h
@@ -146,12 +146,12 @@ module _ {B P : Type 0} (next : Next B) (bodies : P → List B) (procs : P → L
       one_more a zero = let at : a ≡ a + 0 = omega arith in ap (λ k. k ∷ []) at
       one_more a (suc n) = let more : suc n + 1 ≡ suc (n + 1) = omega arith in let on : a + 1 + n ≡ a + suc n = omega arith in ap (range_with_len a) more ∙ ap (λ es. a ∷ es) (one_more (a + 1) n ∙ ap (λ k. range_with_len (a + 1) n ++ k ∷ []) on)
 
-  pub events-begin : {T : Type 0} (w : Option (List ℕ)) (f : ℕ) (run : Played P) (stock : List Shelf) (x : T)
+  pub events-begin : {T : Type 0} (w : Option (List ℕ)) (f : ℕ) (run : Played P) (stock : Shelves) (x : T)
       → run.failed ≡ false → IsDefined (setting_of next bodies run) run.takes run.calls → run.calls ≤ run.turns
       → Came (stream w w f f) (λ planned plan. first_events 0 planned plan) run run stock stock (Ok x)
   events-begin w f run stock x sound made room = does-nothing w f run stock x sound made room
 
-  pub events-more : {T : Type 0} (a b c : Option (List ℕ)) (i j k : ℕ) (old mid new : Played P) (stock some left : List Shelf) (e : ℕ) (x : T) (r : Result (Unit {0}) RunErr) → 1 ≤ e
+  pub events-more : {T : Type 0} (a b c : Option (List ℕ)) (i j k : ℕ) (old mid new : Played P) (stock some left : Shelves) (e : ℕ) (x : T) (r : Result (Unit {0}) RunErr) → 1 ≤ e
       → Came (stream a b i j) (λ planned plan. first_events (e - 1) planned plan) old mid stock some (Ok x) → Came (stream b c j k) (λ planned plan. offered planned e plan) mid new some left r
       → Came (stream a c i k) (λ planned plan. first_events (e + 1 - 1) planned plan) old new stock left r
   events-more a b c i j k old mid new stock some left e x r low p q =
@@ -169,7 +169,7 @@ module _ {B P : Type 0} (next : Next B) (bodies : P → List B) (procs : P → L
       ap (λ k. a ∷ (range_with_len (a + 1) m ++ range_with_len k n)) e ∙ ap (λ es. a ∷ es) (cut (a + 1) m n) ∙ sym (ap (range_with_len a) more)
 
   -- events that can't be delivered are passed over
-  pub events-skip : {T : Type 0} (s : Stream) (old new : Played P) (stock left : List Shelf) (a b : ℕ) (x : T) → 1 ≤ a → a ≤ b
+  pub events-skip : {T : Type 0} (s : Stream) (old new : Played P) (stock left : Shelves) (a b : ℕ) (x : T) → 1 ≤ a → a ≤ b
       → HoldsNowhere (armed (session_of next bodies new).live.state) a b
       → Came s (λ planned plan. first_events (a - 1) planned plan) old new stock left (Ok x) → Came s (λ planned plan. first_events (b - 1) planned plan) old new stock left (Ok x)
   events-skip s old new stock left a b x low up none p =
@@ -188,7 +188,7 @@ module _ {B P : Type 0} (next : Next B) (bodies : P → List B) (procs : P → L
       does-by s (λ planned plan. first_events (a - 1) planned plan) (λ planned plan. first_events (b - 1) planned plan) old new stock left (Ok x)
       (sym p.comes ∙ sym still ∙ ap (λ q. fold (λ (now : Plan B) e. offered planned e now) q (range_with_len a n)) p.comes ∙ further) p
 
-  pub events-end : {T : Type 0} (s : Stream) (old new : Played P) (stock left : List Shelf) (e : ℕ) (x : T) → e ≡ 32
+  pub events-end : {T : Type 0} (s : Stream) (old new : Played P) (stock left : Shelves) (e : ℕ) (x : T) → e ≡ 32
       → Came s (λ planned plan. first_events (e - 1) planned plan) old new stock left (Ok x) → Came s (λ planned plan. boundary planned plan) old new stock left (Ok x)
   unfolding events
   events-end s old new stock left e x is p = does-by s (λ planned plan. first_events (e - 1) planned plan) (λ planned plan. boundary planned plan) old new stock left (Ok x)
@@ -204,7 +204,7 @@ module _ {B P : Type 0} (next : Next B) (bodies : P → List B) (procs : P → L
       (sym (fold-append (λ (now : Plan B) e. offered planned e now) plan (range_with_len 1 e) (range_with_len (1 + e) n)) ∙ ap (λ es. fold (λ (now : Plan B) e. offered planned e now) plan es) (cut 1 e n ∙ ap (range_with_len 1) total))
       (serves-grow planned (range_with_len (1 + e) n) (first_events e planned plan))
 
-  pub events-part : {T U : Type 0} (a b c : Option (List ℕ)) (i j k : ℕ) (old mid new : Played P) (stock some left : List Shelf) (e : ℕ) (x : T) (r : Result U RunErr) (error : RunErr) → IsErrAnd r (λ given. given ≡ error) → 1 ≤ e → e < 32
+  pub events-part : {T U : Type 0} (a b c : Option (List ℕ)) (i j k : ℕ) (old mid new : Played P) (stock some left : Shelves) (e : ℕ) (x : T) (r : Result U RunErr) (error : RunErr) → IsErrAnd r (λ given. given ≡ error) → 1 ≤ e → e < 32
       → Came (stream a b i j) (λ planned plan. first_events (e - 1) planned plan) old mid stock some (Ok x) → Came {T = Unit {0}} (stream b c j k) (λ planned plan. offered planned e plan) mid new some left (Err error)
       → Came (stream a c i k) (λ planned plan. boundary planned plan) old new stock left r
   events-part a b c i j k old mid new stock some left e x r error is low high p q =
@@ -219,14 +219,14 @@ module _ {B P : Type 0} (next : Next B) (bodies : P → List B) (procs : P → L
   -- ---- one step
 
   -- a step counts, by this function of plans, with these lines left then
-  record IsStep (by : Planned B → Plan B → Plan B) (old counted : Played P) (stock left : List Shelf) : Type 0 where
+  record IsStep (by : Planned B → Plan B → Plan B) (old counted : Played P) (stock left : Shelves) : Type 0 where
     pub same : GoesOn old counted
     pub sound : counted.failed ≡ false
     pub comes : plan_now next bodies counted left ≡ by (planned_of next bodies old) (plan_now next bodies old stock)
     pub before : but_last (session_of next bodies counted).steps ≡ (session_of next bodies old).steps
     pub more : IsFirstPart (plan_now next bodies old stock) (by (planned_of next bodies old) (plan_now next bodies old stock))
 
-  does-step : {T : Type 0} (s : Stream) (by : Planned B → Plan B → Plan B) (old counted new : Played P) (stock left : List Shelf) (r : Result T RunErr)
+  does-step : {T : Type 0} (s : Stream) (by : Planned B → Plan B → Plan B) (old counted new : Played P) (stock left : Shelves) (r : Result T RunErr)
       → IsStep by old counted stock left → new ≡ stepped old counted r
       → Tells s (trace_of next bodies procs old) (trace_of next bodies procs old) (trace_of next bodies procs new) r
       → IsDefined (setting_of next bodies new) new.takes new.calls → new.calls ≤ new.turns
@@ -272,7 +272,7 @@ module _ {B P : Type 0} (next : Next B) (bodies : P → List B) (procs : P → L
   take-last : (run : Played P) (e : ℕ) (line : Line) → session_of next bodies (with_took run e line) ≡ take_step (setting_of next bodies run) (took_now run e line) (session_of next bodies run)
   take-last run e line = play-take (setting_of next bodies run) (took_now run e line) run.takes run.calls refl
 
-  pub does-call : {T : Type 0} (s : Stream) (old new : Played P) (stock : List Shelf) (r : Result T RunErr)
+  pub does-call : {T : Type 0} (s : Stream) (old new : Played P) (stock : Shelves) (r : Result T RunErr)
       → old.failed ≡ false → IsDefined (setting_of next bodies old) old.takes old.calls → new ≡ stepped old (with_call old) r
       → Tells s (trace_of next bodies procs old) (trace_of next bodies procs old) (trace_of next bodies procs new) r
       → IsDefined (setting_of next bodies new) new.takes new.calls → new.calls ≤ new.turns
@@ -287,7 +287,7 @@ module _ {B P : Type 0} (next : Next B) (bodies : P → List B) (procs : P → L
 
   -- ---- a take
 
-  pub does-take : {T : Type 0} (s : Stream) (e : ℕ) (line : Line) (old new : Played P) (stock left : List Shelf) (r : Result T RunErr)
+  pub does-take : {T : Type 0} (s : Stream) (e : ℕ) (line : Line) (old new : Played P) (stock left : Shelves) (r : Result T RunErr)
       → old.failed ≡ false → armed (session_of next bodies old).live.state e ≡ true → first_left stock e ≡ Some line → left ≡ taken_from stock e
       → new ≡ stepped old (with_took old e line) r
       → Tells s (trace_of next bodies procs old) (trace_of next bodies procs old) (trace_of next bodies procs new) r
@@ -303,7 +303,7 @@ module _ {B P : Type 0} (next : Next B) (bodies : P → List B) (procs : P → L
   }) is told made room
 
   -- with no line to be taken, nothing is done
-  pub does-none : {T : Type 0} (w : Option (List ℕ)) (f e : ℕ) (run : Played P) (stock left : List Shelf) (x : T)
+  pub does-none : {T : Type 0} (w : Option (List ℕ)) (f e : ℕ) (run : Played P) (stock left : Shelves) (x : T)
       → run.failed ≡ false → first_left stock e ≡ None → left ≡ taken_from stock e
       → IsDefined (setting_of next bodies run) run.takes run.calls → run.calls ≤ run.turns
       → Came (stream w w f f) (λ planned plan. offered planned e plan) run run stock left (Ok x)
@@ -314,7 +314,7 @@ module _ {B P : Type 0} (next : Next B) (bodies : P → List B) (procs : P → L
       (sym (offered-unable (planned_of next bodies run) e (plan_now next bodies run stock) first))
       (does-nothing w f run stock x sound made room))
 
-  pub does-unarmed : {T : Type 0} (w : Option (List ℕ)) (f e : ℕ) (run : Played P) (stock : List Shelf) (x : T)
+  pub does-unarmed : {T : Type 0} (w : Option (List ℕ)) (f e : ℕ) (run : Played P) (stock : Shelves) (x : T)
       → run.failed ≡ false → armed (session_of next bodies run).live.state e ≡ false
       → IsDefined (setting_of next bodies run) run.takes run.calls → run.calls ≤ run.turns
       → Came (stream w w f f) (λ planned plan. offered planned e plan) run run stock stock (Ok x)
@@ -326,12 +326,12 @@ module _ {B P : Type 0} (next : Next B) (bodies : P → List B) (procs : P → L
   -- ---- a round
 
   -- an answer, or an error, may be of another type
-  does-answer : {T U : Type 0} (s : Stream) (f : Planned B → Plan B → Plan B) (old new : Played P) (stock left : List Shelf) (x : T) (y : U)
+  does-answer : {T U : Type 0} (s : Stream) (f : Planned B → Plan B → Plan B) (old new : Played P) (stock left : Shelves) (x : T) (y : U)
       → Came s f old new stock left (Ok x) → Came s f old new stock left (Ok y)
   does-answer s f old new stock left x y h = record { same = h.same; made = h.made; room = h.room; told = h.told; sound = h.sound; comes = h.comes; part = tt }
 
   -- lines are taken, and then a call is made
-  pub does-turn : {T : Type 0} (a b c : Option (List ℕ)) (i j k : ℕ) (old mid new : Played P) (stock left : List Shelf) (x y : Unit {0}) (z : T) → phase_now next bodies old ≡ phase.Turn
+  pub does-turn : {T : Type 0} (a b c : Option (List ℕ)) (i j k : ℕ) (old mid new : Played P) (stock left : Shelves) (x y : Unit {0}) (z : T) → phase_now next bodies old ≡ phase.Turn
       → Came (stream a b i j) (λ planned plan. boundary planned plan) old mid stock left (Ok x)
       → Came (stream b c j k) (λ planned plan. one_call planned plan) mid new left left (Ok y)
       → Came (stream a c i k) (λ planned plan. round planned plan) old new stock left (Ok z)
@@ -341,7 +341,7 @@ module _ {B P : Type 0} (next : Next B) (bodies : P → List B) (procs : P → L
       (does-answer (stream a c i k) _ old new stock left y z
       (does-then a b c i j k (λ planned plan. boundary planned plan) (λ planned plan. one_call planned plan) old mid new stock left left x (Ok y) p q))
 
-  pub does-turn-call : {T : Type 0} (a b c : Option (List ℕ)) (i j k : ℕ) (old mid new : Played P) (stock left : List Shelf) (x : Unit {0}) (e : RunErr) → phase_now next bodies old ≡ phase.Turn
+  pub does-turn-call : {T : Type 0} (a b c : Option (List ℕ)) (i j k : ℕ) (old mid new : Played P) (stock left : Shelves) (x : Unit {0}) (e : RunErr) → phase_now next bodies old ≡ phase.Turn
       → Came (stream a b i j) (λ planned plan. boundary planned plan) old mid stock left (Ok x)
       → Came {T = Unit {0}} (stream b c j k) (λ planned plan. one_call planned plan) mid new left left (Err e)
       → Came {T = T} (stream a c i k) (λ planned plan. round planned plan) old new stock left (Err e)
@@ -352,7 +352,7 @@ module _ {B P : Type 0} (next : Next B) (bodies : P → List B) (procs : P → L
       (does-then a b c i j k (λ planned plan. boundary planned plan) (λ planned plan. one_call planned plan) old mid new stock left left x (Err e) p q))
 
   -- with nobody to run, lines are taken
-  pub does-idle : {T : Type 0} (s : Stream) (old new : Played P) (stock left : List Shelf) (x : Unit {0}) (y : T) → phase_now next bodies old ≡ phase.Idle
+  pub does-idle : {T : Type 0} (s : Stream) (old new : Played P) (stock left : Shelves) (x : Unit {0}) (y : T) → phase_now next bodies old ≡ phase.Idle
       → Came s (λ planned plan. boundary planned plan) old new stock left (Ok x)
       → Came s (λ planned plan. round planned plan) old new stock left (Ok y)
   does-idle s old new stock left x y idle p =
@@ -360,7 +360,7 @@ module _ {B P : Type 0} (next : Next B) (bodies : P → List B) (procs : P → L
       (sym (idle-round (planned_of next bodies old) (plan_now next bodies old stock) idle))
       (does-answer s _ old new stock left x y p)
 
-  pub does-idle-lines : {T : Type 0} (s : Stream) (old new : Played P) (stock left : List Shelf) (e : RunErr) → phase_now next bodies old ≡ phase.Idle
+  pub does-idle-lines : {T : Type 0} (s : Stream) (old new : Played P) (stock left : Shelves) (e : RunErr) → phase_now next bodies old ≡ phase.Idle
       → Came {T = Unit {0}} s (λ planned plan. boundary planned plan) old new stock left (Err e)
       → Came {T = T} s (λ planned plan. round planned plan) old new stock left (Err e)
   does-idle-lines s old new stock left e idle p =
@@ -369,18 +369,18 @@ module _ {B P : Type 0} (next : Next B) (bodies : P → List B) (procs : P → L
       (does-part _ _ s (λ planned plan. boundary planned plan) (λ planned plan. plan) old new stock left e (first-same _) p)
 
   -- where no more lines were taken than before, the session is stuck, and else it isn't over
-  pub over-stuck : (s : Stream) (old new : Played P) (stock left : List Shelf) (x : Unit {0}) → phase_now next bodies old ≡ phase.Idle
+  pub over-stuck : (s : Stream) (old new : Played P) (stock left : Shelves) (x : Unit {0}) → phase_now next bodies old ≡ phase.Idle
       → Came s (λ planned plan. boundary planned plan) old new stock left (Ok x) → length new.takes ≡ length old.takes
       → plan_over (planned_of next bodies old) (plan_now next bodies old stock) ≡ Some halts.Stuck
   over-stuck s old new stock left x idle p n = idle-stuck (planned_of next bodies old) (plan_now next bodies old stock) idle (ap (λ (plan : Plan B). length plan.takes) (sym p.comes) ∙ n)
 
-  pub over-on : (s : Stream) (old new : Played P) (stock left : List Shelf) (x : Unit {0}) → phase_now next bodies old ≡ phase.Idle
+  pub over-on : (s : Stream) (old new : Played P) (stock left : Shelves) (x : Unit {0}) → phase_now next bodies old ≡ phase.Idle
       → Came s (λ planned plan. boundary planned plan) old new stock left (Ok x) → length new.takes ≢ length old.takes
       → plan_over (planned_of next bodies old) (plan_now next bodies old stock) ≡ None
   over-on s old new stock left x idle p n = idle-on (planned_of next bodies old) (plan_now next bodies old stock) idle (λ same. n (ap (λ (plan : Plan B). length plan.takes) p.comes ∙ same))
 
   -- somebody may run still, once lines were taken
-  pub due-still : (s : Stream) (old new : Played P) (stock left : List Shelf) (x : Unit {0}) → phase_now next bodies old ≡ phase.Turn
+  pub due-still : (s : Stream) (old new : Played P) (stock left : Shelves) (x : Unit {0}) → phase_now next bodies old ≡ phase.Turn
       → Came s (λ planned plan. boundary planned plan) old new stock left (Ok x) → phase_now next bodies new ≡ phase.Turn
   due-still s old new stock left x due p =
       (λ t. phase_of (state_of (p.comes t)) (p.same.turns t) (p.comes t).calls) ∙ boundary-turn (planned_of next bodies old) (plan_now next bodies old stock) due
@@ -388,17 +388,17 @@ module _ {B P : Type 0} (next : Next B) (bodies : P → List B) (procs : P → L
   -- ---- round after round
 
   -- so far, a run has gone towards this end
-  pub record Going (s : Stream) (old now : Played P) (stock left : List Shelf) : Type 0 where
+  pub record Going (s : Stream) (old now : Played P) (stock left : Shelves) : Type 0 where
     pub same : GoesOn old now
     pub sound : now.failed ≡ false
     pub told : Wrote s (trace_of next bodies procs old) (trace_of next bodies procs now)
     pub ends : finished (planned_of next bodies old) (plan_now next bodies now left) ≡ finished (planned_of next bodies old) (plan_now next bodies old stock)
 
-  going-round : (old now new : Played P) (some left : List Shelf) → GoesOn old now → plan_now next bodies new left ≡ round (planned_of next bodies now) (plan_now next bodies now some)
+  going-round : (old now new : Played P) (some left : Shelves) → GoesOn old now → plan_now next bodies new left ≡ round (planned_of next bodies now) (plan_now next bodies now some)
       → plan_now next bodies new left ≡ round (planned_of next bodies old) (plan_now next bodies now some)
   going-round old now new some left same comes = comes ∙ ap (λ planned. round planned (plan_now next bodies now some)) (planned-same old now same)
 
-  pub going-on : {T : Type 0} (a b c : Option (List ℕ)) (i j k : ℕ) (old now new : Played P) (stock some left : List Shelf) (x : T)
+  pub going-on : {T : Type 0} (a b c : Option (List ℕ)) (i j k : ℕ) (old now new : Played P) (stock some left : Shelves) (x : T)
       → Going (stream a b i j) old now stock some → Came (stream b c j k) (λ planned plan. round planned plan) now new some left (Ok x)
       → Going (stream a c i k) old new stock left
   going-on a b c i j k old now new stock some left x g p = record {
@@ -410,7 +410,7 @@ module _ {B P : Type 0} (next : Next B) (bodies : P → List B) (procs : P → L
         ∙ g.ends;
   }
 
-  pub going-falls : {T : Type 0} (s : Stream) (now new : Played P) (some left : List Shelf) (x : T)
+  pub going-falls : {T : Type 0} (s : Stream) (now new : Played P) (some left : Shelves) (x : T)
       → Came s (λ planned plan. round planned plan) now new some left (Ok x) → plan_over (planned_of next bodies now) (plan_now next bodies now some) ≡ None
       → (new.turns - new.calls) + left_in_all left + 1 ≤ (now.turns - now.calls) + left_in_all some
   going-falls s now new some left x p is =
@@ -421,13 +421,13 @@ module _ {B P : Type 0} (next : Next B) (bodies : P → List B) (procs : P → L
       omega (arith, e, f, p.same.turns)
 
   -- at the end
-  still-over : {T : Type 0} (s : Stream) (old now new : Played P) (some left : List Shelf) (halt : Halt) (x : T) → GoesOn old now
+  still-over : {T : Type 0} (s : Stream) (old now new : Played P) (some left : Shelves) (halt : Halt) (x : T) → GoesOn old now
       → Came s (λ planned plan. round planned plan) now new some left (Ok x) → plan_over (planned_of next bodies now) (plan_now next bodies now some) ≡ Some halt
       → plan_now next bodies new left ≡ plan_now next bodies now some
   still-over s old now new some left halt x same p is = p.comes
       ∙ ap (λ (o : Option Halt). elim o as (λ _. Plan B) [ None ↦ advanced (planned_of next bodies now) (plan_now next bodies now some) | Some halt ↦ plan_now next bodies now some ]) is
 
-  pub going-finishes : {T : Type 0} (s u : Stream) (old now new : Played P) (stock some left : List Shelf) (halt : Halt) (x : T)
+  pub going-finishes : {T : Type 0} (s u : Stream) (old now new : Played P) (stock some left : Shelves) (halt : Halt) (x : T)
       → Going s old now stock some → Came u (λ planned plan. round planned plan) now new some left (Ok x) → plan_over (planned_of next bodies now) (plan_now next bodies now some) ≡ Some halt
       → plan_now next bodies new left ≡ finished (planned_of next bodies old) (plan_now next bodies old stock)
   going-finishes s u old now new stock some left halt x g p is =
@@ -437,7 +437,7 @@ module _ {B P : Type 0} (next : Next B) (bodies : P → List B) (procs : P → L
       ∙ sym (finished-over (planned_of next bodies old) (plan_now next bodies now some) halt over)
       ∙ g.ends
 
-  pub going-part : {T : Type 0} (s u : Stream) (old now new : Played P) (stock some left : List Shelf) (e : RunErr)
+  pub going-part : {T : Type 0} (s u : Stream) (old now new : Played P) (stock some left : Shelves) (e : RunErr)
       → Going s old now stock some → Came {T = T} u (λ planned plan. round planned plan) now new some left (Err e)
       → IsFirstPart (plan_now next bodies new left) (finished (planned_of next bodies old) (plan_now next bodies old stock))
   going-part s u old now new stock some left e g p =
@@ -448,7 +448,7 @@ module _ {B P : Type 0} (next : Next B) (bodies : P → List B) (procs : P → L
       (subst (λ given. IsFirstPart (plan_now next bodies new left) (round given plan)) (planned-same old now g.same) p.part)
       (finished-grows planned (round planned plan)))
 
-  pub going-told : (T U : Type 0) (a b c : Option (List ℕ)) (i j k : ℕ) (old now new : Played P) (stock some left : List Shelf) (e : RunErr) (r : Result U RunErr) → IsErrAnd r (λ given. given ≡ e)
+  pub going-told : (T U : Type 0) (a b c : Option (List ℕ)) (i j k : ℕ) (old now new : Played P) (stock some left : Shelves) (e : RunErr) (r : Result U RunErr) → IsErrAnd r (λ given. given ≡ e)
       → Going (stream a b i j) old now stock some → Came {T = T} (stream b c j k) (λ planned plan. round planned plan) now new some left (Err e)
       → Tells {T = U} (stream a c i k) (trace_of next bodies procs old) (trace_before next bodies procs new) (trace_of next bodies procs new) r
   going-told T U a b c i j k old now new stock some left e (Ok x) is g p = absurd is
@@ -458,12 +458,12 @@ module _ {B P : Type 0} (next : Next B) (bodies : P → List B) (procs : P → L
       (tells-then {T = T} a b c i j k (trace_of next bodies procs old) (trace_of next bodies procs now) (trace_before next bodies procs new) (trace_of next bodies procs new) (Err e) g.told p.told))
 
   -- a new run has done nothing yet
-  new-opens : (run : Played P) (stock : List Shelf) → IsNew run → plan_now next bodies run stock ≡ opening_plan (planned_of next bodies run) stock
+  new-opens : (run : Played P) (stock : Shelves) → IsNew run → plan_now next bodies run stock ≡ opening_plan (planned_of next bodies run) stock
   new-opens run stock h =
       (λ t. record { session = play (setting_of next bodies run) (h.1 t) (h.0 t); calls = h.0 t; left = stock; takes = h.1 t })
       ∙ ap (λ session. record { session = session; calls = 0; left = stock; takes = [] }) (play-zero (setting_of next bodies run))
 
-  pub new-whole : (run : Played P) (stock : List Shelf) → IsNew run → finished (planned_of next bodies run) (plan_now next bodies run stock) ≡ plan_whole (planned_of next bodies run) stock
+  pub new-whole : (run : Played P) (stock : Shelves) → IsNew run → finished (planned_of next bodies run) (plan_now next bodies run stock) ≡ plan_whole (planned_of next bodies run) stock
   unfolding plan_whole
   new-whole run stock h = ap (finished (planned_of next bodies run)) (new-opens run stock h)
 

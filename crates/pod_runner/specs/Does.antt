@@ -1,5 +1,5 @@
 -- What a run, a gate and a sink come to together.
-use Rattle.event_gate.specs.Shelves.{Shelf}
+use Rattle.event_gate.specs.Shelves.{Shelves}
 use Rattle.lwp_types.specs.Poll.{Next}
 use Rattle.pod_runner.specs.Due.{IsDefined}
 use Rattle.pod_runner.specs.Eager.{IsFirstPart, Plan, Planned}
@@ -9,7 +9,7 @@ use Rattle.std.specs.Prelude.{List, OnErr, OnOk, Result, false, ℕ, ◌≡◌, 
 
 -- the run did what `by` says, with the lines that the gate has left, and told the lines of its steps; or it failed in the midst of that
 pub record Does {B P T : Type 0} (next : Next B) (bodies : P → List B) (proc_names : P → List (List ℕ)) (stream : Stream) (by : Planned B → Plan B → Plan B)
-    (old new : Played P) (stock left : List Shelf) (result : Result T RunErr) : Type 0 where
+    (old new : Played P) (stock left : Shelves) (result : Result T RunErr) : Type 0 where
   pub same : GoesOn old new
   pub made : IsDefined (setting_of next bodies new) new.takes new.calls
   pub room : new.calls ≤ new.turns

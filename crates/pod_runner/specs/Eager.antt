@@ -1,5 +1,5 @@
 -- Sessions in which all lines are there from the start, and each is taken as soon as it can be.
-use Rattle.event_gate.specs.Shelves.{Shelf, first_left, left_in_all, taken_from}
+use Rattle.event_gate.specs.Shelves.{Shelves, first_left, left_in_all, taken_from}
 use Rattle.lwp_types.specs.Agents.{armed}
 use Rattle.lwp_types.specs.Choice.{choice}
 use Rattle.lwp_types.specs.State.{State}
@@ -16,7 +16,7 @@ pub record Plan (B : Type 0) : Type 0 where
   pub session : Session B
   pub calls : ℕ
   -- of each event, the lines that were taken and those that are left
-  pub left : List Shelf
+  pub left : Shelves
   -- the oldest first
   pub takes : List Took
 
@@ -85,11 +85,11 @@ abbrev pub finished : {B : Type 0} → Planned B → Plan B → Plan B
 finished planned plan = to_the_end planned (planned.turns + left_in_all plan.left) plan
 
 -- before the first step, where these lines are in place
-abbrev pub opening_plan : {B : Type 0} → Planned B → List Shelf → Plan B
+abbrev pub opening_plan : {B : Type 0} → Planned B → Shelves → Plan B
 opening_plan planned left = record { session = opening_session planned.setting; calls = 0; left = left; takes = [] }
 
 -- the session whole
-unfoldable pub plan_whole : {B : Type 0} → Planned B → List Shelf → Plan B
+unfoldable pub plan_whole : {B : Type 0} → Planned B → Shelves → Plan B
 plan_whole planned left = finished planned (opening_plan planned left)
 
 -- what was done so far is the first part of what is done in the end: the first steps, the first takes, and no more calls

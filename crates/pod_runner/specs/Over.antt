@@ -1,5 +1,5 @@
 -- When a session is over, and how it ended.
-use Rattle.event_gate.specs.Shelves.{Shelf, first_left}
+use Rattle.event_gate.specs.Shelves.{Shelves, first_left}
 use Rattle.lwp_types.specs.Agents.{armed}
 use Rattle.lwp_types.specs.Choice.{choice}
 use Rattle.lwp_types.specs.State.{State}
@@ -13,11 +13,11 @@ unfoldable pub events : List ℕ
 events = range_with_len 1 31
 
 -- a line of the event is left, and can be delivered
-abbrev pub can_take : State → List Shelf → ℕ → Bool
+abbrev pub can_take : State → Shelves → ℕ → Bool
 can_take s left e = armed s e && is_some (first_left left e)
 
 -- some event has a line that can be delivered
-abbrev pub is_wanted : State → List Shelf → Bool
+abbrev pub is_wanted : State → Shelves → Bool
 is_wanted s left = list_any (λ e. can_take s left e) events
 
 -- while the pod goes on: with nobody to run, a session is stuck unless a line can be taken; with somebody, it goes on until all calls allowed were made
@@ -26,5 +26,5 @@ halt_if turns calls wanted None = if wanted then None else Some Stuck
 halt_if turns calls wanted (Some t) = if nat_le turns calls then Some Spent else None
 
 -- how a session has ended, if it has: from the calls allowed, the pod, the calls made and the lines left
-abbrev pub over : ℕ → State → ℕ → List Shelf → Option Halt
+abbrev pub over : ℕ → State → ℕ → Shelves → Option Halt
 over turns s calls left = if s.ended then Some (Ended s.status) else halt_if turns calls (is_wanted s left) (choice s)

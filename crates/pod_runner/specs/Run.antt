@@ -1,5 +1,5 @@
 -- What a run is seen as, and what its calls say.
-use Rattle.event_gate.specs.Shelves.{Shelf}
+use Rattle.event_gate.specs.Shelves.{Shelves}
 use Rattle.lwp_types.specs.Names.{Names, null_names}
 use Rattle.lwp_types.specs.Poll.{Next}
 use Rattle.lwp_types.specs.Streams.{AppendsPrefix, Rose, appended}
@@ -61,11 +61,11 @@ abbrev pub planned_of : {B P : Type 0} → Next B → (P → List B) → Played 
 planned_of next bodies run = record { setting = setting_of next bodies run; turns = run.turns }
 
 -- how far such a session is, if it is where the run is, and these lines are left
-abbrev pub plan_now : {B P : Type 0} → Next B → (P → List B) → Played P → List Shelf → Plan B
+abbrev pub plan_now : {B P : Type 0} → Next B → (P → List B) → Played P → Shelves → Plan B
 plan_now next bodies run stock = record { session = session_of next bodies run; calls = run.calls; left = stock; takes = run.takes }
 
 -- with these lines left, the run has ended so
-abbrev pub EndsAt : {B P : Type 0} → Next B → (P → List B) → Played P → List Shelf → Halt → Type 0
+abbrev pub EndsAt : {B P : Type 0} → Next B → (P → List B) → Played P → Shelves → Halt → Type 0
 EndsAt next bodies run stock halt = over run.turns (session_of next bodies run).live.state run.calls stock ≡ Some halt
 
 -- a run before its first step

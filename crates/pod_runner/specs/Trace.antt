@@ -1,5 +1,5 @@
 -- The bytes that a session writes.
-use Rattle.event_gate.specs.Shelves.{Shelf, left_of_client}
+use Rattle.event_gate.specs.Shelves.{Shelves, left_of_client}
 use Rattle.pod_runner.specs.Eager.{Plan, Planned, plan_over}
 use Rattle.pod_runner.specs.Session.{Made}
 use Rattle.trace_text.specs.Lines.{end_text, step_lines}
@@ -16,12 +16,12 @@ abbrev pub lines : List (List ℕ) → List Made → List ℕ
 lines procs steps = flat_map (made_lines procs) steps
 
 -- how many lines of each client are left, counted from c
-abbrev pub left_from : ℕ → List ℕ → List Shelf → List ℕ
+abbrev pub left_from : ℕ → List ℕ → Shelves → List ℕ
 left_from c [] left = []
 left_from c (event ∷ clients) left = left_of_client c left ∷ left_from (c + 1) clients left
 
 -- what stands behind the lines of the last step; nothing, as long as the session isn't over
-abbrev pub tail_by : ℕ → List ℕ → List Shelf → Option Halt → List ℕ
+abbrev pub tail_by : ℕ → List ℕ → Shelves → Option Halt → List ℕ
 tail_by turns clients left None = []
 tail_by turns clients left (Some halt) = end_text turns (left_from 0 clients left) halt
 

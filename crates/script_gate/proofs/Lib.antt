@@ -1,2 +1,2 @@
 pub mod PostLaws
-mod QueueLaws
+mod PlaceLaws

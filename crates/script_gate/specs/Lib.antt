@@ -1,3 +1,3 @@
 pub mod Posted
-pub mod Queues
+pub mod Places
 pub mod Stocked

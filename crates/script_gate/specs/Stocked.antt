@@ -1,9 +1,8 @@
 -- All lines of a script in place.
-use Rattle.event_gate.specs.Shelves.{Shelf, stocked}
+use Rattle.event_gate.specs.Shelves.{Shelves, stocked}
 use Rattle.script_text.specs.Script.{lines_posted}
 use Rattle.script_text.specs.declared.script.Script.{Script}
-use Rattle.std.specs.Prelude.{List}
 
 -- the lines of its clients, of each event those that are for it, in the order of the script
-abbrev pub stock_of : Script → List Shelf
+abbrev pub stock_of : Script → Shelves
 stock_of script = stocked script.clients (lines_posted script)

@@ -1,13 +1,12 @@
 // A gate that borrows the script whose lines it has.
 ghost use Rattle.std.specs.Prelude.{◌≡◌, IfOk, replicate};
-ghost use Rattle.event_gate.specs.Shelves.{first_left, left_of_client, taken_from};
+ghost use Rattle.event_gate.specs.Shelves.{bare, first_left, left_of_client, taken_from};
 ghost use Rattle.script_gate.specs.Posted.{IsPosted};
-ghost use Rattle.script_gate.specs.Queues.{line_at, no_posts};
+ghost use Rattle.script_gate.specs.Places.{line_at};
 ghost use Rattle.script_gate.specs.Stocked.{stock_of};
 ghost use Rattle.script_text.specs.Script.{lines_posted};
 
-use crate::queue::Queue;
-use event_gate::Gate;
+use event_gate::{Gate, Shelf};
 use lwp_types::{Line, NoMemory, Text};
 use script_text::Script;
 use std::alloc::Global;
@@ -20,33 +19,33 @@ const EVENTS: usize = 256;
 #[derive(Drop)]
 pub struct ScriptGate<'s> {
     script: &'s Script,
-    // By the number of the event.
-    queues: Vec<Queue>,
+    // By the number of the event, the places of its posts in the script.
+    shelves: Vec<Shelf<u32>>,
     // By the number of the client, how many of its lines are left.
     left: Vec<u32>,
 }
 
 impl<'s> Model for ScriptGate<'s> {
-    ghost use Rattle.event_gate.specs.Shelves.{Shelf, left_of_client};
-    ghost use Rattle.script_gate.specs.Queues.{shelves_by};
+    ghost use Rattle.event_gate.specs.Shelves.{Shelves, left_of_client};
+    ghost use Rattle.script_gate.specs.Places.{shelves_by};
     ghost use Rattle.script_text.specs.Script.{lines_posted};
-    ghost use Rattle.std.specs.Prelude.{ℕ, List, length, slice_index, ◌≡◌};
+    ghost use Rattle.std.specs.Prelude.{ℕ, length, slice_index, ◌≡◌};
 
-    ghost Value = { List Shelf };
+    ghost Value = { Shelves };
 
-    ghost view = { λ s. shelves_by (lines_posted s.script.now) s.queues.items };
+    ghost view = { λ s. shelves_by (lines_posted s.script.now) s.shelves.items };
 
-    ghost invariant = { λ s. (length s.queues.items ≡ 256) × (length s.left.items ≡ 256) × ((c : ℕ) → slice_index s.left.items c ≡ left_of_client c (shelves_by (lines_posted s.script.now) s.queues.items)) };
+    ghost invariant = { λ s. (length s.shelves.items ≡ 256) × (length s.left.items ≡ 256) × ((c : ℕ) → slice_index s.left.items c ≡ left_of_client c (shelves_by (lines_posted s.script.now) s.shelves.items)) };
 }
 
-fn bare_queues(alloc: Global) -> Result<Vec<Queue>, NoMemory>
-    ensures { IfOk result (λ v. v.items ≡ replicate 256 no_posts) }
+fn bare_shelves(alloc: Global) -> Result<Vec<Shelf<u32>>, NoMemory>
+    ensures { IfOk result (λ v. v.items ≡ replicate 256 bare) }
 {
-    let mut queues = Vec::new(alloc);
+    let mut shelves = Vec::new(alloc);
     for _ in 0..EVENTS {
-        queues.push(Queue::new(alloc))?;
+        shelves.push(Shelf::new(alloc))?;
     }
-    Ok(queues)
+    Ok(shelves)
 }
 
 // The line of the post at this place.
@@ -74,17 +73,17 @@ pub fn stock<'s>(alloc: Global, script: &'s Script) -> Result<ScriptGate<'s>, No
 {
     let clients = script.clients.as_slice();
     let posts = script.posts.as_slice();
-    let mut queues = bare_queues(alloc)?;
+    let mut shelves = bare_shelves(alloc)?;
     let mut left = Vec::from_elem(alloc, 0, EVENTS)?;
     for place in 0..posts.len() {
         let client = usize::from(posts[place].client);
         let event = usize::from(clients[client]);
-        queues[event].add(place as u32)?;
+        shelves[event].add(place as u32)?;
         left[client] += 1;
     }
     Ok(ScriptGate {
         script,
-        queues,
+        shelves,
         left,
     })
 }
@@ -95,10 +94,10 @@ impl<'s> Gate for ScriptGate<'s> {
     fn take(&mut self, event: u8) -> Option<Line> {
         let ScriptGate {
             script,
-            queues,
+            shelves,
             left,
         } = self;
-        let place = queues[usize::from(event)].next()?;
+        let place = shelves[usize::from(event)].next()?;
         let line = line_at(script, place);
         left[usize::from(line.client)] -= 1;
         Some(line)

@@ -11,6 +11,5 @@
 #![tactic(auto)]
 
 mod gate;
-mod queue;
 
 pub use gate::{ScriptGate, stock};

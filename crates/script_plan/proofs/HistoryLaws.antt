@@ -3,7 +3,7 @@ use Rattle.event_gate.proofs.HistoryLaws.{clients_keep_history, gates_keep_histo
 use Rattle.event_gate.proofs.Lines.{cond_other, cond_same, of-append, same_or}
 use Rattle.event_gate.specs.History.{IsClientHistory, IsGateHistory, lines_of}
 use Rattle.event_gate.specs.Port.{IsNumbered, of}
-use Rattle.event_gate.specs.Shelves.{Shelf, bare, event_of, first_left, full, left_in_all, left_of_client, lines_for, moved, shelf_of, stocked, taken_from}
+use Rattle.event_gate.specs.Shelves.{Shelf, Shelves, bare, event_of, first_left, full, left_in_all, left_of_client, lines_for, moved, shelf_of, stocked, taken_from}
 use Rattle.script_session.specs.History.{counts_from, lines_left, pair_of, pairs_of}
 use Rattle.script_plan.specs.Planned.{plan_of, planned_of}
 use Rattle.script_gate.specs.Posted.{IsPosted}
@@ -104,7 +104,7 @@ module _ (clients : List ℕ) (posts : List Line) (planned : Planned ThreadBody)
   keeps_opening = record {
     size = length-map-range_with_len (full clients posts) 0 256;
     gate = gates_keep_history.begins clients posts;
-    shelves = λ e low. sym (ap (λ (s : Shelf). s.taken) (get_or-map-range_with_len (full clients posts) 0 256 e e bare low (omega arith)));
+    shelves = λ e low. sym (ap (λ (s : Shelf Line). s.taken) (get_or-map-range_with_len (full clients posts) 0 256 e e bare low (omega arith)));
     at_events = tt;
   }
 
@@ -121,11 +121,11 @@ module _ (clients : List ℕ) (posts : List Line) (planned : Planned ThreadBody)
             ap (λ ls. at d plan.takes ++ ls) (cond_same e d (line ∷ []) [] same) ∙ ap (λ ls. ls ++ line ∷ []) (h.shelves d there)
             ∙ ap (λ k. (shelf_of plan.left k).taken ++ line ∷ []) (sym same)
             ∙ ap (λ ls. s.taken ++ ls) (sym (take_first s.left line first))
-            ∙ ap (λ (x : Shelf). x.taken) (sym (get_or-set_same plan.left e (moved s) bare (omega (arith, h.size, low))))
+            ∙ ap (λ (x : Shelf Line). x.taken) (sym (get_or-set_same plan.left e (moved s) bare (omega (arith, h.size, low))))
             ∙ ap (λ k. (shelf_of (taken_from plan.left e) k).taken) same)
             (λ (other : e ≢ d).
             ap (λ ls. at d plan.takes ++ ls) (cond_other e d (line ∷ []) [] other) ∙ append-nil (at d plan.takes) ∙ h.shelves d there
-            ∙ ap (λ (x : Shelf). x.taken) (sym (get_or-set_other plan.left e d (moved s) bare (λ k. other (sym k)))))
+            ∙ ap (λ (x : Shelf Line). x.taken) (sym (get_or-set_other plan.left e d (moved s) bare (λ k. other (sym k)))))
             (same_or e d);
         at_events = All-push (IsAtEvent clients) plan.takes (took_of e line plan) h.at_events is;
       }
@@ -198,12 +198,12 @@ none_right [] ys h = h
 none_right (x ∷ xs) ys h = absurd (cc h)
 
 -- where no event has lines of a client, none are left
-none_left : (c : ℕ) (shelves : List Shelf) → ((d : ℕ) → d < length shelves → of c (shelf_of shelves d).left ≡ []) → of c (lines_left shelves) ≡ []
+none_left : (c : ℕ) (shelves : Shelves) → ((d : ℕ) → d < length shelves → of c (shelf_of shelves d).left ≡ []) → of c (lines_left shelves) ≡ []
 none_left c [] h = refl
 none_left c (s ∷ ss) h = of-append c s.left (lines_left ss) ∙ ap (λ ls. ls ++ of c (lines_left ss)) (h 0 (omega arith)) ∙ none_left c ss (λ d low. h (suc d) (omega (arith, low)))
 
 -- where one event alone may have lines of a client, all that are left are there
-one_left : (c e : ℕ) (shelves : List Shelf) → ((d : ℕ) → d < length shelves → e ≢ d → of c (shelf_of shelves d).left ≡ []) → of c (lines_left shelves) ≡ of c (shelf_of shelves e).left
+one_left : (c e : ℕ) (shelves : Shelves) → ((d : ℕ) → d < length shelves → e ≢ d → of c (shelf_of shelves d).left ≡ []) → of c (lines_left shelves) ≡ of c (shelf_of shelves e).left
 one_left c e [] h = refl
 one_left c zero (s ∷ ss) h =
     of-append c s.left (lines_left ss) ∙ ap (λ ls. of c s.left ++ ls) (none_left c ss (λ d low. h (suc d) (omega (arith, low)) (λ is. absurd (omega (arith, is))))) ∙ append-nil (of c s.left)
@@ -214,10 +214,10 @@ one_left c (suc e) (s ∷ ss) h =
 abbrev is_of : ℕ → Line → Bool
 is_of c l = eqb l.client c
 
-abbrev count_on : ℕ → Shelf → ℕ
+abbrev count_on : ℕ → Shelf Line → ℕ
 count_on c s = count_by (is_of c) s.left
 
-count_left : (c : ℕ) (shelves : List Shelf) → left_of_client c shelves ≡ length (of c (lines_left shelves))
+count_left : (c : ℕ) (shelves : Shelves) → left_of_client c shelves ≡ length (of c (lines_left shelves))
 count_left c [] = refl
 count_left c (s ∷ ss) = omega (
   arith,
@@ -228,7 +228,7 @@ count_left c (s ∷ ss) = omega (
   length-filter (is_of c) s.left,
 )
 
-pub counts_left : (c : ℕ) (clients : List ℕ) (shelves : List Shelf) → left_from c clients shelves ≡ counts_from c clients (lines_left shelves)
+pub counts_left : (c : ℕ) (clients : List ℕ) (shelves : Shelves) → left_from c clients shelves ≡ counts_from c clients (lines_left shelves)
 counts_left c [] shelves = refl
 counts_left c (e ∷ es) shelves = ap (λ n. n ∷ left_from (c + 1) es shelves) (count_left c shelves) ∙ ap (λ ns. length (of c (lines_left shelves)) ∷ ns) (counts_left (c + 1) es shelves)
 

@@ -2,7 +2,7 @@
 use Rattle.script_session.proofs.RunLaws.{appended-append, Plays, plays, setting-is, lines-is, before-is, is-new}
 use Rattle.script_session.proofs.SaidLaws.{IsRanEnd}
 use Rattle.event_gate.specs.History.{IsClientHistory, lines_of}
-use Rattle.event_gate.specs.Shelves.{Shelf}
+use Rattle.event_gate.specs.Shelves.{Shelves}
 use Rattle.script_plan.proofs.HistoryLaws.{counts_left, part_history, whole_history}
 use Rattle.script_program.specs.Bodies.{bodies_of, body_next}
 use Rattle.script_program.specs.declared.body.ThreadBody.{ThreadBody}
@@ -58,16 +58,16 @@ prefix-then old mid new a b whole h g p = (
 )
 
 -- the session planned for it is the script's
-whole-is : (script : Script) (turns : ℕ) (o : Played Script) (s : List Shelf) → o ≡ opening_run script turns → s ≡ stock_of script → plan_whole (run.planned_of body_next bodies_of o) s ≡ plan_of script turns
+whole-is : (script : Script) (turns : ℕ) (o : Played Script) (s : Shelves) → o ≡ opening_run script turns → s ≡ stock_of script → plan_whole (run.planned_of body_next bodies_of o) s ≡ plan_of script turns
 whole-is script turns o s h t = ap (λ x. plan_whole (run.planned_of body_next bodies_of x) s) h ∙ ap (plan_whole (planned_of script turns)) t
 
 -- a run of this script over its lines, of which these are left, as far as it came
-pub record Came (script : Script) (turns : ℕ) (r : Played Script) (stock : List Shelf) : Type 0 where
+pub record Came (script : Script) (turns : ℕ) (r : Played Script) (stock : Shelves) : Type 0 where
   pub plays_it : Plays script turns r
   pub first : IsFirstPart (run.plan_now body_next bodies_of r stock) (plan_of script turns)
   pub due : IsDefined (run.setting_of body_next bodies_of r) r.takes r.calls
 
-pub came : (script : Script) (turns : ℕ) (o r : Played Script) (s stock : List Shelf) → o ≡ opening_run script turns → s ≡ stock_of script → GoesOn o r
+pub came : (script : Script) (turns : ℕ) (o r : Played Script) (s stock : Shelves) → o ≡ opening_run script turns → s ≡ stock_of script → GoesOn o r
     → (IsNew o → IsFirstPart (run.plan_now body_next bodies_of r stock) (plan_whole (run.planned_of body_next bodies_of o) s))
     → IsDefined (run.setting_of body_next bodies_of r) r.takes r.calls → Came script turns r stock
 came script turns o r s stock h t g begun due = record {
@@ -76,11 +76,11 @@ came script turns o r s stock h t g begun due = record {
   due = due;
 }
 
-due-of : (script : Script) (turns : ℕ) (r : Played Script) (stock : List Shelf) → Came script turns r stock → AreDue script r.takes r.calls
+due-of : (script : Script) (turns : ℕ) (r : Played Script) (stock : Shelves) → Came script turns r stock → AreDue script r.takes r.calls
 due-of script turns r stock h = subst (λ (s : Setting ThreadBody). IsDefined s r.takes r.calls) (setting-is script turns r h.plays_it) h.due
 
 -- its lines are the first of the script's trace
-rest-of : (script : Script) (turns : ℕ) (r : Played Script) (stock : List Shelf) → Came script turns r stock → (rest : List ℕ) × (trace_of script turns ≡ run.trace_of body_next bodies_of proc_names r ++ rest)
+rest-of : (script : Script) (turns : ℕ) (r : Played Script) (stock : Shelves) → Came script turns r stock → (rest : List ℕ) × (trace_of script turns ≡ run.trace_of body_next bodies_of proc_names r ++ rest)
 unfolding trace_of
 rest-of script turns r stock h =
     let procs = proc_names script in
@@ -93,7 +93,7 @@ rest-of script turns r stock h =
           ∙ ap (λ p. lines (proc_names p) now ++ (lines procs h.first.rest ++ behind)) (sym h.plays_it.program),
     )
 
-part-by : (script : Script) (turns : ℕ) (r : Played Script) (stock : List Shelf) (old new : Option (List ℕ)) → Came script turns r stock → IsPosted script
+part-by : (script : Script) (turns : ℕ) (r : Played Script) (stock : Shelves) (old new : Option (List ℕ)) → Came script turns r stock → IsPosted script
     → AppendsPrefix old new (trace_of script turns) → IsPart turns script old new r.takes r.calls
 unfolding calls_of takes_of
 part-by script turns r stock old new h posted p = record {
@@ -107,22 +107,22 @@ part-by script turns r stock old new h posted p = record {
       (subst (λ (takes : List Took). IsClientHistory script.clients (lines_posted script) (pairs_of takes) (lines_left (plan_of script turns).left)) h.first.takes (whole_history script turns posted));
 }
 
-pub part-of : (script : Script) (turns : ℕ) (r : Played Script) (stock : List Shelf) (old new : Option (List ℕ)) → Came script turns r stock → IsPosted script
+pub part-of : (script : Script) (turns : ℕ) (r : Played Script) (stock : Shelves) (old new : Option (List ℕ)) → Came script turns r stock → IsPosted script
     → AppendsPrefix old new (run.trace_of body_next bodies_of proc_names r) → IsPart turns script old new r.takes r.calls
 part-of script turns r stock old new h posted p = let found = rest-of script turns r stock h in
     part-by script turns r stock old new h posted (prefix-more old new (run.trace_of body_next bodies_of proc_names r) found.0 (trace_of script turns) found.1 p)
 
-pub part-all : (script : Script) (turns : ℕ) (r : Played Script) (stock : List Shelf) (old new : Option (List ℕ)) → Came script turns r stock → IsPosted script
+pub part-all : (script : Script) (turns : ℕ) (r : Played Script) (stock : Shelves) (old new : Option (List ℕ)) → Came script turns r stock → IsPosted script
     → new ≡ appended old (run.trace_of body_next bodies_of proc_names r) → IsPart turns script old new r.takes r.calls
 part-all script turns r stock old new h posted p = part-of script turns r stock old new h posted (prefix-all old new (run.trace_of body_next bodies_of proc_names r) p)
 
 -- memory was wanting
-pub stopped-of : (script : Script) (turns : ℕ) (r : Played Script) (stock : List Shelf) (old new : Option (List ℕ)) → Came script turns r stock
+pub stopped-of : (script : Script) (turns : ℕ) (r : Played Script) (stock : Shelves) (old new : Option (List ℕ)) → Came script turns r stock
     → new ≡ appended old (run.trace_of body_next bodies_of proc_names r) → IsStopped script old new r.takes r.calls
 stopped-of script turns r stock old new h p = p ∙ ap (appended old) (lines-is script turns r h.plays_it)
 
 -- a write of lines failed
-pub broken-of : (script : Script) (turns : ℕ) (r : Played Script) (stock : List Shelf) (old new : Option (List ℕ)) → Came script turns r stock
+pub broken-of : (script : Script) (turns : ℕ) (r : Played Script) (stock : Shelves) (old new : Option (List ℕ)) → Came script turns r stock
     → AppendsCut old new (run.trace_before body_next bodies_of proc_names r) (run.trace_of body_next bodies_of proc_names r) → IsBroken turns script old new r.takes r.calls
 broken-of script turns r stock old new h p = inl (subst (λ (bytes : List ℕ). AppendsCut old new (lines_before script r.takes r.calls) bytes) (lines-is script turns r h.plays_it)
     (subst (λ (least : List ℕ). AppendsCut old new least (run.trace_of body_next bodies_of proc_names r)) (before-is script turns r h.plays_it) p))
@@ -132,7 +132,7 @@ not-spent true h = cc h
 not-spent false h = cc h
 
 -- a session is stuck only where no line can be taken
-stuck-wants : (turns : ℕ) (s : State) (calls : ℕ) (left : List Shelf) → over turns s calls left ≡ Some halts.Stuck → is_wanted s left ≡ false
+stuck-wants : (turns : ℕ) (s : State) (calls : ℕ) (left : Shelves) → over turns s calls left ≡ Some halts.Stuck → is_wanted s left ≡ false
 stuck-wants turns s calls left = by s.ended (is_wanted s left) (choice s)
   where
     by : (b wanted : Bool) (c : Option ℕ) → (if b then Some (halts.Ended s.status) else halt_if turns calls wanted c) ≡ Some halts.Stuck → wanted ≡ false
@@ -142,20 +142,20 @@ stuck-wants turns s calls left = by s.ended (is_wanted s left) (choice s)
     by false wanted (Some t) h = absurd (not-spent (nat_le turns calls) h)
 
 -- the run came to the end of the script's session, and ended so
-pub record Finished (script : Script) (turns : ℕ) (r : Played Script) (stock : List Shelf) (halt : Halt) : Type 0 where
+pub record Finished (script : Script) (turns : ℕ) (r : Played Script) (stock : Shelves) (halt : Halt) : Type 0 where
   pub came_so : Came script turns r stock
   pub whole : plan_of script turns ≡ run.plan_now body_next bodies_of r stock
   pub ends : EndsAt body_next bodies_of r stock halt
 
-pub finished : (script : Script) (turns : ℕ) (o r : Played Script) (s stock : List Shelf) (halt : Halt) → Came script turns r stock → o ≡ opening_run script turns → s ≡ stock_of script
+pub finished : (script : Script) (turns : ℕ) (o r : Played Script) (s stock : Shelves) (halt : Halt) → Came script turns r stock → o ≡ opening_run script turns → s ≡ stock_of script
     → (IsNew o → run.plan_now body_next bodies_of r stock ≡ plan_whole (run.planned_of body_next bodies_of o) s) → EndsAt body_next bodies_of r stock halt → Finished script turns r stock halt
 finished script turns o r s stock halt h opening stocked eager ends =
     record { came_so = h; whole = sym (eager (is-new script turns o opening) ∙ whole-is script turns o s opening stocked); ends = ends }
 
-over-is : (script : Script) (turns : ℕ) (r : Played Script) (stock : List Shelf) (halt : Halt) → Finished script turns r stock halt → plan_over (planned_of script turns) (run.plan_now body_next bodies_of r stock) ≡ Some halt
+over-is : (script : Script) (turns : ℕ) (r : Played Script) (stock : Shelves) (halt : Halt) → Finished script turns r stock halt → plan_over (planned_of script turns) (run.plan_now body_next bodies_of r stock) ≡ Some halt
 over-is script turns r stock halt h = ap (λ t. over t (run.session_of body_next bodies_of r).live.state r.calls stock) (sym h.came_so.plays_it.turns_same) ∙ h.ends
 
-end-trace : (script : Script) (turns : ℕ) (r : Played Script) (stock : List Shelf) (halt : Halt) → Finished script turns r stock halt
+end-trace : (script : Script) (turns : ℕ) (r : Played Script) (stock : Shelves) (halt : Halt) → Finished script turns r stock halt
     → trace_of script turns ≡ run.trace_of body_next bodies_of proc_names r ++ end_text turns (left_from 0 script.clients stock) halt
 unfolding trace_of
 end-trace script turns r stock halt h =
@@ -163,7 +163,7 @@ end-trace script turns r stock halt h =
     ∙ ap (λ o. lines (proc_names script) (run.session_of body_next bodies_of r).steps ++ tail_by turns script.clients stock o) (over-is script turns r stock halt h)
     ∙ ap (λ p. lines (proc_names p) (run.session_of body_next bodies_of r).steps ++ end_text turns (left_from 0 script.clients stock) halt) (sym h.came_so.plays_it.program)
 
-pub whole-of : (script : Script) (turns : ℕ) (r : Played Script) (stock : List Shelf) (halt : Halt) (old mid new : Option (List ℕ)) (last : List ℕ) → Finished script turns r stock halt → IsPosted script
+pub whole-of : (script : Script) (turns : ℕ) (r : Played Script) (stock : Shelves) (halt : Halt) (old mid new : Option (List ℕ)) (last : List ℕ) → Finished script turns r stock halt → IsPosted script
     → mid ≡ appended old (run.trace_of body_next bodies_of proc_names r) → last ≡ end_text turns (left_from 0 script.clients stock) halt → new ≡ appended mid last
     → IsWhole turns script old new r.takes r.calls halt
 unfolding halt_of calls_of takes_of
@@ -186,14 +186,14 @@ whole-of script turns r stock halt old mid new last h posted g e n =
     }
 
 -- the last write failed
-pub part-last : (script : Script) (turns : ℕ) (r : Played Script) (stock : List Shelf) (halt : Halt) (old mid new : Option (List ℕ)) (last : List ℕ) → Finished script turns r stock halt → IsPosted script
+pub part-last : (script : Script) (turns : ℕ) (r : Played Script) (stock : Shelves) (halt : Halt) (old mid new : Option (List ℕ)) (last : List ℕ) → Finished script turns r stock halt → IsPosted script
     → mid ≡ appended old (run.trace_of body_next bodies_of proc_names r) → last ≡ end_text turns (left_from 0 script.clients stock) halt → AppendsCut mid new [] last
     → IsPart turns script old new r.takes r.calls
 part-last script turns r stock halt old mid new last h posted g e p = let all = run.trace_of body_next bodies_of proc_names r in
     part-by script turns r stock old new h.came_so posted
     (prefix-then old mid new all last (trace_of script turns) (end-trace script turns r stock halt h ∙ ap (λ xs. all ++ xs) (sym e)) g (p.kept, p.told))
 
-pub broken-last : (script : Script) (turns : ℕ) (r : Played Script) (stock : List Shelf) (halt : Halt) (old mid new : Option (List ℕ)) (last : List ℕ) → Finished script turns r stock halt
+pub broken-last : (script : Script) (turns : ℕ) (r : Played Script) (stock : Shelves) (halt : Halt) (old mid new : Option (List ℕ)) (last : List ℕ) → Finished script turns r stock halt
     → mid ≡ appended old (run.trace_of body_next bodies_of proc_names r) → last ≡ end_text turns (left_from 0 script.clients stock) halt → AppendsCut mid new [] last
     → IsBroken turns script old new r.takes r.calls
 unfolding calls_of takes_of

@@ -1,5 +1,5 @@
 -- What was taken of the lines of clients, and what is left.
-use Rattle.event_gate.specs.Shelves.{Shelf}
+use Rattle.event_gate.specs.Shelves.{Shelf, Shelves}
 use Rattle.event_gate.specs.Port.{of}
 use Rattle.script_session.specs.declared.session.Taken.{Taken}
 use Rattle.lwp_types.specs.declared.call.Line.{Line}
@@ -20,11 +20,11 @@ abbrev pub pairs_of : List Took → List (ℕ × Line)
 pairs_of takes = map pair_of takes
 
 -- the lines left of one event
-abbrev pub left_on : Shelf → List Line
+abbrev pub left_on : Shelf Line → List Line
 left_on shelf = shelf.left
 
 -- the lines left of all events
-abbrev pub lines_left : List Shelf → List Line
+abbrev pub lines_left : Shelves → List Line
 lines_left shelves = flat_map left_on shelves
 
 -- how many of these lines each client has, counted from c

@@ -1,4 +1,5 @@
 use Rattle.std.proofs.Common.{◌≡◌, ℕ, replicate, ap, sym, ◌∙◌, length}
+use Rattle.lwp_types.specs.declared.call.Line.{Line}
 use Rattle.event_gate.specs.Shelves.{Shelf, bare, left_of_client}
 use Rattle.std.specs.List.{slice_index}
 use Rattle.std.proofs.lemmas.List.{length-replicate}
@@ -9,7 +10,7 @@ pub invariant_of-result : goal.invariant_of-result
 invariant_of-result c =
     let zeros : c.in_ok-left.left.items ≡ replicate 256 0 = c.in_ok-left.ensures.items_if_clones_equal (λ y e. e) in
     let bares : c.in_ok-shelves.shelves.items ≡ replicate 256 bare = c.in_ok-shelves.ensures in (
-      ap length bares ∙ length-replicate {A = Shelf} 256 bare,
+      ap length bares ∙ length-replicate {A = Shelf Line} 256 bare,
       ap length zeros ∙ length-replicate {A = ℕ} 256 0,
       λ k. ap (λ l. slice_index l k) zeros ∙ no_counts k ∙ ap (left_of_client k) (sym bares),
     )
