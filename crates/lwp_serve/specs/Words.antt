@@ -3,7 +3,7 @@ use Rattle.script_run.specs.Live.{IsLive}
 use Rattle.script_plan.specs.Make.{IsMake}
 use Rattle.script_session.specs.Outcome.{outcome_of}
 use Rattle.script_plan.specs.Plan.{IsPlan}
-use Rattle.script_session.specs.Said.{IsQuiet, Stream}
+use Rattle.whole_streams.specs.Streams.{IsQuiet, Stream}
 use Rattle.lwp_serve.specs.declared.command.Command.{Command}
 use Rattle.lwp_serve.specs.declared.command.Command.TheVariants as command
 use Rattle.script_session.specs.declared.session.Session.{Session}

@@ -21,7 +21,8 @@ use Rattle.trace_text.specs.declared.ends.Halt.TheVariants as halts
 use Rattle.lwp_types.specs.Choice.{choice}
 use Rattle.lwp_types.specs.State.{State}
 use Rattle.std.proofs.lemmas.Bool.Decides.{nat_tests}
-use Rattle.pod_runner.specs.Run.{Broke, EndsAt, GoesOn, Played, Stream, Tells, Wrote, but_last, session_of, phase_now, setting_of, stepped, took_now, trace_before, trace_of, with_call, with_took}
+use Rattle.pod_runner.specs.Run.{Broke, EndsAt, GoesOn, Played, Tells, Wrote, but_last, session_of, phase_now, setting_of, stepped, took_now, trace_before, trace_of, with_call, with_took}
+use Rattle.whole_streams.specs.Streams.{Stream}
 use Rattle.pod_runner.specs.Session.{Session, call_step, taken, take_step}
 use Rattle.pod_runner.specs.Trace.{lines}
 use Rattle.pod_runner.specs.declared.live.Live.{Live}

@@ -13,7 +13,8 @@ use Rattle.pod_runner.specs.Due.{AllDue, IsDefined, TakeDue, armed_calls, counte
 use Rattle.pod_runner.specs.Inlets.{Serves, Takes}
 use Rattle.pod_runner.specs.Live.{Draws, Gives, LivesOn, LooksAt, LooksAtAll, armed_count, lines_taken, looks}
 use Rattle.pod_runner.specs.Play.{play, played, with_take}
-use Rattle.pod_runner.specs.Run.{GoesOn, Played, Stream, session_of, setting_of, stepped, with_call}
+use Rattle.pod_runner.specs.Run.{GoesOn, Played, session_of, setting_of, stepped, with_call}
+use Rattle.whole_streams.specs.Streams.{Stream}
 use Rattle.pod_runner.specs.Session.{Session, Setting}
 use Rattle.pod_runner.specs.declared.phase.RunErr.{RunErr}
 use Rattle.pod_runner.specs.declared.session.Took.{Took}

@@ -13,7 +13,8 @@ use Rattle.pod_runner.specs.Does.{Does}
 use Rattle.pod_runner.specs.Due.{IsDefined}
 use Rattle.pod_runner.specs.Eager.{IsFirstPart, Plan, Planned, advanced, boundary, finished, offered, one_call, opening_plan, plan_over, plan_whole, round, state_of}
 use Rattle.pod_runner.specs.Phase.{phase_of}
-use Rattle.pod_runner.specs.Run.{Broke, GoesOn, IsNew, Played, Stream, Tells, WritesPart, Wrote, but_last, plan_now, planned_of, session_of, phase_now, setting_of, stepped, took_now, trace_before, trace_of, with_call, with_took}
+use Rattle.pod_runner.specs.Run.{Broke, GoesOn, IsNew, Played, Tells, WritesPart, Wrote, but_last, plan_now, planned_of, session_of, phase_now, setting_of, stepped, took_now, trace_before, trace_of, with_call, with_took}
+use Rattle.whole_streams.specs.Streams.{Stream}
 use Rattle.pod_runner.specs.Session.{Made, Move, Session, call_step, extended, take_step}
 use Rattle.pod_runner.specs.Play.{play}
 use Rattle.pod_runner.specs.Trace.{lines}

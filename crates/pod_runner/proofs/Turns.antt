@@ -10,8 +10,9 @@ use Rattle.pod_runner.specs.Phase.{phase_by, phase_of}
 use Rattle.pod_runner.specs.Play.{play}
 use Rattle.pod_runner.specs.Session.{Live, Move, Session, Setting, extended, move, taken}
 use Rattle.pod_runner.specs.Keeps.{Keeps}
-use Rattle.pod_runner.specs.Run.{AppendsCut, Broke, Tells}
+use Rattle.pod_runner.specs.Run.{Broke, Tells}
 use Rattle.pod_runner.specs.Trace.{lines}
+use Rattle.whole_streams.specs.Writing.{AppendsPart}
 use Rattle.lwp_types.specs.Agents.{armed}
 use Rattle.lwp_types.specs.Streams.{Rose, appended}
 use Rattle.trace_text.specs.Lines.{step_lines}
@@ -112,6 +113,6 @@ pub told-ok : {B : Type 0} (procs : List (List ℕ)) (a b : Session B) (live : L
     → Tells (record { old = w; new = v; faults_old = f; faults_new = g }) (lines procs a.steps) (lines procs a.steps) (lines procs b.steps) (Ok x)
 told-ok procs a b live out w v f g x step wrote quiet = (writes_on w v (lines procs a.steps) out (lines procs b.steps) step.lines wrote, quiet)
 
-pub told-fault : {B : Type 0} (procs : List (List ℕ)) (a b : Session B) (live : Live B) (out : List ℕ) (w v : Option (List ℕ)) (f g : ℕ) → Stepped procs a b live out → AppendsCut w v [] out → Rose f g → f ≤ g
+pub told-fault : {B : Type 0} (procs : List (List ℕ)) (a b : Session B) (live : Live B) (out : List ℕ) (w v : Option (List ℕ)) (f g : ℕ) → Stepped procs a b live out → AppendsPart w v out → Rose f g → f ≤ g
     → Broke (record { old = w; new = v; faults_old = f; faults_new = g }) (lines procs a.steps) (lines procs a.steps) (lines procs b.steps)
 told-fault procs a b live out w v f g step cut rose later = (cut_on w v (lines procs a.steps) out (lines procs b.steps) step.lines cut, rose, later)

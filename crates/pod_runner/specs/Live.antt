@@ -4,7 +4,8 @@ use Rattle.lwp_types.specs.Agents.{armed}
 use Rattle.lwp_types.specs.Poll.{Next}
 use Rattle.lwp_types.specs.declared.call.Line.{Line}
 use Rattle.pod_runner.specs.Due.{IsDefined, armed_calls}
-use Rattle.pod_runner.specs.Run.{EndsAt, GoesOn, Played, Stream, Tells, phase_now, session_of, setting_of, trace_before, trace_of}
+use Rattle.pod_runner.specs.Run.{EndsAt, GoesOn, Played, Tells, phase_now, session_of, setting_of, trace_before, trace_of}
+use Rattle.whole_streams.specs.Streams.{Stream}
 use Rattle.pod_runner.specs.Session.{Made}
 use Rattle.pod_runner.specs.declared.live.Live.{Live}
 use Rattle.pod_runner.specs.declared.phase.RunErr.{RunErr}

@@ -2,7 +2,7 @@
 use Rattle.event_gate.specs.Shelves.{Shelves}
 use Rattle.lwp_types.specs.Names.{Names, null_names}
 use Rattle.lwp_types.specs.Poll.{Next}
-use Rattle.lwp_types.specs.Streams.{AppendsPrefix, Rose, appended}
+use Rattle.lwp_types.specs.Streams.{AppendsPrefix, appended}
 use Rattle.lwp_types.specs.declared.call.Line.{Line}
 use Rattle.lwp_types.specs.declared.call.PodParams.{PodParams}
 use Rattle.pod_runner.specs.Eager.{Plan, Planned}
@@ -15,6 +15,7 @@ use Rattle.pod_runner.specs.declared.phase.Phase.{Phase}
 use Rattle.pod_runner.specs.declared.phase.RunErr.{RunErr}
 use Rattle.pod_runner.specs.declared.session.Took.{Took}
 use Rattle.trace_text.specs.declared.ends.Halt.{Halt}
+use Rattle.whole_streams.specs.Streams.{IsFaultless, IsFaulty, Stream}
 use Rattle.std.specs.Prelude.{Bool, Err, List, Ok, Option, Result, Some, [], length, take, true, ℕ, ◌++◌, ◌+◌, ◌-◌, ◌<◌, ◌≡◌, ◌≤◌, ◌∷◌}
 use Rattle.pod_runner.specs.declared.phase.RunErr.TheVariants as fails
 
@@ -113,20 +114,13 @@ pub record AppendsCut (old new : Option (List ℕ)) (least bytes : List ℕ) : T
 abbrev pub WritesCut : Option (List ℕ) → Option (List ℕ) → List ℕ → List ℕ → List ℕ → Type 0
 WritesCut old new before least after = (base : Option (List ℕ)) → old ≡ appended base before → AppendsCut base new least after
 
--- a sink before and after: what it tells, and its count of faults
-pub record Stream : Type 0 where
-  pub old : Option (List ℕ)
-  pub new : Option (List ℕ)
-  pub faults_old : ℕ
-  pub faults_new : ℕ
-
 -- all was written, from one trace to another, and no fault came
 abbrev pub Wrote : Stream → List ℕ → List ℕ → Type 0
-Wrote stream before after = Writes stream.old stream.new before after × (stream.faults_new ≡ stream.faults_old)
+Wrote stream before after = Writes stream.old stream.new before after × IsFaultless stream
 
 -- it broke off behind all of `least`, and a fault came
 abbrev pub Broke : Stream → List ℕ → List ℕ → List ℕ → Type 0
-Broke stream before least after = WritesCut stream.old stream.new before least after × Rose stream.faults_old stream.faults_new × (stream.faults_old ≤ stream.faults_new)
+Broke stream before least after = WritesCut stream.old stream.new before least after × IsFaulty stream × (stream.faults_old ≤ stream.faults_new)
 
 -- by this result, all was written, or it broke off; where memory was wanting, what was done until then was written
 abbrev pub Tells : {T : Type 0} → Stream → List ℕ → List ℕ → List ℕ → Result T RunErr → Type 0

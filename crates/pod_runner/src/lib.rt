@@ -27,4 +27,4 @@ pub use live::Live;
 pub use phase::{Phase, RunErr};
 pub use playing::Run;
 pub use session::{Row, Took};
-pub use written::{lines_of, write_all};
+pub use written::lines_of;

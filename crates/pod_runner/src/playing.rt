@@ -7,11 +7,11 @@ ghost use Rattle.pod_runner.specs.Run.{setting_of, session_of, phase_now, trace_
 ghost use Rattle.pod_runner.specs.declared.phase.Phase.TheVariants as phase;
 
 use crate::parts::Parts;
-use crate::written::write_all;
 use crate::{Phase, RunErr, Took};
 use lwp_types::{Body, Env, Line, NoMemory, PodParams, Program, Sink, Text};
 use std::alloc::Global;
 use std::marker::Model;
+use whole_streams::write_all;
 
 /// A run of a program, seen as what it plays and how far it is; its session is the definition's.
 #[derive(Drop)]

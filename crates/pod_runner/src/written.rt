@@ -1,27 +1,11 @@
-// Writing.
-ghost use Rattle.std.specs.Prelude.{◌≡◌, ◌++◌, ◌∷◌, [], IfOk, OnOk, OnErr, None, option_copied};
-ghost use Rattle.lwp_types.specs.Streams.{appended, HasCause};
+// The lines of a step.
+ghost use Rattle.std.specs.Prelude.{◌≡◌, ◌∷◌, IfOk, OnOk, None, option_copied};
 ghost use Rattle.lwp_types.specs.declared.call.Effect.TheVariants as Effect;
-ghost use Rattle.pod_runner.specs.Run.{AppendsCut};
 ghost use Rattle.trace_text.specs.Lines.{step_lines};
 
-use lwp_types::{Call, Effects, Failed, Line, NoMemory, Sink, Text, Tid};
+use lwp_types::{Call, Effects, Line, NoMemory, Text, Tid};
 use std::alloc::Global;
 use trace_text::{add_call_line, add_step_lines};
-
-/// Writes the bytes, or fails after some of them, before the last.
-#[inline(always)]
-pub fn write_all<K: Sink>(sink: &mut K, bytes: &[u8]) -> Result<(), Failed>
-    ensures ok { OnOk result (K.written sink.new ≡ appended (K.written sink.old) bytes.now) }
-    ensures err { OnErr result (AppendsCut (K.written sink.old) (K.written sink.new) [] bytes.now) }
-    ensures cause { HasCause (K.faults sink.old) (K.faults sink.new) result }
-{
-    let mut done = 0;
-    while done < bytes.len() {
-        done += sink.write(&bytes[done..])?;
-    }
-    Ok(())
-}
 
 /// Puts the lines of a step in the place of what was there: a line for each effect, where this line was taken, if any, and the
 /// procedures have these names.

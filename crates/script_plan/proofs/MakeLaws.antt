@@ -9,14 +9,15 @@ use Rattle.script_plan.specs.Make.{IsMake, IsOver, IsSummedUp, MakeSays, TellsAl
 use Rattle.script_session.specs.Outcome.{end_of, status_of}
 use Rattle.script_plan.specs.Plan.{IsPart, IsRun, IsWhole, RunSays}
 use Rattle.script_session.specs.SoFar.{IsHistory}
-use Rattle.script_session.specs.Said.{IsFaultless, IsFaulty, IsQuiet, Stream, Tells}
+use Rattle.script_session.specs.Said.{Tells}
+use Rattle.whole_streams.specs.Streams.{IsFaultless, IsFaulty, IsQuiet, Stream}
+use Rattle.whole_streams.specs.Writing.{AppendsPart}
 use Rattle.script_plan.specs.Planned.{halt_of, takes_of, trace_of}
 use Rattle.script_session.specs.declared.session.Session.{Session}
 use Rattle.script_session.specs.declared.session.SessionEnd.{SessionEnd}
 use Rattle.script_session.specs.declared.session.SessionEnd.TheVariants as end
 use Rattle.lwp_types.specs.Streams.{appended}
 use Rattle.lwp_types.specs.declared.call.Line.{Line}
-use Rattle.pod_runner.specs.Run.{AppendsCut}
 use Rattle.pod_runner.specs.declared.session.Took.{Took}
 use Rattle.script_maker.specs.Made.{made_script}
 use Rattle.script_maker.specs.Summary.{summary_text}
@@ -203,10 +204,10 @@ says-late summary script bytes sink session quiet r = inr (
 tells-all : (script : Script) (session : Session) (e : SessionEnd) → TellsAll script session → TellsAll script (ending session e)
 tells-all script session e h = record { calls = h.calls; taken = h.taken; due = h.due; left = h.left; history = h.history }
 
-pub says-cut : (summary told : List ℕ) (script : Script) (bytes : List ℕ) (sink : Stream) (session : Session) → told ≡ summary → AppendsCut sink.old sink.new [] told → IsFaulty sink
+pub says-cut : (summary told : List ℕ) (script : Script) (bytes : List ℕ) (sink : Stream) (session : Session) → told ≡ summary → AppendsPart sink.old sink.new told → IsFaulty sink
     → Ran script bytes session → MakeSays summary script sink (ending session end.WriteFault) end.WriteFault
 says-cut summary told script bytes sink session is cut faulty r =
-    record { written = subst (λ (b : List ℕ). AppendsCut sink.old sink.new [] b) is cut; faulty = faulty; all = tells-all script session end.WriteFault r.all }
+    record { written = subst (λ (b : List ℕ). AppendsPart sink.old sink.new b) is cut; faulty = faulty; all = tells-all script session end.WriteFault r.all }
 
 pub says-whole : (summary told : List ℕ) (script : Script) (bytes : List ℕ) (sink : Stream) (session : Session) → told ≡ summary → sink.new ≡ appended sink.old told → IsFaultless sink
     → is_over session.end ≡ true → Ran script bytes session → MakeSays summary script sink session session.end

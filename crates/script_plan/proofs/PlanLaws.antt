@@ -1,5 +1,6 @@
 -- From the clauses of a run to those of a session of `plan`.
-use Rattle.script_session.proofs.RunLaws.{appended-append, Plays, plays, setting-is, lines-is, before-is, is-new}
+use Rattle.script_session.proofs.RunLaws.{Plays, plays, setting-is, lines-is, before-is, is-new}
+use Rattle.whole_streams.proofs.WriteLaws.{appended-append}
 use Rattle.script_session.proofs.SaidLaws.{IsRanEnd}
 use Rattle.event_gate.specs.History.{IsClientHistory, lines_of}
 use Rattle.event_gate.specs.Shelves.{Shelves}
@@ -9,7 +10,8 @@ use Rattle.script_program.specs.declared.body.ThreadBody.{ThreadBody}
 use Rattle.script_session.specs.History.{lines_left, pairs_of}
 use Rattle.script_plan.specs.Plan.{IsBroken, IsPart, IsStopped, IsWhole, RunSays}
 use Rattle.script_session.specs.SoFar.{AreDue, lines_after, lines_before, opening_run, setting_of}
-use Rattle.script_session.specs.Said.{Stream}
+use Rattle.whole_streams.specs.Streams.{Stream}
+use Rattle.whole_streams.specs.Writing.{AppendsPart}
 use Rattle.script_gate.specs.Posted.{IsPosted}
 use Rattle.script_gate.specs.Stocked.{stock_of}
 use Rattle.script_plan.specs.Planned.{calls_of, halt_of, plan_of, planned_of, takes_of, trace_of}
@@ -187,14 +189,14 @@ whole-of script turns r stock halt old mid new last h posted g e n =
 
 -- the last write failed
 pub part-last : (script : Script) (turns : ℕ) (r : Played Script) (stock : Shelves) (halt : Halt) (old mid new : Option (List ℕ)) (last : List ℕ) → Finished script turns r stock halt → IsPosted script
-    → mid ≡ appended old (run.trace_of body_next bodies_of proc_names r) → last ≡ end_text turns (left_from 0 script.clients stock) halt → AppendsCut mid new [] last
+    → mid ≡ appended old (run.trace_of body_next bodies_of proc_names r) → last ≡ end_text turns (left_from 0 script.clients stock) halt → AppendsPart mid new last
     → IsPart turns script old new r.takes r.calls
 part-last script turns r stock halt old mid new last h posted g e p = let all = run.trace_of body_next bodies_of proc_names r in
     part-by script turns r stock old new h.came_so posted
     (prefix-then old mid new all last (trace_of script turns) (end-trace script turns r stock halt h ∙ ap (λ xs. all ++ xs) (sym e)) g (p.kept, p.told))
 
 pub broken-last : (script : Script) (turns : ℕ) (r : Played Script) (stock : Shelves) (halt : Halt) (old mid new : Option (List ℕ)) (last : List ℕ) → Finished script turns r stock halt
-    → mid ≡ appended old (run.trace_of body_next bodies_of proc_names r) → last ≡ end_text turns (left_from 0 script.clients stock) halt → AppendsCut mid new [] last
+    → mid ≡ appended old (run.trace_of body_next bodies_of proc_names r) → last ≡ end_text turns (left_from 0 script.clients stock) halt → AppendsPart mid new last
     → IsBroken turns script old new r.takes r.calls
 unfolding calls_of takes_of
 broken-last script turns r stock halt old mid new last h g e p =

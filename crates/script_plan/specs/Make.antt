@@ -2,14 +2,15 @@
 use Rattle.script_session.specs.Outcome.{end_of, status_of}
 use Rattle.script_plan.specs.Plan.{WantsNothing}
 use Rattle.script_session.specs.SoFar.{AreDue, IsHistory}
-use Rattle.script_session.specs.Said.{IsFaultless, IsFaulty, IsQuiet, IsUnread, Says, Stream, Tells}
+use Rattle.script_session.specs.Said.{IsUnread, Says, Tells}
+use Rattle.whole_streams.specs.Streams.{IsFaultless, IsFaulty, IsQuiet, Stream}
+use Rattle.whole_streams.specs.Writing.{AppendsPart}
 use Rattle.script_plan.specs.Planned.{calls_of, halt_of, takes_of, trace_of}
 use Rattle.script_session.specs.declared.session.Session.{Session}
 use Rattle.script_session.specs.declared.session.SessionEnd.{SessionEnd}
 use Rattle.script_session.specs.declared.session.SessionEnd.TheVariants as end
 use Rattle.lwp_types.specs.Streams.{appended}
 use Rattle.lwp_types.specs.declared.call.Line.{Line}
-use Rattle.pod_runner.specs.Run.{AppendsCut}
 use Rattle.pod_runner.specs.declared.session.Took.{Took}
 use Rattle.script_maker.specs.Made.{made_script}
 use Rattle.script_maker.specs.Summary.{summary_text}
@@ -114,7 +115,7 @@ pub record IsSummedUp (summary : List ℕ) (script : Script) (sink : Stream) (se
 
 -- a session to its end, where the summary was cut off by a write that failed
 pub record IsCutOff (summary : List ℕ) (script : Script) (sink : Stream) (session : Session) : Type 0 where
-  pub written : AppendsCut sink.old sink.new [] summary
+  pub written : AppendsPart sink.old sink.new summary
   pub faulty : IsFaulty sink
   pub all : TellsAll script session
 

@@ -1,6 +1,7 @@
 -- What `plan` comes to, with all that it meets outside.
 use Rattle.script_session.specs.SoFar.{AreDue, lines_after, lines_before, IsHistory}
-use Rattle.script_session.specs.Said.{Stream, IsFaultless, IsFaulty, Tells, IsUnread, IsOf}
+use Rattle.script_session.specs.Said.{Tells, IsUnread, IsOf}
+use Rattle.whole_streams.specs.Streams.{IsFaultless, IsFaulty, Stream}
 use Rattle.script_session.specs.Outcome.{end_of, status_of}
 use Rattle.script_session.specs.History.{counts_from}
 use Rattle.script_plan.specs.Planned.{calls_of, halt_of, plan_of, takes_of, trace_of}

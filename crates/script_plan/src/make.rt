@@ -2,21 +2,22 @@
 ghost use Rattle.std.specs.Prelude.{◌≡◌, ◌≤◌, [], IfOk, OnOk, IsErrOf, length};
 ghost use Rattle.lwp_types.specs.Streams.{Rose, appended};
 ghost use Rattle.script_plan.specs.Make.{IsMake, is_over, told_of};
-ghost use Rattle.pod_runner.specs.Run.{AppendsCut};
 ghost use Rattle.script_maker.specs.Order.{IsAllowed};
 ghost use Rattle.script_maker.specs.Summary.{summary_text};
 ghost use Rattle.script_text.specs.Grammar.{Spells};
 ghost use Rattle.script_text.specs.Limits.{IsWithinLimits};
 ghost use Rattle.script_text.specs.declared.script.Script.{Script as AnyScript};
+ghost use Rattle.whole_streams.specs.Writing.{AppendsPart};
 
 use crate::plan::play_script;
 use byte_count::CountSink;
 use lwp_types::{NoMemory, Sink};
-use pod_runner::{RunErr, write_all};
+use pod_runner::RunErr;
 use script_maker::{Summary, made_spells, make_script, summary_lines};
 use script_session::{Session, SessionEnd};
 use script_text::{ReadErr, Script, read_script};
 use std::alloc::Global;
+use whole_streams::write_all;
 
 // How many calls are allowed.
 const MAKE_TURNS: u64 = 1_000_000;
@@ -64,7 +65,7 @@ fn summary_of(script: &Script, text: u64, session: &Session, trace: u64) -> Summ
 fn tell<K: Sink>(alloc: Global, summary: &Summary, sink: &mut K) -> Result<(), RunErr>
     ensures whole { OnOk result (K.written sink.new ≡ appended (K.written sink.old) (summary_text summary.now)) }
     ensures faultless { OnOk result (K.faults sink.new ≡ K.faults sink.old) }
-    ensures cut { IsErrOf result RunErr.WriteFault → AppendsCut (K.written sink.old) (K.written sink.new) [] (summary_text summary.now) }
+    ensures cut { IsErrOf result RunErr.WriteFault → AppendsPart (K.written sink.old) (K.written sink.new) (summary_text summary.now) }
     ensures cause { IsErrOf result RunErr.WriteFault → Rose (K.faults sink.old) (K.faults sink.new) }
     ensures quiet { IsErrOf result RunErr.NoMemory → (K.written sink.new ≡ K.written sink.old) × (K.faults sink.new ≡ K.faults sink.old) }
 {

@@ -9,13 +9,14 @@ ghost use Rattle.script_session.specs.SoFar.{opening_run};
 
 use crate::lines::counts_left;
 use lwp_types::{Sink, Source};
-use pod_runner::{Run, RunErr, run, write_all};
+use pod_runner::{Run, RunErr, run};
 use script_gate::{ScriptGate, stock};
 use script_program::{ScriptProgram, ThreadBody};
 use script_session::{Session, SessionEnd, end_of, read_whole, session_of, start};
 use script_text::Script;
 use std::alloc::Global;
 use trace_text::{Halt, end_lines};
+use whole_streams::write_all;
 
 // A run over a gate goes on to its end, and then what stands behind its lines is written.
 fn run_out<'g, 's, K: Sink>(

@@ -11,7 +11,8 @@ use Rattle.lwp_types.specs.Streams.{Rose}
 use Rattle.pod_runner.proofs.Rounds.{goes-same, goes-then, stream, tells-then}
 use Rattle.pod_runner.specs.Due.{IsDefined}
 use Rattle.pod_runner.specs.Live.{AllTold, Answers, Draws, EachInlet, Gives, HasEvent, lines_taken, may_lose}
-use Rattle.pod_runner.specs.Run.{Broke, GoesOn, Played, Stream, Tells, Writes, WritesCut, Wrote, setting_of, trace_before, trace_of}
+use Rattle.pod_runner.specs.Run.{Broke, GoesOn, Played, Tells, Writes, WritesCut, Wrote, setting_of, trace_before, trace_of}
+use Rattle.whole_streams.specs.Streams.{Stream}
 use Rattle.pod_runner.specs.declared.live.Live.{Live}
 use Rattle.pod_runner.specs.declared.live.Live.TheVariants as live
 use Rattle.pod_runner.specs.declared.phase.RunErr.{RunErr}

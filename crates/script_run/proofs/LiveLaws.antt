@@ -9,7 +9,8 @@ use Rattle.live_clients.specs.Served.{HasLines, IsServed, texts_of}
 use Rattle.script_run.proofs.BesideLaws.{fed-fresh}
 use Rattle.script_run.proofs.ClientLaws.{items_of}
 use Rattle.script_run.proofs.LeftLaws.{ArePosts, IsGiven, counts-are, counts_by, history-of, left-past, left_lines, lines-for, none-left-of, over-with, wants-none}
-use Rattle.script_session.proofs.RunLaws.{Plays, appended-append, before-is, lines-is, plays, session-is, setting-is}
+use Rattle.script_session.proofs.RunLaws.{Plays, before-is, lines-is, plays, session-is, setting-is}
+use Rattle.whole_streams.proofs.WriteLaws.{appended-append}
 use Rattle.script_session.proofs.SaidLaws.{IsRanEnd}
 use Rattle.script_run.specs.Beside.{AreBack, GoesBeside, IsFed, KnowAll}
 use Rattle.script_program.specs.Bodies.{bodies_of, body_next}
@@ -17,7 +18,8 @@ use Rattle.script_run.specs.Clients.{count_taken, counts_of, texts_for, texts_fr
 use Rattle.script_session.specs.History.{counts_from}
 use Rattle.script_run.specs.Live.{EndsSo, IsLiveBroken, IsLiveStopped, IsLived, IsSoFar, LiveSays, bytes_to_end}
 use Rattle.script_session.specs.SoFar.{AreDue, lines_after, lines_before, opening_run, session_at}
-use Rattle.script_session.specs.Said.{Stream}
+use Rattle.whole_streams.specs.Streams.{Stream}
+use Rattle.whole_streams.specs.Writing.{AppendsPart}
 use Rattle.script_gate.specs.Posted.{IsPosted}
 use Rattle.script_program.specs.declared.body.ThreadBody.{ThreadBody}
 use Rattle.script_session.specs.declared.session.Session.{Session}
@@ -142,7 +144,7 @@ pub record Ran (script : Script) (turns : ℕ) (r : Played Script) (inlets : Lis
   pub lost : List Took
   pub given : IsGiven (HasEvent inlets) script.clients (lines_posted script) r.takes lost
 
-pub ran-of : {T : Type 0} (script : Script) (turns : ℕ) (s : run.Stream) (o r : Played Script) (before after : List Intake) (texts : List (List (List ℕ))) (result : Result T RunErr) → GoesBeside s o r before after result
+pub ran-of : {T : Type 0} (script : Script) (turns : ℕ) (s : Stream) (o r : Played Script) (before after : List Intake) (texts : List (List (List ℕ))) (result : Result T RunErr) → GoesBeside s o r before after result
     → o ≡ opening_run script turns → All (λ t. t ≡ fresh t.place t.event t.noted) before → texts ≡ texts_from 0 script.clients (lines_posted script) → IsPosted script → AreBack script.clients texts after → Ran script turns r after
 ran-of script turns s o r before after texts result h opening new is posted back =
     let it = plays script turns o r opening h.same in
@@ -192,7 +194,7 @@ pub record Over (script : Script) (turns : ℕ) (r : Played Script) (inlets : Li
   pub none_lost : (c : ℕ) → c < length script.clients → armed (run.session_of body_next bodies_of r).live.state (event_of script.clients c) ≡ true → NoneComes body_next bodies_of r inlets
       → of c (lines_taken (event_of script.clients c) r.takes) ≡ of c (lines_posted script)
 
-pub over-of : (script : Script) (turns : ℕ) (s : run.Stream) (o r : Played Script) (before after : List Intake) (texts : List (List (List ℕ))) (halt : Halt) → GoesBeside s o r before after (Ok halt)
+pub over-of : (script : Script) (turns : ℕ) (s : Stream) (o r : Played Script) (before after : List Intake) (texts : List (List (List ℕ))) (halt : Halt) → GoesBeside s o r before after (Ok halt)
     → o ≡ opening_run script turns → All (λ t. t ≡ fresh t.place t.event t.noted) before → texts ≡ texts_from 0 script.clients (lines_posted script) → IsPosted script → AreBack script.clients texts after
     → Halts body_next bodies_of r after halt → KnowAll script.clients texts after → Over script turns r after halt
 over-of script turns s o r before after texts halt h opening new is posted back halts know = record {
@@ -260,7 +262,7 @@ lived-of script turns r inlets halt old mid new last posted h g e n = record {
 }
 
 pub live-cut : (script : Script) (turns : ℕ) (r : Played Script) (inlets : List Intake) (halt : Halt) (old mid new : Option (List ℕ)) (last : List ℕ) → IsPosted script → Over script turns r inlets halt
-    → mid ≡ appended old (run.trace_of body_next bodies_of proc_names r) → last ≡ end_text turns (counts_from 0 script.clients (left_by script r)) halt → AppendsCut mid new [] last → IsLiveBroken turns script old new r.takes r.calls
+    → mid ≡ appended old (run.trace_of body_next bodies_of proc_names r) → last ≡ end_text turns (counts_from 0 script.clients (left_by script r)) halt → AppendsPart mid new last → IsLiveBroken turns script old new r.takes r.calls
 live-cut script turns r inlets halt old mid new last posted h g e p =
     let all = lines_after script r.takes r.calls in
     let whole : bytes_to_end turns script r.takes r.calls (left_by script r) halt ≡ all ++ last = ap (λ xs. all ++ xs) (sym e) in

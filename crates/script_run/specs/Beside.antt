@@ -7,7 +7,8 @@ use Rattle.live_clients.specs.Served.{AreServed, texts_of}
 use Rattle.script_program.specs.Bodies.{bodies_of, body_next}
 use Rattle.pod_runner.specs.Due.{IsDefined}
 use Rattle.pod_runner.specs.Live.{HasEvent, lines_taken, may_lose}
-use Rattle.pod_runner.specs.Run.{GoesOn, Played, Stream, Tells, setting_of, trace_before, trace_of}
+use Rattle.pod_runner.specs.Run.{GoesOn, Played, Tells, setting_of, trace_before, trace_of}
+use Rattle.whole_streams.specs.Streams.{Stream}
 use Rattle.pod_runner.specs.declared.phase.RunErr.{RunErr}
 use Rattle.pod_runner.specs.declared.session.Took.{Took}
 use Rattle.script_text.specs.Script.{proc_names}

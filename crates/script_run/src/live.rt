@@ -16,7 +16,7 @@ use crate::clients::{client_texts, counts_behind};
 use event_gate::{Bell, PostGate};
 use live_clients::Outside;
 use lwp_types::{Sink, Source, Text};
-use pod_runner::{Run, RunErr, write_all};
+use pod_runner::{Run, RunErr};
 use script_program::{ScriptProgram, ThreadBody};
 use script_session::{Session, SessionEnd, end_of, read_whole, session_of, start};
 use script_text::Script;
@@ -24,6 +24,7 @@ use std::alloc::Global;
 use std::sync::Wait;
 use std::thread::{self, Scope, Threads};
 use trace_text::{Halt, end_lines};
+use whole_streams::write_all;
 
 // A run goes on to its end while threads post, and then what stands behind its lines is written. No thread is out behind it.
 fn run_out<'p, 's, K: Sink, R: Threads + Wait>(

@@ -2,7 +2,6 @@
 use Rattle.script_program.specs.Bodies.{bodies_of, body_next}
 use Rattle.script_program.specs.declared.body.ThreadBody.{ThreadBody}
 use Rattle.script_session.specs.SoFar.{lines_after, lines_before, opening_names, opening_run, session_at, setting_of}
-use Rattle.script_session.specs.declared.session.Session.{Session}
 use Rattle.lwp_types.specs.Names.{Names}
 use Rattle.lwp_types.specs.Streams.{appended}
 use Rattle.lwp_types.specs.declared.call.PodParams.{PodParams}
@@ -11,18 +10,14 @@ use Rattle.pod_runner.specs.Run as run
 use Rattle.pod_runner.specs.Run.{GoesOn, IsNew, Played, but_last}
 use Rattle.pod_runner.specs.Session.{Setting}
 use Rattle.pod_runner.specs.Session as Sessions
-use Rattle.pod_runner.specs.Trace.{lines, trace}
+use Rattle.pod_runner.specs.Trace.{lines}
 use Rattle.script_text.specs.Script.{params_of, proc_names}
 use Rattle.script_text.specs.declared.script.Script.{Script}
-use Rattle.std.proofs.Common.{Err, List, None, Ok, OnErr, Option, Result, Some, [], ap, append-nil, append_assoc, refl, sym, ℕ, ◌++◌, ◌+◌, ◌∙◌, ◌≡◌}
+use Rattle.std.proofs.Common.{Err, List, None, Ok, OnErr, Option, Result, Some, [], ap, append-nil, refl, sym, ℕ, ◌∙◌, ◌≡◌}
 
 pub appended-nil : (w : Option (List ℕ)) → appended w [] ≡ w
 appended-nil None = refl
 appended-nil (Some told) = ap (λ x. Some x) (append-nil told)
-
-pub appended-append : (w : Option (List ℕ)) (a b : List ℕ) → appended (appended w a) b ≡ appended w (a ++ b)
-appended-append None a b = refl
-appended-append (Some told) a b = ap (λ x. Some x) (append_assoc told a b)
 
 -- a fact of an error holds where there is one
 pub on_err : {X E : Type 0} (r : Result X E) (P : Type 0) → P → OnErr r P

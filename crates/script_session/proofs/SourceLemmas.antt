@@ -1,11 +1,13 @@
 -- What was read of a source, once it ends or enough was read.
-use Rattle.std.proofs.Common.{◌≡◌, ◌≤◌, ◌<◌, ℕ, List, [], ◌∷◌, ◌++◌, length, take, drop, ◌+◌, Some, None, refl, sym, ap, ◌∙◌, arith, append-nil, append_assoc, zero, suc}
+use Rattle.std.proofs.Common.{◌≡◌, ◌≤◌, ℕ, List, [], ◌∷◌, ◌++◌, length, take, drop, ◌+◌, Some, None, refl, sym, ap, ◌∙◌, arith, zero, suc}
 use Rattle.std.specs.Prelude.{Option}
 use Rattle.std.proofs.Math.Seq.{drop-append-add}
-use Rattle.std.proofs.lemmas.List.{drop_all, take-append-drop, take-append-le}
+use Rattle.std.proofs.lemmas.List.{drop_all, take-append-le}
 use Rattle.lwp_types.specs.Streams.{Reads}
 use Rattle.script_session.specs.Outcome.{HasRead}
-use Rattle.script_session.specs.Reading.{IsReadPart, IsReadUp, ReadSoFar, behind}
+use Rattle.script_session.specs.Reading.{IsReadPart, IsReadUp, behind}
+use Rattle.whole_streams.proofs.ReadLaws.{read_end}
+use Rattle.whole_streams.specs.Reading.{ReadSoFar}
 
 -- all of a list that is no longer
 take-all : (n : ℕ) (xs : List ℕ) → length xs ≤ n → take n xs ≡ xs
@@ -22,19 +24,11 @@ pub read-full : (left now : Option (List ℕ)) (bytes : List ℕ) → ReadSoFar 
 read-full None now bytes h full = tt
 read-full (Some told) now bytes h full = sym (ap (take 16777217) h.2 ∙ take-front 16777217 bytes h.0 full)
 
-empty_list : (xs : List ℕ) → (0 < length xs → 0 < 0) → xs ≡ []
-empty_list [] h = refl
-empty_list (x ∷ xs) h = let no : 0 < 0 = h (omega arith) in absurd (omega arith)
-
 -- no more is there
 pub read-end : (left now after : Option (List ℕ)) (bytes got : List ℕ) (n : ℕ) → ReadSoFar left now bytes → Reads now after got n → n ≡ 0 → length bytes ≤ 16777217 → HasRead left bytes
 read-end None now after bytes got n h r none short = tt
-read-end (Some told) None after bytes got n h r none short = let no : None ≡ Some h.0 = h.1 in absurd (cc)
-read-end (Some told) (Some rest) after bytes got n h r none short =
-    let same : rest ≡ h.0 = (let e : Some rest ≡ Some h.0 = h.1 in cc) in
-    let over : rest ≡ [] = empty_list rest (λ some. let more : 0 < n = r.3 some in omega arith) in
-    let all : told ≡ bytes = h.2 ∙ ap (λ xs. bytes ++ xs) (sym same ∙ over) ∙ append-nil bytes in
-    sym (ap (take 16777217) all ∙ take-all 16777217 bytes short)
+read-end (Some told) now after bytes got n h r none short =
+    let all = read_end (Some told) now after bytes got n h r none in sym (ap (take 16777217) all.0 ∙ take-all 16777217 bytes short)
 
 -- ---- what is left
 
@@ -68,21 +62,7 @@ up-full left now bytes h full = behind-so_far left now bytes h ∙ ap (λ n. beh
 
 -- no more is there
 pub up-end : (left now after : Option (List ℕ)) (bytes got : List ℕ) (n : ℕ) → ReadSoFar left now bytes → Reads now after got n → n ≡ 0 → length bytes ≤ 16777217 → IsReadUp left after
-up-end None None after bytes got n h r none within = r
-up-end None (Some rest) after bytes got n h r none within = let no : Some rest ≡ None = h in absurd (cc)
-up-end (Some told) None after bytes got n h r none within = let no : None ≡ Some h.0 = h.1 in absurd (cc)
-up-end (Some told) (Some rest) after bytes got n h r none within =
-    let same : rest ≡ h.0 = (let e : Some rest ≡ Some h.0 = h.1 in cc) in
-    let over : rest ≡ [] = empty_list rest (λ some. let more : 0 < n = r.3 some in omega arith) in
-    let all : told ≡ bytes = h.2 ∙ ap (λ xs. bytes ++ xs) (sym same ∙ over) ∙ append-nil bytes in
-    r.1 ∙ ap (λ xs. Some xs) (ap (drop n) over ∙ ap (λ k. drop k []) none ∙ sym (ap (drop 16777217) all ∙ drop_all 16777217 bytes within))
-
--- one more read
-pub so_far-more : (left now after : Option (List ℕ)) (bytes got : List ℕ) (n : ℕ) → ReadSoFar left now bytes → Reads now after got n → ReadSoFar left after (bytes ++ got)
-so_far-more None None after bytes got n h r = r
-so_far-more None (Some rest) after bytes got n h r = let no : Some rest ≡ None = h in absurd (cc)
-so_far-more (Some told) None after bytes got n h r = let no : None ≡ Some h.0 = h.1 in absurd (cc)
-so_far-more (Some told) (Some rest) after bytes got n h r =
-    let same : rest ≡ h.0 = (let e : Some rest ≡ Some h.0 = h.1 in cc) in
-    let all : got ++ drop n rest ≡ rest = ap (λ xs. xs ++ drop n rest) r.0 ∙ take-append-drop n rest in
-    (drop n rest, r.1, h.2 ∙ ap (λ xs. bytes ++ xs) (sym same ∙ sym all) ∙ sym (append_assoc bytes got (drop n rest)))
+up-end None now after bytes got n h r none within = read_end None now after bytes got n h r none
+up-end (Some told) now after bytes got n h r none within =
+    let all = read_end (Some told) now after bytes got n h r none in
+    all.1 ∙ ap (λ xs. Some xs) (sym (ap (drop 16777217) all.0 ∙ drop_all 16777217 bytes within))

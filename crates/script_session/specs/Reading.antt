@@ -1,10 +1,5 @@
 -- How far a source has been read.
-use Rattle.std.specs.Prelude.{List, Option, None, Some, [], drop, ℕ, ◌≡◌, ◌≤◌, ◌++◌}
-
--- what was read and what is left are what there was
-abbrev pub ReadSoFar : Option (List ℕ) → Option (List ℕ) → List ℕ → Type 0
-ReadSoFar None left bytes = left ≡ None
-ReadSoFar (Some told) left bytes = (rest : List ℕ) × (left ≡ Some rest) × (told ≡ bytes ++ rest)
+use Rattle.std.specs.Prelude.{List, Option, None, Some, [], drop, ℕ, ◌≡◌, ◌≤◌}
 
 -- what is left of what is told, behind its first bytes
 abbrev pub behind : ℕ → Option (List ℕ) → Option (List ℕ)

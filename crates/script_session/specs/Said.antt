@@ -6,33 +6,13 @@ use Rattle.script_session.specs.Reading.{IsReadOut, IsReadPart, IsReadUp}
 use Rattle.script_session.specs.declared.session.Session.{Session}
 use Rattle.script_session.specs.declared.session.SessionEnd.{SessionEnd}
 use Rattle.script_session.specs.declared.session.SessionEnd.TheVariants as end
-use Rattle.lwp_types.specs.Streams.{Rose}
+use Rattle.whole_streams.specs.Streams.{IsFaultless, IsFaulty, IsQuiet, Stream}
 use Rattle.script_text.specs.Grammar.{Spells}
 use Rattle.script_text.specs.Spelling.{verdict}
 use Rattle.script_text.specs.declared.reason.Reason.{Reason}
 use Rattle.script_text.specs.declared.script.Script.{Script}
-use Rattle.pod_runner.specs.Trace.{lines}
 use Rattle.pod_runner.specs.declared.session.Took.{Took}
 use Rattle.std.specs.Prelude.{List, Option, None, Some, Err, [], map, ℕ, ◌≡◌, ◌⊎◌}
-
--- a source or a sink before and after: what it tells, and its count of faults
-pub record Stream : Type 0 where
-  pub old : Option (List ℕ)
-  pub new : Option (List ℕ)
-  pub faults_old : ℕ
-  pub faults_new : ℕ
-
--- no fault came
-abbrev pub IsFaultless : Stream → Type 0
-IsFaultless stream = stream.faults_new ≡ stream.faults_old
-
--- a fault came
-abbrev pub IsFaulty : Stream → Type 0
-IsFaulty stream = Rose stream.faults_old stream.faults_new
-
--- nothing was written
-abbrev pub IsQuiet : Stream → Type 0
-IsQuiet sink = (sink.new ≡ sink.old) × IsFaultless sink
 
 -- what the source had left spells a script, and this holds of whatever script it spells; of a source that doesn't tell, some script
 abbrev pub Says : Option (List ℕ) → (Script → Type 0) → Type 0

@@ -8,7 +8,6 @@ use Rattle.script_text.specs.Script.{lines_posted, params_of, proc_names}
 use Rattle.script_text.specs.declared.script.Script.{Script}
 use Rattle.std.specs.Prelude.{List, length, ℕ, [], false}
 use Rattle.script_session.specs.History.{pairs_of}
-use Rattle.script_session.specs.declared.session.Session.{Session}
 use Rattle.event_gate.specs.History.{IsClientHistory}
 use Rattle.lwp_types.specs.declared.call.Line.{Line}
 use Rattle.pod_runner.specs.Due.{IsDefined}

@@ -6,12 +6,13 @@ ghost use Rattle.script_text.specs.Limits.{IsWithinLimits};
 ghost use Rattle.std.specs.Prelude.{◌≡◌, IfErr, IfOk};
 
 use crate::session::{Session, SessionEnd};
-use crate::source::{ReadFailure, read_all};
+use crate::source::read_all;
 use lwp_types::{Env, NoMemory, PodParams, Source};
 use pod_runner::Run;
 use script_program::{ScriptProgram, ThreadBody};
 use script_text::{ReadErr, Script, ScriptReader};
 use std::alloc::Global;
+use whole_streams::ReadFailure;
 
 /// The script that a source holds, which is read to its end; or how the session ends without one. Of what is read only a buffer and
 /// the reader are kept.

@@ -5,43 +5,15 @@ ghost use Rattle.lwp_types.specs.Streams.{Rose};
 ghost use Rattle.script_session.specs.Outcome.{HasRead};
 ghost use Rattle.script_session.specs.Reading.{IsReadPart, IsReadUp};
 
-use lwp_types::{Failed, NoMemory, Source};
+use lwp_types::Source;
 use script_text::ScriptReader;
+use whole_streams::ReadFailure;
 
 /// The most bytes that a script has.
 pub const SCRIPT_MAX: usize = 16_777_216;
 
 // The source is read through a buffer of this many bytes.
 const BUFFER: usize = 4096;
-
-/// Why a source wasn't read.
-#[derive(Clone, Copy, Debug, PartialEq, Eq)]
-pub enum ReadFailure {
-    Fault,
-    NoMemory,
-}
-
-impl From<Failed> for ReadFailure {
-    ghost use Rattle.std.specs.Prelude.{◌≡◌};
-    ghost use Rattle.script_session.specs.declared.source.ReadFailure.TheVariants.{Fault};
-
-    ghost from_gives = { λ _ e. e ≡ Fault };
-
-    fn from(_: Failed) -> Self {
-        ReadFailure::Fault
-    }
-}
-
-impl From<NoMemory> for ReadFailure {
-    ghost use Rattle.std.specs.Prelude.{◌≡◌};
-    ghost use Rattle.script_session.specs.declared.source.ReadFailure.TheVariants.{NoMemory as Memory};
-
-    ghost from_gives = { λ _ e. e ≡ Memory };
-
-    fn from(_: NoMemory) -> Self {
-        ReadFailure::NoMemory
-    }
-}
 
 /// Feeds a reader to the source's end, or to one byte past what a script may have, and no further.
 pub fn read_all<S: Source>(reader: &mut ScriptReader, source: &mut S) -> Result<(), ReadFailure>

@@ -1,9 +1,10 @@
 ghost use Rattle.std.specs.Prelude.{◌≡◌, []};
 
 use lwp_types::{Call, Effect, Effects, Line, MemSink, NoMemory, Text, Tid};
-use pod_runner::{lines_of, write_all};
+use pod_runner::lines_of;
 use std::alloc::Global;
 use std::test::Fail;
+use whole_streams::write_all;
 
 fn push_three(effects: &mut Effects)
     requires { effects.old ≡ [] }

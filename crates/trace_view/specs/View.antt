@@ -1,46 +1,14 @@
 -- What the program comes to, with all that it meets outside.
-use Rattle.lwp_types.specs.Streams.{Rose, appended}
+use Rattle.lwp_types.specs.Streams.{appended}
 use Rattle.std.specs.Fmt.{decimal}
-use Rattle.std.specs.Prelude.{List, None, Option, Some, [], codes, length, take, ℕ, ◌++◌, ◌<◌, ◌≡◌}
+use Rattle.std.specs.Prelude.{List, None, Option, Some, [], codes, ℕ, ◌++◌, ◌≡◌}
 use Rattle.trace_page.specs.Page.{bad_line, page, whole_lines}
 use Rattle.trace_view.specs.declared.showing.ViewEnd.{ViewEnd}
 use Rattle.trace_view.specs.declared.showing.ViewEnd.TheVariants as end
 use Rattle.trace_view.specs.declared.words.Window.{Window}
-
--- a source or a sink before and after: what it tells, and its count of faults
-pub record Stream : Type 0 where
-  pub old : Option (List ℕ)
-  pub new : Option (List ℕ)
-  pub faults_old : ℕ
-  pub faults_new : ℕ
-
--- no fault came
-abbrev pub IsFaultless : Stream → Type 0
-IsFaultless stream = stream.faults_new ≡ stream.faults_old
-
--- nothing was written
-abbrev pub IsQuiet : Stream → Type 0
-IsQuiet sink = (sink.new ≡ sink.old) × IsFaultless sink
-
--- these bytes were read, and they are all that there were; where nothing is told, some bytes
-abbrev pub HasRead : Option (List ℕ) → Option (List ℕ) → List ℕ → Type 0
-HasRead None new text = new ≡ None
-HasRead (Some told) new text = (told ≡ text) × (new ≡ Some [])
-
--- what was read and what is left are what there was
-abbrev pub ReadSoFar : Option (List ℕ) → Option (List ℕ) → List ℕ → Type 0
-ReadSoFar None left bytes = left ≡ None
-ReadSoFar (Some told) left bytes = (rest : List ℕ) × (left ≡ Some rest) × (told ≡ bytes ++ rest)
-
--- some bytes were taken from its front, or all, or none
-abbrev pub IsReadPart : Option (List ℕ) → Option (List ℕ) → Type 0
-IsReadPart old new = (bytes : List ℕ) × ReadSoFar old new bytes
-
--- what is told, with the first of these bytes at its end, and not all
-pub record AppendsPart (old new : Option (List ℕ)) (bytes : List ℕ) : Type 0 where
-  pub kept : ℕ
-  pub told : new ≡ appended old (take kept bytes)
-  pub not_all : kept < length bytes
+use Rattle.whole_streams.specs.Reading.{HasRead, IsReadPart}
+use Rattle.whole_streams.specs.Streams.{IsFaultless, IsFaulty, IsQuiet, Stream}
+use Rattle.whole_streams.specs.Writing.{AppendsPart}
 
 -- the source was read to its end, and this holds of what it held
 abbrev pub Says : Stream → (List ℕ → Type 0) → Type 0
@@ -54,13 +22,13 @@ IsShown window sink text =
 -- the first bytes of the page were written, and a write failed before the last
 abbrev pub IsCut : Window → Stream → List ℕ → Type 0
 IsCut window sink text =
-    (bad_line text ≡ None) × AppendsPart sink.old sink.new (page window.base window.last (whole_lines text)) × Rose sink.faults_old sink.faults_new
+    (bad_line text ≡ None) × AppendsPart sink.old sink.new (page window.base window.last (whole_lines text)) × IsFaulty sink
 
 -- what each end says, where so many calls are asked for; want of memory is the one free answer, and no read or write has failed then
 abbrev pub EndSays : Window → Stream → Stream → ViewEnd → Type 0
 EndSays window source sink end.Shown = Says source (IsShown window sink)
 EndSays window source sink end.Usage = ⊥
-EndSays window source sink end.ReadFault = Rose source.faults_old source.faults_new × IsReadPart source.old source.new × IsQuiet sink
+EndSays window source sink end.ReadFault = IsFaulty source × IsReadPart source.old source.new × IsQuiet sink
 EndSays window source sink end.WriteFault = Says source (IsCut window sink)
 EndSays window source sink (end.Line n) = Says source (λ text. bad_line text ≡ Some n) × IsQuiet sink
 EndSays window source sink end.NoMemory = IsFaultless source × IsReadPart source.old source.new × IsQuiet sink

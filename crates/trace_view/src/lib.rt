@@ -5,11 +5,10 @@
 //! names what was in the way: a read or a write that failed, the first line that is no line of a trace, or want of memory. Nothing
 //! is written then, but where a write failed the first part of the page.
 //!
-//! The crate stands on `trace_page` and on the streams of `lwp_types`.
+//! The crate stands on `trace_page`, and reads and writes by `whole_streams`.
 #![tactic(auto)]
 
 mod showing;
-mod streams;
 mod words;
 
 pub use showing::{ViewEnd, fault_text, status_of, view};

@@ -3,12 +3,12 @@ ghost use Rattle.std.specs.Prelude.{◌≡◌, ◌++◌, [], IfOk, OnOk, map, st
 ghost use Rattle.trace_view.specs.View.{EndSays, ViewSays, fault_text, line_front, status_of};
 ghost use Rattle.trace_view.specs.Words.{window_of};
 
-use crate::streams::{ReadErr, read_all, write_all};
 use crate::words::{Window, window_of};
 use lwp_types::{NoMemory, Sink, Source};
 use std::alloc::Global;
 use trace_page::{PageErr, add_page};
 use trace_text::{add_number, add_text};
+use whole_streams::{ReadFailure, read_all, write_all};
 
 /// How the program ends.
 #[derive(Clone, Copy)]
@@ -79,8 +79,8 @@ fn show<S: Source, K: Sink>(alloc: Global, window: Window, source: &mut S, sink:
 {
     let text = match read_all(alloc, source) {
         Ok(text) => text,
-        Err(ReadErr::Fault) => return ViewEnd::ReadFault,
-        Err(ReadErr::NoMemory) => return ViewEnd::NoMemory,
+        Err(ReadFailure::Fault) => return ViewEnd::ReadFault,
+        Err(ReadFailure::NoMemory) => return ViewEnd::NoMemory,
     };
     let mut page = Vec::new(alloc);
     match add_page(alloc, &mut page, window.base, window.last, &text) {

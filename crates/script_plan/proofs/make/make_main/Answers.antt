@@ -2,7 +2,7 @@ use Rattle.std.proofs.Common.{false, refl, rules, true, ◌∙◌, ◌≡◌}
 use Rattle.script_plan.proofs.MakeLaws.{counted, ending, make-of, ran-of, says-cut, says-late, says-stopped, says-whole, spelt-by, told-is}
 use Rattle.script_gate.proofs.PostLaws.{is_posted}
 use Rattle.script_plan.specs.Make.{is_over, summary_of}
-use Rattle.script_session.specs.Said.{Stream}
+use Rattle.whole_streams.specs.Streams.{Stream}
 use Rattle.script_session.specs.declared.session.SessionEnd.TheVariants as end
 use Rattle.script_maker.specs.Made.{made_script}
 use Rattle.script_plan.proofs.make.make_main.Goals as goal

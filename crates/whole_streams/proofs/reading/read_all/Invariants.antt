@@ -1,6 +1,6 @@
 use Rattle.std.proofs.Common.{◌≡◌}
-use Rattle.trace_view.specs.View.{ReadSoFar}
-use Rattle.trace_view.proofs.streams.read_all.Given as goal
+use Rattle.whole_streams.specs.Reading.{ReadSoFar}
+use Rattle.whole_streams.proofs.reading.read_all.Given as goal
 
 abbrev pub invariant-loop : goal.invariant-loop
 invariant-loop g l = record {

@@ -1,6 +1,6 @@
 use Rattle.std.proofs.Common.{arith, length-drop, ◌∙◌}
-use Rattle.pod_runner.proofs.Appends.{told_on}
-use Rattle.pod_runner.proofs.written.write_all.Goals as goal
+use Rattle.whole_streams.proofs.WriteLaws.{told_on}
+use Rattle.whole_streams.proofs.writing.write_all.Goals as goal
 
 pub loop-done-preserved : goal.loop-done-preserved
 loop-done-preserved g c = record {

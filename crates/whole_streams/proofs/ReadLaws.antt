@@ -1,9 +1,8 @@
--- What was read of a source, and what was written.
-use Rattle.lwp_types.specs.Streams.{Reads, appended}
-use Rattle.std.proofs.Common.{Err, List, None, Ok, OnErr, Option, Result, Some, [], ap, append-nil, append_assoc, arith, drop, length, length-drop, refl, sym, take, ℕ, ◌++◌, ◌+◌, ◌-◌, ◌<◌, ◌∙◌, ◌∷◌, ◌≡◌}
-use Rattle.std.proofs.Math.Seq.{take-add, take-length}
+-- What was read of a source.
+use Rattle.lwp_types.specs.Streams.{Reads}
+use Rattle.std.proofs.Common.{List, None, Option, Some, [], ap, append-nil, append_assoc, arith, drop, length, refl, sym, ℕ, ◌++◌, ◌<◌, ◌∙◌, ◌∷◌, ◌≡◌}
 use Rattle.std.proofs.lemmas.List.{take-append-drop}
-use Rattle.trace_view.specs.View.{HasRead, ReadSoFar}
+use Rattle.whole_streams.specs.Reading.{HasRead, ReadSoFar}
 
 empty_list : (xs : List ℕ) → (0 < length xs → 0 < 0) → xs ≡ []
 empty_list [] h = refl
@@ -34,18 +33,3 @@ read_end (Some told) (Some rest) after bytes got n h r none =
     let over : rest ≡ [] = empty_list rest (λ some. let more : 0 < n = r.3 some in omega arith) in
     let all : told ≡ bytes = h.2 ∙ ap (λ xs. bytes ++ xs) (sym same ∙ over) ∙ append-nil bytes in
     (all, r.1 ∙ ap (λ xs. Some xs) (ap (drop n) over ∙ ap (λ k. drop k []) none))
-
--- what holds anyway holds where there is an error
-pub on_err : {T E P : Type 0} (r : Result T E) → P → OnErr r P
-on_err (Ok x) p = tt
-on_err (Err e) p = p
-
-appended-append : (w : Option (List ℕ)) (a b : List ℕ) → appended (appended w a) b ≡ appended w (a ++ b)
-appended-append None a b = refl
-appended-append (Some told) a b = ap (λ x. Some x) (append_assoc told a b)
-
--- a write of the next bytes, out of all that are left
-pub told_on : (w old new : Option (List ℕ)) (n k : ℕ) (bytes : List ℕ) → old ≡ appended w (take n bytes) → new ≡ appended old (take k (take (length bytes - n) (drop n bytes))) → new ≡ appended w (take (n + k) bytes)
-told_on w old new n k bytes h e =
-    let rest : take (length bytes - n) (drop n bytes) ≡ drop n bytes = rw (← length-drop n bytes) (take-length (drop n bytes)) in
-    e ∙ rw (h, rest) (appended-append w (take n bytes) (take k (drop n bytes))) ∙ ap (appended w) (sym (take-add n k bytes))
