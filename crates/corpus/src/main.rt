@@ -18,7 +18,6 @@
 //! The crate stands on `lwp_serve`, on the rows of `stored_rows`, and on the streams of `lwp_types`.
 #![tactic(auto)]
 
-mod damage;
 mod outcome;
 
 use lwp_types::NoMemory;

@@ -1,10 +1,10 @@
 // What the program makes of its words and a script.
-use crate::damage::{Damage, damaged};
 use lwp_serve::{fault_text, no_gates, top};
 use lwp_types::{MemSink, MemSource, NoMemory};
 use std::alloc::Global;
 use std::sync::Wait;
 use std::thread::Threads;
+use stored_rows::{Damage, damaged};
 
 // A trace has room for so many bytes, of which the sink takes at most so many at once.
 const ROOM: usize = 4_194_304;

@@ -9,7 +9,7 @@ use Rattle.script_program.specs.Bodies.{bodies_of, body_next}
 use Rattle.script_program.specs.declared.body.ThreadBody.{ThreadBody}
 use Rattle.script_session.specs.History.{lines_left, pairs_of}
 use Rattle.script_plan.specs.Plan.{IsBroken, IsPart, IsStopped, IsWhole, RunSays}
-use Rattle.script_session.specs.SoFar.{AreDue, lines_after, lines_before, opening_run, setting_of}
+use Rattle.script_session.specs.SoFar.{AreDue, lines_after, lines_before, opening_run}
 use Rattle.whole_streams.specs.Streams.{Stream}
 use Rattle.whole_streams.specs.Writing.{AppendsPart}
 use Rattle.script_gate.specs.Posted.{IsPosted}

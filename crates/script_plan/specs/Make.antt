@@ -19,7 +19,7 @@ use Rattle.script_text.specs.Script.{lines_posted}
 use Rattle.trace_text.specs.declared.ends.Halt.{Halt}
 use Rattle.trace_text.specs.declared.ends.Halt.TheVariants as halts
 use Rattle.script_text.specs.declared.script.Script.{Script}
-use Rattle.std.specs.Prelude.{Bool, List, None, Option, Some, [], false, length, true, ℕ, ◌++◌, ◌-◌, ◌≡◌, ◌≤◌, ◌⊎◌}
+use Rattle.std.specs.Prelude.{Bool, List, None, Option, Some, false, length, true, ℕ, ◌++◌, ◌-◌, ◌≡◌, ◌≤◌, ◌⊎◌}
 
 -- how many calls are allowed
 abbrev pub make_turns : ℕ

@@ -16,7 +16,6 @@ use Rattle.script_text.specs.declared.script.Script.{Script}
 use Rattle.lwp_types.specs.declared.call.Line.{Line}
 use Rattle.pod_runner.specs.Over.{is_wanted}
 use Rattle.pod_runner.specs.Run.{AppendsCut}
-use Rattle.pod_runner.specs.Trace.{lines}
 use Rattle.pod_runner.specs.declared.session.Took.{Took}
 use Rattle.std.specs.Prelude.{List, Option, Some, false, ℕ, ◌++◌, ◌≡◌, ◌≤◌, ◌⊎◌}
 

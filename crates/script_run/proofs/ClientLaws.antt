@@ -1,5 +1,4 @@
 -- The loops over texts and takes, a step further.
-use Rattle.event_gate.specs.Port.{of}
 use Rattle.lwp_types.specs.declared.call.Line.{Line}
 use Rattle.lwp_types.specs.declared.text.Text.{Text}
 use Rattle.script_run.specs.Clients.{count_taken, counts_of, texts_for, texts_from}

@@ -1,2 +1,3 @@
+pub mod Damages
 pub mod Lines
 pub mod Rows

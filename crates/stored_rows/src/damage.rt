@@ -1,12 +1,12 @@
-// Scripts with one thing wrong.
+// Files with one thing wrong.
 ghost use Rattle.std.specs.Prelude.{◌≡◌, IfOk};
-ghost use Rattle.corpus.specs.Damages.{damaged};
+ghost use Rattle.stored_rows.specs.Damages.{damaged};
 
 use lwp_types::NoMemory;
 use std::alloc::Global;
 use std::fmt;
 
-/// What is done to a script: it ends after so many bytes, or the byte behind so many becomes zero.
+/// What is done to a file: it ends after so many bytes, or the byte behind so many becomes zero.
 #[derive(Clone, Copy, Debug, PartialEq, Eq)]
 pub enum Damage {
     Cut(usize),
@@ -22,11 +22,11 @@ impl fmt::Display for Damage {
     }
 }
 
-/// A copy of the script, so damaged. Past its end nothing is done.
-pub fn damaged(alloc: Global, script: &[u8], damage: Damage) -> Result<Vec<u8>, NoMemory>
-    ensures { IfOk result (λ bytes. bytes.items ≡ damaged damage script.now) }
+/// A copy of the file, so damaged. Past its end nothing is done.
+pub fn damaged(alloc: Global, file: &[u8], damage: Damage) -> Result<Vec<u8>, NoMemory>
+    ensures { IfOk result (λ bytes. bytes.items ≡ damaged damage file.now) }
 {
-    let mut bytes = script.to_vec(alloc)?;
+    let mut bytes = file.to_vec(alloc)?;
     match damage {
         Damage::Cut(count) => bytes.truncate(count),
         Damage::Zero(count) => {
