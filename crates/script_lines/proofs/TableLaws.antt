@@ -3,7 +3,7 @@ use Rattle.std.proofs.Common.{◌≡◌, ℕ, zero, suc, ◌<◌, ◌≤◌, Boo
 use Rattle.std.specs.List.{list_all, range_with_len}
 use Rattle.std.specs.Str.{bytes_eq}
 use Rattle.std.proofs.lemmas.Bool.{leb-true}
-use Rattle.std.proofs.lemmas.List.{get_or-map, get_or_default}
+use Rattle.std.proofs.lemmas.List.{get_or-map, get_or_default, length-map}
 use Rattle.std.proofs.lemmas.List.FromFn.{get_or-range_with_len}
 use Rattle.std.proofs.lemmas.Slice.Eq.{bytes_eq-Decides}
 use denote.Enum.Bare.{sameb, same_true, true_same, tag_one}
@@ -13,7 +13,8 @@ use Rattle.script_lines.specs.contracts.table.Op.{the_type}
 use Rattle.script_lines.specs.contracts.table.Role.{the_type as role_type}
 use Rattle.script_lines.specs.declared.table.Op.{Op}
 use Rattle.script_lines.specs.declared.table.Role.{Role}
-use Rattle.script_lines.specs.Table.{Row, rows, row_of, key_of, role_of, first_letter, rises, op_in, op_at}
+use Rattle.script_lines.specs.declared.table.Role.TheVariants as roles
+use Rattle.script_lines.specs.Table.{Row, row, rows, row_of, key_of, role_of, first_letter, rises, op_in, op_at}
 use Rattle.script_lines.proofs.WordLemmas.{both}
 
 -- ---- Rows.
@@ -30,6 +31,14 @@ number o = tag_of the_type o
 -- there is a row at each operation's number
 within : (o : Op) → number o < length rows
 within o = tag_below (variants the_type) (the_type.to o)
+
+-- where what reads as the table is read at an operation's number, it is that operation's row
+pub row_there : {X : Type 0} (f : X → Row) (xs : List X) (d : X) (o : Op) → map f xs ≡ rows → f (get_or xs (number o) d) ≡ row_of o
+unfolding row_of
+row_there f xs d o same =
+    let inside : number o < length xs = subst (λ n. number o < n) (sym (ap length same) ∙ length-map xs f) (within o) in
+    let other : Row = row o [] roles.Again [] in
+    sym (get_or-map f xs (number o) d other inside) ∙ ap (λ rs. get_or rs (number o) other) same
 
 -- what holds of all rows holds of each operation's
 pub on_rows : (f : Row → Bool) → list_all f rows ≡ true → (o : Op) → f (row_of o) ≡ true

@@ -1,7 +1,7 @@
 // The table of lines. A new kind of line is a variant of `Op` and a row of `ROWS` at the same place, among those of its first letter,
 // and the same row in `rows` of specs/Table.antt. If the first of its two words is a new one, `is_half` needs it.
 ghost use Rattle.std.specs.Prelude.{◌≡◌, ◌<◌, ℕ, List, map, IsTrue};
-ghost use Rattle.script_lines.specs.Table.{read, key_of, role_of, slots_of, has, says, starts, starts_any, first_letter, rises, op_in, op_at};
+ghost use Rattle.script_lines.specs.Table.{read, rows, row_of, key_of, role_of, slots_of, has, says, starts, starts_any, first_letter, rises, op_in, op_at};
 
 /// What stands in a slot of a line.
 #[derive(Clone, Copy, PartialEq, Eq)]
@@ -333,15 +333,19 @@ static ROWS: [Row; 64] = [
     (Op::Yield, b"yield", Role::Statement, &[Kind::Who]),
 ];
 
+// The whole table.
+fn table() -> &'static [Row]
+    ensures { map read result.now ≡ rows }
+{
+    &ROWS
+}
+
 impl Op {
     // The row of the table.
-    #[tactic(auto, unfolding(crate::specs::Table::row_of))]
     fn row(self) -> &'static Row
-        ensures key { result.now.1.now ≡ key_of self }
-        ensures role { result.now.2 ≡ role_of self }
-        ensures slots { result.now.3.now ≡ slots_of self }
+        ensures { read result.now ≡ row_of self }
     {
-        &ROWS[self as usize]
+        &table()[self as usize]
     }
 
     /// How the line begins: a word, or two.
@@ -393,7 +397,7 @@ impl Op {
     {
         match key {
             [] => None,
-            [letter, ..] => among(rows_from(&ROWS, *letter), key),
+            [letter, ..] => among(rows_from(table(), *letter), key),
         }
     }
 }
