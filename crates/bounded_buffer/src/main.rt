@@ -30,9 +30,13 @@ const ROOM: usize = 4_096;
 const TURNS: u64 = 1_000;
 
 fn main(rt: HostRuntime) -> ExitCode {
-    let Ok(sink) = trace(rt.alloc()) else {
+    let alloc = rt.alloc();
+    let Ok(mut sink) = MemSink::new(alloc, ROOM, ROOM, Vec::new(alloc)) else {
         return ExitCode::FAILURE;
     };
+    if trace(alloc, &mut sink).is_err() {
+        return ExitCode::FAILURE;
+    }
     match rt.stdout().write_all(sink.bytes()) {
         Ok(()) => ExitCode::SUCCESS,
         Err(_) => ExitCode::FAILURE,
@@ -61,10 +65,10 @@ fn play(alloc: Global, played: &mut Run<Actor, Market>, sink: &mut MemSink) -> R
     Ok(())
 }
 
-// The trace of the session.
-fn trace(alloc: Global) -> Result<MemSink, RunErr> {
-    let mut sink = MemSink::new(alloc, ROOM, ROOM, Vec::new(alloc))?;
-    let mut played = opened(alloc)?;
-    play(alloc, &mut played, &mut sink)?;
-    Ok(sink)
+// The trace of the session goes to the sink.
+fn trace(alloc: Global, sink: &mut MemSink) -> Result<(), RunErr> {
+    match opened(alloc) {
+        Ok(mut played) => play(alloc, &mut played, sink),
+        Err(_) => Err(RunErr::NoMemory),
+    }
 }
