@@ -8,11 +8,14 @@
 //! the outside, of which there are none here.
 #![tactic(auto)]
 
+ghost use Rattle.std.specs.Prelude.{IfOk, false, ◌≡◌};
+
 mod actor;
 mod buffer;
 mod clients;
 mod market;
 
+use actor::Actor;
 use event_gate::ListGate;
 use lwp_types::{Env, MemSink, NoMemory, PodParams};
 use market::Market;
@@ -27,26 +30,45 @@ const ROOM: usize = 4_096;
 const TURNS: u64 = 1_000;
 
 fn main(rt: HostRuntime) -> ExitCode {
-    let Ok(sink) = trace(rt.alloc()) else {
+    let alloc = rt.alloc();
+    let Ok(mut sink) = MemSink::new(alloc, ROOM, ROOM, Vec::new(alloc)) else {
         return ExitCode::FAILURE;
     };
+    if trace(alloc, &mut sink).is_err() {
+        return ExitCode::FAILURE;
+    }
     match rt.stdout().write_all(sink.bytes()) {
         Ok(()) => ExitCode::SUCCESS,
         Err(_) => ExitCode::FAILURE,
     }
 }
 
-// The trace of the session.
-fn trace(alloc: Global) -> Result<MemSink, RunErr> {
+// The session before its first call.
+fn opened(alloc: Global) -> Result<Run<Actor, Market>, NoMemory>
+    ensures sound { IfOk result (λ played. played.failed ≡ false) }
+{
     let params = PodParams {
         maxpri: 1,
         births: 10,
         procs: 4,
     };
     let env = Env::new(alloc, 0, 0, 0)?;
-    let mut played = Run::new(alloc, params, Market::new(alloc), env, TURNS)?;
+    Run::new(alloc, params, Market::new(alloc), env, TURNS)
+}
+
+// The session is played to its end. No line comes from the outside.
+fn play(alloc: Global, played: &mut Run<Actor, Market>, sink: &mut MemSink) -> Result<(), RunErr>
+    requires sound { played.old.failed ≡ false }
+{
     let mut gate = ListGate::new(alloc, &[], &[])?;
-    let mut sink = MemSink::new(alloc, ROOM, ROOM, Vec::new(alloc))?;
-    run(&mut played, &mut gate, &mut sink)?;
-    Ok(sink)
+    run(played, &mut gate, sink)?;
+    Ok(())
+}
+
+// The trace of the session goes to the sink.
+fn trace(alloc: Global, sink: &mut MemSink) -> Result<(), RunErr> {
+    match opened(alloc) {
+        Ok(mut played) => play(alloc, &mut played, sink),
+        Err(_) => Err(RunErr::NoMemory),
+    }
 }

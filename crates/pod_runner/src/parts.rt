@@ -17,7 +17,6 @@ use lwp_types::{Body, Call, Effects, Env, NoMemory, PodParams, Program, Text, Ti
 use std::alloc::Global;
 
 /// A pod with its threads' bodies.
-#[derive(Drop)]
 pub(crate) struct Parts<B> {
     pub(crate) pod: Pod,
     pub(crate) rows: RowList<B>,
@@ -25,6 +24,19 @@ pub(crate) struct Parts<B> {
     pub(crate) effects: Effects,
     // The call of the last step. It has room for a text, so the next one is set where it lies.
     pub(crate) call: Call,
+}
+
+// By hand, so that whoever drops one calls this.
+impl<B: Drop> Drop for Parts<B> {
+    fn drop(self) {
+        let Parts {
+            pod: _,
+            rows: _,
+            env: _,
+            effects: _,
+            call: _,
+        } = self;
+    }
 }
 
 impl<B: Body> Parts<B> {

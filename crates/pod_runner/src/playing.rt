@@ -14,7 +14,6 @@ use std::marker::Model;
 use whole_streams::write_all;
 
 /// A run of a program, seen as what it plays and how far it is; its session is the definition's.
-#[derive(Drop)]
 pub struct Run<B: Body, P: Program<B>> {
     parts: Parts<B>,
     program: P,
@@ -30,6 +29,26 @@ pub struct Run<B: Body, P: Program<B>> {
     failed: bool,
     // The lines of the last step, in memory that the next step's are put into.
     out: Vec<u8>,
+}
+
+// By hand, so that whoever drops one calls this.
+impl<B: Body, P: Program<B>> Drop for Run<B, P> {
+    fn drop(self) {
+        let Run {
+            parts: _,
+            program: _,
+            procs: _,
+            params: _,
+            threads: _,
+            mons: _,
+            conds: _,
+            turns: _,
+            calls: _,
+            takes: _,
+            failed: _,
+            out: _,
+        } = self;
+    }
 }
 
 impl<B: Body, P: Program<B>> Model for Run<B, P> {
@@ -121,7 +140,21 @@ impl<B: Body, P: Program<B>> Run<B, P> {
     pub fn into_takes(self) -> Vec<Took>
         ensures { result.items ≡ self.takes }
     {
-        self.takes
+        let Run {
+            parts: _,
+            program: _,
+            procs: _,
+            params: _,
+            threads: _,
+            mons: _,
+            conds: _,
+            turns: _,
+            calls: _,
+            takes,
+            failed: _,
+            out: _,
+        } = self;
+        takes
     }
 
     /// Where the run stands.
