@@ -11,11 +11,21 @@ use script_lines::{Op, Phrase, Role, Whom};
 use std::alloc::Global;
 
 /// The script of the lines so far, the procedure to which the next statement goes, and how many lines each client has posted.
-#[derive(Drop)]
 pub struct Draft {
     pub script: Script,
     pub current: Option<Proc>,
     pub posted: Counts,
+}
+
+// By hand, so that whoever drops a draft calls this.
+impl Drop for Draft {
+    fn drop(self) {
+        let Draft {
+            script: _,
+            current: _,
+            posted: _,
+        } = self;
+    }
 }
 
 /// Where the names of a line stand in their lists, and its text in the list of texts.
