@@ -1,6 +1,7 @@
 // A script that grows line by line.
-ghost use Rattle.std.specs.Prelude.{◌≡◌, ◌++◌, ◌∷◌, [], Some, IfOk, OnOk, option_to_list};
+ghost use Rattle.std.specs.Prelude.{◌≡◌, ◌++◌, ◌∷◌, [], Some, IfOk, OnOk, option_map, option_to_list};
 ghost use Rattle.script_text.specs.Meaning.{named, spoken, places_of, who_of, from_of, exit_statement, plain_statement, lock_statement, statement_of, grown, native_kind};
+ghost use Rattle.script_text.specs.declared.script.Stmt.TheVariants as stmt;
 
 use crate::counts::Counts;
 use crate::names::NameList;
@@ -124,6 +125,17 @@ fn exit_statement(at: Places, phrase: &Phrase<'_>) -> Option<ExitStmt>
     }
 }
 
+// A statement that sets an exit procedure.
+#[inline]
+fn on_exit(at: Places, phrase: &Phrase<'_>) -> Option<Stmt>
+    ensures { result ≡ option_map (λ x. stmt.OnExit x) (exit_statement phrase.now.op at phrase.now) }
+{
+    match exit_statement(at, phrase) {
+        Some(exit) => Some(Stmt::OnExit { exit }),
+        None => None,
+    }
+}
+
 // A statement that names nothing, or one that sets an exit procedure.
 fn plain_statement(at: Places, phrase: &Phrase<'_>) -> Option<Stmt>
     ensures { result ≡ plain_statement phrase.now.op at phrase.now }
@@ -155,10 +167,7 @@ fn plain_statement(at: Places, phrase: &Phrase<'_>) -> Option<Stmt>
         Op::Agents => Some(Stmt::Agents),
         Op::Skip => Some(Stmt::Skip { test: phrase.test }),
         Op::Again => Some(Stmt::Again),
-        _ => match exit_statement(at, phrase) {
-            Some(exit) => Some(Stmt::OnExit { exit }),
-            None => None,
-        },
+        _ => on_exit(at, phrase),
     }
 }
 
