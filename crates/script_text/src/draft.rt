@@ -1,6 +1,7 @@
 // A script that grows line by line.
-ghost use Rattle.std.specs.Prelude.{◌≡◌, ◌++◌, ◌∷◌, [], Some, IfOk, OnOk, option_to_list};
+ghost use Rattle.std.specs.Prelude.{◌≡◌, ◌++◌, ◌∷◌, [], Some, IfOk, OnOk, option_map, option_to_list};
 ghost use Rattle.script_text.specs.Meaning.{named, spoken, places_of, who_of, from_of, exit_statement, plain_statement, lock_statement, statement_of, grown, native_kind};
+ghost use Rattle.script_text.specs.declared.script.Stmt.TheVariants as stmt;
 
 use crate::counts::Counts;
 use crate::names::NameList;
@@ -11,11 +12,21 @@ use script_lines::{Op, Phrase, Role, Whom};
 use std::alloc::Global;
 
 /// The script of the lines so far, the procedure to which the next statement goes, and how many lines each client has posted.
-#[derive(Drop)]
 pub struct Draft {
     pub script: Script,
     pub current: Option<Proc>,
     pub posted: Counts,
+}
+
+// By hand, so that whoever drops a draft calls this.
+impl Drop for Draft {
+    fn drop(self) {
+        let Draft {
+            script: _,
+            current: _,
+            posted: _,
+        } = self;
+    }
 }
 
 /// Where the names of a line stand in their lists, and its text in the list of texts.
@@ -114,6 +125,17 @@ fn exit_statement(at: Places, phrase: &Phrase<'_>) -> Option<ExitStmt>
     }
 }
 
+// A statement that sets an exit procedure.
+#[inline]
+fn on_exit(at: Places, phrase: &Phrase<'_>) -> Option<Stmt>
+    ensures { result ≡ option_map (λ x. stmt.OnExit x) (exit_statement phrase.now.op at phrase.now) }
+{
+    match exit_statement(at, phrase) {
+        Some(exit) => Some(Stmt::OnExit { exit }),
+        None => None,
+    }
+}
+
 // A statement that names nothing, or one that sets an exit procedure.
 fn plain_statement(at: Places, phrase: &Phrase<'_>) -> Option<Stmt>
     ensures { result ≡ plain_statement phrase.now.op at phrase.now }
@@ -145,10 +167,7 @@ fn plain_statement(at: Places, phrase: &Phrase<'_>) -> Option<Stmt>
         Op::Agents => Some(Stmt::Agents),
         Op::Skip => Some(Stmt::Skip { test: phrase.test }),
         Op::Again => Some(Stmt::Again),
-        _ => match exit_statement(at, phrase) {
-            Some(exit) => Some(Stmt::OnExit { exit }),
-            None => None,
-        },
+        _ => on_exit(at, phrase),
     }
 }
 

@@ -19,7 +19,6 @@ const MOST: usize = 16_777_216;
 const KEPT: usize = 1024;
 
 /// Reads a script in pieces, whatever they are.
-#[derive(Drop)]
 pub struct ScriptReader {
     pub alloc: Global,
     pub reader: Reader,
@@ -28,6 +27,20 @@ pub struct ScriptReader {
     pub total: usize,
     pub is_large: bool,
     pub failed: bool,
+}
+
+// By hand, so that whoever drops a reader calls this.
+impl Drop for ScriptReader {
+    fn drop(self) {
+        let ScriptReader {
+            alloc: _,
+            reader: _,
+            tail: _,
+            total: _,
+            is_large: _,
+            failed: _,
+        } = self;
+    }
 }
 
 // The first line and what stands behind its end.
@@ -70,7 +83,7 @@ impl ScriptReader {
     ghost use Rattle.script_text.specs.Limits.{IsWithinLimits};
     ghost use Rattle.script_text.specs.Pieces.{HasRead, HasFailed, IsTail};
     ghost use Rattle.script_text.specs.Spelling.{cut, verdict, Gives, IsReadAs};
-    ghost use Rattle.script_text.specs.Track.{step};
+    ghost use Rattle.script_text.specs.Track.{step, answer_at};
     ghost use Rattle.script_text.specs.declared.reason.ReadErr.TheVariants as read_err;
 
     /// Nothing read.
@@ -140,6 +153,21 @@ impl ScriptReader {
         Ok(())
     }
 
+    // What the lines and the tail answer.
+    fn answer(self) -> Result<Script, ReadErr>
+        ensures { Gives (answer_at self.reader self.tail.items) result }
+    {
+        let ScriptReader {
+            alloc: _,
+            reader,
+            tail,
+            total: _,
+            is_large: _,
+            failed: _,
+        } = self;
+        reader.finish(&tail)
+    }
+
     /// The script that the text so far spells, if it spells one, and else its first bad line.
     pub fn finish(self) -> Result<Script, ReadErr>
         // The first line that is bad, and the first reason that fits.
@@ -152,23 +180,15 @@ impl ScriptReader {
         ensures within { (text : List ℕ) → HasRead self text → IfOk result IsWithinLimits }
         ensures failed { HasFailed self → result ≡ Err read_err.NoMemory }
     {
-        let ScriptReader {
-            alloc: _,
-            reader,
-            tail,
-            total: _,
-            is_large,
-            failed,
-        } = self;
-        if failed {
+        if self.failed {
             return Err(ReadErr::NoMemory);
         }
-        if is_large {
+        if self.is_large {
             return Err(ReadErr::Bad {
                 line: 0,
                 reason: Reason::TooLarge,
             });
         }
-        reader.finish(&tail)
+        self.answer()
     }
 }

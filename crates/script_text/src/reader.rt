@@ -6,8 +6,8 @@ ghost use Rattle.script_lines.specs.Table.{role_of};
 ghost use Rattle.script_lines.specs.Reading.{phrase_at};
 ghost use Rattle.script_text.specs.Declaring.{only_name, spaced_word, proc_on, native_on};
 ghost use Rattle.script_text.specs.Grammar.{has, keeps_rule, may_stand_at};
-ghost use Rattle.script_text.specs.Spelling.{Gives, word_reason, reason_behind, reason_of, noted};
-ghost use Rattle.script_text.specs.Meaning.{enter};
+ghost use Rattle.script_text.specs.Spelling.{Gives, word_reason, reason_behind, reason_of, noted, whole};
+ghost use Rattle.script_text.specs.Meaning.{enter, closed};
 ghost use Rattle.script_text.specs.Track.{first_missing, mention_of, name_at};
 
 use crate::Script;
@@ -29,15 +29,23 @@ pub struct Mention {
 }
 
 /// The names of the procedures that the lines so far declare: those of statements, and the built-in ones.
-#[derive(Drop)]
 pub struct Declared {
     pub procs: NameList,
     pub natives: NameList,
 }
 
+// By hand, so that whoever drops these calls this.
+impl Drop for Declared {
+    fn drop(self) {
+        let Declared {
+            procs: _,
+            natives: _,
+        } = self;
+    }
+}
+
 /// What is known of the lines so far. Those up to the first that is bad by itself stand in the draft; that one starts an
 /// undeclared procedure shows at the end only.
-#[derive(Drop)]
 pub struct Reader {
     pub count: u32,
     pub stage: Stage,
@@ -45,6 +53,20 @@ pub struct Reader {
     pub declared: Declared,
     pub mentions: Sequence<Mention>,
     pub draft: Draft,
+}
+
+// By hand, so that whoever drops a reader calls this.
+impl Drop for Reader {
+    fn drop(self) {
+        let Reader {
+            count: _,
+            stage: _,
+            bad: _,
+            declared: _,
+            mentions: _,
+            draft: _,
+        } = self;
+    }
 }
 
 // The reason that the first word alone decides.
@@ -196,8 +218,22 @@ fn first_missing(declared: &Declared, names: &[Text], mentions: &[Mention]) -> O
     None
 }
 
+// The script of a draft all of whose lines are good. `line` is the number of the one behind them.
+fn close_at(line: u32, draft: Draft) -> Result<Script, ReadErr>
+    ensures { Gives (whole line (closed draft)) result }
+{
+    let script = draft.close()?;
+    if script.procs.len() == 0 {
+        return Err(ReadErr::Bad {
+            line,
+            reason: Reason::Missing,
+        });
+    }
+    Ok(script)
+}
+
 impl Reader {
-    ghost use Rattle.std.specs.Prelude.{◌+◌, Err, IfSome, IfNone};
+    ghost use Rattle.std.specs.Prelude.{◌+◌, Err, IfSome, IfNone, IfOk, IfErr};
     ghost use Rattle.script_text.specs.Meaning.{place_of, closed};
     ghost use Rattle.script_text.specs.Spelling.{Gives, whole};
     ghost use Rattle.script_text.specs.Track.{start, taken, judged, step, answer, answer_at};
@@ -309,31 +345,43 @@ impl Reader {
         }
     }
 
-    // What all lines answer, and what is left behind the last end.
-    fn answer(self, tail: &[u8]) -> Result<Script, ReadErr>
-        ensures { Gives (answer self tail.now) result }
+    // Notes what the tail declares. Gives the number of its line, if no line is bad.
+    fn end(&mut self, tail: &[u8]) -> Result<u32, ReadErr>
+        ensures draft { self.new.draft ≡ self.old.draft }
+        ensures ok { IfOk result (λ line. answer_at self.old tail.now ≡ whole line (closed self.old.draft)) }
+        ensures err { IfErr result (λ err. Gives (answer_at self.old tail.now) (Err err)) }
     {
+        self.declared.note(tail)?;
         let Some(line) = self.count.checked_add(1) else {
             return Err(ReadErr::NoMemory);
         };
-        if let Some((line, reason)) = self.fault(line, tail) {
-            return Err(ReadErr::Bad { line, reason });
+        match self.fault(line, tail) {
+            Some((line, reason)) => Err(ReadErr::Bad { line, reason }),
+            None => Ok(line),
         }
-        let script = self.draft.close()?;
-        if script.procs.len() == 0 {
-            return Err(ReadErr::Bad {
-                line,
-                reason: Reason::Missing,
-            });
-        }
-        Ok(script)
+    }
+
+    // What has been read, alone.
+    #[inline]
+    fn into_draft(self) -> Draft
+        ensures { result ≡ self.draft }
+    {
+        let Reader {
+            count: _,
+            stage: _,
+            bad: _,
+            declared: _,
+            mentions: _,
+            draft,
+        } = self;
+        draft
     }
 
     /// The script of the lines and what is left behind the last end, which declares a procedure too.
     pub fn finish(mut self, tail: &[u8]) -> Result<Script, ReadErr>
         ensures { Gives (answer_at self tail.now) result }
     {
-        self.declared.note(tail)?;
-        self.answer(tail)
+        let line = self.end(tail)?;
+        close_at(line, self.into_draft())
     }
 }

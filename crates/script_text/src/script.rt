@@ -211,7 +211,6 @@ pub struct Post {
 
 /// A script: what its pod is made with, the event of each client, its procedures, the lines that its clients post, in the order
 /// of the text, and the texts of statements and lines, in that order too.
-#[derive(Drop)]
 pub struct Script {
     pub maxpri: u32,
     pub births: u64,
@@ -221,4 +220,20 @@ pub struct Script {
     pub posts: Sequence<Post>,
     pub names: Names,
     pub texts: Texts,
+}
+
+// By hand, so that whoever drops a script calls this.
+impl Drop for Script {
+    fn drop(self) {
+        let Script {
+            maxpri: _,
+            births: _,
+            clients: _,
+            natives: _,
+            procs: _,
+            posts: _,
+            names: _,
+            texts: _,
+        } = self;
+    }
 }
