@@ -7,7 +7,8 @@ ghost use Rattle.death_cleanup.specs.Ties.{InStep, LawfulParts};
 ghost use Rattle.death_cleanup.specs.View.{state_of};
 ghost use Rattle.lwp_types.specs.Agents.{armed, deliver};
 ghost use Rattle.lwp_types.specs.Choice.{is_eligible_in};
-ghost use Rattle.pod_sched.specs.Schedule.{choice};
+ghost use Rattle.pod_sched.specs.Schedule.{choice, empty_schedule};
+ghost use Rattle.death_cleanup.specs.Named.{no_names};
 ghost use Rattle.lwp_types.specs.Lawful.{Lawful};
 ghost use Rattle.lwp_types.specs.State.{is_id, opening};
 ghost use Rattle.lwp_types.specs.Step.{case_of, step, end_effects, ends};
@@ -80,14 +81,12 @@ fn beginner(alloc: Global, flags: Flags) -> Result<ThreadRec, NoMemory>
 }
 
 // The parts of a pod with nobody in it.
-fn no_thread(alloc: Global, params: PodParams) -> Result<Parts, NoMemory>
-    requires least { 1 ≤ params.maxpri }
-    requires most { params.maxpri ≤ 255 }
-    ensures { IfOk result (λ parts. parts ≡ no_thread params) }
+fn no_thread(alloc: Global, params: PodParams, sched: Sched, named: Named) -> Parts
+    requires sched { sched ≡ empty_schedule params.maxpri }
+    requires named { named ≡ no_names }
+    ensures { result ≡ no_thread params }
 {
-    let sched = Sched::new(alloc, params.maxpri)?;
-    let named = Named::new(alloc)?;
-    Ok(Parts {
+    Parts {
         ids: Registry::new(alloc, params.births),
         sched,
         mail: Mail::new(alloc),
@@ -102,7 +101,7 @@ fn no_thread(alloc: Global, params: PodParams) -> Result<Parts, NoMemory>
         dying: None,
         last_prio: 0,
         named,
-    })
+    }
 }
 
 // The first thread begins, in a pod with nobody in it.
@@ -139,7 +138,9 @@ fn first_parts(alloc: Global, params: PodParams) -> Result<Parts, NoMemory>
     ensures step { IfOk result (λ parts. InStep parts) }
     ensures alone { IfOk result (λ parts. parts.dying ≡ None) }
 {
-    let mut parts = no_thread(alloc, params)?;
+    let sched = Sched::new(alloc, params.maxpri)?;
+    let named = Named::new(alloc)?;
+    let mut parts = no_thread(alloc, params, sched, named);
     first_thread(&mut parts, alloc, params)?;
     Ok(parts)
 }
