@@ -7,8 +7,7 @@ ghost use Rattle.death_cleanup.specs.Ties.{InStep, LawfulParts};
 ghost use Rattle.death_cleanup.specs.View.{state_of};
 ghost use Rattle.lwp_types.specs.Agents.{armed, deliver};
 ghost use Rattle.lwp_types.specs.Choice.{is_eligible_in};
-ghost use Rattle.pod_sched.specs.Schedule.{choice, empty_schedule};
-ghost use Rattle.death_cleanup.specs.Named.{no_names};
+ghost use Rattle.pod_sched.specs.Schedule.{choice};
 ghost use Rattle.lwp_types.specs.Lawful.{Lawful};
 ghost use Rattle.lwp_types.specs.State.{is_id, opening};
 ghost use Rattle.lwp_types.specs.Step.{case_of, step, end_effects, ends};
@@ -81,12 +80,14 @@ fn beginner(alloc: Global, flags: Flags) -> Result<ThreadRec, NoMemory>
 }
 
 // The parts of a pod with nobody in it.
-fn no_thread(alloc: Global, params: PodParams, sched: Sched, named: Named) -> Parts
-    requires sched { sched ≡ empty_schedule params.maxpri }
-    requires named { named ≡ no_names }
-    ensures { result ≡ no_thread params }
+fn no_thread(alloc: Global, params: PodParams) -> Result<Parts, NoMemory>
+    requires least { 1 ≤ params.maxpri }
+    requires most { params.maxpri ≤ 255 }
+    ensures { IfOk result (λ parts. parts ≡ no_thread params) }
 {
-    Parts {
+    let sched = Sched::new(alloc, params.maxpri)?;
+    let named = Named::new(alloc)?;
+    Ok(Parts {
         ids: Registry::new(alloc, params.births),
         sched,
         mail: Mail::new(alloc),
@@ -101,7 +102,7 @@ fn no_thread(alloc: Global, params: PodParams, sched: Sched, named: Named) -> Pa
         dying: None,
         last_prio: 0,
         named,
-    }
+    })
 }
 
 // The first thread begins, in a pod with nobody in it.
@@ -129,6 +130,19 @@ fn first_thread(parts: &mut Parts, alloc: Global, params: PodParams) -> Result<(
     Ok(())
 }
 
+// The first thread begins in these parts, which nobody is in.
+fn begun(mut parts: Parts, alloc: Global, params: PodParams) -> Result<Parts, NoMemory>
+    requires least { 1 ≤ params.maxpri }
+    requires births { 1 ≤ params.births }
+    requires empty { parts ≡ no_thread params }
+    ensures state { IfOk result (λ parts. state_of parts ≡ opening params) }
+    ensures step { IfOk result (λ parts. InStep parts) }
+    ensures alone { IfOk result (λ parts. parts.dying ≡ None) }
+{
+    first_thread(&mut parts, alloc, params)?;
+    Ok(parts)
+}
+
 // The parts of a pod as it is made.
 fn first_parts(alloc: Global, params: PodParams) -> Result<Parts, NoMemory>
     requires least { 1 ≤ params.maxpri }
@@ -138,11 +152,8 @@ fn first_parts(alloc: Global, params: PodParams) -> Result<Parts, NoMemory>
     ensures step { IfOk result (λ parts. InStep parts) }
     ensures alone { IfOk result (λ parts. parts.dying ≡ None) }
 {
-    let sched = Sched::new(alloc, params.maxpri)?;
-    let named = Named::new(alloc)?;
-    let mut parts = no_thread(alloc, params, sched, named);
-    first_thread(&mut parts, alloc, params)?;
-    Ok(parts)
+    let parts = no_thread(alloc, params)?;
+    begun(parts, alloc, params)
 }
 
 impl Pod {
