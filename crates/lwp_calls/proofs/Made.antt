@@ -5,7 +5,7 @@ use Rattle.death_cleanup.specs.Ties.{InStep, LawfulParts}
 use Rattle.death_cleanup.specs.View.{state_of}
 use Rattle.death_cleanup.specs.declared.parts.Parts.{Parts}
 use Rattle.lwp_calls.specs.Comes.{ComesTo, IsAsBefore, Told}
-use Rattle.lwp_types.specs.Case.{Case, answered}
+use Rattle.lwp_types.specs.Case.{Case, answer_by, answered}
 use Rattle.lwp_types.specs.Exits.{exit_case}
 use Rattle.lwp_types.specs.State.{Outcome, State}
 use Rattle.lwp_types.specs.Lawful.{NineParts}
@@ -14,7 +14,11 @@ use Rattle.lwp_types.specs.declared.call.Answer.{Answer}
 use Rattle.lwp_types.specs.declared.call.Effect.{Effect}
 use Rattle.lwp_types.specs.declared.call.Effect.TheVariants as effect
 use Rattle.lwp_types.specs.declared.call.ExitCall.{ExitCall}
-use Rattle.std.proofs.Common.{List, None, Option, Some, [], ap, append_assoc, append-nil, arith, length, length-append, subst, sym, ℕ, ◌+◌, ◌++◌, ◌∙◌, ◌∷◌, ◌≡◌, ◌≤◌}
+use Rattle.lwp_types.specs.declared.call.LwpErr.{LwpErr}
+use Rattle.std.proofs.Common.{Err, List, None, Ok, Option, Result, Some, [], ap, append_assoc, append-nil, arith, length, length-append, subst, sym, ℕ, ◌+◌, ◌++◌, ◌∙◌, ◌∷◌, ◌≡◌, ◌≤◌}
+use Rattle.std.proofs.lemmas.Bool.{false≢true}
+use Rattle.std.specs.Prelude.{IfOk, IsErr, OnErr, OnOk, ℤ}
+use Rattle.std.specs.Result.{IsOkAnd}
 
 module _ {old new : Parts} {made : Case} where
   pub ComesTo-is : {own : Option Answer} → made ≡ record { after = state_of new; others = []; own = own } → InStep new → new.dying ≡ old.dying → ComesTo old new [] [] made own
@@ -59,6 +63,20 @@ module _ {old new : Parts} {made : Case} where
   -- of an answer at once, where others were told nothing
   pub told-alone : {before after : List Effect} {a : Answer} → Answers old new [] [] made a → (t : ℕ) → after ≡ before ++ effect.Answered t a ∷ [] → Told old new before after t made
   told-alone {before} answers t told = told-behind (ComesTo-said answers before) t told
+
+-- the same, where there was memory for the answer
+pub told-if : {T E F : Type 0} (old new : Parts) (before after : List Effect) (made : Case) (done : Result (Result ℤ LwpErr) E) (result : Result T F) → IfOk done (λ own. Answers old new [] [] made (answer_by own)) → (t : ℕ) → OnOk result (IsOkAnd done (λ own. after ≡ before ++ effect.Answered t (answer_by own) ∷ [])) → OnOk result (Told old new before after t made)
+told-if old new before after made (Ok own) (Ok u) answers t told = told-alone answers t told
+told-if old new before after made (Err d) (Ok u) answers t told = absurd told
+told-if old new before after made (Ok own) (Err e) answers t told = tt
+told-if old new before after made (Err d) (Err e) answers t told = tt
+
+-- what is so where memory lacked
+pub untold-if : {T E F G : Type 0} (P : Type 0) (done : Result T E) (result : Result F G) → OnErr done P → OnErr result (IsErr done) → OnErr result P
+untold-if P (Ok own) (Ok u) before same = tt
+untold-if P (Err d) (Ok u) before same = tt
+untold-if P (Ok own) (Err e) before same = absurd (false≢true same)
+untold-if P (Err d) (Err e) before same = before
 
 -- an answer is one effect more at most
 pub told-few : (middle : List Effect) (t : ℕ) (own : Option Answer) → length (middle ++ own_effects t own) ≤ length middle + 1

@@ -1,6 +1,6 @@
 // Calls on the caller's stack: procedures, handlers, exit procedures.
-ghost use Rattle.std.specs.Prelude.{◌≡◌, ◌<◌, ◌≤◌, [], Some, None, IfOk, IfSome, IsErr, IsTrue, OnErr, OnOk, length, not, option_map};
-ghost use Rattle.std.specs.Result.{result_err};
+ghost use Rattle.std.specs.Prelude.{◌≡◌, ◌<◌, ◌≤◌, ◌++◌, ◌∷◌, [], Some, None, IfOk, IfSome, IsErr, IsTrue, OnErr, OnOk, length, not, option_map};
+ghost use Rattle.std.specs.Result.{IsOkAnd, result_err};
 ghost use Rattle.death_cleanup.specs.Comes.{Answers};
 ghost use Rattle.death_cleanup.specs.Moves.{kind_marked, kind_marks};
 ghost use Rattle.death_cleanup.specs.Ties.{InStep, LawfulParts};
@@ -14,6 +14,7 @@ ghost use Rattle.lwp_types.specs.Families.{mark_call};
 ghost use Rattle.lwp_types.specs.Marks.{bound, call_procedure, check_pattern, found, found_in, frames, handle, is_no_pattern, on_exit, unhandle, unique_pattern};
 ghost use Rattle.lwp_types.specs.State.{marks_in};
 ghost use Rattle.lwp_types.specs.Step.{case_of};
+ghost use Rattle.lwp_types.specs.declared.call.Effect.TheVariants as effect;
 ghost use Rattle.lwp_types.specs.declared.rows.Mark.TheVariants as Mark;
 ghost use Rattle.lwp_calls.specs.Asks.{asks_memory};
 ghost use Rattle.lwp_calls.specs.Comes.{ComesTo, IsAsBefore, Told};
@@ -44,11 +45,15 @@ pub fn carry_out(
     ensures memory { IsErr result → IsTrue (asks_memory (mark_call call.now)) }
 {
     let own = match call {
-        MarkCall::CallProc(number) => Some(call_procedure(parts, tid, *number)?),
+        MarkCall::CallProc(number) => {
+            return tell(tid, call_procedure(parts, tid, *number), effects);
+        }
         MarkCall::Return => return_from(parts, tid, effects),
-        MarkCall::Handle(pattern, func, arg) => Some(handle(parts, tid, *pattern, *func, *arg)?),
+        MarkCall::Handle(pattern, func, arg) => {
+            return tell(tid, handle(parts, tid, *pattern, *func, *arg), effects);
+        }
         MarkCall::Unhandle => Some(unhandle(parts, tid)),
-        MarkCall::OnExit(exit) => Some(on_exit(parts, tid, exit)?),
+        MarkCall::OnExit(exit) => return tell(tid, on_exit(parts, tid, exit), effects),
         MarkCall::Raise(pattern) => {
             raise(parts, tid, *pattern, effects);
             return Ok(());
@@ -64,6 +69,22 @@ pub fn carry_out(
         MarkCall::UniqPatt => Some(unique_pattern(parts)),
     };
     effects.done_now(tid, own);
+    Ok(())
+}
+
+// Tells the caller of a call that asks for memory its answer, where there was memory.
+#[inline]
+fn tell(
+    tid: Tid,
+    done: Result<Result<i64, LwpErr>, NoMemory>,
+    effects: &mut Effects,
+) -> Result<(), NoMemory>
+    requires room { effects.old ≡ [] }
+    ensures ok { OnOk result (IsOkAnd done (λ own. effects.new ≡ effects.old ++ effect.Answered tid (answer_by own) ∷ [])) }
+    ensures most { length effects.new ≤ 1 }
+    ensures err { OnErr result (IsErr done) }
+{
+    effects.done(tid, done?);
     Ok(())
 }
 

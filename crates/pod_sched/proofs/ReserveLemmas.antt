@@ -81,6 +81,23 @@ Freed-freed slots row slot_of places (suc n) lists are =
     }
 
 module _ (slots : Lists) (order : Order) (rows : List Known) (slot_of : ℕ → Option ℕ) (map_len room maxpri places : ℕ) (held : IsHeld slots order rows slot_of map_len room maxpri places) where
+  -- memory was taken for more slots
+  pub IsHeld-limit : (limit : ℕ) → IsHeld (with_limit slots limit) order rows slot_of map_len room maxpri places
+  IsHeld-limit limit = record {
+    lists = held.lists;
+    slot_room = omega (arith, held.slot_room);
+    levels = held.levels;
+    order_room = held.order_room;
+    row_room = held.row_room;
+    as_long = held.as_long;
+    map_room = held.map_room;
+    least = held.least;
+    most = held.most;
+    are_slots = held.are_slots;
+    ready = held.ready;
+    ordered = held.ordered;
+  }
+
   module _ (rows' : List Known) (extends : Extends rows rows') where
     row_kept : (s : ℕ) → 256 ≤ s → s < 256 + places → row_at rows' s ≡ row_at rows s
     row_kept s is_slot in_range = extends.kept s is_slot (omega (arith, in_range, held.row_room))

@@ -17,3 +17,21 @@ returns-clause-ok c =
       agents = omega (arith, few);
       letters = omega (arith, few, c.thread_count-count.ensures.value);
     })
+
+pub returns-in_err-reserve-clause-as_before : goal.returns-in_err-reserve-clause-as_before
+returns-in_err-reserve-clause-as_before c =
+    let was = c.args.parts.now in
+    rw (c.in_err-reserve.ensures.err)
+    (came_agents_grown was c.requires.lawful.step was.ids.places was.agents.places was.mail.places (omega arith))
+
+pub returns-in_err-reserve-2-clause-as_before : goal.returns-in_err-reserve-2-clause-as_before
+returns-in_err-reserve-2-clause-as_before c =
+    let was = c.args.parts.now in
+    rw (c.in_ok-reserve.ensures.ok, c.in_err-reserve-2.ensures.err)
+    (came_agents_grown was c.requires.lawful.step (max was.ids.places c.next_count-living.result) was.agents.places was.mail.places (omega arith))
+
+pub returns-in_err-reserve-3-clause-as_before : goal.returns-in_err-reserve-3-clause-as_before
+returns-in_err-reserve-3-clause-as_before c =
+    let was = c.args.parts.now in
+    rw (c.in_ok-reserve.ensures.ok, c.in_ok-reserve-2.ensures.ok, c.in_err-reserve-3.ensures.err)
+    (came_agents_grown was c.requires.lawful.step (max was.ids.places c.next_count-living.result) (max was.agents.places 31) was.mail.places (omega arith))

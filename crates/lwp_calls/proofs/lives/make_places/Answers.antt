@@ -21,3 +21,36 @@ returns-clause-as_before c =
     let count = c.thread_count-count.result + 1 in
     rw (c.in_ok-reserve.ensures.ok, c.in_ok-reserve-2.ensures.ok, c.in_ok-reserve-3.ensures.ok, c.in_ok-reserve-4.ensures.ok, c.in_ok-reserve-5.ensures.ok)
     (came_grown was c.requires.lawful.step (max was.ids.places c.next_count-living.result) (max was.sched.places count) (max was.mail.places (count + 31)) (max was.mons.places count) (max was.conds.places count) (omega arith) (omega arith) (omega arith) (omega arith))
+
+pub returns-in_err-reserve-clause-as_before : goal.returns-in_err-reserve-clause-as_before
+returns-in_err-reserve-clause-as_before c =
+    let was = c.args.parts.now in
+    rw (c.in_err-reserve.ensures.err)
+    (came_grown was c.requires.lawful.step was.ids.places was.sched.places was.mail.places was.mons.places was.conds.places (omega arith) (omega arith) (omega arith) (omega arith))
+
+pub returns-in_err-reserve-2-clause-as_before : goal.returns-in_err-reserve-2-clause-as_before
+returns-in_err-reserve-2-clause-as_before c =
+    let was = c.args.parts.now in
+    rw (c.in_ok-reserve.ensures.ok, c.in_err-reserve-2.ensures.err)
+    (came_grown was c.requires.lawful.step (max was.ids.places c.next_count-living.result) was.sched.places was.mail.places was.mons.places was.conds.places (omega arith) (omega arith) (omega arith) (omega arith))
+
+pub returns-in_err-reserve-3-clause-as_before : goal.returns-in_err-reserve-3-clause-as_before
+returns-in_err-reserve-3-clause-as_before c =
+    let was = c.args.parts.now in
+    let count = c.thread_count-count.result + 1 in
+    rw (c.in_ok-reserve.ensures.ok, c.in_ok-reserve-2.ensures.ok, c.in_err-reserve-3.ensures.err)
+    (came_grown was c.requires.lawful.step (max was.ids.places c.next_count-living.result) (max was.sched.places count) was.mail.places was.mons.places was.conds.places (omega arith) (omega arith) (omega arith) (omega arith))
+
+pub returns-in_err-reserve-4-clause-as_before : goal.returns-in_err-reserve-4-clause-as_before
+returns-in_err-reserve-4-clause-as_before c =
+    let was = c.args.parts.now in
+    let count = c.thread_count-count.result + 1 in
+    rw (c.in_ok-reserve.ensures.ok, c.in_ok-reserve-2.ensures.ok, c.in_ok-reserve-3.ensures.ok, c.in_err-reserve-4.ensures.err)
+    (came_grown was c.requires.lawful.step (max was.ids.places c.next_count-living.result) (max was.sched.places count) (max was.mail.places (count + 31)) was.mons.places was.conds.places (omega arith) (omega arith) (omega arith) (omega arith))
+
+pub returns-in_err-reserve-5-clause-as_before : goal.returns-in_err-reserve-5-clause-as_before
+returns-in_err-reserve-5-clause-as_before c =
+    let was = c.args.parts.now in
+    let count = c.thread_count-count.result + 1 in
+    rw (c.in_ok-reserve.ensures.ok, c.in_ok-reserve-2.ensures.ok, c.in_ok-reserve-3.ensures.ok, c.in_ok-reserve-4.ensures.ok, c.in_err-reserve-5.ensures.err)
+    (came_grown was c.requires.lawful.step (max was.ids.places c.next_count-living.result) (max was.sched.places count) (max was.mail.places (count + 31)) (max was.mons.places count) was.conds.places (omega arith) (omega arith) (omega arith) (omega arith))
