@@ -1,27 +1,35 @@
 // What a line tells.
-ghost use Rattle.std.specs.Prelude.{◌≡◌, ◌&&◌};
-ghost use Rattle.trace_lines.specs.Entries.{answer_entry, call_entry, entry_of, event_client, event_entry, exit_entry, gain_of, id_of, is_closing, is_list, is_mark, is_quiet, is_suspended, monitor_verb, plain_verb, shows, target_of, thread_entry, thread_verb, verb_of, who_of};
-ghost use Rattle.trace_lines.specs.Words.{behind, number};
+ghost use Rattle.std.specs.Prelude.{◌≡◌, ◌&&◌, bytes_eq};
+ghost use Rattle.trace_lines.specs.Entries.{answer_entry, call_entry, entry_of, event_client, event_entry, exit_entry, exited, gain_of, id_of, is_closing, is_list, is_mark, is_quiet, is_suspended, monitor_verb, plain_verb, shows, target_of, thread_entry, thread_verb, verb_of, who_of};
+ghost use Rattle.trace_lines.specs.Words.{behind, number, rest, word};
 
 use crate::entry::{Entry, Gain, NOBODY, Verb};
 use crate::words::{behind, number, rest, skip, starts, word};
 
+// Whether a word is this.
+#[inline]
+fn is(word: &[u8], name: &[u8]) -> bool
+    ensures { result ≡ bytes_eq word.now name.now }
+{
+    word == name
+}
+
 fn thread_verb(word: &[u8]) -> Option<Verb>
     ensures { result ≡ thread_verb word.now }
 {
-    if word == b"create".as_slice() {
+    if is(word, b"create") {
         Some(Verb::Create)
-    } else if word == b"destroy".as_slice() {
+    } else if is(word, b"destroy") {
         Some(Verb::Destroy)
-    } else if word == b"suspend".as_slice() {
+    } else if is(word, b"suspend") {
         Some(Verb::Suspend)
-    } else if word == b"resume".as_slice() {
+    } else if is(word, b"resume") {
         Some(Verb::Resume)
-    } else if word == b"join".as_slice() {
+    } else if is(word, b"join") {
         Some(Verb::Join)
-    } else if word == b"send".as_slice() {
+    } else if is(word, b"send") {
         Some(Verb::Send)
-    } else if word == b"recv".as_slice() {
+    } else if is(word, b"recv") {
         Some(Verb::Receive)
     } else {
         None
@@ -31,19 +39,19 @@ fn thread_verb(word: &[u8]) -> Option<Verb>
 fn monitor_verb(word: &[u8]) -> Option<Verb>
     ensures { result ≡ monitor_verb word.now }
 {
-    if word == b"enter".as_slice() {
+    if is(word, b"enter") {
         Some(Verb::Enter)
-    } else if word == b"condenter".as_slice() {
+    } else if is(word, b"condenter") {
         Some(Verb::CondEnter)
-    } else if word == b"monexit".as_slice() {
+    } else if is(word, b"monexit") {
         Some(Verb::MonExit)
-    } else if word == b"monbreak".as_slice() {
+    } else if is(word, b"monbreak") {
         Some(Verb::MonBreak)
-    } else if word == b"wait".as_slice() {
+    } else if is(word, b"wait") {
         Some(Verb::Wait)
-    } else if word == b"agent".as_slice() {
+    } else if is(word, b"agent") {
         Some(Verb::Agent)
-    } else if word == b"onexit".as_slice() {
+    } else if is(word, b"onexit") {
         Some(Verb::OnExit)
     } else {
         None
@@ -53,51 +61,51 @@ fn monitor_verb(word: &[u8]) -> Option<Verb>
 fn is_quiet(word: &[u8]) -> bool
     ensures { result ≡ is_quiet word.now }
 {
-    word == b"ping".as_slice()
-        || word == b"yield".as_slice()
-        || word == b"resched".as_slice()
-        || word == b"setpri".as_slice()
-        || word == b"self".as_slice()
-        || word == b"setmaxpri".as_slice()
-        || word == b"setexit".as_slice()
-        || word == b"getexit".as_slice()
-        || word == b"podexit".as_slice()
-        || word == b"threads".as_slice()
-        || word == b"reply".as_slice()
+    is(word, b"ping")
+        || is(word, b"yield")
+        || is(word, b"resched")
+        || is(word, b"setpri")
+        || is(word, b"self")
+        || is(word, b"setmaxpri")
+        || is(word, b"setexit")
+        || is(word, b"getexit")
+        || is(word, b"podexit")
+        || is(word, b"threads")
+        || is(word, b"reply")
 }
 
 fn is_list(word: &[u8]) -> bool
     ensures { result ≡ is_list word.now }
 {
-    word == b"senders".as_slice()
-        || word == b"receivers".as_slice()
-        || word == b"monitors".as_slice()
-        || word == b"monwaiters".as_slice()
-        || word == b"conditions".as_slice()
-        || word == b"cvwaiters".as_slice()
-        || word == b"agents".as_slice()
-        || word == b"moncreate".as_slice()
-        || word == b"mondestroy".as_slice()
-        || word == b"cvcreate".as_slice()
-        || word == b"cvdestroy".as_slice()
+    is(word, b"senders")
+        || is(word, b"receivers")
+        || is(word, b"monitors")
+        || is(word, b"monwaiters")
+        || is(word, b"conditions")
+        || is(word, b"cvwaiters")
+        || is(word, b"agents")
+        || is(word, b"moncreate")
+        || is(word, b"mondestroy")
+        || is(word, b"cvcreate")
+        || is(word, b"cvdestroy")
 }
 
 fn is_mark(word: &[u8]) -> bool
     ensures { result ≡ is_mark word.now }
 {
-    word == b"notify".as_slice()
-        || word == b"broadcast".as_slice()
-        || word == b"cvsend".as_slice()
-        || word == b"call".as_slice()
-        || word == b"return".as_slice()
-        || word == b"handle".as_slice()
-        || word == b"unhandle".as_slice()
-        || word == b"raise".as_slice()
-        || word == b"excnotify".as_slice()
-        || word == b"bound".as_slice()
-        || word == b"uniqpatt".as_slice()
-        || word == b"say".as_slice()
-        || word == b"note".as_slice()
+    is(word, b"notify")
+        || is(word, b"broadcast")
+        || is(word, b"cvsend")
+        || is(word, b"call")
+        || is(word, b"return")
+        || is(word, b"handle")
+        || is(word, b"unhandle")
+        || is(word, b"raise")
+        || is(word, b"excnotify")
+        || is(word, b"bound")
+        || is(word, b"uniqpatt")
+        || is(word, b"say")
+        || is(word, b"note")
 }
 
 fn plain_verb(word: &[u8]) -> Option<Verb>
@@ -257,6 +265,20 @@ fn shows(verb: Verb) -> bool
     }
 }
 
+// What an exit procedure has done.
+fn exit_call(reg: u64, text: &[u8]) -> Option<Entry>
+    ensures { result ≡ exited reg (rest text.now) (verb_of (word text.now)) }
+{
+    let verb = verb_of(word(text))?;
+    let names = rest(text);
+    Some(Entry::Exited {
+        reg,
+        verb,
+        target: target_of(verb, NOBODY, names),
+        refused: shows(verb) && starts(b"! ", rest(names)),
+    })
+}
+
 // The line of an exit procedure, behind its letter.
 fn exit_entry(text: &[u8]) -> Option<Entry>
     ensures { result ≡ exit_entry (number text.now) (behind text.now) }
@@ -266,15 +288,7 @@ fn exit_entry(text: &[u8]) -> Option<Entry>
     if !starts(b" ", behind) {
         return None;
     }
-    let call = skip(1, behind);
-    let verb = verb_of(word(call))?;
-    let names = rest(call);
-    Some(Entry::Exited {
-        reg,
-        verb,
-        target: target_of(verb, NOBODY, names),
-        refused: shows(verb) && starts(b"! ", rest(names)),
-    })
+    exit_call(reg, skip(1, behind))
 }
 
 fn event_client(event: u64, text: &[u8]) -> Option<Entry>

@@ -1,3 +1,4 @@
+pub mod Loops
 pub mod PageLaws
 pub mod TitleLaws
 pub mod Readings

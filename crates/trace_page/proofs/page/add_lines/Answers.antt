@@ -1,7 +1,10 @@
-use Rattle.std.proofs.Common.{arith, length, length-drop, ◌+◌, ◌<◌, ◌≡◌}
+use Rattle.std.proofs.Common.{arith, length, length-drop, refl, ◌+◌, ◌<◌, ◌≡◌}
 use Rattle.trace_lines.specs.Words.{reach}
 use Rattle.trace_page.proofs.PageLaws.{bad_on, drawn_on, refused, told_on, unended}
 use Rattle.trace_page.proofs.page.add_lines.Goals as goal
+
+pub loop-rest-init : goal.loop-rest-init
+loop-rest-init c = record { told = refl; drawn = refl; bad = refl; room = omega arith }
 
 pub returns-then-end-rest-clause-bad : goal.returns-then-end-rest-clause-bad
 returns-then-end-rest-clause-bad c =
