@@ -16,13 +16,25 @@ use waiting_list::{Waiting, WaitingList};
 const MOST_LIVE: usize = 256;
 
 /// The live conditions, and who waits on them.
-#[derive(Drop)]
 pub struct Conds {
     alloc: Global,
     rows: Vec<CondRow>,
     births: u64,
     limit: u64,
     waits: WaitingList,
+}
+
+// By hand, so that whoever drops one calls this.
+impl Drop for Conds {
+    fn drop(self) {
+        let Conds {
+            alloc: _,
+            rows: _,
+            births: _,
+            limit: _,
+            waits: _,
+        } = self;
+    }
 }
 
 impl Model for Conds {

@@ -22,7 +22,6 @@ use rendezvous::Mail;
 use stale_ids::Registry;
 
 /// All that a pod holds.
-#[derive(Drop)]
 pub struct Parts {
     pub ids: Registry<Kind>,
     pub sched: Sched,
@@ -45,6 +44,28 @@ pub struct Parts {
     pub last_prio: u32,
     /// Who may wait by name.
     pub named: Named,
+}
+
+// By hand, so that whoever drops them calls this.
+impl Drop for Parts {
+    fn drop(self) {
+        let Parts {
+            ids: _,
+            sched: _,
+            mail: _,
+            mons: _,
+            conds: _,
+            agents: _,
+            exit: _,
+            ended: _,
+            procs: _,
+            registration: _,
+            pattern: _,
+            dying: _,
+            last_prio: _,
+            named: _,
+        } = self;
+    }
 }
 
 /// Whether it is a live thread.

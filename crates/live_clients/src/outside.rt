@@ -86,7 +86,6 @@ fn start_client<'s, E, G: PostGate + 's, R: Threads + Wait + Sync>(
 }
 
 /// The inlets of a pod, and the threads that post to them.
-#[derive(Drop)]
 pub struct Outside<'s> {
     /// One of each event that has a client, by rising event.
     pub inlets: Vec<AnyInlet>,
@@ -97,6 +96,19 @@ pub struct Outside<'s> {
     pub(crate) out: Vec<Client>,
     // Whether those have posted all their lines.
     pub(crate) all: bool,
+}
+
+// By hand, so that whoever drops one calls this.
+impl<'s> Drop for Outside<'s> {
+    fn drop(self) {
+        let Outside {
+            inlets: _,
+            events: _,
+            texts: _,
+            out: _,
+            all: _,
+        } = self;
+    }
 }
 
 impl<'s> Outside<'s> {

@@ -44,12 +44,22 @@ pub enum PodEnd {
 }
 
 /// The threads of a pod, and all that they have.
-#[derive(Drop)]
 pub struct Pod {
     parts: Parts,
     alloc: Global,
     // Who is next by the scheduler, which is asked once a step.
     next: Option<Tid>,
+}
+
+// By hand, so that whoever drops one calls this.
+impl Drop for Pod {
+    fn drop(self) {
+        let Pod {
+            parts: _,
+            alloc: _,
+            next: _,
+        } = self;
+    }
 }
 
 impl Model for Pod {

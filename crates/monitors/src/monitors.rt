@@ -16,7 +16,6 @@ use waiting_list::{Waiting, WaitingList};
 const MOST_LIVE: usize = 256;
 
 /// The live monitors, their locks, and who waits to enter.
-#[derive(Drop)]
 pub struct Monitors {
     alloc: Global,
     live: Vec<Mid>,
@@ -24,6 +23,20 @@ pub struct Monitors {
     limit: u64,
     locks: Vec<Lock>,
     requests: WaitingList,
+}
+
+// By hand, so that whoever drops one calls this.
+impl Drop for Monitors {
+    fn drop(self) {
+        let Monitors {
+            alloc: _,
+            live: _,
+            births: _,
+            limit: _,
+            locks: _,
+            requests: _,
+        } = self;
+    }
 }
 
 impl Model for Monitors {

@@ -16,13 +16,23 @@ use std::marker::Model;
 const EVENTS: usize = 256;
 
 /// The lines of a script's clients, which are all there from the start, seen as those taken and those left of each event.
-#[derive(Drop)]
 pub struct ScriptGate<'s> {
     script: &'s Script,
     // By the number of the event, the places of its posts in the script.
     shelves: Vec<Shelf<u32>>,
     // By the number of the client, how many of its lines are left.
     left: Vec<u32>,
+}
+
+// By hand, so that whoever drops one calls this.
+impl<'s> Drop for ScriptGate<'s> {
+    fn drop(self) {
+        let ScriptGate {
+            script: _,
+            shelves: _,
+            left: _,
+        } = self;
+    }
 }
 
 impl<'s> Model for ScriptGate<'s> {

@@ -11,7 +11,6 @@ use std::alloc::Global;
 use std::marker::Model;
 
 /// The living, each found by the number of its birth alone.
-#[derive(Drop)]
 pub struct Registry<T> {
     values: Slab<T>,
     // One place for each of the living, the oldest first.
@@ -20,6 +19,19 @@ pub struct Registry<T> {
     limit: u64,
     // Both the values and the index have room for so many.
     places: usize,
+}
+
+// By hand, so that whoever drops one calls this.
+impl<T: Drop> Drop for Registry<T> {
+    fn drop(self) {
+        let Registry {
+            values: _,
+            index: _,
+            births: _,
+            limit: _,
+            places: _,
+        } = self;
+    }
 }
 
 impl<T> Model for Registry<T> {

@@ -12,7 +12,6 @@ use std::collections::VecDeque;
 use std::marker::Model;
 
 /// Threads that wait, each for one thing.
-#[derive(Drop)]
 pub struct WaitingList {
     waiting: VecDeque<Waiting>,
     // How many of them wait for the same with the same priority. With it nobody is looked at that waits for something else
@@ -20,6 +19,17 @@ pub struct WaitingList {
     levels: Vec<Level>,
     // How many may wait with no more memory.
     places: usize,
+}
+
+// By hand, so that whoever drops one calls this.
+impl Drop for WaitingList {
+    fn drop(self) {
+        let WaitingList {
+            waiting: _,
+            levels: _,
+            places: _,
+        } = self;
+    }
 }
 
 impl Model for WaitingList {
