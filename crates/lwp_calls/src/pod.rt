@@ -140,19 +140,6 @@ fn first_thread(parts: &mut Parts, alloc: Global, params: PodParams) -> Result<(
     Ok(())
 }
 
-// The first thread begins in these parts, which nobody is in.
-fn begun(mut parts: Parts, alloc: Global, params: PodParams) -> Result<Parts, NoMemory>
-    requires least { 1 ≤ params.maxpri }
-    requires births { 1 ≤ params.births }
-    requires empty { parts ≡ no_thread params }
-    ensures state { IfOk result (λ parts. state_of parts ≡ opening params) }
-    ensures step { IfOk result (λ parts. InStep parts) }
-    ensures alone { IfOk result (λ parts. parts.dying ≡ None) }
-{
-    first_thread(&mut parts, alloc, params)?;
-    Ok(parts)
-}
-
 // The parts of a pod as it is made.
 fn first_parts(alloc: Global, params: PodParams) -> Result<Parts, NoMemory>
     requires least { 1 ≤ params.maxpri }
@@ -162,8 +149,9 @@ fn first_parts(alloc: Global, params: PodParams) -> Result<Parts, NoMemory>
     ensures step { IfOk result (λ parts. InStep parts) }
     ensures alone { IfOk result (λ parts. parts.dying ≡ None) }
 {
-    let parts = no_thread(alloc, params)?;
-    begun(parts, alloc, params)
+    let mut parts = no_thread(alloc, params)?;
+    first_thread(&mut parts, alloc, params)?;
+    Ok(parts)
 }
 
 impl Pod {

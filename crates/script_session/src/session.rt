@@ -88,23 +88,12 @@ pub enum SessionEnd {
 }
 
 /// A session: the status that the program ends with, how it ended, the lines taken, and how many calls were made.
+#[derive(Drop)]
 pub struct Session {
     pub status: u8,
     pub end: SessionEnd,
     pub taken: TakenLines,
     pub turns: u64,
-}
-
-// By hand, so that whoever drops one calls this.
-impl Drop for Session {
-    fn drop(self) {
-        let Session {
-            status: _,
-            end: _,
-            taken: _,
-            turns: _,
-        } = self;
-    }
 }
 
 /// The status of an end.
