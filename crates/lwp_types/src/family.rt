@@ -107,6 +107,7 @@ pub enum Family<'c> {
 
 impl Call {
     /// The family that the call belongs to, with what the call holds. One row for each call.
+    #[inline(always)]
     pub fn family(&self) -> Family<'_>
         ensures { call_of result ≡ self.now }
     {

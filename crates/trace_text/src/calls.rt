@@ -1,12 +1,16 @@
 // What threads call, and what exit procedures do.
 ghost use Rattle.std.specs.Prelude.{◌≡◌, ◌++◌, [], OnOk, Some, None};
+ghost use Rattle.lwp_types.specs.Families.{agent_call, letter_call, life_call, lock_call, mark_call, number_call, turn_call, wait_call};
 ghost use Rattle.trace_text.specs.Lines.{source_text, exit_text, call_text};
 
 use crate::words::{
     add_flags, add_pattern, add_proc, add_spaced, add_who, add_word, add_word_id, add_word_number,
     add_word_text, add_word_who, add_word_who_text, func_word, mode_word,
 };
-use lwp_types::{Call, ExitCall, Flags, Func, Mode, NoMemory, Pattern, Text, Tid};
+use lwp_types::{
+    AgentCall, Call, ExitCall, Family, Flags, Func, LetterCall, LifeCall, LockCall, MarkCall, Mode,
+    NoMemory, NumberCall, Pattern, Text, Tid, TurnCall, WaitCall,
+};
 
 fn add_source(out: &mut Vec<u8>, me: Option<Tid>, from: Option<Tid>) -> Result<(), NoMemory>
     ensures { OnOk result (out.new.items ≡ out.old.items ++ source_text me from) }
@@ -114,6 +118,124 @@ fn add_call_procedure(out: &mut Vec<u8>, procs: &[Text], number: u32) -> Result<
     add_proc(out, procs, number)
 }
 
+fn add_life(
+    out: &mut Vec<u8>,
+    procs: &[Text],
+    me: Option<Tid>,
+    call: LifeCall,
+) -> Result<(), NoMemory>
+    ensures { OnOk result (out.new.items ≡ out.old.items ++ call_text procs.now me (life_call call)) }
+{
+    match call {
+        LifeCall::Create(number, prio, flags) => add_create(out, procs, number, prio, flags),
+        LifeCall::Destroy(tid) => add_word_who(out, b"destroy ", me, tid),
+        LifeCall::Ping(tid) => add_word_who(out, b"ping ", me, tid),
+        LifeCall::Join(tid) => add_word_who(out, b"join ", me, tid),
+        LifeCall::Threads => add_word(out, b"threads"),
+    }
+}
+
+fn add_turn(out: &mut Vec<u8>, me: Option<Tid>, call: TurnCall) -> Result<(), NoMemory>
+    ensures { OnOk result (out.new.items ≡ out.old.items ++ call_text [] me (turn_call call)) }
+{
+    match call {
+        TurnCall::Yield(tid) => add_word_who(out, b"yield ", me, tid),
+        TurnCall::Resched(prio) => add_word_number(out, b"resched ", prio),
+        TurnCall::SetPri(tid, prio) => add_set_priority(out, me, tid, prio),
+        TurnCall::Suspend(tid) => add_word_who(out, b"suspend ", me, tid),
+        TurnCall::Resume(tid) => add_word_who(out, b"resume ", me, tid),
+    }
+}
+
+fn add_number_call(out: &mut Vec<u8>, call: &NumberCall<'_>) -> Result<(), NoMemory>
+    ensures { OnOk result (out.new.items ≡ out.old.items ++ call_text [] None (number_call call.now)) }
+{
+    match call {
+        NumberCall::Me => add_word(out, b"self"),
+        NumberCall::SetMaxPri(prio) => add_word_number(out, b"setmaxpri ", *prio),
+        NumberCall::SetExit(code) => add_word_number(out, b"setexit ", *code),
+        NumberCall::GetExit => add_word(out, b"getexit"),
+        NumberCall::PodExit(code) => add_word_number(out, b"podexit ", *code),
+        NumberCall::Say(text) => add_word_text(out, b"say", text.bytes()),
+    }
+}
+
+fn add_letter_call(
+    out: &mut Vec<u8>,
+    me: Option<Tid>,
+    call: &LetterCall<'_>,
+) -> Result<(), NoMemory>
+    ensures { OnOk result (out.new.items ≡ out.old.items ++ call_text [] me (letter_call call.now)) }
+{
+    match call {
+        LetterCall::Send(to, room, text) => add_send(out, me, *to, *room, text),
+        LetterCall::Recv(from, mode) => add_receive(out, me, *from, *mode),
+        LetterCall::Reply(to, text) => add_word_who_text(out, b"reply ", me, *to, text.bytes()),
+        LetterCall::Senders => add_word(out, b"senders"),
+        LetterCall::Receivers => add_word(out, b"receivers"),
+    }
+}
+
+fn add_lock(out: &mut Vec<u8>, call: LockCall) -> Result<(), NoMemory>
+    ensures { OnOk result (out.new.items ≡ out.old.items ++ call_text [] None (lock_call call)) }
+{
+    match call {
+        LockCall::Create => add_word(out, b"moncreate"),
+        LockCall::Destroy(mon) => add_word_id(out, b"mondestroy ", b'm', mon.number),
+        LockCall::Enter(mon) => add_word_id(out, b"enter ", b'm', mon.number),
+        LockCall::CondEnter(mon) => add_word_id(out, b"condenter ", b'm', mon.number),
+        LockCall::Exit(mon) => add_word_id(out, b"monexit ", b'm', mon.number),
+        LockCall::Break(mon) => add_word_id(out, b"monbreak ", b'm', mon.number),
+        LockCall::List => add_word(out, b"monitors"),
+        LockCall::Waiters(mon) => add_word_id(out, b"monwaiters ", b'm', mon.number),
+    }
+}
+
+fn add_wait(out: &mut Vec<u8>, me: Option<Tid>, call: WaitCall) -> Result<(), NoMemory>
+    ensures { OnOk result (out.new.items ≡ out.old.items ++ call_text [] me (wait_call call)) }
+{
+    match call {
+        WaitCall::Create(mon) => add_word_id(out, b"cvcreate ", b'm', mon.number),
+        WaitCall::Destroy(cond) => add_word_id(out, b"cvdestroy ", b'c', cond.number),
+        WaitCall::Wait(cond) => add_word_id(out, b"wait ", b'c', cond.number),
+        WaitCall::Notify(cond) => add_word_id(out, b"notify ", b'c', cond.number),
+        WaitCall::Broadcast(cond) => add_word_id(out, b"broadcast ", b'c', cond.number),
+        WaitCall::Send(cond, tid) => add_cond_send(out, me, cond.number, tid),
+        WaitCall::List => add_word(out, b"conditions"),
+        WaitCall::Waiters(cond) => add_word_id(out, b"cvwaiters ", b'c', cond.number),
+    }
+}
+
+fn add_mark(
+    out: &mut Vec<u8>,
+    procs: &[Text],
+    me: Option<Tid>,
+    call: &MarkCall<'_>,
+) -> Result<(), NoMemory>
+    ensures { OnOk result (out.new.items ≡ out.old.items ++ call_text procs.now me (mark_call call.now)) }
+{
+    match call {
+        MarkCall::CallProc(number) => add_call_procedure(out, procs, *number),
+        MarkCall::Return => add_word(out, b"return"),
+        MarkCall::Handle(pattern, func, arg) => add_handle(out, *pattern, *func, *arg),
+        MarkCall::Unhandle => add_word(out, b"unhandle"),
+        MarkCall::OnExit(call) => add_on_exit(out, me, call),
+        MarkCall::Raise(pattern) => add_word_number(out, b"raise ", *pattern),
+        MarkCall::ExcNotify(pattern) => add_word_number(out, b"excnotify ", *pattern),
+        MarkCall::Bound(pattern) => add_word_number(out, b"bound ", *pattern),
+        MarkCall::UniqPatt => add_word(out, b"uniqpatt"),
+    }
+}
+
+fn add_agent_call(out: &mut Vec<u8>, call: AgentCall) -> Result<(), NoMemory>
+    ensures { OnOk result (out.new.items ≡ out.old.items ++ call_text [] None (agent_call call)) }
+{
+    match call {
+        AgentCall::Create(event) => add_word_number(out, b"agent ", event),
+        AgentCall::List => add_word(out, b"agents"),
+    }
+}
+
 // A call, in what thread `me` calls.
 pub(crate) fn add_call(
     out: &mut Vec<u8>,
@@ -124,54 +246,14 @@ pub(crate) fn add_call(
     ensures { OnOk result (out.new.items ≡ out.old.items ++ call_text procs.now (Some me) call.now) }
 {
     let caller = Some(me);
-    match call {
-        Call::Create { proc, prio, flags } => add_create(out, procs, *proc, *prio, *flags),
-        Call::SetPri { tid, prio } => add_set_priority(out, caller, *tid, *prio),
-        Call::Send { to, room, text } => add_send(out, caller, *to, *room, text),
-        Call::Recv { from, mode } => add_receive(out, caller, *from, *mode),
-        Call::Reply { to, text } => { add_word_who_text(out, b"reply ", caller, *to, text.bytes()) }
-        Call::CvSend { cond, tid } => add_cond_send(out, caller, cond.number, *tid),
-        Call::CallProc { proc } => add_call_procedure(out, procs, *proc),
-        Call::Handle { pattern, func, arg } => add_handle(out, *pattern, *func, *arg),
-        Call::OnExit { call } => add_on_exit(out, caller, call),
-        Call::Say { text } => add_word_text(out, b"say", text.bytes()),
-        Call::Destroy { tid } => add_word_who(out, b"destroy ", caller, *tid),
-        Call::Ping { tid } => add_word_who(out, b"ping ", caller, *tid),
-        Call::Yield { to } => add_word_who(out, b"yield ", caller, *to),
-        Call::Resched { prio } => add_word_number(out, b"resched ", *prio),
-        Call::Suspend { tid } => add_word_who(out, b"suspend ", caller, *tid),
-        Call::Resume { tid } => add_word_who(out, b"resume ", caller, *tid),
-        Call::Join { tid } => add_word_who(out, b"join ", caller, *tid),
-        Call::Me => add_word(out, b"self"),
-        Call::SetMaxPri { prio } => add_word_number(out, b"setmaxpri ", *prio),
-        Call::SetExit { code } => add_word_number(out, b"setexit ", *code),
-        Call::GetExit => add_word(out, b"getexit"),
-        Call::PodExit { code } => add_word_number(out, b"podexit ", *code),
-        Call::Threads => add_word(out, b"threads"),
-        Call::Senders => add_word(out, b"senders"),
-        Call::Receivers => add_word(out, b"receivers"),
-        Call::MonCreate => add_word(out, b"moncreate"),
-        Call::MonDestroy { mon } => add_word_id(out, b"mondestroy ", b'm', mon.number),
-        Call::Enter { mon } => add_word_id(out, b"enter ", b'm', mon.number),
-        Call::CondEnter { mon } => add_word_id(out, b"condenter ", b'm', mon.number),
-        Call::MonExit { mon } => add_word_id(out, b"monexit ", b'm', mon.number),
-        Call::MonBreak { mon } => add_word_id(out, b"monbreak ", b'm', mon.number),
-        Call::Monitors => add_word(out, b"monitors"),
-        Call::MonWaiters { mon } => add_word_id(out, b"monwaiters ", b'm', mon.number),
-        Call::CvCreate { mon } => add_word_id(out, b"cvcreate ", b'm', mon.number),
-        Call::CvDestroy { cond } => add_word_id(out, b"cvdestroy ", b'c', cond.number),
-        Call::Wait { cond } => add_word_id(out, b"wait ", b'c', cond.number),
-        Call::Notify { cond } => add_word_id(out, b"notify ", b'c', cond.number),
-        Call::Broadcast { cond } => add_word_id(out, b"broadcast ", b'c', cond.number),
-        Call::Conds => add_word(out, b"conditions"),
-        Call::CvWaiters { cond } => add_word_id(out, b"cvwaiters ", b'c', cond.number),
-        Call::Return => add_word(out, b"return"),
-        Call::Unhandle => add_word(out, b"unhandle"),
-        Call::Raise { pattern } => add_word_number(out, b"raise ", *pattern),
-        Call::ExcNotify { pattern } => add_word_number(out, b"excnotify ", *pattern),
-        Call::Bound { pattern } => add_word_number(out, b"bound ", *pattern),
-        Call::UniqPatt => add_word(out, b"uniqpatt"),
-        Call::Agent { event } => add_word_number(out, b"agent ", *event),
-        Call::Agents => add_word(out, b"agents"),
+    match call.family() {
+        Family::Lives(call) => add_life(out, procs, caller, call),
+        Family::Turns(call) => add_turn(out, caller, call),
+        Family::Numbers(call) => add_number_call(out, &call),
+        Family::Letters(call) => add_letter_call(out, caller, &call),
+        Family::Locks(call) => add_lock(out, call),
+        Family::Waits(call) => add_wait(out, caller, call),
+        Family::Marks(call) => add_mark(out, procs, caller, &call),
+        Family::Agents(call) => add_agent_call(out, call),
     }
 }
