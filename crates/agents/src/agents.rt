@@ -12,13 +12,22 @@ use std::alloc::Global;
 use std::marker::Model;
 
 /// The live agents, in birth order.
-#[derive(Drop)]
 pub struct Agents {
     rows: Vec<AgentRow>,
     // How many agents there may be with no more memory.
     places: usize,
     // The bit of each event says whether the event can be delivered.
     armed: u32,
+}
+
+impl Drop for Agents {
+    fn drop(self) {
+        let Agents {
+            rows: _,
+            places: _,
+            armed: _,
+        } = self;
+    }
 }
 
 impl Model for Agents {

@@ -8,7 +8,6 @@ use std::collections::VecDeque;
 use std::marker::Model;
 
 /// Keeps items in the order in which they came, at most so many. Who comes at the wrong time is replied to later.
-#[derive(Drop)]
 pub struct Buffer {
     crew: u32,
     created: u32,
@@ -18,6 +17,21 @@ pub struct Buffer {
     asking: VecDeque<Tid>,
     replies: VecDeque<(Tid, Text)>,
     left: u32,
+}
+
+impl Drop for Buffer {
+    fn drop(self) {
+        let Buffer {
+            crew: _,
+            created: _,
+            room: _,
+            items: _,
+            waiting: _,
+            asking: _,
+            replies: _,
+            left: _,
+        } = self;
+    }
 }
 
 impl Model for Buffer {

@@ -21,13 +21,24 @@ pub struct PostRefused {
 }
 
 /// The end of a port that one client posts to. Contracts see the client and the lines that it has posted.
-#[derive(Drop)]
 pub struct Poster {
     client: u8,
     count: u32,
     port: Arc<Port, Global>,
     pass: Pass,
     seat: GaugeSeat,
+}
+
+impl Drop for Poster {
+    fn drop(self) {
+        let Poster {
+            client: _,
+            count: _,
+            port: _,
+            pass: _,
+            seat: _,
+        } = self;
+    }
 }
 
 impl Model for Poster {

@@ -17,7 +17,6 @@ use std::sync::{Arc, Wait};
 use std::thread;
 
 /// The end of a port that the runner takes from.
-#[derive(Drop)]
 pub struct Taker {
     event: u8,
     port: Arc<Port, Global>,
@@ -30,6 +29,22 @@ pub struct Taker {
     taken: Vec<u32>,
     told: Vec<bool>,
     posted: Vec<u32>,
+}
+
+impl Drop for Taker {
+    fn drop(self) {
+        let Taker {
+            event: _,
+            port: _,
+            pass: _,
+            seat: _,
+            count: _,
+            clients: _,
+            taken: _,
+            told: _,
+            posted: _,
+        } = self;
+    }
 }
 
 impl Model for Taker {

@@ -18,12 +18,22 @@ pub type Lane = Table<Option<Line>, LaneView, u8, InLane, Global>;
 pub type LaneEnd = Seat<Option<Line>, LaneView>;
 
 /// The end of a lane that its client posts to.
-#[derive(Drop)]
 pub struct LanePoster {
     client: u8,
     count: u32,
     table: Arc<Lane, Global>,
     seat: LaneEnd,
+}
+
+impl Drop for LanePoster {
+    fn drop(self) {
+        let LanePoster {
+            client: _,
+            count: _,
+            table: _,
+            seat: _,
+        } = self;
+    }
 }
 
 impl Model for LanePoster {
@@ -118,7 +128,6 @@ impl Model for LanePass {
 }
 
 /// The end of a lane that the runner takes from.
-#[derive(Drop)]
 pub struct LaneTaker {
     event: u8,
     client: u8,
@@ -128,6 +137,20 @@ pub struct LaneTaker {
     posted: u32,
     table: Arc<Lane, Global>,
     seat: LaneEnd,
+}
+
+impl Drop for LaneTaker {
+    fn drop(self) {
+        let LaneTaker {
+            event: _,
+            client: _,
+            count: _,
+            told: _,
+            posted: _,
+            table: _,
+            seat: _,
+        } = self;
+    }
 }
 
 impl Model for LaneTaker {

@@ -23,12 +23,22 @@ pub enum SessionPlace {
 }
 
 /// A thread that carries the commands of an event's client to a store, and the store's replies back. It takes no memory.
-#[derive(Drop)]
 pub struct SessionBody {
     event: u8,
     store: u32,
     agent: Tid,
     place: SessionPlace,
+}
+
+impl Drop for SessionBody {
+    fn drop(self) {
+        let SessionBody {
+            event: _,
+            store: _,
+            agent: _,
+            place: _,
+        } = self;
+    }
 }
 
 impl Model for SessionBody {

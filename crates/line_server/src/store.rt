@@ -21,12 +21,22 @@ pub enum StorePlace {
 
 /// A thread that keeps a table for each thread that sends to it, for its whole life. It takes memory only for a new sender
 /// and for a new key, and finds a table, and a key in it, by their hashes.
-#[derive(Drop)]
 pub struct StoreBody {
     alloc: Global,
     tables: IndexMap<u64, Table>,
     client: Tid,
     place: StorePlace,
+}
+
+impl Drop for StoreBody {
+    fn drop(self) {
+        let StoreBody {
+            alloc: _,
+            tables: _,
+            client: _,
+            place: _,
+        } = self;
+    }
 }
 
 impl Model for StoreBody {

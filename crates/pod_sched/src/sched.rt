@@ -16,7 +16,6 @@ use std::marker::Model;
 use std::sync::ledger::Ledger;
 
 /// Who is known, and who may run after whom.
-#[derive(Drop)]
 pub struct Sched {
     // Each known thread has a slot. The list 0 is of their slots, the thread that was admitted first at its head, and the
     // list 1 of those that are free.
@@ -30,6 +29,19 @@ pub struct Sched {
     maxpri: u32,
     // There is memory for so many.
     places: usize,
+}
+
+impl Drop for Sched {
+    fn drop(self) {
+        let Sched {
+            slots: _,
+            order: _,
+            rows: _,
+            index: _,
+            maxpri: _,
+            places: _,
+        } = self;
+    }
 }
 
 impl Model for Sched {

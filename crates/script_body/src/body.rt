@@ -16,7 +16,6 @@ use std::marker::Model;
 use std::mem;
 
 /// A thread that runs a procedure of a script. It takes memory only to set a handler or to call a procedure.
-#[derive(Drop)]
 pub struct ScriptBody<'s> {
     alloc: Global,
     script: &'s Script,
@@ -25,6 +24,19 @@ pub struct ScriptBody<'s> {
     below: Vec<Frame>,
     sender: Tid,
     last: Option<Stmt>,
+}
+
+impl<'s> Drop for ScriptBody<'s> {
+    fn drop(self) {
+        let ScriptBody {
+            alloc: _,
+            script: _,
+            top: _,
+            below: _,
+            sender: _,
+            last: _,
+        } = self;
+    }
 }
 
 impl<'s> Model for ScriptBody<'s> {

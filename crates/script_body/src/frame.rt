@@ -7,11 +7,20 @@ use std::alloc::Global;
 use std::marker::Model;
 
 /// The procedure, the place of its next statement, and the places behind its handlers.
-#[derive(Drop)]
 pub struct Frame {
     number: u32,
     place: usize,
     handlers: Vec<usize>,
+}
+
+impl Drop for Frame {
+    fn drop(self) {
+        let Frame {
+            number: _,
+            place: _,
+            handlers: _,
+        } = self;
+    }
 }
 
 impl Model for Frame {

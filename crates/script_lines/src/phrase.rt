@@ -13,7 +13,6 @@ use std::marker::Model;
 
 /// What a line says: its row, and what stands in the slots. A slot that the row doesn't have is empty. Words are bytes of the
 /// line.
-#[derive(Drop)]
 pub struct Phrase<'l> {
     pub op: Op,
     pub who: Whom,
@@ -31,6 +30,29 @@ pub struct Phrase<'l> {
     pub func: Func,
     pub test: Test,
     pub text: &'l [u8],
+}
+
+impl<'l> Drop for Phrase<'l> {
+    fn drop(self) {
+        let Phrase {
+            op: _,
+            who: _,
+            thread: _,
+            procedure: _,
+            monitor: _,
+            condition: _,
+            number: _,
+            room: _,
+            client: _,
+            event: _,
+            flags: _,
+            mode: _,
+            pattern: _,
+            func: _,
+            test: _,
+            text: _,
+        } = self;
+    }
 }
 
 impl<'l> Model for Phrase<'l> {

@@ -126,7 +126,6 @@ pub enum Shape {
 }
 
 /// All that is known of the lines so far, and what is drawn for the last of them.
-#[derive(Drop)]
 pub struct Scene {
     pub(crate) base: u64,
     pub(crate) last: u64,
@@ -139,6 +138,24 @@ pub struct Scene {
     pub(crate) spans: Vec<Span>,
     pub(crate) settings: Vec<Setting>,
     pub(crate) shapes: Vec<Shape>,
+}
+
+impl Drop for Scene {
+    fn drop(self) {
+        let Scene {
+            base: _,
+            last: _,
+            more: _,
+            time: _,
+            caller: _,
+            events: _,
+            closings: _,
+            lanes: _,
+            spans: _,
+            settings: _,
+            shapes: _,
+        } = self;
+    }
 }
 
 impl Model for Scene {
