@@ -165,3 +165,20 @@ begins events gate is = (is ∙ sym (stocked_none events), ap left_in_all is ∙
     none_in : (n : ℕ) → left_in_all (replicate n bare) ≡ 0
     none_in zero = refl
     none_in (suc n) = none_in n
+
+-- the first n items are those taken, and the others those left
+abbrev pub parted : {X : Type 0} → ℕ → List X → Shelf X
+parted n xs = record { taken = take n xs; left = drop n xs }
+
+-- parted one place further on, the first item left is taken
+pub moved_on : {X : Type 0} (n : ℕ) (xs : List X) → parted (suc n) xs ≡ moved (parted n xs)
+moved_on zero [] = refl
+moved_on (suc n) [] = refl
+moved_on zero (x ∷ xs) = refl
+moved_on {X} (suc n) (x ∷ xs) = ap (λ (s : Shelf X). record { taken = x ∷ s.taken; left = s.left }) (moved_on n xs)
+
+-- one item more at the end is one more that is left
+pub put_last : {X : Type 0} (n : ℕ) (xs : List X) (x : X) → n ≤ length xs → parted n (xs ++ x ∷ []) ≡ with_one_more (parted n xs) x
+put_last zero xs x le = refl
+put_last (suc n) [] x le = absurd (omega arith)
+put_last {X} (suc n) (y ∷ ys) x le = ap (λ (s : Shelf X). record { taken = y ∷ s.taken; left = s.left }) (put_last n ys x (omega arith))

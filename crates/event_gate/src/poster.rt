@@ -103,16 +103,12 @@ impl Poster {
             ..
         } = self;
         announce(&port.gauge, seat);
-        match push_announced(rt, port, pass, seat, line) {
-            Ok(()) => {
-                *count += 1;
-                Ok(())
-            }
-            Err(line) => {
-                withdraw(&port.gauge, seat);
-                Err(PostRefused { line })
-            }
+        if let Err(line) = push_announced(rt, port, pass, seat, line) {
+            withdraw(&port.gauge, seat);
+            return Err(PostRefused { line });
         }
+        *count += 1;
+        Ok(())
     }
 
     /// What the client has posted, for good.
