@@ -293,28 +293,43 @@ fn built_at(words: &[u8]) -> Option<(u8, &[u8])>
     }
 }
 
+// Puts what a word says into its slot, if it says what may stand there.
+fn put<T: Copy>(slot: &mut T, said: Option<T>) -> Option<()>
+    ensures { option_map (λ done. slot.new) result ≡ said }
+{
+    *slot = said?;
+    Some(())
+}
+
+// The same, of whom a word means.
+fn put_who<'l>(phrase: &mut Phrase<'l>, said: Option<(Whom, &'l [u8])>) -> Option<()>
+    ensures { option_map (λ done. phrase.new) result ≡ option_map (λ x. record phrase.old { who = x.0; thread = x.1.now }) said.entry }
+{
+    (phrase.who, phrase.thread) = said?;
+    Some(())
+}
+
 // Fills a slot by a word.
 fn fill_word<'l>(kind: Kind, phrase: &mut Phrase<'l>, word: &'l [u8]) -> Option<()>
     ensures { option_map (λ done. phrase.new) result ≡ fill_word kind phrase.old word.now }
 {
     match kind {
-        Kind::Thread => phrase.thread = name_in(word)?,
-        Kind::Who => (phrase.who, phrase.thread) = who_at(word)?,
-        Kind::Source => (phrase.who, phrase.thread) = source_at(word)?,
-        Kind::Procedure => phrase.procedure = name_in(word)?,
-        Kind::Monitor => phrase.monitor = name_in(word)?,
-        Kind::Condition => phrase.condition = name_in(word)?,
-        Kind::Number => phrase.number = number_at(word)?,
-        Kind::Room => phrase.room = room_at(word)?,
-        Kind::Client => phrase.client = client_at(word)?,
-        Kind::Event => phrase.event = event_at(word)?,
-        Kind::Flags => phrase.flags = flags_at(word)?,
-        Kind::Mode => phrase.mode = mode_at(word)?,
-        Kind::Pattern => phrase.pattern = pattern_at(word)?,
-        Kind::Func => phrase.func = func_at(word)?,
-        Kind::Test | Kind::Built | Kind::Text => return None,
+        Kind::Thread => put(&mut phrase.thread, name_in(word)),
+        Kind::Who => put_who(phrase, who_at(word)),
+        Kind::Source => put_who(phrase, source_at(word)),
+        Kind::Procedure => put(&mut phrase.procedure, name_in(word)),
+        Kind::Monitor => put(&mut phrase.monitor, name_in(word)),
+        Kind::Condition => put(&mut phrase.condition, name_in(word)),
+        Kind::Number => put(&mut phrase.number, number_at(word)),
+        Kind::Room => put(&mut phrase.room, room_at(word)),
+        Kind::Client => put(&mut phrase.client, client_at(word)),
+        Kind::Event => put(&mut phrase.event, event_at(word)),
+        Kind::Flags => put(&mut phrase.flags, flags_at(word)),
+        Kind::Mode => put(&mut phrase.mode, mode_at(word)),
+        Kind::Pattern => put(&mut phrase.pattern, pattern_at(word)),
+        Kind::Func => put(&mut phrase.func, func_at(word)),
+        Kind::Test | Kind::Built | Kind::Text => None,
     }
-    Some(())
 }
 
 // Fills the text by all that is left.
@@ -339,7 +354,7 @@ fn fill_test<'l>(phrase: &mut Phrase<'l>, rest: &'l [u8]) -> Option<&'l [u8]>
 {
     match rest {
         [b' ', words @ ..] => {
-            phrase.test = test_at(words)?;
+            put(&mut phrase.test, test_at(words))?;
             Some(&[])
         }
         _ => None,
@@ -423,7 +438,6 @@ fn key_length(line: &[u8]) -> usize
 }
 
 /// What the line says, if its row of the table has what stands in it.
-#[tactic(auto, unfolding(crate::specs::Reading::phrase_at, crate::specs::Table::row_of))]
 pub fn phrase_at(line: &[u8]) -> Option<Phrase<'_>>
     ensures { result ≡ phrase_at line.now }
 {

@@ -1,0 +1,5 @@
+use Rattle.std.proofs.Common.{refl}
+use Rattle.script_lines.proofs.table.table.Goals as goal
+
+pub returns : goal.returns
+returns c = refl
