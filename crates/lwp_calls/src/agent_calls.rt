@@ -111,8 +111,7 @@ fn make_places(parts: &mut Parts, _event: u8) -> Result<(), NoMemory>
     let living = next_count(&parts.ids);
     parts.ids.reserve(living)?;
     parts.agents.reserve(MOST_AGENTS)?;
-    parts.mail.reserve(count + MOST_AGENTS)?;
-    Ok(())
+    parts.mail.reserve(count + MOST_AGENTS)
 }
 
 // The live agents.

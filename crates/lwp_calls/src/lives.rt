@@ -1,9 +1,9 @@
 // Calls by which threads come and go.
-ghost use Rattle.std.specs.Prelude.{◌≡◌, ◌<◌, ◌≤◌, ◌+◌, Some, None, IsErr, IsTrue, OnErr, OnOk, length, option_map, []};
+ghost use Rattle.std.specs.Prelude.{◌≡◌, ◌<◌, ◌≤◌, ◌+◌, ◌∷◌, Some, None, IfNone, IsErr, IsTrue, OnErr, OnOk, length, nat_le, option_map, []};
 ghost use Rattle.death_cleanup.specs.Comes.{Answers, CameTo};
 ghost use Rattle.death_cleanup.specs.Ties.{InStep, LawfulParts};
 ghost use Rattle.death_cleanup.specs.View.{state_of};
-ghost use Rattle.lwp_types.specs.Case.{answer_by, listed};
+ghost use Rattle.lwp_types.specs.Case.{answer_by, is_at_limit, is_full, is_no_priority, listed};
 ghost use Rattle.lwp_types.specs.Choice.{is_eligible_in};
 ghost use Rattle.lwp_types.specs.Death.{destroy};
 ghost use Rattle.lwp_types.specs.Families.{life_call};
@@ -12,7 +12,7 @@ ghost use Rattle.lwp_types.specs.Step.{case_of};
 ghost use Rattle.lwp_types.specs.Threads.{create, created, join, ping};
 ghost use Rattle.lwp_types.specs.declared.call.IdKind.TheVariants as kind;
 ghost use Rattle.exc_stack.specs.Stack.{one_frame};
-ghost use Rattle.lwp_calls.specs.Asks.{HasPlaces, asks_memory};
+ghost use Rattle.lwp_calls.specs.Asks.{HasPlaces, asks_memory, first_refusal};
 ghost use Rattle.lwp_calls.specs.Comes.{ComesTo, IsAsBefore, Told};
 
 use crate::asks::{block, next_count, tell_ids, thread_count, threads};
@@ -77,16 +77,8 @@ fn create(
     ensures most { length effects.new ≤ 1 }
     ensures err { OnErr result (IsAsBefore parts.old parts.new) }
 {
-    if number >= parts.procs {
-        effects.done(caller, Err(LwpErr::InvalidArg));
-        return Ok(());
-    }
-    if prio == 0 || prio > parts.sched.maxpri() {
-        effects.done(caller, Err(LwpErr::IllPrio));
-        return Ok(());
-    }
-    if thread_count(parts) >= MOST_THREADS || parts.ids.births() >= parts.ids.limit() {
-        effects.done(caller, Err(LwpErr::NoRoom));
+    if let Some(err) = create_refusal(parts, number, prio) {
+        effects.done(caller, Err(err));
         return Ok(());
     }
     make_places(parts)?;
@@ -94,6 +86,27 @@ fn create(
     let tid = begin(parts, prio, flags, stack);
     effects.answered(caller, Answer::Thread(tid));
     Ok(())
+}
+
+// Why no thread can be made, if so.
+fn create_refusal(parts: &Parts, number: u32, prio: u32) -> Option<LwpErr>
+    requires lawful { LawfulParts parts.now }
+    requires alone { parts.now.dying ≡ None }
+    ensures value { result ≡ first_refusal ((nat_le parts.now.procs number, LwpErr.InvalidArg) ∷ is_no_priority (state_of parts.now) prio ∷ is_full 1024 (state_of parts.now).threads ∷ is_at_limit (state_of parts.now).births (state_of parts.now) ∷ []) }
+    ensures least { IfNone result (1 ≤ prio) }
+    ensures most { IfNone result (prio ≤ parts.now.sched.maxpri) }
+    ensures births { IfNone result (parts.now.ids.births < parts.now.ids.limit) }
+{
+    if number >= parts.procs {
+        return Some(LwpErr::InvalidArg);
+    }
+    if prio == 0 || prio > parts.sched.maxpri() {
+        return Some(LwpErr::IllPrio);
+    }
+    if thread_count(parts) >= MOST_THREADS || parts.ids.births() >= parts.ids.limit() {
+        return Some(LwpErr::NoRoom);
+    }
+    None
 }
 
 // Places for one thread more, wherever a thread may have to wait.
@@ -112,8 +125,7 @@ fn make_places(parts: &mut Parts) -> Result<(), NoMemory>
     parts.sched.reserve(count)?;
     parts.mail.reserve(count + MOST_AGENTS)?;
     parts.mons.reserve(count)?;
-    parts.conds.reserve(count)?;
-    Ok(())
+    parts.conds.reserve(count)
 }
 
 // A thread begins, with one frame. There are places for it.

@@ -1,22 +1,25 @@
 use Rattle.death_cleanup.specs.View.{state_of}
 use Rattle.lwp_calls.proofs.Places.{came_agents_grown, few_with, nine}
+use Rattle.lwp_calls.proofs.Results.{either_way, ok_then}
 use Rattle.lwp_calls.proofs.agent_calls.make_places.Goals as goal
 use Rattle.std.proofs.Common.{arith, max, ◌+◌}
 
 pub returns-clause-as_before : goal.returns-clause-as_before
 returns-clause-as_before c =
     let was = c.args.parts.now in
-    rw (c.in_ok-reserve.ensures.ok, c.in_ok-reserve-2.ensures.ok, c.in_ok-reserve-3.ensures.ok)
-    (came_agents_grown was c.requires.lawful.step (max was.ids.places c.next_count-living.result) (max was.agents.places 31) (max was.mail.places (c.thread_count-count.result + 31)) (omega arith))
+    rw (c.in_ok-reserve.ensures.ok, c.in_ok-reserve-2.ensures.ok)
+    (either_way c.reserve-3.result c.reserve-3.ensures.ok c.reserve-3.ensures.err
+    (λ last. rw last (came_agents_grown was c.requires.lawful.step (max was.ids.places c.next_count-living.result) (max was.agents.places 31) (max was.mail.places (c.thread_count-count.result + 31)) (omega arith)))
+    (λ last. rw last (came_agents_grown was c.requires.lawful.step (max was.ids.places c.next_count-living.result) (max was.agents.places 31) was.mail.places (omega arith))))
 
 pub returns-clause-ok : goal.returns-clause-ok
 returns-clause-ok c =
     let few = few_with (state_of c.args.parts.now) (nine c.args.parts.now c.requires.lawful c.requires.alone) c.args._event c.requires.least c.requires.most c.requires.free in
-    rw (c.in_ok-reserve.ensures.ok, c.in_ok-reserve-2.ensures.ok, c.in_ok-reserve-3.ensures.ok) (record {
+    ok_then c.reserve-3.result c.reserve-3.ensures.ok (λ last. rw (c.in_ok-reserve.ensures.ok, c.in_ok-reserve-2.ensures.ok, last) (record {
       living = omega (arith, c.next_count-living.ensures);
       agents = omega (arith, few);
       letters = omega (arith, few, c.thread_count-count.ensures.value);
-    })
+    }))
 
 pub returns-in_err-reserve-clause-as_before : goal.returns-in_err-reserve-clause-as_before
 returns-in_err-reserve-clause-as_before c =
@@ -29,9 +32,3 @@ returns-in_err-reserve-2-clause-as_before c =
     let was = c.args.parts.now in
     rw (c.in_ok-reserve.ensures.ok, c.in_err-reserve-2.ensures.err)
     (came_agents_grown was c.requires.lawful.step (max was.ids.places c.next_count-living.result) was.agents.places was.mail.places (omega arith))
-
-pub returns-in_err-reserve-3-clause-as_before : goal.returns-in_err-reserve-3-clause-as_before
-returns-in_err-reserve-3-clause-as_before c =
-    let was = c.args.parts.now in
-    rw (c.in_ok-reserve.ensures.ok, c.in_ok-reserve-2.ensures.ok, c.in_err-reserve-3.ensures.err)
-    (came_agents_grown was c.requires.lawful.step (max was.ids.places c.next_count-living.result) (max was.agents.places 31) was.mail.places (omega arith))
