@@ -103,9 +103,12 @@ fn takes_from(parts: &Parts, tid: Tid, sender: Tid) -> bool
 fn block_takes(why: Block, sender: Tid) -> bool
     ensures { result ≡ takes_from sender why }
 {
-    match why {
-        Block::Receiving(from) => from.is_none_or(|named| named == sender),
-        _ => false,
+    let Block::Receiving(from) = why else {
+        return false;
+    };
+    match from {
+        Some(named) => named == sender,
+        None => true,
     }
 }
 
