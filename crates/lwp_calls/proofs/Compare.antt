@@ -16,6 +16,13 @@ le-true m n h = grind (arith, nat_tests)
 pub le-false : (m n : ℕ) → n < m → nat_le m n ≡ false
 le-false m n h = grind (arith, nat_tests)
 
+-- the same of a number that another one is
+pub le-true-at : (m n k : ℕ) → m ≤ n → n ≡ k → nat_le m k ≡ true
+le-true-at m n k h same = le-true m k (omega arith)
+
+pub le-false-at : (m n k : ℕ) → n < m → n ≡ k → nat_le m k ≡ false
+le-false-at m n k h same = le-false m k (omega arith)
+
 pub no_priority : (p most : ℕ) → most < p → ((p == 0) || nat_lt most p) ≡ true
 no_priority p most h = grind (arith, nat_tests)
 

@@ -5,6 +5,7 @@ pub mod Compare
 pub mod Conditions
 pub mod Counts
 pub mod Destroys
+pub mod Ends
 pub mod Entering
 pub mod Levels
 pub mod Lists
