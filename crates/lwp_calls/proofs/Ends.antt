@@ -3,7 +3,7 @@ use Rattle.lwp_types.specs.Choice.{is_over}
 use Rattle.lwp_types.specs.First.{FindsBest}
 use Rattle.lwp_types.specs.State.{State, is_empty}
 use Rattle.lwp_types.specs.Step.{ends}
-use Rattle.std.proofs.Common.{Bool, List, None, Option, Some, [], false, refl, true, ℕ, ◌&&◌, ◌++◌, ◌∷◌, ◌≡◌}
+use Rattle.std.proofs.Common.{List, None, Option, Some, [], false, refl, true, ℕ, ◌&&◌, ◌++◌, ◌∷◌, ◌≡◌}
 use Rattle.std.specs.List.{list_all}
 use Rattle.std.specs.Prelude.{is_some}
 

@@ -1,5 +1,5 @@
 use Rattle.death_cleanup.specs.View.{state_of}
-use Rattle.lwp_calls.proofs.Made.{ComesTo-answers, ComesTo-said, told-behind, told-most}
+use Rattle.lwp_calls.proofs.Made.{ComesTo-said, told-behind, told-most}
 use Rattle.lwp_calls.proofs.waits.carry_out.Goals as goal
 use Rattle.lwp_calls.proofs.waits.carry_out.Goals.{in-Broadcast, in-Destroy, in-Notify, in-Send, in-Wait}
 use Rattle.lwp_calls.specs.Comes.{ComesTo}
