@@ -1,13 +1,13 @@
 // What stands around the picture.
 ghost use Rattle.std.specs.Prelude.{◌≡◌, ◌++◌, OnOk};
 ghost use Rattle.std.specs.List.{flat_map};
-ghost use Rattle.trace_page.specs.Frame.{colours, end_text, event_open, event_words, head, head_key, head_style, height_open, key_marks, key_waits, layout, marks, more_closed, more_open, more_text, name_closed, name_text, name_words, names_closed, names_open, names_text, opening, page_closed, patterns, signs, size_closed, size_text, tail, waits, ways, width_open};
+ghost use Rattle.trace_page.specs.Frame.{colours, end_text, event_words, head, head_key, head_style, height_open, key_marks, key_waits, layout, marks, more_closed, more_open, more_text, name_text, name_words, names_text, opening, page_closed, patterns, signs, size_closed, size_text, tail, waits, ways, width_open};
 
 use crate::scene::{Lane, Scene};
-use crate::shapes::{add_group_closed, add_group_open, add_label};
+use crate::shapes::{add_counted, add_group_closed, add_group_open, add_label};
 use lwp_types::NoMemory;
 use trace_lines::NOBODY;
-use trace_text::{add_number, add_text};
+use trace_text::add_text;
 
 #[tactic(auto, unfolding(crate::specs::Frame::opening))]
 fn opening() -> &'static [u8]
@@ -79,20 +79,6 @@ fn key_marks() -> &'static [u8]
     b"<use href='#tick' x='20' y='28'/><text x='34' y='42'>a call</text><use href='#exit' x='110' y='28'/><text x='122' y='42'>an exit procedure</text><use href='#death' x='242' y='28'/><text x='262' y='42'>a death</text><path class='sent' d='M330 38L360 38'/><text x='366' y='42'>a letter</text><path class='replied' d='M430 38L460 38'/><text x='466' y='42'>a reply</text><path class='woken' d='M530 38L560 38'/><text x='566' y='42'>wakes</text><text class='event' x='632' y='42'>0:1</text><text x='648' y='42'>a line: client and number</text><text x='8' y='66'>Calls go from left to right, every tenth has its number above. Point at a mark to see its line of the trace.</text></svg>\n<div class='page'>\n<svg class='run'>\n"
 }
 
-#[tactic(auto, unfolding(crate::specs::Frame::names_open))]
-fn names_open() -> &'static [u8]
-    ensures { result.now ≡ names_open }
-{
-    b"</svg>\n<svg class='names'>\n"
-}
-
-#[tactic(auto, unfolding(crate::specs::Frame::names_closed))]
-fn names_closed() -> &'static [u8]
-    ensures { result.now ≡ names_closed }
-{
-    b"</svg>\n</div>\n"
-}
-
 #[tactic(auto, unfolding(crate::specs::Frame::width_open))]
 fn width_open() -> &'static [u8]
     ensures { result.now ≡ width_open }
@@ -135,20 +121,6 @@ fn page_closed() -> &'static [u8]
     b"</body>\n</html>\n"
 }
 
-#[tactic(auto, unfolding(crate::specs::Frame::event_open))]
-fn event_open() -> &'static [u8]
-    ensures { result.now ≡ event_open }
-{
-    b", event "
-}
-
-#[tactic(auto, unfolding(crate::specs::Frame::name_closed))]
-fn name_closed() -> &'static [u8]
-    ensures { result.now ≡ name_closed }
-{
-    b"</text>\n"
-}
-
 #[tactic(auto, unfolding(crate::specs::Frame::head_style))]
 fn add_head_style(out: &mut Vec<u8>) -> Result<(), NoMemory>
     ensures { OnOk result (out.new.items ≡ out.old.items ++ head_style) }
@@ -180,35 +152,33 @@ pub(crate) fn add_head(out: &mut Vec<u8>) -> Result<(), NoMemory>
     add_head_key(out)
 }
 
-#[tactic(auto, unfolding(crate::specs::Frame::event_words))]
+#[tactic(auto, unfolding(crate::specs::Frame::event_words, crate::specs::Frame::event_open))]
 fn add_event_words(out: &mut Vec<u8>, event: u64) -> Result<(), NoMemory>
     ensures { OnOk result (out.new.items ≡ out.old.items ++ event_words event) }
 {
     if event == 0 {
         return Ok(());
     }
-    add_text(out, event_open())?;
-    add_number(out, event)
+    add_counted(out, b", event ", event)
 }
 
 #[tactic(auto, unfolding(crate::specs::Frame::name_words))]
 fn add_name_words(out: &mut Vec<u8>, lane: Lane) -> Result<(), NoMemory>
     ensures { OnOk result (out.new.items ≡ out.old.items ++ name_words lane) }
 {
-    add_text(out, b"t")?;
-    add_number(out, lane.id)?;
+    add_counted(out, b"t", lane.id)?;
     add_event_words(out, lane.event)
 }
 
 impl Scene {
-    #[tactic(auto, unfolding(crate::specs::Frame::name_text))]
+    #[tactic(auto, unfolding(crate::specs::Frame::name_text, crate::specs::Frame::name_closed))]
     fn add_name(&self, out: &mut Vec<u8>, lane: Lane) -> Result<(), NoMemory>
         ensures { OnOk result (out.new.items ≡ out.old.items ++ name_text self.now lane) }
     {
         let y = self.y_of(lane.id) + 14;
         add_label(out, b"name", 4, y)?;
         add_name_words(out, lane)?;
-        add_text(out, name_closed())
+        add_text(out, b"</text>\n")
     }
 
     fn add_all_names(&self, out: &mut Vec<u8>) -> Result<(), NoMemory>
@@ -220,13 +190,13 @@ impl Scene {
         Ok(())
     }
 
-    #[tactic(auto, unfolding(crate::specs::Frame::names_text))]
+    #[tactic(auto, unfolding(crate::specs::Frame::names_text, crate::specs::Frame::names_open, crate::specs::Frame::names_closed))]
     fn add_names(&self, out: &mut Vec<u8>) -> Result<(), NoMemory>
         ensures { OnOk result (out.new.items ≡ out.old.items ++ names_text self.now) }
     {
-        add_text(out, names_open())?;
+        add_text(out, b"</svg>\n<svg class='names'>\n")?;
         self.add_all_names(out)?;
-        add_text(out, names_closed())
+        add_text(out, b"</svg>\n</div>\n")
     }
 
     #[tactic(auto, unfolding(crate::specs::Frame::size_text))]
@@ -235,10 +205,8 @@ impl Scene {
     {
         let width = self.x_of(self.time) + 320;
         let height = self.y_of(NOBODY) + 8;
-        add_text(out, width_open())?;
-        add_number(out, width)?;
-        add_text(out, height_open())?;
-        add_number(out, height)?;
+        add_counted(out, width_open(), width)?;
+        add_counted(out, height_open(), height)?;
         add_text(out, size_closed())
     }
 
@@ -249,8 +217,7 @@ impl Scene {
         if !self.more {
             return Ok(());
         }
-        add_text(out, more_open())?;
-        add_number(out, self.last)?;
+        add_counted(out, more_open(), self.last)?;
         add_text(out, more_closed())
     }
 

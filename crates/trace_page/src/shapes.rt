@@ -1,7 +1,7 @@
 // The text of what is drawn. Each function but those that answer a number or a word puts its part at the end of the bytes so far.
 ghost use Rattle.std.specs.Prelude.{◌≡◌, ◌≤◌, ◌+◌, ◌++◌, OnOk, codes};
 ghost use Rattle.std.specs.Fmt.{decimal};
-ghost use Rattle.trace_page.specs.Shapes.{class_text, closed, group_closed, group_open, label_closed, line_text, move_text, posted_text, sign_open, tag_text, title_text, use_open, value_text, waits_text, arrow_text, band_text, bar_text, closing_text, deep, due_text, escaped, escaped_byte, event_text, group_text, half, held_text, label_text, letter_text, named_text, number_text, path_text, rect_text, shape_text, shapes_text, tick_text, use_text, wait_class, wait_text, wanted_text, way_class, x_of, y_of};
+ghost use Rattle.trace_page.specs.Shapes.{class_text, closed, group_closed, group_open, label_closed, posted_text, sign_open, tag_text, title_text, use_open, value_text, waits_text, arrow_text, band_text, bar_text, closing_text, deep, due_text, escaped, escaped_byte, event_text, group_text, half, held_text, label_text, letter_text, named_text, number_text, path_text, rect_text, shape_text, shapes_text, tick_text, use_text, wait_class, wait_text, wanted_text, way_class, x_of, y_of};
 
 use crate::scene::{Kind, Lane, Moment, Need, Scene, Shape, Span, Way};
 use crate::steps::{need_of, place};
@@ -14,17 +14,18 @@ use trace_text::{add_number, add_text};
 fn add_escaped_byte(out: &mut Vec<u8>, byte: u8) -> Result<(), NoMemory>
     ensures { OnOk result (out.new.items ≡ out.old.items ++ escaped_byte byte) }
 {
-    match byte {
-        b'&' => add_text(out, b"&amp;"),
-        b'<' => add_text(out, b"&lt;"),
-        b'>' => add_text(out, b"&gt;"),
-        b'"' => add_text(out, b"&quot;"),
-        b'\'' => add_text(out, b"&#39;"),
+    let name: &[u8] = match byte {
+        b'&' => b"&amp;",
+        b'<' => b"&lt;",
+        b'>' => b"&gt;",
+        b'"' => b"&quot;",
+        b'\'' => b"&#39;",
         _ => {
             out.push(byte)?;
-            Ok(())
+            return Ok(());
         }
-    }
+    };
+    add_text(out, name)
 }
 
 /// A text of the trace, with each byte that would begin or end something written by its name.
@@ -35,6 +36,14 @@ pub(crate) fn add_escaped(out: &mut Vec<u8>, text: &[u8]) -> Result<(), NoMemory
         add_escaped_byte(out, *byte)?;
     }
     Ok(())
+}
+
+/// A number behind a text.
+pub(crate) fn add_counted(out: &mut Vec<u8>, before: &[u8], n: u64) -> Result<(), NoMemory>
+    ensures { OnOk result (out.new.items ≡ out.old.items ++ (before.now ++ decimal n)) }
+{
+    add_text(out, before)?;
+    add_number(out, n)
 }
 
 // ---- Elements.
@@ -70,28 +79,23 @@ fn add_value(out: &mut Vec<u8>, name: &[u8], n: u64) -> Result<(), NoMemory>
 {
     add_text(out, b"' ")?;
     add_text(out, name)?;
-    add_text(out, b"='")?;
-    add_number(out, n)
+    add_counted(out, b"='", n)
 }
 
-#[tactic(auto, unfolding(crate::specs::Shapes::move_text))]
-fn add_move(out: &mut Vec<u8>, x: u64, y: u64) -> Result<(), NoMemory>
-    ensures { OnOk result (out.new.items ≡ out.old.items ++ move_text x y) }
+// Where an element is.
+fn add_place(out: &mut Vec<u8>, x: u64, y: u64) -> Result<(), NoMemory>
+    ensures { OnOk result (out.new.items ≡ out.old.items ++ (value_text (codes "x") x ++ value_text (codes "y") y)) }
 {
-    add_text(out, b"' d='M")?;
-    add_number(out, x)?;
-    add_text(out, b" ")?;
-    add_number(out, y)
+    add_value(out, b"x", x)?;
+    add_value(out, b"y", y)
 }
 
-#[tactic(auto, unfolding(crate::specs::Shapes::line_text))]
-fn add_line(out: &mut Vec<u8>, x: u64, y: u64) -> Result<(), NoMemory>
-    ensures { OnOk result (out.new.items ≡ out.old.items ++ line_text x y) }
+// A point of a path, behind what the path does there.
+fn add_point(out: &mut Vec<u8>, step: &[u8], x: u64, y: u64) -> Result<(), NoMemory>
+    ensures { OnOk result (out.new.items ≡ out.old.items ++ (step.now ++ (decimal x ++ (codes " " ++ decimal y)))) }
 {
-    add_text(out, b"L")?;
-    add_number(out, x)?;
-    add_text(out, b" ")?;
-    add_number(out, y)
+    add_counted(out, step, x)?;
+    add_counted(out, b" ", y)
 }
 
 #[tactic(auto, unfolding(crate::specs::Shapes::closed))]
@@ -113,8 +117,7 @@ fn add_use(out: &mut Vec<u8>, sign: &[u8], x: u64, y: u64) -> Result<(), NoMemor
     ensures { OnOk result (out.new.items ≡ out.old.items ++ use_text sign.now x y) }
 {
     add_sign(out, sign)?;
-    add_value(out, b"x", x)?;
-    add_value(out, b"y", y)?;
+    add_place(out, x, y)?;
     add_closed(out)
 }
 
@@ -130,14 +133,13 @@ fn add_rect(
     ensures { OnOk result (out.new.items ≡ out.old.items ++ rect_text class.now x y width height) }
 {
     add_class(out, b"rect", class)?;
-    add_value(out, b"x", x)?;
-    add_value(out, b"y", y)?;
+    add_place(out, x, y)?;
     add_value(out, b"width", width)?;
     add_value(out, b"height", height)?;
     add_closed(out)
 }
 
-#[tactic(auto, unfolding(crate::specs::Shapes::path_text))]
+#[tactic(auto, unfolding(crate::specs::Shapes::path_text, crate::specs::Shapes::move_text, crate::specs::Shapes::line_text))]
 fn add_path(
     out: &mut Vec<u8>,
     class: &[u8],
@@ -149,8 +151,8 @@ fn add_path(
     ensures { OnOk result (out.new.items ≡ out.old.items ++ path_text class.now x y to_x to_y) }
 {
     add_class(out, b"path", class)?;
-    add_move(out, x, y)?;
-    add_line(out, to_x, to_y)?;
+    add_point(out, b"' d='M", x, y)?;
+    add_point(out, b"L", to_x, to_y)?;
     add_closed(out)
 }
 
@@ -160,8 +162,7 @@ pub(crate) fn add_label(out: &mut Vec<u8>, class: &[u8], x: u64, y: u64) -> Resu
     ensures { OnOk result (out.new.items ≡ out.old.items ++ label_text class.now x y) }
 {
     add_class(out, b"text", class)?;
-    add_value(out, b"x", x)?;
-    add_value(out, b"y", y)?;
+    add_place(out, x, y)?;
     add_text(out, b"'>")
 }
 
@@ -242,8 +243,7 @@ fn add_named(out: &mut Vec<u8>, need: Need, target: u64) -> Result<(), NoMemory>
     if target == NOBODY {
         return Ok(());
     }
-    add_text(out, letter(need))?;
-    add_number(out, target)
+    add_counted(out, letter(need), target)
 }
 
 #[tactic(auto, unfolding(crate::specs::Shapes::waits_text))]
@@ -260,8 +260,7 @@ fn add_posted(out: &mut Vec<u8>, client: u64, seq: u64) -> Result<(), NoMemory>
     ensures { OnOk result (out.new.items ≡ out.old.items ++ posted_text client seq) }
 {
     add_number(out, client)?;
-    add_text(out, b":")?;
-    add_number(out, seq)
+    add_counted(out, b":", seq)
 }
 
 // The number of a monitor, on its bar.
@@ -270,8 +269,7 @@ fn add_tag(out: &mut Vec<u8>, x: u64, y: u64, mon: u64) -> Result<(), NoMemory>
     ensures { OnOk result (out.new.items ≡ out.old.items ++ tag_text x y mon) }
 {
     add_label(out, b"tag", x, y)?;
-    add_text(out, b"m")?;
-    add_number(out, mon)?;
+    add_counted(out, b"m", mon)?;
     add_label_closed(out)
 }
 

@@ -83,41 +83,37 @@ fn touches(change: Change, span: Span) -> bool
 fn is_drawn(change: Change, span: Span) -> bool
     ensures { result ≡ is_drawn change span }
 {
-    touches(change, span) && !is_given(span.kind)
+    if is_given(span.kind) {
+        return false;
+    }
+    touches(change, span)
 }
 
 fn add_turned(out: &mut Vec<Span>, change: Change, span: Span) -> Result<(), NoMemory>
     ensures { OnOk result (out.new.items ≡ out.old.items ++ turned change span) }
 {
-    match change {
-        Change::GivesUp { tid: _, mon: _ } => {
-            out.push(Span {
-                kind: Kind::Given,
-                ..span
-            })?;
-            Ok(())
-        }
-        Change::Wakes { tid: _, now } => {
-            out.push(Span {
-                kind: Kind::Held,
-                since: now,
-                ..span
-            })?;
-            Ok(())
-        }
-        Change::Stays { tid: _ } => {
-            out.push(Span {
-                kind: Kind::Held,
-                ..span
-            })?;
-            Ok(())
-        }
+    let next = match change {
+        Change::GivesUp { tid: _, mon: _ } => Span {
+            kind: Kind::Given,
+            ..span
+        },
+        Change::Wakes { tid: _, now } => Span {
+            kind: Kind::Held,
+            since: now,
+            ..span
+        },
+        Change::Stays { tid: _ } => Span {
+            kind: Kind::Held,
+            ..span
+        },
         Change::Dies { tid: _ }
         | Change::Resumes { tid: _ }
         | Change::Breaks { mon: _ }
         | Change::Leaves { tid: _, level: _ }
-        | Change::Ends => Ok(()),
-    }
+        | Change::Ends => return Ok(()),
+    };
+    out.push(next)?;
+    Ok(())
 }
 
 fn add_after(out: &mut Vec<Span>, change: Change, span: Span) -> Result<(), NoMemory>
