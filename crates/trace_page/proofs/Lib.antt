@@ -1,4 +1,3 @@
-pub mod Loops
 pub mod PageLaws
 pub mod TitleLaws
 pub mod Readings

@@ -1,4 +1,4 @@
-use Rattle.trace_page.proofs.Loops.{no_more, one_more}
+use Rattle.trace_text.proofs.Loops.{no_more, one_more}
 use Rattle.trace_page.proofs.shapes.add_escaped.Goals as goal
 use Rattle.trace_page.specs.Shapes.{escaped_byte}
 

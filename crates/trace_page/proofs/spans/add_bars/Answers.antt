@@ -1,5 +1,5 @@
 use Rattle.std.proofs.Common.{Bool, List, [], ap, append-nil, cond, false, get_or, sym, true, ◌++◌, ◌∙◌, ◌∷◌, ◌≡◌}
-use Rattle.trace_page.proofs.Loops.{no_more, one_more}
+use Rattle.trace_text.proofs.Loops.{no_more, one_more}
 use Rattle.trace_page.proofs.spans.add_bars.Goals as goal
 use Rattle.trace_page.proofs.spans.add_bars.Goals.{else-is_drawn, then-is_drawn+in_ok-push}
 use Rattle.trace_page.specs.Spans.{bar, is_drawn}

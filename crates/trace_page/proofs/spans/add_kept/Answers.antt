@@ -1,4 +1,4 @@
-use Rattle.trace_page.proofs.Loops.{no_more, one_more}
+use Rattle.trace_text.proofs.Loops.{no_more, one_more}
 use Rattle.trace_page.proofs.spans.add_kept.Goals as goal
 use Rattle.trace_page.specs.Spans.{after}
 

@@ -1,5 +1,5 @@
 use Rattle.std.proofs.Common.{ap, ◌∙◌, ◌≡◌}
-use Rattle.trace_page.proofs.Loops.{no_more, one_more}
+use Rattle.trace_text.proofs.Loops.{no_more, one_more}
 use Rattle.trace_page.proofs.scene.Scene.add_shapes.Goals as goal
 use Rattle.trace_page.specs.Scene.{Seen}
 use Rattle.trace_page.specs.Shapes.{shape_text}
