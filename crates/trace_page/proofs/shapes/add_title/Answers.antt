@@ -7,9 +7,9 @@ pub returns : goal.returns
 unfolding title_text
 returns c =
     let put : c.add_escaped.new.out.items ++ codes "</title>" ≡ c.args.out.now.items ++ (codes "<title>" ++ (escaped c.args.line.now ++ codes "</title>")) =
-        rw c.in_ok-add_escaped.ensures
-        (rw c.in_ok-add_text.ensures
-        (append_assoc (c.args.out.now.items ++ codes "<title>") (escaped c.args.line.now) (codes "</title>")
-        ∙ append_assoc c.args.out.now.items (codes "<title>") (escaped c.args.line.now ++ codes "</title>")))
+    rw c.in_ok-add_escaped.ensures
+    (rw c.in_ok-add_text.ensures
+    (append_assoc (c.args.out.now.items ++ codes "<title>") (escaped c.args.line.now) (codes "</title>")
+    ∙ append_assoc c.args.out.now.items (codes "<title>") (escaped c.args.line.now ++ codes "</title>")))
     in
     rw put at c.add_text-2.ensures
