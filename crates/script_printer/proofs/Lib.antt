@@ -1,3 +1,4 @@
 pub mod BackLaws
+pub mod LineLoops
 pub mod PrintLaws
 pub mod SectionLaws

@@ -226,7 +226,6 @@ fn native_line<'s>(names: &'s Names, native: Native) -> Phrase<'s>
     }
 }
 
-#[tactic(auto, unfolding(script_lines::specs::Table::row_of))]
 fn add_natives(out: &mut Vec<u8>, names: &Names, natives: &[Native]) -> Result<(), NoMemory>
     ensures { OnOk result (out.new.items ≡ out.old.items ++ spelling (map (native_line names.now) natives.now)) }
 {
@@ -236,7 +235,6 @@ fn add_natives(out: &mut Vec<u8>, names: &Names, natives: &[Native]) -> Result<(
     Ok(())
 }
 
-#[tactic(auto, unfolding(script_lines::specs::Table::row_of))]
 fn add_statements(
     out: &mut Vec<u8>,
     names: &Names,
@@ -274,7 +272,6 @@ fn post_line<'s>(texts: &'s Texts, post: Post) -> Phrase<'s>
     line_writer::post_line(post.client, texts.bytes(post.text as usize))
 }
 
-#[tactic(auto, unfolding(script_lines::specs::Table::row_of))]
 fn add_posts(out: &mut Vec<u8>, texts: &Texts, posts: &[Post]) -> Result<(), NoMemory>
     ensures { OnOk result (out.new.items ≡ out.old.items ++ spelling (map (post_line texts.now) posts.now)) }
 {
