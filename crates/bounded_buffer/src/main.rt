@@ -1,24 +1,15 @@
-//! A bounded buffer with producers and a consumer: an example of threads of one's own.
+//! A bounded buffer with producers and a consumer: an example of threads of one's own, run to their end.
 //!
-//! A buffer keeps at most one item. Two producers send it items, and wait for the reply while there is no room; a consumer asks
-//! for items, and waits while there is none. To wait is to be replied to later: nobody is ever told to try again. What each thread
-//! calls next is exactly what `specs/` computes, and the trace that is written is that of the session of these definitions.
-//!
-//! The crate stands on `pod_runner`, which runs the threads, and on `lwp_types` and `event_gate` for their calls and for lines from
-//! the outside, of which there are none here.
+//! Its threads are those of `buffer_bodies`. The trace that is written is that of the session of their definitions, for `run` says
+//! so of any bodies. The crate stands on `pod_runner`, which runs the threads, on `lwp_types` for what they share, and on
+//! `event_gate` for lines from the outside, of which there are none here.
 #![tactic(auto)]
 
 ghost use Rattle.std.specs.Prelude.{IfOk, false, ◌≡◌};
 
-mod actor;
-mod buffer;
-mod clients;
-mod market;
-
-use actor::Actor;
+use buffer_bodies::{Actor, Market};
 use event_gate::ListGate;
 use lwp_types::{Env, MemSink, NoMemory, PodParams};
-use market::Market;
 use pod_runner::{Run, RunErr, run};
 use std::alloc::Global;
 use std::io::Write;

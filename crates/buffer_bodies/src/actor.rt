@@ -12,7 +12,7 @@ pub enum Actor {
 }
 
 impl Body for Actor {
-    ghost use Rattle.bounded_buffer.specs.Actors.{actor_next, actor_next-keeps_lengths};
+    ghost use Rattle.buffer_bodies.specs.Actors.{actor_next, actor_next-keeps_lengths};
 
     ghost next = { actor_next };
 

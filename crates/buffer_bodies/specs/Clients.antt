@@ -3,8 +3,8 @@ use Rattle.lwp_types.specs.declared.call.Answer.{Answer}
 use Rattle.lwp_types.specs.declared.call.Answer.TheVariants as answer
 use Rattle.lwp_types.specs.declared.call.Call.{Call}
 use Rattle.lwp_types.specs.declared.call.Call.TheVariants as call
-use Rattle.bounded_buffer.specs.declared.clients.Producer.{Producer}
-use Rattle.bounded_buffer.specs.declared.clients.Consumer.{Consumer}
+use Rattle.buffer_bodies.specs.declared.clients.Producer.{Producer}
+use Rattle.buffer_bodies.specs.declared.clients.Consumer.{Consumer}
 use Rattle.std.specs.Prelude.{[], if◌then◌else◌, ℕ, ◌-◌, ◌==◌}
 
 -- the buffer is the first thread

@@ -1,5 +1,5 @@
 // The thread that keeps items.
-ghost use Rattle.bounded_buffer.specs.Buffer.{buffer_next, calls, get, handed, kept, lettered, opening, put, refilled, replied, rests, speaks, stored, thanked, told};
+ghost use Rattle.buffer_bodies.specs.Buffer.{buffer_next, calls, get, handed, kept, lettered, opening, put, refilled, replied, rests, speaks, stored, thanked, told};
 ghost use Rattle.std.specs.Prelude.{◌≡◌, OnOk};
 
 use lwp_types::{Answer, Call, Flags, Mode, NoMemory, Text, Tid};
@@ -35,7 +35,7 @@ impl Drop for Buffer {
 }
 
 impl Model for Buffer {
-    ghost use Rattle.bounded_buffer.specs.Buffer.{Buffer};
+    ghost use Rattle.buffer_bodies.specs.Buffer.{Buffer};
 
     ghost Value = { Buffer };
 

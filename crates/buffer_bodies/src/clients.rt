@@ -1,5 +1,5 @@
 // The threads that bring items and those that fetch them.
-ghost use Rattle.bounded_buffer.specs.Clients.{asks, consumes, produces};
+ghost use Rattle.buffer_bodies.specs.Clients.{asks, consumes, produces};
 ghost use Rattle.std.specs.Prelude.{◌≡◌};
 
 use lwp_types::{Answer, Call, Text, Tid};

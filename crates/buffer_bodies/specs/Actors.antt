@@ -1,8 +1,8 @@
 -- What each thread of the example does, whichever it is, and what it begins as.
-use Rattle.bounded_buffer.specs.Buffer.{buffer_next, opening}
-use Rattle.bounded_buffer.specs.Clients.{consumes, produces}
-use Rattle.bounded_buffer.specs.declared.actor.Actor.{Actor}
-use Rattle.bounded_buffer.specs.declared.actor.Actor.TheVariants as actors
+use Rattle.buffer_bodies.specs.Buffer.{buffer_next, opening}
+use Rattle.buffer_bodies.specs.Clients.{consumes, produces}
+use Rattle.buffer_bodies.specs.declared.actor.Actor.{Actor}
+use Rattle.buffer_bodies.specs.declared.actor.Actor.TheVariants as actors
 use Rattle.lwp_types.specs.Names.{KeepsLengths, Names}
 use Rattle.lwp_types.specs.Poll.{Next, Polled}
 use Rattle.lwp_types.specs.declared.call.Answer.{Answer}

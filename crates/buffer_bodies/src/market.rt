@@ -23,13 +23,14 @@ pub struct Market {
 }
 
 impl Market {
+    /// The program, whose bodies keep what they hold in the memory of `alloc`.
     pub fn new(alloc: Global) -> Market {
         Market { alloc }
     }
 }
 
 impl Program<Actor> for Market {
-    ghost use Rattle.bounded_buffer.specs.Actors.{cast, cast_names};
+    ghost use Rattle.buffer_bodies.specs.Actors.{cast, cast_names};
     ghost use Rattle.std.specs.Prelude.{refl};
 
     ghost bodies = { λ market. cast };
