@@ -1,6 +1,7 @@
 // What a plan and a run begin and end with: a script is read, it is made a run, and what came of it is told.
 ghost use Rattle.script_session.specs.Outcome.{outcome_of};
-ghost use Rattle.script_session.specs.SoFar.{opening_run};
+ghost use Rattle.script_session.specs.SoFar.{opening_names, opening_run};
+ghost use Rattle.script_text.specs.Script.{params_of};
 ghost use Rattle.script_session.specs.Said.{IsNotRead, IsRead};
 ghost use Rattle.script_text.specs.Limits.{IsWithinLimits};
 ghost use Rattle.std.specs.Prelude.{◌≡◌, IfErr, IfOk};
@@ -34,6 +35,29 @@ pub fn read_whole<S: Source>(alloc: Global, source: &mut S) -> Result<Script, Se
     }
 }
 
+// What a script says of its pod.
+fn params_of(script: &Script) -> PodParams
+    requires { IsWithinLimits script.now }
+    ensures { result ≡ params_of script.now }
+{
+    PodParams {
+        maxpri: script.maxpri,
+        births: script.births,
+        procs: (script.procs.len() + script.natives.len()) as u32,
+    }
+}
+
+// A script's names, which stand for nothing yet.
+fn names_for(alloc: Global, script: &Script) -> Result<Env, NoMemory>
+    requires { IsWithinLimits script.now }
+    ensures { IfOk result (λ env. env ≡ opening_names script.now) }
+{
+    let threads = script.names.threads.len() as u32;
+    let mons = script.names.mons.len() as u32;
+    let conds = script.names.conds.len() as u32;
+    Env::new(alloc, threads, mons, conds)
+}
+
 /// A run of a script, before its first call.
 pub fn start<'s>(
     alloc: Global,
@@ -43,17 +67,14 @@ pub fn start<'s>(
     requires { IsWithinLimits script.now }
     ensures { IfOk result (λ run. run ≡ opening_run script.now turns) }
 {
-    let procs = (script.procs.len() + script.natives.len()) as u32;
-    let params = PodParams {
-        maxpri: script.maxpri,
-        births: script.births,
-        procs,
-    };
-    let threads = script.names.threads.len() as u32;
-    let mons = script.names.mons.len() as u32;
-    let conds = script.names.conds.len() as u32;
-    let env = Env::new(alloc, threads, mons, conds)?;
-    Run::new(alloc, params, ScriptProgram::new(alloc, script), env, turns)
+    let env = names_for(alloc, script)?;
+    Run::new(
+        alloc,
+        params_of(script),
+        ScriptProgram::new(alloc, script),
+        env,
+        turns,
+    )
 }
 
 /// The session of a run that has ended so.
