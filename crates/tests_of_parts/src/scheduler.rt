@@ -6,6 +6,7 @@ use pod_sched::{Sched, Steps};
 use std::alloc::Global;
 use std::marker::Brand;
 use std::sync::ledger::{Blank, Ledger};
+use std::test::Fail;
 
 const A: Tid = Tid { number: 0 };
 
@@ -156,20 +157,10 @@ fn counted<L: Ledger>(sched: &Sched, blank: Blank) -> Option<Tid>
     sched.current_counted(&mut steps)
 }
 
-fn counts(sched: &mut Sched) -> bool {
-    admits(sched, A, 1, false)
-        && admits(sched, B, 255, false)
-        && counted::<Brand>(sched, Blank::new(1)) == Some(B)
-}
-
-fn is_counted(alloc: Global) -> bool {
-    let Ok(mut sched) = Sched::new(alloc, 255) else {
-        return false;
-    };
-    counts(&mut sched)
-}
-
 #[test]
-fn a_counted_choice_is_the_choice(rt: HostRuntime) {
-    assert!(rt; is_counted(rt.alloc()));
+fn a_counted_choice_is_the_choice(rt: HostRuntime) -> Result<(), Fail> {
+    let mut sched = Sched::new(rt.alloc(), 255).map_err(|_| "no memory")?;
+    assert!(rt; admits(&mut sched, A, 1, false) && admits(&mut sched, B, 255, false));
+    assert_eq!(rt; counted::<Brand>(&sched, Blank::new(1)), Some(B));
+    Ok(())
 }

@@ -289,34 +289,45 @@ fn told(effects: &Effects) -> usize {
     effects.len()
 }
 
-// The next of the waiting threads runs, and nothing is left of the dying one.
-fn is_left(parts: &mut Parts) -> bool {
-    parts.sched.current() == Some(Tid { number: 7 })
-        && parts.exit == 7
-        && !parts.ids.is_live(0)
-        && !parts.ids.is_live(8)
-        && parts.mail.pop_to(DYING).is_none()
-        && parts.agents.owner_of(AGENT).is_none()
+// The next of the waiting threads runs, with the exit code, and nothing is left of the dying one, its letters and its agent.
+// Answers how many of that hold before one that doesn't.
+fn left(parts: &mut Parts) -> u32 {
+    if parts.sched.current() != Some(Tid { number: 7 }) {
+        return 0;
+    }
+    if parts.exit != 7 {
+        return 1;
+    }
+    if parts.ids.is_live(0) || parts.ids.is_live(8) {
+        return 2;
+    }
+    if parts.mail.pop_to(DYING).is_some() {
+        return 3;
+    }
+    if parts.agents.owner_of(AGENT).is_some() {
+        return 4;
+    }
+    5
 }
 
-// The first thread dies. Answers whether the rest is as it is to be.
-fn dies(alloc: Global, effects: &mut Effects) -> Result<bool, NoMemory>
+// The first thread dies.
+fn dies(alloc: Global, effects: &mut Effects) -> Result<u32, NoMemory>
     requires { effects.old ≡ [] }
 {
     let mut parts = parts(alloc)?;
     die(&mut parts, DYING, effects);
-    Ok(is_left(&mut parts))
+    Ok(left(&mut parts))
 }
 
-fn told_of_a_death(alloc: Global) -> Result<(usize, bool), NoMemory> {
+fn told_of_a_death(alloc: Global) -> Result<(usize, u32), NoMemory> {
     let mut effects = Effects::new(alloc)?;
-    let is_left = dies(alloc, &mut effects)?;
-    Ok((told(&effects), is_left))
+    let left = dies(alloc, &mut effects)?;
+    Ok((told(&effects), left))
 }
 
 #[test]
 fn a_death_in_full(rt: HostRuntime) {
-    let (told, is_left) = told_of_a_death(rt.alloc()).unwrap_or((0, false));
+    let (told, left) = told_of_a_death(rt.alloc()).unwrap_or((0, 0));
     assert_eq!(rt; told, TOLD.len());
-    assert!(rt; is_left);
+    assert_eq!(rt; left, 5);
 }
