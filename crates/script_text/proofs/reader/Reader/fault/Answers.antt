@@ -1,0 +1,5 @@
+use Rattle.std.proofs.Common.{rules}
+use Rattle.script_text.proofs.reader.Reader.fault.Goals as goal
+
+pub returns-in-Some-bad-clause-some : goal.returns-in-Some-bad-clause-some
+returns-in-Some-bad-clause-some c = search rules
