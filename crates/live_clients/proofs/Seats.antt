@@ -219,6 +219,16 @@ open_more events texts e inlets t old new h one is seats =
           (same_or (event_of events c) e);
     }
 
+-- before the first event nothing is open
+pub open_none : (events : List ℕ) (texts : List (List (List ℕ))) (seats : List (Option Seat)) → length seats ≡ length events → All (λ e. (1 ≤ e) × (e ≤ 31)) events → AreOpen events texts 1 [] seats
+open_none events texts seats size sound = record {
+  low = λ k d lt. absurd (omega (arith, lt));
+  rise = λ i j d low high. absurd (omega (arith, high));
+  new = λ k d lt. absurd (omega (arith, lt));
+  size = size;
+  seated = λ c d low small. absurd (let s = (sound c 0 low).0 in omega (arith, s, small));
+}
+
 pub open_nothing : (events : List ℕ) (texts : List (List (List ℕ))) (e : ℕ) (inlets : List Intake) (seats : List (Option Seat))
     → AreOpen events texts e inlets seats → clients_of events e ≡ [] → AreOpen events texts (e + 1) inlets seats
 open_nothing events texts e inlets seats h none = record {
@@ -247,11 +257,18 @@ open_for events texts inlets seats h sound = record {
 
 -- ---- the threads
 
+pub all_seats : (events : List ℕ) (texts : List (List (List ℕ))) (inlets : List Intake) (seats rest : List (Option Seat)) (n : ℕ) → AreOpen events texts 32 inlets seats → All (λ e. (1 ≤ e) × (e ≤ 31)) events → rest ≡ seats → n ≡ 0 → HaveSeatsFrom events texts inlets n rest
+all_seats events texts inlets seats rest n h sound same none = λ k d lt.
+    let there : k < length events = (let size = ap length same in let as_many = h.size in omega (arith, size, as_many, lt)) in
+    let low = (sound k 0 there).1 in
+    subst (λ (c : ℕ). HasSeat events texts inlets c (slice_index_or rest k d)) (let e : k ≡ n + k = omega (arith, none) in e)
+    (subst (λ (xs : List (Option Seat)). HasSeat events texts inlets k (slice_index_or xs k d)) (sym same) (h.seated k d there (omega (arith, low))))
+
 pub first_seat : (events : List ℕ) (texts : List (List (List ℕ))) (inlets : List Intake) (n : ℕ) (s : Option Seat) (rest : List (Option Seat)) → HaveSeatsFrom events texts inlets n (s ∷ rest) → HasSeat events texts inlets n s
 first_seat events texts inlets n s rest h = subst (λ (c : ℕ). HasSeat events texts inlets c s) (let e : n + 0 ≡ n = omega arith in e) (h 0 s (omega arith))
 
-pub later_seats : (events : List ℕ) (texts : List (List (List ℕ))) (inlets : List Intake) (n : ℕ) (s : Option Seat) (rest : List (Option Seat)) → HaveSeatsFrom events texts inlets n (s ∷ rest) → HaveSeatsFrom events texts inlets (n + 1) rest
-later_seats events texts inlets n s rest h = λ k d lt. subst (λ (c : ℕ). HasSeat events texts inlets c (slice_index_or rest k d)) (let e : n + suc k ≡ n + 1 + k = omega arith in e) (h (suc k) d (omega (arith, lt)))
+pub later_seats : (events : List ℕ) (texts : List (List (List ℕ))) (inlets : List Intake) (n m : ℕ) (s : Option Seat) (rest : List (Option Seat)) → m ≡ n + 1 → HaveSeatsFrom events texts inlets n (s ∷ rest) → HaveSeatsFrom events texts inlets m rest
+later_seats events texts inlets n m s rest more h = λ k d lt. subst (λ (c : ℕ). HasSeat events texts inlets c (slice_index_or rest k d)) (let e : n + suc k ≡ m + k = omega (arith, more) in e) (h (suc k) d (omega (arith, lt)))
 
 pub no_vacant : (events : List ℕ) (texts : List (List (List ℕ))) (inlets : List Intake) (c : ℕ) → HasSeat events texts inlets c None → ⊥
 no_vacant events texts inlets c h = h.at (record { place = []; event = 0; taken = []; finds = 0; noted = []; known = [] })
@@ -278,16 +295,22 @@ out_of_seat events texts inlets c seat client h same work =
           (subst (λ (b : ℕ). IsWork (posting_of seat.poster).place b (texts_of texts c) client.work) r.client_is work));
     }
 
-pub out_more : (events : List ℕ) (texts : List (List (List ℕ))) (inlets : List Intake) (out : List Client) (client : Client)
-    → ((c : ℕ) (d : Client) → c < length out → IsOut events texts inlets c (slice_index_or out c d)) → IsOut events texts inlets (length out) client
-    → (c : ℕ) (d : Client) → c < length out + 1 → IsOut events texts inlets c (slice_index_or (out ++ client ∷ []) c d)
-out_more events texts inlets out client before last = λ c d lt. ⊎_elim
-    (λ (it : c ≡ length out).
-    subst (λ (k : ℕ). IsOut events texts inlets k (slice_index_or (out ++ client ∷ []) k d)) (sym it) (subst (IsOut events texts inlets (length out)) (sym (get_or-append_seam out client [] d)) last))
-    (λ (other : c ≢ length out).
-    let lt' : c < length out = omega (arith, lt, other) in
-    subst (IsOut events texts inlets c) (sym (get_or_append_left out (client ∷ []) d c lt')) (before c d lt'))
-    (same_or c (length out))
+pub none_out : (events : List ℕ) (texts : List (List (List ℕ))) (inlets : List Intake) (out : List Client) (n : ℕ) → n ≡ 0 → (c : ℕ) (d : Client) → c < n → IsOut events texts inlets c (slice_index_or out c d)
+none_out events texts inlets out n none = λ c d lt. absurd (omega (arith, none, lt))
+
+pub out_more : (events : List ℕ) (texts : List (List (List ℕ))) (inlets : List Intake) (n m : ℕ) (out now : List Client) (client : Client)
+    → n ≡ length out → m ≡ n + 1 → now ≡ out ++ client ∷ []
+    → ((c : ℕ) (d : Client) → c < n → IsOut events texts inlets c (slice_index_or out c d)) → IsOut events texts inlets n client
+    → (c : ℕ) (d : Client) → c < m → IsOut events texts inlets c (slice_index_or now c d)
+out_more events texts inlets n m out now client size more is before last = λ c d lt. ⊎_elim
+    (λ (it : c ≡ n).
+    let at : slice_index_or now c d ≡ client = ap (λ xs. slice_index_or xs c d) is ∙ ap (λ k. slice_index_or (out ++ client ∷ []) k d) (it ∙ size) ∙ get_or-append_seam out client [] d in
+    subst (IsOut events texts inlets c) (sym at) (subst (λ (k : ℕ). IsOut events texts inlets k client) (sym it) last))
+    (λ (other : c ≢ n).
+    let lt' : c < n = omega (arith, lt, more, other) in
+    let at : slice_index_or now c d ≡ slice_index_or out c d = ap (λ xs. slice_index_or xs c d) is ∙ get_or_append_left out (client ∷ []) d c (omega (arith, lt', size)) in
+    subst (IsOut events texts inlets c) (sym at) (before c d lt'))
+    (same_or c n)
 
 pub all_out : (events : List ℕ) (texts : List (List (List ℕ))) (inlets : List Intake) (out : List Client)
     → AreFor events inlets → length texts ≡ length events → All (λ ts. length ts ≤ 20000) texts → length out ≡ length events

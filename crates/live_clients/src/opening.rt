@@ -4,7 +4,7 @@ ghost use Rattle.live_clients.specs.Inlets.{fresh};
 ghost use Rattle.live_clients.specs.Opening.{AreOpen, AreSeated};
 ghost use Rattle.live_clients.specs.Served.{clients_of};
 ghost use Rattle.live_clients.specs.Ties.{any_intake};
-ghost use Rattle.std.specs.Prelude.{All, AllPairs, IfOk, OnOk, [], length, map, set, true, vec_len, ◌<◌, ◌∷◌, ◌≡◌, ◌≢◌, ◌≤◌, ◌+◌};
+ghost use Rattle.std.specs.Prelude.{All, AllPairs, IfOk, MatchOption, OnOk, [], length, map, set, true, vec_len, ◌<◌, ◌∷◌, ◌≡◌, ◌≢◌, ◌≤◌, ◌+◌};
 
 use crate::inlet::{AnyInlet, RunnerEnd};
 use crate::poster::AnyPoster;
@@ -111,6 +111,16 @@ fn open_for_many<R: Wait>(
     })
 }
 
+// The client, where there is no other.
+fn sole_client(clients: &[u8]) -> Option<u8>
+    ensures { MatchOption result (length clients.now ≢ 1) (λ c. clients.now ≡ c ∷ []) }
+{
+    match clients {
+        [client] => Some(*client),
+        _ => None,
+    }
+}
+
 // The inlet of an event that has these clients, and their seats.
 fn open_inlet<R: Wait>(
     rt: &R,
@@ -128,8 +138,8 @@ fn open_inlet<R: Wait>(
     ensures inlet { IfOk result (λ r. any_intake r ≡ fresh (any_intake r).place event clients.now) }
     ensures seats { IfOk result (λ r. AreSeated (map (λ v. v.items) texts.now) index (any_intake r).place clients.now seats.old.items seats.new.items) }
 {
-    if let [client] = clients {
-        open_for_one(alloc, event, *client, texts, index, seats)
+    if let Some(client) = sole_client(clients) {
+        open_for_one(alloc, event, client, texts, index, seats)
     } else {
         open_for_many(rt, alloc, event, clients, texts, index, seats)
     }

@@ -233,10 +233,10 @@ fn close_at(line: u32, draft: Draft) -> Result<Script, ReadErr>
 }
 
 impl Reader {
-    ghost use Rattle.std.specs.Prelude.{◌+◌, Err, IfSome, IfNone, IfOk, IfErr};
+    ghost use Rattle.std.specs.Prelude.{◌+◌, Err, None, IfSome, IfNone, IfOk, IfErr};
     ghost use Rattle.script_text.specs.Meaning.{place_of, closed};
     ghost use Rattle.script_text.specs.Spelling.{Gives, whole};
-    ghost use Rattle.script_text.specs.Track.{start, taken, judged, step, answer, answer_at};
+    ghost use Rattle.script_text.specs.Track.{start, taken, judge_alone, took, judged, step, answer, answer_at};
 
     /// Nothing read.
     pub fn new(alloc: Global) -> Reader
@@ -292,6 +292,18 @@ impl Reader {
         self.bad = Some(reason_behind(self.stage, word_reason(word), said));
     }
 
+    // The reason of a line that says nothing.
+    fn blame_unsaid(&mut self, line: &[u8])
+        requires { phrase_at line.now ≡ None }
+        ensures { self.new ≡ took self.old (judge_alone self.old.stage self.old.declared self.old.draft.posted line.now) }
+    {
+        if is_printable(line) {
+            self.blame(line, None);
+        } else {
+            self.bad = Some(Reason::Bytes);
+        }
+    }
+
     // One more line, which is judged unless an earlier one is bad.
     fn judge(&mut self, alloc: Global, line: &[u8]) -> Result<(), NoMemory>
         ensures { OnOk result (self.new ≡ judged self.old.bad self.old line.now) }
@@ -306,13 +318,7 @@ impl Reader {
                 }
                 self.blame(line, Some(phrase.op.role()));
             }
-            None => {
-                if is_printable(line) {
-                    self.blame(line, None);
-                } else {
-                    self.bad = Some(Reason::Bytes);
-                }
-            }
+            None => self.blame_unsaid(line),
         }
         Ok(())
     }

@@ -1,6 +1,7 @@
 ghost use Rattle.std.specs.Prelude.{◌≡◌};
 ghost use Rattle.agents.specs.Roster.{no_agents};
 
+use crate::lists::holds;
 use agents::Agents;
 use lwp_types::Tid;
 
@@ -14,15 +15,8 @@ const B: Tid = Tid { number: 4 };
 
 const C: Tid = Tid { number: 7 };
 
-fn lists_three(agents: &Agents) -> bool {
-    let Ok(list) = agents.list() else {
-        return false;
-    };
-    list.len() == 3 && (list.get(0), list.get(1), list.get(2)) == (2, 4, 7)
-}
-
 fn are_known(agents: &Agents) -> bool {
-    lists_three(agents)
+    holds(agents.list(), &[2, 4, 7])
         && agents.agent_of(31) == Some(B)
         && agents.agent_of(5).is_none()
         && agents.owner_of(B) == Some(OTHER)

@@ -1,6 +1,7 @@
 ghost use Rattle.std.specs.Prelude.{◌≡◌, false};
 ghost use Rattle.rendezvous.specs.Mailbag.{empty_mail};
 
+use crate::lists::holds;
 use lwp_types::{Letter, LwpErr, Text, Tid};
 use rendezvous::Mail;
 
@@ -25,13 +26,6 @@ fn letter(from: Tid, to: Tid, text: Text) -> Letter
     }
 }
 
-fn lists_three(mail: &Mail) -> bool {
-    let Ok(senders) = mail.senders(D) else {
-        return false;
-    };
-    senders.len() == 3 && (senders.get(0), senders.get(1), senders.get(2)) == (2, 0, 1)
-}
-
 // The letter of a named sender is received, or of any.
 fn takes(mail: &mut Mail, from: Option<Tid>, wanted: Tid) -> bool {
     let Some(letter) = mail.take_letter(D, from) else {
@@ -40,29 +34,31 @@ fn takes(mail: &mut Mail, from: Option<Tid>, wanted: Tid) -> bool {
     letter.from == wanted && letter.received && letter.text.bytes() == b"hello".as_slice()
 }
 
-fn replies(mail: &mut Mail) -> bool {
-    takes(mail, Some(A), A)
+fn is_received(mail: &mut Mail) -> bool {
+    holds(mail.senders(D), &[2, 0, 1])
+        && takes(mail, Some(A), A)
         && takes(mail, None, C)
         && mail.take_letter(D, Some(D)).is_none()
-        && mail.reply(D, B, 4) == Err(LwpErr::NoWait)
-        && mail.reply(D, A, 5) == Err(LwpErr::InvalidArg)
-        && mail.reply(D, A, 4) == Ok(())
-        && mail.reply(D, A, 4) == Err(LwpErr::NoWait)
 }
 
-// Three letters are received in the order of sending, and replied to; they go with their senders and receivers.
-fn does_all(mail: &mut Mail, text: Text) -> bool
-    requires { mail.old ≡ empty_mail }
-{
-    let Ok(()) = mail.reserve(3) else {
-        return false;
-    };
-    mail.post_letter(letter(C, D, text));
-    mail.post_letter(letter(A, D, text));
-    mail.post_letter(letter(B, D, text));
-    if !lists_three(mail) || !replies(mail) {
-        return false;
+const REPLIES: [(Tid, usize, Option<LwpErr>); 4] = [
+    (B, 4, Some(LwpErr::NoWait)),
+    (A, 5, Some(LwpErr::InvalidArg)),
+    (A, 4, None),
+    (A, 4, Some(LwpErr::NoWait)),
+];
+
+fn replies(mail: &mut Mail) -> bool {
+    for (from, len, refusal) in REPLIES {
+        if mail.reply(D, from, len).err() != refusal {
+            return false;
+        }
     }
+    true
+}
+
+// They go with their senders and receivers.
+fn forgets(mail: &mut Mail) -> bool {
     mail.forget(D);
     mail.pop_to(C).is_none()
         && mail.pop_to(D) == Some(C)
@@ -70,9 +66,24 @@ fn does_all(mail: &mut Mail, text: Text) -> bool
         && mail.pop_to(D).is_none()
 }
 
+// Three letters are received in the order of sending, and replied to.
+fn does_all(mail: &mut Mail) -> bool
+    requires { mail.old ≡ empty_mail }
+{
+    let Ok(()) = mail.reserve(3) else {
+        return false;
+    };
+    let Some(text) = Text::new(b"hello") else {
+        return false;
+    };
+    mail.post_letter(letter(C, D, text));
+    mail.post_letter(letter(A, D, text));
+    mail.post_letter(letter(B, D, text));
+    is_received(mail) && replies(mail) && forgets(mail)
+}
+
 #[test]
 fn letters_are_received_in_send_order_and_replied_to(rt: HostRuntime) {
     let mut mail = Mail::new(rt.alloc());
-    let text = Text::new(b"hello").unwrap_or(Text::empty());
-    assert!(rt; does_all(&mut mail, text));
+    assert!(rt; does_all(&mut mail));
 }

@@ -13,6 +13,8 @@ mod letters;
 #[cfg(test)]
 mod linked_lists;
 #[cfg(test)]
+mod lists;
+#[cfg(test)]
 mod locks;
 #[cfg(test)]
 mod priorities;

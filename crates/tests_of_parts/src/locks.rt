@@ -1,7 +1,8 @@
 ghost use Rattle.std.specs.Prelude.{◌≡◌};
 ghost use Rattle.monitors.specs.MonitorTable.{empty_table};
 
-use lwp_types::{IdList, Mid, NoMemory, Tid};
+use crate::lists::holds;
+use lwp_types::{Mid, Tid};
 use monitors::Monitors;
 use std::alloc::Global;
 
@@ -14,13 +15,6 @@ const C: Tid = Tid { number: 3 };
 const FIRST: Mid = Mid { number: 0 };
 
 const SECOND: Mid = Mid { number: 1 };
-
-fn holds(ids: Result<IdList, NoMemory>, first: u64, second: u64) -> bool {
-    let Ok(ids) = ids else {
-        return false;
-    };
-    ids.len() == 2 && ids.get(0) == first && ids.get(1) == second
-}
 
 // The greatest priority enters next, and at the depth that it asks for.
 fn enters(mons: &mut Monitors) -> bool
@@ -36,7 +30,7 @@ fn enters(mons: &mut Monitors) -> bool
     mons.request(mon, B, 1, 1);
     mons.request(mon, C, 1, 3);
     mons.requeue(C, 2);
-    let waiting = holds(mons.waiters(mon), 2, 3);
+    let waiting = holds(mons.waiters(mon), &[2, 3]);
     let next = mons.exit(mon, A);
     let depth = mons.depth(mon);
     let owner = mons.owner(mon);
@@ -63,7 +57,7 @@ fn releases(mons: &mut Monitors) -> bool
     mons.enter(FIRST, A);
     let last = mons.last_held(A);
     let next = mons.break_lock(FIRST);
-    let listed = holds(mons.list(), 0, 1);
+    let listed = holds(mons.list(), &[0, 1]);
     mons.destroy(FIRST);
     listed
         && last == Some(FIRST)

@@ -1,56 +1,117 @@
-ghost use Rattle.std.specs.Prelude.{◌≡◌, ◌<◌, length};
-ghost use Rattle.exc_stack.specs.Stack.{one_frame};
-
 use exc_stack::ExcStack;
-use lwp_types::{ExitCall, ExitMark, Func, LwpErr, NoMemory, Pattern};
-use std::test::Fail;
+use lwp_types::{ExitCall, ExitMark, Func, LwpErr, Mark, Pattern};
+use std::alloc::Global;
 
 const EXIT: ExitCall = ExitCall::SetExit { code: 3 };
 
+// An exit is set in one frame, and handlers in a second one.
+const MARKS: [Mark; 5] = [
+    Mark::Exit { reg: 0, call: EXIT },
+    Mark::Frame,
+    Mark::Handler {
+        pattern: Pattern::All,
+        func: Func::Nothing,
+        arg: 5,
+    },
+    Mark::Handler {
+        pattern: Pattern::Num(7),
+        func: Func::Give,
+        arg: 6,
+    },
+    Mark::Handler {
+        pattern: Pattern::Num(8),
+        func: Func::Sum,
+        arg: 7,
+    },
+];
+
+// The call by which such a mark is set.
+fn sets(stack: &mut ExcStack, mark: &Mark) -> bool {
+    if stack.marks() == 0 {
+        return false;
+    }
+    let set = match *mark {
+        Mark::Frame => stack.enter_frame(),
+        Mark::Handler { pattern, func, arg } => stack.handle(pattern, func, arg),
+        Mark::Exit { reg, call } => stack.on_exit(reg, call),
+    };
+    set == Ok(true)
+}
+
+fn sets_all(stack: &mut ExcStack) -> bool {
+    for mark in &MARKS {
+        if !sets(stack, mark) {
+            return false;
+        }
+    }
+    true
+}
+
+// Why a handler isn't taken back.
+fn refusal(stack: &mut ExcStack) -> Option<LwpErr> {
+    if stack.marks() == 0 {
+        return Some(LwpErr::NonExist);
+    }
+    stack.unhandle().err()
+}
+
 // The depth, the number and the argument of the handler that catches an exception.
-fn found(stack: &ExcStack, exception: u32) -> (u32, u32, u32)
-    requires { 0 < length stack.now }
-{
+fn found(stack: &ExcStack, exception: u32) -> (u32, u32, u32) {
+    if stack.marks() == 0 {
+        return (0, 0, 0);
+    }
     match stack.find(exception) {
         Some(found) => (found.depth, found.mark, found.arg),
         None => (0, 0, 0),
     }
 }
 
-// An exit is set in one frame, and then handlers and another in a second one, which is settled and left.
-fn does_all(stack: &mut ExcStack) -> Result<bool, NoMemory>
-    requires { stack.old ≡ one_frame }
-{
-    stack.on_exit(0, EXIT)?;
-    stack.enter_frame()?;
-    stack.handle(Pattern::All, Func::Nothing, 5)?;
-    stack.handle(Pattern::Num(7), Func::Give, 6)?;
-    stack.handle(Pattern::Num(8), Func::Sum, 7)?;
-    let is_taken_back = stack.unhandle().is_ok();
-    let topmost = found(stack, 7);
-    stack.on_exit(4, EXIT)?;
-    let is_refused = stack.unhandle() == Err(LwpErr::InvalidArg);
-    stack.settle(1);
-    let settled = found(stack, 7);
-    let sizes = (stack.frames(), stack.marks());
+// Of the topmost frame, the handler that catches the exception goes, and those above it.
+fn settles(stack: &mut ExcStack, exception: u32) -> bool {
+    if stack.marks() == 0 {
+        return false;
+    }
+    let Some(found) = stack.find(exception) else {
+        return false;
+    };
+    if found.depth != stack.frames() {
+        return false;
+    }
+    stack.settle(found.mark);
+    true
+}
+
+fn unwinds(stack: &mut ExcStack) -> bool {
+    if stack.frames() == 0 {
+        return false;
+    }
     let inner = matches!(stack.unwind_to(1), Some(ExitMark { reg: 4, .. }));
     let none = stack.unwind_to(1).is_none();
     let outer = matches!(stack.unwind_all(), Some(ExitMark { reg: 0, .. }));
-    Ok(
-        is_taken_back
-            && is_refused
-            && (topmost, settled, sizes) == ((2, 1, 6), (2, 0, 5), (2, 5))
-            && inner
-            && none
-            && outer
-            && stack.unwind_all().is_none()
-            && stack.marks() == 0,
-    )
+    inner && none && outer && stack.unwind_all().is_none() && stack.marks() == 0
+}
+
+// The second frame is settled and left.
+fn does_all(stack: &mut ExcStack) -> bool {
+    sets_all(stack)
+        && refusal(stack).is_none()
+        && found(stack, 7) == (2, 1, 6)
+        && sets(stack, &Mark::Exit { reg: 4, call: EXIT })
+        && refusal(stack) == Some(LwpErr::InvalidArg)
+        && settles(stack, 7)
+        && found(stack, 7) == (2, 0, 5)
+        && (stack.frames(), stack.marks()) == (2, 5)
+        && unwinds(stack)
+}
+
+fn is_done(alloc: Global) -> bool {
+    let Ok(mut stack) = ExcStack::new(alloc) else {
+        return false;
+    };
+    does_all(&mut stack)
 }
 
 #[test]
-fn handlers_are_found_and_exits_unwound(rt: HostRuntime) -> Result<(), Fail> {
-    let mut stack = ExcStack::new(rt.alloc())?;
-    assert!(rt; does_all(&mut stack)?);
-    Ok(())
+fn handlers_are_found_and_exits_unwound(rt: HostRuntime) {
+    assert!(rt; is_done(rt.alloc()));
 }

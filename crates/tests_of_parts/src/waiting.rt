@@ -1,6 +1,7 @@
 ghost use Rattle.std.specs.Prelude.{◌≡◌};
 ghost use Rattle.waiting_list.specs.Line.{empty_line};
 
+use crate::lists::holds;
 use lwp_types::Tid;
 use waiting_list::{Waiting, WaitingList};
 
@@ -25,18 +26,18 @@ fn waiting(what: u64, tid: Tid, prio: u32) -> Waiting
 
 // Whose waits are found first and best for a thing, 0 where there is none.
 fn found(line: &WaitingList, what: u64) -> (u64, u64) {
-    (
-        line.first(what).map_or(0, |next| next.tid.number),
-        line.best(what).map_or(0, |next| next.tid.number),
-    )
+    (number(line.first(what)), number(line.best(what)))
+}
+
+fn number(next: Option<Waiting>) -> u64 {
+    match next {
+        Some(next) => next.tid.number,
+        None => 0,
+    }
 }
 
 fn knows(line: &WaitingList) -> bool {
-    let Ok(ids) = line.tids(7) else {
-        return false;
-    };
-    ids.len() == 3
-        && (ids.get(0), ids.get(1), ids.get(2)) == (1, 3, 4)
+    holds(line.tids(7), &[1, 3, 4])
         && line.has(8)
         && line.found(7, D).is_some()
         && line.found(8, D).is_none()

@@ -1,8 +1,9 @@
 ghost use Rattle.std.specs.Prelude.{◌≡◌};
 ghost use Rattle.conditions.specs.ConditionTable.{empty_table};
 
+use crate::lists::holds;
 use conditions::{Conds, WaitRec};
-use lwp_types::{Cid, IdList, Mid, NoMemory, Tid};
+use lwp_types::{Cid, Mid, Tid};
 
 const MON: Mid = Mid { number: 7 };
 
@@ -13,6 +14,8 @@ const B: Tid = Tid { number: 2 };
 const C: Tid = Tid { number: 3 };
 
 const FIRST: Cid = Cid { number: 0 };
+
+const SECOND: Cid = Cid { number: 1 };
 
 fn wait_on(cond: Cid, tid: Tid) -> WaitRec
     ensures { result ≡ record { cond = cond; tid = tid; prio = 1; depth = 2 } }
@@ -26,17 +29,39 @@ fn wait_on(cond: Cid, tid: Tid) -> WaitRec
 }
 
 fn is_of(wait: Option<WaitRec>, tid: Tid) -> bool {
-    wait.is_some_and(|wait| wait.tid == tid)
+    matches!(wait, Some(wait) if wait.tid == tid)
 }
 
-fn holds(ids: Result<IdList, NoMemory>, wanted: &[u64]) -> bool {
-    let Ok(ids) = ids else {
+fn knows(conds: &Conds) -> bool {
+    conds.waited(FIRST)
+        && conds.waited_of(MON)
+        && holds(conds.waiters(FIRST), &[1, 2, 3])
+        && holds(conds.list(), &[0, 1])
+}
+
+// The greatest priority is notified; then one thread is woken, and the last of all.
+fn wakes(conds: &mut Conds) -> bool {
+    let woken = is_of(conds.notify(FIRST), B)
+        && is_of(conds.send_to(FIRST, C), C)
+        && conds.send_to(FIRST, C).is_none();
+    conds.forget(B);
+    woken && is_of(conds.broadcast(FIRST), A) && conds.broadcast(FIRST).is_none()
+}
+
+// A condition ends, and the monitor takes the other with it.
+fn ends(conds: &mut Conds) -> bool {
+    if conds.monitor_of(SECOND) != Some(MON) || conds.waited(SECOND) {
         return false;
-    };
-    ids.len() == wanted.len() && (0..ids.len()).all(|i| ids.get(i) == wanted[i])
+    }
+    conds.destroy(SECOND);
+    if conds.waited_of(MON) {
+        return false;
+    }
+    conds.destroy_of(MON);
+    conds.monitor_of(FIRST).is_none()
 }
 
-// The greatest priority is notified; then one thread is woken, and the last of all; the monitor takes its conditions with it.
+// Two conditions are born, and three threads wait on the first.
 fn does_all(conds: &mut Conds) -> bool
     requires { conds.old ≡ empty_table 10 }
 {
@@ -53,24 +78,7 @@ fn does_all(conds: &mut Conds) -> bool
     conds.wait(wait_on(FIRST, B));
     conds.wait(wait_on(FIRST, C));
     conds.requeue(B, 3);
-    let waited = conds.waited(FIRST) && conds.waited_of(MON);
-    let listed = holds(conds.waiters(FIRST), &[1, 2, 3]) && holds(conds.list(), &[0, 1]);
-    let notified = is_of(conds.notify(FIRST), B);
-    let sent = is_of(conds.send_to(FIRST, C), C) && conds.send_to(FIRST, C).is_none();
-    conds.forget(B);
-    let woken = is_of(conds.broadcast(FIRST), A);
-    let last = conds.broadcast(FIRST).is_none();
-    let known = conds.monitor_of(second) == Some(MON);
-    conds.destroy(second);
-    conds.destroy_of(MON);
-    waited
-        && listed
-        && notified
-        && sent
-        && woken
-        && last
-        && known
-        && conds.monitor_of(FIRST).is_none()
+    second == SECOND && knows(conds) && wakes(conds) && ends(conds)
 }
 
 #[test]

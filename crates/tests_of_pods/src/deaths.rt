@@ -1,7 +1,9 @@
-ghost use Rattle.std.specs.Prelude.{◌≡◌, ◌<◌, [], IfOk, length};
+ghost use Rattle.std.specs.Prelude.{◌≡◌, ◌<◌, ◌∷◌, [], IfOk, OnOk, length};
 ghost use Rattle.death_cleanup.specs.Example as example;
 ghost use Rattle.death_cleanup.specs.Example.{thread};
 ghost use Rattle.death_cleanup.specs.Ties.{LawfulParts};
+ghost use Rattle.exc_stack.specs.Stack.{one_frame};
+ghost use Rattle.monitors.specs.MonitorTable.{empty_table};
 ghost use Rattle.stale_ids.specs.Register.{inserted};
 
 use agents::Agents;
@@ -16,7 +18,6 @@ use pod_sched::Sched;
 use rendezvous::Mail;
 use stale_ids::Registry;
 use std::alloc::Global;
-use std::test::Fail;
 
 const PLAIN: Flags = Flags {
     suspended: false,
@@ -29,7 +30,7 @@ const DYING: Tid = Tid { number: 0 };
 const AGENT: Tid = Tid { number: 8 };
 
 // A thread is born that waits so, with these marks.
-fn bear(ids: &mut Registry<Kind>, block: Block, stack: ExcStack)
+fn bear_with(ids: &mut Registry<Kind>, block: Block, stack: ExcStack)
     requires room { length ids.old.live < ids.old.places }
     requires more { ids.old.births < ids.old.limit }
     ensures { ids.new ≡ inserted ids.old (thread block stack) }
@@ -39,6 +40,17 @@ fn bear(ids: &mut Registry<Kind>, block: Block, stack: ExcStack)
         block,
         stack,
     }));
+}
+
+// A thread is born that waits so, in its procedure.
+fn bear(ids: &mut Registry<Kind>, alloc: Global, block: Block) -> Result<(), NoMemory>
+    requires room { length ids.old.live < ids.old.places }
+    requires more { ids.old.births < ids.old.limit }
+    ensures { OnOk result (ids.new ≡ inserted ids.old (thread block one_frame)) }
+{
+    let stack = ExcStack::new(alloc)?;
+    bear_with(ids, block, stack);
+    Ok(())
 }
 
 // The stack with five exit procedures: one of them resumes the dying thread itself.
@@ -62,36 +74,30 @@ fn five_exits(alloc: Global) -> Result<ExcStack, NoMemory>
     Ok(stack)
 }
 
+// All are born.
+fn bear_all(ids: &mut Registry<Kind>, alloc: Global) -> Result<(), NoMemory>
+    requires { ids.old ≡ record { live = []; births = 0; limit = 100; places = 9 } }
+    ensures { OnOk result (ids.new ≡ example.ids) }
+{
+    let stack = five_exits(alloc)?;
+    bear_with(ids, Block::Waiting(Cid { number: 0 }), stack);
+    bear(ids, alloc, Block::Sending)?;
+    bear(ids, alloc, Block::Sending)?;
+    bear(ids, alloc, Block::Receiving(Some(DYING)))?;
+    bear(ids, alloc, Block::Joining(DYING))?;
+    bear(ids, alloc, Block::Joining(DYING))?;
+    bear(ids, alloc, Block::Entering(Mid { number: 0 }))?;
+    bear(ids, alloc, Block::Entering(Mid { number: 1 }))?;
+    let _ = ids.insert(Kind::Agent);
+    Ok(())
+}
+
 fn living(alloc: Global) -> Result<Registry<Kind>, NoMemory>
     ensures { IfOk result (λ ids. ids ≡ example.ids) }
 {
     let mut ids = Registry::new(alloc, 100);
     ids.reserve(9)?;
-    bear(
-        &mut ids,
-        Block::Waiting(Cid { number: 0 }),
-        five_exits(alloc)?,
-    );
-    bear(&mut ids, Block::Sending, ExcStack::new(alloc)?);
-    bear(&mut ids, Block::Sending, ExcStack::new(alloc)?);
-    bear(
-        &mut ids,
-        Block::Receiving(Some(DYING)),
-        ExcStack::new(alloc)?,
-    );
-    bear(&mut ids, Block::Joining(DYING), ExcStack::new(alloc)?);
-    bear(&mut ids, Block::Joining(DYING), ExcStack::new(alloc)?);
-    bear(
-        &mut ids,
-        Block::Entering(Mid { number: 0 }),
-        ExcStack::new(alloc)?,
-    );
-    bear(
-        &mut ids,
-        Block::Entering(Mid { number: 1 }),
-        ExcStack::new(alloc)?,
-    );
-    let _ = ids.insert(Kind::Agent);
+    bear_all(&mut ids, alloc)?;
     Ok(ids)
 }
 
@@ -143,20 +149,37 @@ fn posted(alloc: Global) -> Result<Mail, NoMemory>
     Ok(mail)
 }
 
-fn held(alloc: Global) -> Result<Monitors, NoMemory>
-    ensures { IfOk result (λ m. m ≡ example.mons) }
+// Three monitors are born.
+fn create_three(mons: &mut Monitors) -> Result<(), NoMemory>
+    requires { mons.old ≡ empty_table 100 }
+    ensures { OnOk result (mons.new ≡ record { monitors = 0 ∷ 1 ∷ 2 ∷ []; births = 3; limit = 100; locks = []; requests = []; places = 8 }) }
 {
-    let first = Mid { number: 0 };
-    let second = Mid { number: 1 };
-    let mut mons = Monitors::new(alloc, 100);
     mons.reserve(8)?;
     mons.create()?;
     mons.create()?;
     mons.create()?;
+    Ok(())
+}
+
+// The dying thread holds two of them, and somebody waits for each.
+fn hold_two(mons: &mut Monitors)
+    requires { mons.old ≡ record { monitors = 0 ∷ 1 ∷ 2 ∷ []; births = 3; limit = 100; locks = []; requests = []; places = 8 } }
+    ensures { mons.new ≡ example.mons }
+{
+    let first = Mid { number: 0 };
+    let second = Mid { number: 1 };
     mons.enter(first, DYING);
     mons.enter(second, DYING);
     mons.request(first, Tid { number: 6 }, 5, 1);
     mons.request(second, Tid { number: 7 }, 5, 1);
+}
+
+fn held(alloc: Global) -> Result<Monitors, NoMemory>
+    ensures { IfOk result (λ m. m ≡ example.mons) }
+{
+    let mut mons = Monitors::new(alloc, 100);
+    create_three(&mut mons)?;
+    hold_two(&mut mons);
     Ok(mons)
 }
 
@@ -217,15 +240,6 @@ fn parts(alloc: Global) -> Result<Parts, NoMemory>
     })
 }
 
-// The parts once the first thread has died, and what is told of it.
-fn after_the_death(alloc: Global, effects: &mut Effects) -> Result<Parts, NoMemory>
-    requires { effects.old ≡ [] }
-{
-    let mut parts = parts(alloc)?;
-    die(&mut parts, DYING, effects);
-    Ok(parts)
-}
-
 // An effect as its letter, whose it is or its number, and the answer: `x` an exit procedure, `=` an answer, `d` a death.
 fn deed_of(effect: &Effect) -> (u8, u64, u8) {
     match effect {
@@ -265,20 +279,55 @@ const TOLD: [(u8, u64, u8); 13] = [
     (b'd', 0, 0),
 ];
 
-#[test]
-fn a_death_in_full(rt: HostRuntime) -> Result<(), Fail> {
-    let mut effects = Effects::new(rt.alloc()).map_err(|_| "no memory")?;
-    let mut parts = after_the_death(rt.alloc(), &mut effects).map_err(|_| "no memory")?;
-    assert_eq!(rt; effects.len(), TOLD.len());
+// The place of the first effect that isn't as it is to be; how many there are, where each is.
+fn told(effects: &Effects) -> usize {
     for place in 0..TOLD.len() {
-        if place < effects.len() {
-            assert_eq!(rt; deed_of(effects.get(place)), TOLD[place]);
+        if place >= effects.len() || deed_of(effects.get(place)) != TOLD[place] {
+            return place;
         }
     }
-    assert_eq!(rt; parts.sched.current(), Some(Tid { number: 7 }));
-    assert_eq!(rt; parts.exit, 7);
-    assert!(rt; !parts.ids.is_live(0) && !parts.ids.is_live(8));
-    assert_eq!(rt; parts.mail.pop_to(DYING), None);
-    assert_eq!(rt; parts.agents.owner_of(AGENT), None);
-    Ok(())
+    effects.len()
+}
+
+// The next of the waiting threads runs, with the exit code, and nothing is left of the dying one, its letters and its agent.
+// Answers how many of that hold before one that doesn't.
+fn left(parts: &mut Parts) -> u32 {
+    if parts.sched.current() != Some(Tid { number: 7 }) {
+        return 0;
+    }
+    if parts.exit != 7 {
+        return 1;
+    }
+    if parts.ids.is_live(0) || parts.ids.is_live(8) {
+        return 2;
+    }
+    if parts.mail.pop_to(DYING).is_some() {
+        return 3;
+    }
+    if parts.agents.owner_of(AGENT).is_some() {
+        return 4;
+    }
+    5
+}
+
+// The first thread dies.
+fn dies(alloc: Global, effects: &mut Effects) -> Result<u32, NoMemory>
+    requires { effects.old ≡ [] }
+{
+    let mut parts = parts(alloc)?;
+    die(&mut parts, DYING, effects);
+    Ok(left(&mut parts))
+}
+
+fn told_of_a_death(alloc: Global) -> Result<(usize, u32), NoMemory> {
+    let mut effects = Effects::new(alloc)?;
+    let left = dies(alloc, &mut effects)?;
+    Ok((told(&effects), left))
+}
+
+#[test]
+fn a_death_in_full(rt: HostRuntime) {
+    let (told, left) = told_of_a_death(rt.alloc()).unwrap_or((0, 0));
+    assert_eq!(rt; told, TOLD.len());
+    assert_eq!(rt; left, 5);
 }

@@ -12,6 +12,13 @@ fn waits(body: &mut StoreBody, env: &mut Env) -> Result<bool, NoMemory> {
     Ok(matches!(call, Call::Recv { .. }))
 }
 
+fn is_reply(call: &Call, sender: Tid, told: &[u8]) -> bool {
+    match call {
+        Call::Reply { to, text } => *to == sender && text.bytes() == told,
+        _ => false,
+    }
+}
+
 // Whether a store replies so to this text of a sender.
 fn tells(
     body: &mut StoreBody,
@@ -27,11 +34,7 @@ fn tells(
     let room = 240;
     let mut call = Call::Return;
     body.poll(env, &Answer::Letter { from, text, room }, &mut call)?;
-    let is_told = match call {
-        Call::Reply { to, text } => to == from && text.bytes() == told,
-        _ => false,
-    };
-    Ok(waits(body, env)? && is_told)
+    Ok(is_reply(&call, from, told) && waits(body, env)?)
 }
 
 // One sender puts a hundred keys.
@@ -46,29 +49,30 @@ fn fills(body: &mut StoreBody, env: &mut Env) -> Result<bool, NoMemory> {
 }
 
 // A sender, its text, and what it is told.
-const ROWS: [(u64, &str, &str); 10] = [
-    (5, "put k v", "full"),
-    (5, "get k", "none"),
-    (5, "put 57 v", "ok"),
-    (5, "get 57", "is v"),
-    (6, "put k v", "ok"),
-    (5, "del 00", "ok"),
-    (5, "put k v", "ok"),
-    (5, "put 00", "full"),
-    (5, "get 99", "is"),
-    (6, "get k", "is v"),
+const ROWS: [(u64, &[u8], &[u8]); 10] = [
+    (5, b"put k v", b"full"),
+    (5, b"get k", b"none"),
+    (5, b"put 57 v", b"ok"),
+    (5, b"get 57", b"is v"),
+    (6, b"put k v", b"ok"),
+    (5, b"del 00", b"ok"),
+    (5, b"put k v", b"ok"),
+    (5, b"put 00", b"full"),
+    (5, b"get 99", b"is"),
+    (6, b"get k", b"is v"),
 ];
 
-fn tells_all(body: &mut StoreBody, env: &mut Env) -> Result<bool, NoMemory> {
-    if !waits(body, env)? || !fills(body, env)? {
-        return Ok(false);
-    }
-    for (from, text, told) in ROWS {
-        if !tells(body, env, from, text.as_bytes(), told.as_bytes())? {
+fn tells_rows(body: &mut StoreBody, env: &mut Env) -> Result<bool, NoMemory> {
+    for (from, text, told) in &ROWS {
+        if !tells(body, env, *from, text, told)? {
             return Ok(false);
         }
     }
     Ok(true)
+}
+
+fn tells_all(body: &mut StoreBody, env: &mut Env) -> Result<bool, NoMemory> {
+    Ok(waits(body, env)? && fills(body, env)? && tells_rows(body, env)?)
 }
 
 fn is_done(alloc: Global) -> Result<bool, NoMemory> {

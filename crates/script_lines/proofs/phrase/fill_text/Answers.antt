@@ -4,3 +4,6 @@ use Rattle.script_lines.proofs.phrase.fill_text.Goals as goal
 
 pub returns-in-32 : goal.returns-in-32
 returns-in-32 c = grind (arith, common_steps)
+
+pub returns-in_default : goal.returns-in_default
+returns-in_default c = grind (arith, common_steps)

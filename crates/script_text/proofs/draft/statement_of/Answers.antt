@@ -1,9 +1,10 @@
-use Rattle.std.proofs.Common.{◌≡◌, ◌∙◌, ap, refl, sym}
+use Rattle.std.proofs.Common.{arith, ◌≡◌, ◌∙◌, ap, refl, sym}
 use Rattle.script_lines.specs.Phrase.{Phrase}
 use Rattle.script_lines.specs.declared.table.Op.{Op}
 use Rattle.script_lines.specs.declared.table.Op.TheVariants as op
 use Rattle.script_text.specs.Meaning.{lock_statement, statement_of}
 use Rattle.script_text.specs.declared.draft.Places.{Places}
+use Rattle.std.proofs.lemmas.Grind.{common_steps}
 use Rattle.script_text.proofs.draft.statement_of.Goals as goal
 
 -- the statement of a line whose operation is this one
@@ -68,3 +69,12 @@ returns-in-Join c = rw c.whom-in-Join.ensures (by_op op.Join c.args.at c.args.ph
 
 pub returns-in-Reply : goal.returns-in-Reply
 returns-in-Reply c = rw c.whom-in-Reply.ensures (by_op op.Reply c.args.at c.args.phrase.now (ap (λ (r : Phrase). r.op) (sym c.phrase.view_is) ∙ c.in-Reply.is))
+
+pub returns-in-SetPri : goal.returns-in-SetPri
+returns-in-SetPri c = grind (arith, common_steps)
+
+pub returns-in-Send : goal.returns-in-Send
+returns-in-Send c = grind (arith, common_steps)
+
+pub returns-in-Recv : goal.returns-in-Recv
+returns-in-Recv c = grind (arith, common_steps)

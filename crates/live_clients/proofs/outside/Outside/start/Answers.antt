@@ -1,12 +1,13 @@
 use Rattle.event_gate.specs.Inlet.{Intake}
-use Rattle.live_clients.proofs.Seats.{all_out, first_seat, later_seats, no_vacant, open_for, out_more, out_of_seat, seat_ready}
+use Rattle.live_clients.proofs.Seats.{all_out, all_seats, first_seat, later_seats, no_vacant, none_out, open_for, out_more, out_of_seat, seat_ready}
 use Rattle.live_clients.proofs.outside.Outside.start.Goals as goal
 use Rattle.live_clients.specs.Ends.{IsReady, posting_of}
+use Rattle.live_clients.specs.Inlets.{fresh}
 use Rattle.live_clients.specs.Opening.{HasSeat, HaveSeatsFrom}
 use Rattle.live_clients.specs.Served.{texts_of}
 use Rattle.live_clients.specs.Ties.{IsOut, IsWork, any_intake}
 use Rattle.live_clients.specs.declared.outside.Client.{Client}
-use Rattle.std.proofs.Common.{List, [], ap, arith, length, map, slice_index_or, subst, suc, sym, vec_len, ℕ, ◌∙◌, ◌≡◌, ◌≤◌}
+use Rattle.std.proofs.Common.{List, [], ap, arith, length, map, refl, subst, suc, sym, vec_len, ℕ, ◌∙◌, ◌≡◌, ◌≤◌}
 use Rattle.std.proofs.lemmas.List.{get_or-map, length-map}
 use Rattle.std.proofs.lemmas.List.Elements.{All-map}
 
@@ -63,12 +64,11 @@ loop-seat-preserved g c =
     let last : IsOut events texts inlets n client = out_of_seat events texts inlets n c.in-Some-seat.seat client seat c.start_client.ensures.inlet work in (
       tt,
       tt,
-      subst (λ (m : ℕ). HaveSeatsFrom events texts inlets m c.next.new.self.rest.items) (sym more) (later_seats events texts inlets n c.in-Some.seat c.next.new.self.rest.items seats),
+      later_seats events texts inlets n (vec_len c.push_reserved.new.self) c.in-Some.seat c.next.new.self.rest.items more seats,
       omega (arith, h3, rest, more),
       omega (arith, h4, rest, gates),
       omega (arith, h5, room),
-      (λ b d lt. subst (λ (xs : List Client). IsOut events texts inlets b (slice_index_or xs b d)) (sym c.push_reserved.ensures.items)
-          (out_more events texts inlets c.loop-seat.out.items client (λ k e low. h.6 k e (omega (arith, low, size))) (subst (λ (m : ℕ). IsOut events texts inlets m client) size last) b d (omega (arith, lt, more, size)))),
+      out_more events texts inlets n (vec_len c.push_reserved.new.self) c.loop-seat.out.items c.push_reserved.new.self.items client size more c.push_reserved.ensures.items h.6 last,
     )
 
 pub returns-clause-tied : goal.returns-clause-tied
@@ -86,3 +86,64 @@ returns-clause-tied g c =
     (All-map (λ ts. length ts ≤ 20000) (λ v. v.items) c.args.texts.now c.requires.few)
     (omega (arith, h3, size, rest, none))
     (λ b d lt. h.6 b d (omega (arith, lt, size)))
+
+pub loop-seat-smaller : goal.loop-seat-smaller
+loop-seat-smaller g c =
+    let less = ap length c.in-Some.ensures.steps.0 in
+    let before = c.loop-seat.seat-iterator.rest.ok.0 in
+    let after = c.next.new.self.rest.ok.0 in
+    omega (arith, less, before, after)
+
+pub unreachable-requires-in_default-next : goal.unreachable-requires-in_default-next
+unreachable-requires-in_default-next g c =
+    let left = c.loop-seat.invariant.4 in
+    let seats = ap length c.in-Some.ensures.steps.0 in
+    let none = c.in_default-next.ensures.cases.0 in
+    let size = c.loop-seat.gates.rest.ok.0 in
+    omega (arith, left, seats, none, size)
+
+pub bounds-texts-len : goal.bounds-texts-len
+bounds-texts-len g c =
+    let all = c.loop-seat.invariant.3 in
+    let seats = ap length c.in-Some.ensures.steps.0 in
+    let len = c.len.ensures in
+    let as_many = c.requires.texts in
+    omega (arith, all, seats, len, as_many)
+
+pub push_reserved-requires : goal.push_reserved-requires
+push_reserved-requires g c =
+    let all = c.loop-seat.invariant.3 in
+    let room = c.loop-seat.invariant.5 in
+    let seats = ap length c.in-Some.ensures.steps.0 in
+    omega (arith, all, room, seats)
+
+pub returns-clause-events : goal.returns-clause-events
+returns-clause-events g c = refl
+
+pub returns-clause-texts : goal.returns-clause-texts
+returns-clause-texts g c = refl
+
+fresh_again : (t : Intake) (clients : List ℕ) → t ≡ fresh t.place t.event clients → t ≡ fresh t.place t.event t.noted
+fresh_again t clients h = h ∙ ap (fresh t.place t.event) (sym (ap (λ (u : Intake). u.noted) h))
+
+pub returns-clause-fresh : goal.returns-clause-fresh
+returns-clause-fresh g c = λ k d lt. fresh_again _ _ (c.in_ok-inlets.ensures.new k d lt)
+
+pub loop-seat-init : goal.loop-seat-init
+loop-seat-init g c =
+    let opened = c.in_ok-inlets.field-0 in
+    let rest = c.into_iter-seat-iterator.ensures.into_iter_gives.0 in
+    let size = ap length rest in
+    let as_many = c.in_ok-inlets.ensures.size in
+    let none = c.in_ok-out.ensures.len in
+    let room = c.in_ok-out.ensures.capacity in
+    let given = ap length c.into_iter-gates.ensures.rest in
+    let gates = c.requires.gates in (
+      tt,
+      tt,
+      all_seats c.args.events.now (map (λ v. v.items) c.args.texts.now) (map any_intake opened.inlets.items) opened.seats.items c.into_iter-seat-iterator.result.rest.items (vec_len c.in_ok-out.out) c.in_ok-inlets.ensures c.requires.events rest none,
+      omega (arith, size, as_many, none),
+      omega (arith, size, as_many, given, gates),
+      omega (arith, room),
+      none_out c.args.events.now (map (λ v. v.items) c.args.texts.now) (map any_intake opened.inlets.items) c.in_ok-out.out.items (vec_len c.in_ok-out.out) none,
+    )
