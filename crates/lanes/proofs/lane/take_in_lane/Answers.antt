@@ -1,4 +1,4 @@
-use Rattle.std.proofs.Common.{◌≡◌, ◌<◌, ℕ, List, ◌∷◌, length, Option, Some, IfSome, ap, sym, subst, ◌∙◌, arith}
+use Rattle.std.proofs.Common.{rules, ◌≡◌, ◌<◌, ℕ, List, ◌∷◌, length, Option, Some, IfSome, ap, sym, subst, ◌∙◌, arith}
 use Rattle.atomic_table.specs.Table.{rest}
 use Rattle.atomic_table.specs.Seated.{TableId}
 use Rattle.lwp_types.specs.declared.call.Line.{Line}
@@ -31,3 +31,6 @@ returns-clause-line c =
     let slots = ap (λ (t : TableId). t.slots) c.requires.seat.same in
     subst (λ (o : Option Line). IfSome o (λ x. Hits c.args.seat.now.me.0 x c.load-posted.new.seat.me.0 × (c.args.known < 20000))) is
     (record { after = hit.1; queued = hit.3.0; sees = hit.3.1 }, omega (arith, hit.4, slots, c.requires.seat.small, c.requires.known))
+
+pub returns-then-from-posted-clause-nothing : goal.returns-then-from-posted-clause-nothing
+returns-then-from-posted-clause-nothing c = search rules

@@ -2,7 +2,7 @@ use Rattle.agents.proofs.KeptLemmas.{IsKept-holding}
 use Rattle.agents.proofs.Standing.{agent_found, low_found, noted-holding, unarmed-held}
 use Rattle.agents.proofs.agents.Agents.hold.Goals as goal
 use Rattle.lwp_types.specs.Agents.{event_agent, is_for}
-use Rattle.std.proofs.Common.{ap, arith, cond, sym, ◌∙◌}
+use Rattle.std.proofs.Common.{ap, arith, cond, rules, sym, ◌∙◌}
 
 pub with_bit-self-inside-requires : goal.with_bit-self-inside-requires
 with_bit-self-inside-requires c =
@@ -20,3 +20,9 @@ invariant_of-self c =
     let bits = c.with_bit-self-inside in
     rw (c.set_holding.ensures.items, c.set_holding.ensures.capacity)
     (IsKept-holding was row.number _ _ (noted-holding row.number _ rows row c.self.inside.armed bits.result was.in_order.rises known.1 (omega arith) bits.type_inv was.noted (bits.ensures.here ∙ ap (λ b. cond b 1 0) (sym unset)) bits.ensures.others))
+
+pub returns-in-Some : goal.returns-in-Some
+returns-in-Some c = search rules
+
+pub returns-in_default : goal.returns-in_default
+returns-in_default c = search rules

@@ -1,5 +1,5 @@
-use Rattle.std.proofs.Common.{rules}
 use Rattle.buffer_bodies.proofs.market.MarketProgramActor.body_of.Goals as goal
+use Rattle.std.proofs.Common.{rules}
 
 pub returns : goal.returns
 returns c = search rules

@@ -1,6 +1,6 @@
 use Rattle.monitors.proofs.KeptLemmas.{IsKept-created, IsKept-roomier, length-kept_locks}
 use Rattle.monitors.proofs.monitors.Monitors.create.Goals as goal
-use Rattle.std.proofs.Common.{arith}
+use Rattle.std.proofs.Common.{arith, rules}
 
 pub overflow_sub-len : goal.overflow_sub-len
 overflow_sub-len c = omega (arith, length-kept_locks c.self.invariant)
@@ -14,3 +14,9 @@ pub invariant_of-self-2 : goal.invariant_of-self-2
 invariant_of-self-2 c =
     rw (c.in_ok-push.ensures.items, c.reserve.ensures.items)
     (IsKept-created c.self.invariant _ _ (omega (arith, length-kept_locks c.self.invariant, c.in_ok-reserve.ensures.ok, c.reserve.ensures.len)))
+
+pub returns-clause-value : goal.returns-clause-value
+returns-clause-value c = search rules
+
+pub returns-clause-ok : goal.returns-clause-ok
+returns-clause-ok c = search rules

@@ -1,0 +1,5 @@
+use Rattle.script_body.proofs.frame.Frame.remove_handler.Goals as goal
+use Rattle.std.proofs.Common.{rules}
+
+pub returns-clause-after : goal.returns-clause-after
+returns-clause-after c = search rules
