@@ -1,4 +1,4 @@
-use Rattle.std.proofs.Common.{arith}
+use Rattle.std.proofs.Common.{arith, rules}
 use Rattle.stale_ids.proofs.IndexLemmas.{length-pairs, inserted_pairs, value_of_unborn, IsSound-insert}
 use Rattle.stale_ids.proofs.registry.Registry.insert.Goals as goal
 
@@ -35,3 +35,12 @@ returns-then-self-clause-fresh g c = rw (← c.self.view_is) (value_of_unborn _ 
 
 pub returns-clause-fresh : goal.returns-clause-fresh
 returns-clause-fresh g c = rw (← c.self.view_is) (value_of_unborn _ _ _ c.self.invariant.born)
+
+pub returns-clause-number : goal.returns-clause-number
+returns-clause-number g c = search rules
+
+pub overflow_add-self : goal.overflow_add-self
+overflow_add-self g c = search rules
+
+pub returns-clause-at_limit : goal.returns-clause-at_limit
+returns-clause-at_limit g c = search rules
