@@ -7,7 +7,8 @@ ghost use Rattle.death_cleanup.specs.Ties.{InStep, LawfulParts};
 ghost use Rattle.death_cleanup.specs.View.{state_of};
 ghost use Rattle.lwp_types.specs.Agents.{armed, deliver};
 ghost use Rattle.lwp_types.specs.Choice.{is_eligible_in};
-ghost use Rattle.pod_sched.specs.Schedule.{choice};
+ghost use Rattle.pod_sched.specs.Schedule.{choice, prio_in};
+ghost use Rattle.lwp_types.specs.First.{FindsBest};
 ghost use Rattle.lwp_types.specs.Lawful.{Lawful};
 ghost use Rattle.lwp_types.specs.State.{is_id, opening};
 ghost use Rattle.lwp_types.specs.Step.{case_of, step, end_effects, ends};
@@ -322,6 +323,14 @@ fn carry_out(
     }
 }
 
+// Whether the pod has ended, or ends now: nobody is left to run, and all who live serve.
+fn has_ended(parts: &Parts, next: &Option<Tid>) -> bool
+    requires { FindsBest (prio_in parts.now.sched.threads) parts.now.sched.order next.now }
+    ensures { result ≡ ends (state_of parts.now) }
+{
+    parts.ended || (next.is_none() && all_serve(parts))
+}
+
 // The pod ends, if nobody is left to run and nobody is worth waiting for. The answer is who is next by the scheduler.
 fn finish(parts: &mut Parts, effects: &mut Effects) -> Option<Tid>
     requires step { InStep parts.old }
@@ -335,7 +344,7 @@ fn finish(parts: &mut Parts, effects: &mut Effects) -> Option<Tid>
     ensures next { result ≡ choice parts.new.sched }
 {
     let next = parts.sched.current();
-    parts.ended = parts.ended || (next.is_none() && all_serve(parts));
+    parts.ended = has_ended(parts, &next);
     if parts.ended {
         tell_end(parts.exit as u8, effects);
     }
