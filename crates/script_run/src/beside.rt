@@ -60,6 +60,28 @@ fn go_beside<'p, 's, K: Sink, R: Wait>(
     unreachable!()
 }
 
+// All threads have ended, and the run goes on to its end with whatever they have posted.
+fn go_behind<'p, 's, K: Sink, R: Wait>(
+    rt: &R,
+    played: &mut Run<ThreadBody<'p>, ScriptProgram<'p>>,
+    outside: &mut Outside<'s>,
+    sink: &mut K,
+) -> Result<Halt, RunErr>
+    requires sound { played.old.failed ≡ false }
+    requires tied { IsTied outside.old }
+    requires closed { IsClosed outside.old }
+    ensures goes { GoesBeside (record { old = K.written sink.old; new = K.written sink.new; faults_old = K.faults sink.old; faults_new = K.faults sink.new }) played.old played.new (intakes outside.old) (intakes outside.new) result }
+    ensures gave { EachInlet Gave (intakes outside.old) (intakes outside.new) }
+    ensures back { AreBack (events_of outside.old) (all_texts outside.old) (intakes outside.new) }
+    ensures halts { IfOk result (Halts body_next bodies_of played.new (intakes outside.new)) }
+{
+    closed_are_served();
+    match go_live(rt, played, outside, sink)? {
+        Live::Halt(halt) => Ok(halt),
+        Live::Quiet => unreachable!(),
+    }
+}
+
 /// The run goes on to its end: first beside the threads, and when all have ended with whatever they have posted. They have ended
 /// after an error too. A post that was refused is want of memory.
 pub fn go_to_end<'p, 's, K: Sink, R: Threads + Wait>(
@@ -77,15 +99,11 @@ pub fn go_to_end<'p, 's, K: Sink, R: Threads + Wait>(
     ensures all { OnOk result (KnowAll (events_of outside.old) (all_texts outside.old) (intakes outside.new)) }
     ensures halts { IfOk result (Halts body_next bodies_of played.new (intakes outside.new)) }
 {
-    closed_are_served();
     let beside = go_beside(rt, played, outside, bell, clients, sink);
     let all = outside.close(rt);
     beside?;
     if !all {
         return Err(RunErr::NoMemory);
     }
-    match go_live(rt, played, outside, sink)? {
-        Live::Halt(halt) => Ok(halt),
-        Live::Quiet => unreachable!(),
-    }
+    go_behind(rt, played, outside, sink)
 }
