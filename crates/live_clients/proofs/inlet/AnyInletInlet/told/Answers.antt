@@ -1,4 +1,5 @@
 use Rattle.live_clients.proofs.inlet.AnyInletInlet.told.Goals as goal
+use Rattle.std.proofs.Common.{rules}
 
 pub returns-in-Lane : goal.returns-in-Lane
-returns-in-Lane c = rw c.in-Lane.is c.told.ensures
+returns-in-Lane c = search rules
