@@ -1,3 +1,4 @@
-pub mod KeptLemmas
+pub mod IndexLemmas
 pub mod Words
 pub mod Standing
+pub mod KeptLemmas

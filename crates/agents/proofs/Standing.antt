@@ -1,42 +1,108 @@
--- One agent among the others: where it stands, and what a change of it does to the events.
-use Rattle.agents.specs.Kept.{IsNoted, is_set}
-use Rattle.agents.proofs.KeptLemmas.{both_true}
-use Rattle.agents.proofs.Words.{one_back, unset-above}
-use Rattle.lwp_types.specs.Agents.{event_agent, is_armed, is_for}
-use Rattle.lwp_types.specs.Letters.{with_holding}
-use Rattle.lwp_types.specs.State.{agent_numbers, agent_of, rises}
+-- One agent among the others: where it stands, and what a change of it does to the list.
+use Rattle.agents.specs.Kept.{IsAgentAt}
+use Rattle.lwp_types.specs.Agents.{without_agent}
+use Rattle.lwp_types.specs.CountLaws.{count-cons, one}
+use Rattle.lwp_types.specs.Letters.{holding_set, with_holding}
+use Rattle.lwp_types.specs.State.{agent_numbers, agent_of, is_agent_row, member, rises, without}
 use Rattle.lwp_types.specs.declared.rows.AgentRow.{AgentRow}
-use Rattle.std.proofs.Common.{Bool, List, Some, [], ap, arith, cond, false, get_or, inl, inr, length, ltb, refl, set, suc, sym, true, zero, ℕ, ◌<◌, ◌≤◌, ◌^◌, ◌∙◌, ◌∷◌, ◌≡◌, ◌≢◌, ◌⊎◌}
-use Rattle.std.proofs.lemmas.Bool.{cases_eq, cases_lt, eq-eqb, ltb-true, ne_eqb}
-use Rattle.std.specs.Int.{bit_at}
-use Rattle.std.proofs.lemmas.List.Elements.{recursion_from_All}
-use Rattle.std.specs.List.{AllByRecursion, find, list_all}
-use Rattle.std.specs.Prelude.{All, eqb}
+use Rattle.std.proofs.Common.{Bool, Err, IfNone, IfSome, List, None, Ok, Result, Some, [], ap, arith, cond, count_by, eqb, false, get_or, inl, inr, length, ltb, not, refl, set, suc, sym, true, zero, ℕ, ◌++◌, ◌+◌, ◌<◌, ◌∙◌, ◌∷◌, ◌≡◌, ◌≢◌, ◌≤◌}
+use Rattle.std.proofs.lemmas.Bool.{and_parts, cases_lt, eq-eqb, eqb-true, ltb-true, ne_eqb, or_right}
+use Rattle.std.proofs.lemmas.Bool.Decides.{nat_tests}
+use Rattle.std.proofs.lemmas.Cmp.{ranked}
+use Rattle.std.specs.List.{filter, list_all, remove}
+use Rattle.std.specs.List.Sorted.{IsBinarySearchResult, IsNonDecreasingBy, IsSearchInRange}
+use Rattle.std.specs.Ordering.{nat_cmp, ordering_index}
+use Rattle.std.specs.Result.{result_ok}
 
 -- what all numbers pass, that at a place passes
 number_at : (test : ℕ → Bool) (rows : List AgentRow) (i : ℕ) (d : AgentRow) → list_all test (agent_numbers rows) ≡ true → i < length rows → test (get_or rows i d).number ≡ true
 number_at test [] i d all within = absurd (omega arith)
-number_at test (row ∷ rows) zero d all within = (both_true (test row.number) (list_all test (agent_numbers rows)) all).0
-number_at test (row ∷ rows) (suc i) d all within = number_at test rows i d (both_true (test row.number) (list_all test (agent_numbers rows)) all).1 (omega arith)
+number_at test (row ∷ rows) zero d all within = (and_parts (test row.number) (list_all test (agent_numbers rows)) all).0
+number_at test (row ∷ rows) (suc i) d all within = number_at test rows i d (and_parts (test row.number) (list_all test (agent_numbers rows)) all).1 (omega arith)
 
 -- of agents in birth order: the first, and those behind it, which are born later
 module _ (row : AgentRow) (rows : List AgentRow) (up : rises (agent_numbers (row ∷ rows)) ≡ true) where
-  behind_rise : rises (agent_numbers rows) ≡ true
-  behind_rise = (both_true (list_all (λ n. ltb row.number n) (agent_numbers rows)) (rises (agent_numbers rows)) up).1
+  pub behind_rise : rises (agent_numbers rows) ≡ true
+  behind_rise = (and_parts (list_all (λ n. ltb row.number n) (agent_numbers rows)) (rises (agent_numbers rows)) up).1
 
-  all_later : list_all (λ n. ltb row.number n) (agent_numbers rows) ≡ true
-  all_later = (both_true (list_all (λ n. ltb row.number n) (agent_numbers rows)) (rises (agent_numbers rows)) up).0
+  pub all_later : list_all (λ n. ltb row.number n) (agent_numbers rows) ≡ true
+  all_later = (and_parts (list_all (λ n. ltb row.number n) (agent_numbers rows)) (rises (agent_numbers rows)) up).0
 
   later_at : (i : ℕ) (d : AgentRow) → i < length rows → row.number < (get_or rows i d).number
   later_at i d within = ltb-true row.number (get_or rows i d).number (number_at (λ n. ltb row.number n) rows i d all_later within)
 
--- nobody of that number: nothing changes
-others_stay : (a : ℕ) (b : Bool) (rows : List AgentRow) → list_all (λ n. ltb a n) (agent_numbers rows) ≡ true → with_holding a b rows ≡ rows
-others_stay a b [] all = refl
-others_stay a b (row ∷ rows) all =
-    let parts = both_true (ltb a row.number) (list_all (λ n. ltb a n) (agent_numbers rows)) all in
-    let above : a < row.number = ltb-true a row.number parts.0 in
-    rw (ne_eqb row.number a (λ same. omega (arith, same, above)), others_stay a b rows parts.1) refl
+  -- whoever has the number of the first
+  pub later_than : (a : ℕ) → row.number ≡ a → list_all (λ n. ltb a n) (agent_numbers rows) ≡ true
+  later_than a same = ap (λ m. list_all (λ n. ltb m n) (agent_numbers rows)) (sym same) ∙ all_later
+
+-- of two agents the one behind has the greater number
+rising : (rows : List AgentRow) (i j : ℕ) (d : AgentRow) → rises (agent_numbers rows) ≡ true → i < j → j < length rows → (get_or rows i d).number < (get_or rows j d).number
+rising [] i j d up lt within = absurd (omega arith)
+rising (row ∷ rows) zero zero d up lt within = absurd (omega arith)
+rising (row ∷ rows) zero (suc j) d up lt within = later_at row rows up j d (omega arith)
+rising (row ∷ rows) (suc i) zero d up lt within = absurd (omega arith)
+rising (row ∷ rows) (suc i) (suc j) d up lt within = rising rows i j d (behind_rise row rows up) (omega arith) (omega arith)
+
+absent : (a : ℕ) (rows : List AgentRow) → ((i : ℕ) (d : AgentRow) → i < length rows → (get_or rows i d).number ≢ a) → agent_of rows a ≡ None
+absent a [] nowhere = refl
+absent a (row ∷ rows) nowhere = rw (ne_eqb row.number a (nowhere 0 row (omega arith))) (absent a rows (λ i d within. nowhere (suc i) d (omega arith)))
+
+module _ (rows : List AgentRow) (up : rises (agent_numbers rows) ≡ true) (a : ℕ) where
+  -- the agents are sorted by the comparison of their numbers with a
+  sorted : IsNonDecreasingBy (λ (row : AgentRow). ordering_index (nat_cmp row.number a)) rows
+  sorted i j d le within =
+      let numbers_rise : (get_or rows i d).number ≤ (get_or rows j d).number = grind (arith, rising rows i j d up, λ (same : i ≡ j). ap (λ k. (get_or rows k d).number) same) in
+      grind (arith, nat_tests)
+
+  -- what the search answers: where the agent stands, or that there is none
+  pub searched : (r : Result ℕ ℕ) → IsSearchInRange r (length rows) → IsBinarySearchResult (λ (row : AgentRow). nat_cmp row.number a) rows r
+      → record { absent : IfNone (result_ok r) (agent_of rows a ≡ None); found : IfSome (result_ok r) (IsAgentAt a rows) }
+  searched (Ok at) within equal = record { absent = tt; found = record { within = within; number = λ d. ranked _ a _ (sym (equal d)) } }
+  searched (Err at) within parted =
+      let smaller = (parted sorted).0 in
+      let greater = (parted sorted).1 in
+      record {
+        absent = absent a rows (λ i d lt same. elim (cases_lt i at) [
+          | inl below ↦ omega (arith, ranked _ a _ (sym (smaller i d (omega arith) below)))
+          | inr above ↦ omega (arith, ranked _ a _ (sym (greater i d above lt)))
+        ]);
+        found = tt;
+      }
+
+-- ---- nobody of that number
+
+module _ (a : ℕ) where
+  later_held : (b : Bool) (rows : List AgentRow) → list_all (λ n. ltb a n) (agent_numbers rows) ≡ true → with_holding a b rows ≡ rows
+  later_held b [] all = refl
+  later_held b (row ∷ rows) all =
+      let parts = and_parts (ltb a row.number) (list_all (λ n. ltb a n) (agent_numbers rows)) all in
+      let above : a < row.number = ltb-true a row.number parts.0 in
+      rw (ne_eqb row.number a (λ same. omega (arith, same, above)), later_held b rows parts.1) refl
+
+  pub later_kept : (rows : List AgentRow) → list_all (λ n. ltb a n) (agent_numbers rows) ≡ true → without_agent a rows ≡ rows
+  later_kept [] all = refl
+  later_kept (row ∷ rows) all =
+      let parts = and_parts (ltb a row.number) (list_all (λ n. ltb a n) (agent_numbers rows)) all in
+      let above : a < row.number = ltb-true a row.number parts.0 in
+      rw (ne_eqb row.number a (λ same. omega (arith, same, above))) (ap (λ rest. row ∷ rest) (later_kept rows parts.1))
+
+  pub absent_held : (b : Bool) (rows : List AgentRow) → agent_of rows a ≡ None → rows ≡ with_holding a b rows
+  absent_held b [] none = refl
+  absent_held b (row ∷ rows) none = by_test (is_agent_row a row) none (absent_held b rows)
+    where
+      by_test : (t : Bool) → cond t (Some row) (agent_of rows a) ≡ None → (agent_of rows a ≡ None → rows ≡ with_holding a b rows) → row ∷ rows ≡ record row { holding = cond t b row.holding } ∷ with_holding a b rows
+      by_test true here rest = absurd (cc)
+      by_test false other rest = ap (λ ys. row ∷ ys) (rest other)
+
+  pub absent_kept : (rows : List AgentRow) → agent_of rows a ≡ None → rows ≡ without_agent a rows
+  absent_kept [] none = refl
+  absent_kept (row ∷ rows) none = by_test (is_agent_row a row) none (absent_kept rows)
+    where
+      by_test : (t : Bool) → cond t (Some row) (agent_of rows a) ≡ None → (agent_of rows a ≡ None → rows ≡ without_agent a rows) → row ∷ rows ≡ cond (not t) (row ∷ without_agent a rows) (without_agent a rows)
+      by_test true here rest = absurd (cc)
+      by_test false other rest = ap (λ ys. row ∷ ys) (rest other)
+
+-- ---- the agent that stands there
 
 pub agent_there : (a : ℕ) (rows : List AgentRow) (i : ℕ) (d : AgentRow) → rises (agent_numbers rows) ≡ true → i < length rows → (get_or rows i d).number ≡ a → Some (get_or rows i d) ≡ agent_of rows a
 agent_there a [] i d up within here = absurd (omega arith)
@@ -47,92 +113,117 @@ agent_there a (row ∷ rows) (suc i) d up within here =
 
 pub held_there : (a : ℕ) (b : Bool) (rows : List AgentRow) (i : ℕ) (d : AgentRow) → rises (agent_numbers rows) ≡ true → i < length rows → (get_or rows i d).number ≡ a → set rows i (record (get_or rows i d) { holding = b }) ≡ with_holding a b rows
 held_there a b [] i d up within here = absurd (omega arith)
-held_there a b (row ∷ rows) zero d up within here =
-    let later : list_all (λ n. ltb a n) (agent_numbers rows) ≡ true = ap (λ m. list_all (λ n. ltb m n) (agent_numbers rows)) (sym here) ∙ all_later row rows up in
-    rw (eq-eqb row.number a here, others_stay a b rows later) refl
+held_there a b (row ∷ rows) zero d up within here = rw (eq-eqb row.number a here, later_held a b rows (later_than row rows up a here)) refl
 held_there a b (row ∷ rows) (suc i) d up within here =
     let later = later_at row rows up i d (omega arith) in
     rw (ne_eqb row.number a (λ same. omega (arith, same, here, later))) (ap (λ rest. row ∷ rest) (held_there a b rows i d (behind_rise row rows up) (omega arith) here))
 
-some_same : (x y : AgentRow) → Some x ≡ Some y → x ≡ y
-some_same x y same = cc
+pub removed_there : (a : ℕ) (rows : List AgentRow) (i : ℕ) (d : AgentRow) → rises (agent_numbers rows) ≡ true → i < length rows → (get_or rows i d).number ≡ a → remove rows i ≡ without_agent a rows
+removed_there a [] i d up within here = absurd (omega arith)
+removed_there a (row ∷ rows) zero d up within here = rw (eq-eqb row.number a here) (sym (later_kept a rows (later_than row rows up a here)))
+removed_there a (row ∷ rows) (suc i) d up within here =
+    let later = later_at row rows up i d (omega arith) in
+    rw (ne_eqb row.number a (λ same. omega (arith, same, here, later))) (ap (λ rest. row ∷ rest) (removed_there a rows i d (behind_rise row rows up) (omega arith) here))
 
--- what all numbers pass, that of an agent that was found passes
-number_found : (test : ℕ → Bool) (p : AgentRow → Bool) (rows : List AgentRow) (row : AgentRow) → list_all test (agent_numbers rows) ≡ true → find p rows ≡ Some row → test row.number ≡ true
-number_found test p [] row all found = absurd (cc)
-number_found test p (r ∷ rows) row all found =
-    let parts = both_true (test r.number) (list_all test (agent_numbers rows)) all in
-    by_test (p r) parts.0 (number_found test p rows row parts.1) found
+-- ---- what counts
+
+module _ (p : AgentRow → Bool) (a : ℕ) where
+  -- the agent counts as it is now, where it counted as it was
+  pub count-holding : (b : Bool) (rows : List AgentRow) (row : AgentRow) → rises (agent_numbers rows) ≡ true → agent_of rows a ≡ Some row
+      → count_by p (with_holding a b rows) + one (p row) ≡ count_by p rows + one (p (record row { holding = b }))
+  count-holding b [] row up found = absurd (cc)
+  count-holding b (r ∷ rows) row up found = by_test (is_agent_row a r) refl found (count-holding b rows row (behind_rise r rows up))
+    where
+      by_test : (t : Bool) → is_agent_row a r ≡ t → cond t (Some r) (agent_of rows a) ≡ Some row
+          → (agent_of rows a ≡ Some row → count_by p (with_holding a b rows) + one (p row) ≡ count_by p rows + one (p (record row { holding = b })))
+          → count_by p (holding_set a b r ∷ with_holding a b rows) + one (p row) ≡ count_by p (r ∷ rows) + one (p (record row { holding = b }))
+      by_test true here found rest =
+          let first : r ≡ row = cc in
+          let set : holding_set a b r ≡ record row { holding = b } = rw (here, first) refl in
+          let others = later_held a b rows (later_than r rows up a (eqb-true r.number a here)) in
+          omega (arith, count-cons p (holding_set a b r) (with_holding a b rows), count-cons p r rows, ap (λ x. one (p x)) set, ap (λ x. one (p x)) first, ap (count_by p) others)
+      by_test false here found rest =
+          let set : holding_set a b r ≡ r = rw here refl in
+          omega (arith, count-cons p (holding_set a b r) (with_holding a b rows), count-cons p r rows, ap (λ x. one (p x)) set, rest found)
+
+  -- the agent that is gone counts no more
+  pub count-without : (rows : List AgentRow) (row : AgentRow) → rises (agent_numbers rows) ≡ true → agent_of rows a ≡ Some row → count_by p (without_agent a rows) + one (p row) ≡ count_by p rows
+  count-without [] row up found = absurd (cc)
+  count-without (r ∷ rows) row up found = by_test (is_agent_row a r) refl found (count-without rows row (behind_rise r rows up))
+    where
+      by_test : (t : Bool) → is_agent_row a r ≡ t → cond t (Some r) (agent_of rows a) ≡ Some row
+          → (agent_of rows a ≡ Some row → count_by p (without_agent a rows) + one (p row) ≡ count_by p rows)
+          → count_by p (cond (not t) (r ∷ without_agent a rows) (without_agent a rows)) + one (p row) ≡ count_by p (r ∷ rows)
+      by_test true here found rest =
+          let first : r ≡ row = cc in
+          let others = later_kept a rows (later_than r rows up a (eqb-true r.number a here)) in
+          omega (arith, count-cons p r rows, ap (λ x. one (p x)) first, ap (count_by p) others)
+      by_test false here found rest = omega (arith, count-cons p r (without_agent a rows), count-cons p r rows, rest found)
+
+-- ---- the numbers of the agents that pass a test
+
+pub numbers-push : (q : AgentRow → Bool) (rows : List AgentRow) (newest : AgentRow) → agent_numbers (filter q (rows ++ newest ∷ [])) ≡ agent_numbers (filter q rows) ++ cond (q newest) (newest.number ∷ []) []
+numbers-push q [] newest = by_test (q newest)
   where
-    by_test : (b : Bool) → test r.number ≡ true → (find p rows ≡ Some row → test row.number ≡ true) → cond b (Some r) (find p rows) ≡ Some row → test row.number ≡ true
-    by_test true here rest found = ap (λ (x : AgentRow). test x.number) (sym (some_same r row found)) ∙ here
-    by_test false here rest found = rest found
-
--- the agent of an event that was found is the one of its number
-pub agent_found : (e : ℕ) (rows : List AgentRow) (row : AgentRow) → rises (agent_numbers rows) ≡ true → event_agent rows e ≡ Some row → (row.event ≡ e) × (agent_of rows row.number ≡ Some row)
-agent_found e [] row up found = absurd (cc)
-agent_found e (r ∷ rows) row up found = by_test (agent_found e rows row (behind_rise r rows up)) (cases_eq r.event e)
+    by_test : (t : Bool) → agent_numbers (cond t (newest ∷ []) []) ≡ cond t (newest.number ∷ []) []
+    by_test true = refl
+    by_test false = refl
+numbers-push q (row ∷ rows) newest = by_test (q row) (numbers-push q rows newest)
   where
-    by_test : (event_agent rows e ≡ Some row → (row.event ≡ e) × (agent_of rows row.number ≡ Some row)) → (r.event ≡ e) ⊎ (r.event ≢ e) → (row.event ≡ e) × (agent_of (r ∷ rows) row.number ≡ Some row)
-    by_test behind (inl same) =
-        let first : Some r ≡ Some row = rw (eq-eqb r.event e same) at found in
-        let it = some_same r row first in
-        (ap (λ (x : AgentRow). x.event) (sym it) ∙ same, rw (eq-eqb r.number row.number (ap (λ (x : AgentRow). x.number) it)) first)
-    by_test behind (inr apart) =
-        let rest : event_agent rows e ≡ Some row = rw (ne_eqb r.event e apart) at found in
-        let known = behind rest in
-        let later = ltb-true r.number row.number (number_found (λ n. ltb r.number n) (is_for e) rows row (all_later r rows up) rest) in
-        (known.0, rw (ne_eqb r.number row.number (λ same. omega (arith, same, later))) known.1)
+    by_test : (t : Bool) → agent_numbers (filter q (rows ++ newest ∷ [])) ≡ agent_numbers (filter q rows) ++ cond (q newest) (newest.number ∷ []) []
+        → agent_numbers (cond t (row ∷ filter q (rows ++ newest ∷ [])) (filter q (rows ++ newest ∷ []))) ≡ agent_numbers (cond t (row ∷ filter q rows) (filter q rows)) ++ cond (q newest) (newest.number ∷ []) []
+    by_test true rest = ap (λ ns. row.number ∷ ns) rest
+    by_test false rest = rest
 
--- an agent that holds its message is armed no more
-pub unarmed-held : (e : ℕ) (rows : List AgentRow) (row : AgentRow) → event_agent rows e ≡ Some row → is_armed (with_holding row.number true rows) e ≡ false
-unarmed-held e [] row found = refl
-unarmed-held e (r ∷ rows) row found = by_test (unarmed-held e rows row) (cases_eq r.event e)
+-- the test doesn't look at whether an agent holds a message
+pub numbers-holding : (q : AgentRow → Bool) (a : ℕ) (b : Bool) → ((row : AgentRow) → q (holding_set a b row) ≡ q row) → (rows : List AgentRow) → agent_numbers (filter q (with_holding a b rows)) ≡ agent_numbers (filter q rows)
+numbers-holding q a b same [] = refl
+numbers-holding q a b same (row ∷ rows) = rw (same row) (by_test (q row) (numbers-holding q a b same rows))
   where
-    by_test : (event_agent rows e ≡ Some row → is_armed (with_holding row.number true rows) e ≡ false) → (r.event ≡ e) ⊎ (r.event ≢ e) → is_armed (with_holding row.number true (r ∷ rows)) e ≡ false
-    by_test behind (inl same) =
-        let first : Some r ≡ Some row = rw (eq-eqb r.event e same) at found in
-        rw (eq-eqb r.event e same, eq-eqb r.number row.number (ap (λ (x : AgentRow). x.number) (some_same r row first))) refl
-    by_test behind (inr apart) = rw (ne_eqb r.event e apart) (behind (rw (ne_eqb r.event e apart) at found))
+    by_test : (t : Bool) → agent_numbers (filter q (with_holding a b rows)) ≡ agent_numbers (filter q rows)
+        → agent_numbers (cond t (holding_set a b row ∷ filter q (with_holding a b rows)) (filter q (with_holding a b rows))) ≡ agent_numbers (cond t (row ∷ filter q rows) (filter q rows))
+    by_test true rest = ap (λ ns. row.number ∷ ns) rest
+    by_test false rest = rest
 
--- another event is armed as it was
-pub armed_elsewhere : (a : ℕ) (b : Bool) (rows : List AgentRow) (row : AgentRow) (e : ℕ) → rises (agent_numbers rows) ≡ true → agent_of rows a ≡ Some row → row.event ≢ e → is_armed (with_holding a b rows) e ≡ is_armed rows e
-armed_elsewhere a b [] row e up found apart = refl
-armed_elsewhere a b (r ∷ rows) row e up found apart = by_number (λ behind. armed_elsewhere a b rows row e (behind_rise r rows up) behind apart) (cases_eq r.number a)
+pub numbers-without : (q : AgentRow → Bool) (a : ℕ) (rows : List AgentRow) → agent_numbers (filter q (without_agent a rows)) ≡ without a (agent_numbers (filter q rows))
+numbers-without q a [] = refl
+numbers-without q a (row ∷ rows) = by_tests (is_agent_row a row) refl (q row) refl (numbers-without q a rows)
   where
-    by_event : is_armed (with_holding a b rows) e ≡ is_armed rows e → (r.event ≡ e) ⊎ (r.event ≢ e) → r.number ≢ a → is_armed (with_holding a b (r ∷ rows)) e ≡ is_armed (r ∷ rows) e
-    by_event rest (inl same) other = rw (eq-eqb r.event e same, ne_eqb r.number a other) refl
-    by_event rest (inr differs) other = rw (ne_eqb r.event e differs) rest
+    by_tests : (k : Bool) → is_agent_row a row ≡ k → (t : Bool) → q row ≡ t → agent_numbers (filter q (without_agent a rows)) ≡ without a (agent_numbers (filter q rows))
+        → agent_numbers (filter q (cond (not k) (row ∷ without_agent a rows) (without_agent a rows))) ≡ without a (agent_numbers (cond t (row ∷ filter q rows) (filter q rows)))
+    by_tests true its true f h = rw its h
+    by_tests true its false f h = h
+    by_tests false its true f h = rw (f, its) (ap (λ ns. row.number ∷ ns) h)
+    by_tests false its false f h = rw f h
 
-    by_number : (agent_of rows a ≡ Some row → is_armed (with_holding a b rows) e ≡ is_armed rows e) → (r.number ≡ a) ⊎ (r.number ≢ a) → is_armed (with_holding a b (r ∷ rows)) e ≡ is_armed (r ∷ rows) e
-    by_number rest (inl same) =
-        let first : Some r ≡ Some row = rw (eq-eqb r.number a same) at found in
-        let differs : r.event ≢ e = λ f. apart (ap (λ (x : AgentRow). x.event) (sym (some_same r row first)) ∙ f) in
-        let later : list_all (λ n. ltb a n) (agent_numbers rows) ≡ true = ap (λ m. list_all (λ n. ltb m n) (agent_numbers rows)) (sym same) ∙ all_later r rows up in
-        rw (ne_eqb r.event e differs, others_stay a b rows later) refl
-    by_number rest (inr other) = by_event (rest (rw (ne_eqb r.number a other) at found)) (cases_eq r.event e) other
-
--- the word after a change of one agent
-pub noted-holding : (a : ℕ) (b : Bool) (rows : List AgentRow) (row : AgentRow) (word new : ℕ) → rises (agent_numbers rows) ≡ true → agent_of rows a ≡ Some row → word < 2 ^ 32 → new < 2 ^ 32 → IsNoted rows word
-    → bit_at new row.event ≡ cond (is_armed (with_holding a b rows) row.event) 1 0 → ((i : ℕ) → i < 32 → i ≢ row.event → bit_at new i ≡ bit_at word i)
-    → IsNoted (with_holding a b rows) new
-noted-holding a b rows row word new up found fits new_fits was here others e = elim (cases_eq row.event e) [
-  | inl same ↦ ap (λ n. eqb (bit_at new n) 1) (sym same) ∙ ap (λ n. eqb n 1) here ∙ one_back (is_armed (with_holding a b rows) row.event) ∙ ap (is_armed (with_holding a b rows)) same
-  | inr apart ↦ unchanged (cases_lt e 32) apart ∙ sym (armed_elsewhere a b rows row e up found apart)
-]
+-- the agent that is gone didn't pass the test
+pub numbers-others : (q : AgentRow → Bool) (a : ℕ) (rows : List AgentRow) (row : AgentRow) → rises (agent_numbers rows) ≡ true → agent_of rows a ≡ Some row → q row ≡ false → agent_numbers (filter q (without_agent a rows)) ≡ agent_numbers (filter q rows)
+numbers-others q a [] row up found fails = refl
+numbers-others q a (r ∷ rows) row up found fails = by_test (is_agent_row a r) refl found (numbers-others q a rows row (behind_rise r rows up))
   where
-    unchanged : (e < 32) ⊎ (32 ≤ e) → row.event ≢ e → is_set new e ≡ is_armed rows e
-    unchanged (inl low) apart = ap (λ n. eqb n 1) (others e low (λ f. apart (sym f))) ∙ was e
-    unchanged (inr high) apart = unset-above new e new_fits high ∙ sym (unset-above word e fits high) ∙ was e
+    by_kept : (t : Bool) → agent_numbers (filter q (without_agent a rows)) ≡ agent_numbers (filter q rows) → agent_numbers (cond t (r ∷ filter q (without_agent a rows)) (filter q (without_agent a rows))) ≡ agent_numbers (cond t (r ∷ filter q rows) (filter q rows))
+    by_kept true rest = ap (λ ns. r.number ∷ ns) rest
+    by_kept false rest = rest
 
-low_by_recursion : (p : AgentRow → Bool) (rows : List AgentRow) (row : AgentRow) → AllByRecursion (λ row. row.event < 32) rows → find p rows ≡ Some row → row.event < 32
-low_by_recursion p [] row all found = absurd (cc)
-low_by_recursion p (r ∷ rows) row all found = by_test (p r) all.0 (low_by_recursion p rows row all.1) found
+    by_test : (t : Bool) → is_agent_row a r ≡ t → cond t (Some r) (agent_of rows a) ≡ Some row
+        → (agent_of rows a ≡ Some row → q row ≡ false → agent_numbers (filter q (without_agent a rows)) ≡ agent_numbers (filter q rows))
+        → agent_numbers (filter q (cond (not t) (r ∷ without_agent a rows) (without_agent a rows))) ≡ agent_numbers (filter q (r ∷ rows))
+    by_test true here found rest =
+        let first : r ≡ row = cc in
+        rw (ap q first ∙ fails, later_kept a rows (later_than r rows up a (eqb-true r.number a here))) refl
+    by_test false here found rest = by_kept (q r) (rest found fails)
+
+-- an agent that was found passes the test: its number is among those that do
+pub listed_under : (q : AgentRow → Bool) (a : ℕ) (rows : List AgentRow) (row : AgentRow) → agent_of rows a ≡ Some row → q row ≡ true → member a (agent_numbers (filter q rows)) ≡ true
+listed_under q a [] row found passed = absurd (cc)
+listed_under q a (r ∷ rows) row found passed = by_test (is_agent_row a r) refl found (listed_under q a rows row)
   where
-    by_test : (b : Bool) → r.event < 32 → (find p rows ≡ Some row → row.event < 32) → cond b (Some r) (find p rows) ≡ Some row → row.event < 32
-    by_test true here rest found = let same = ap (λ (x : AgentRow). x.event) (some_same r row found) in omega (arith, here, same)
-    by_test false here rest found = rest found
+    by_kept : (t : Bool) → member a (agent_numbers (filter q rows)) ≡ true → member a (agent_numbers (cond t (r ∷ filter q rows) (filter q rows))) ≡ true
+    by_kept true rest = or_right (eqb r.number a) _ rest
+    by_kept false rest = rest
 
--- an agent that was found is for an event below 32, as all are
-pub low_found : (p : AgentRow → Bool) (rows : List AgentRow) (row : AgentRow) → All (λ row. row.event < 32) rows → find p rows ≡ Some row → row.event < 32
-low_found p rows row all = low_by_recursion p rows row (recursion_from_All _ rows all)
+    by_test : (t : Bool) → is_agent_row a r ≡ t → cond t (Some r) (agent_of rows a) ≡ Some row → (agent_of rows a ≡ Some row → q row ≡ true → member a (agent_numbers (filter q rows)) ≡ true) → member a (agent_numbers (filter q (r ∷ rows))) ≡ true
+    by_test true here found rest =
+        let first : r ≡ row = cc in
+        rw (ap q first ∙ passed, here) refl
+    by_test false here found rest = by_kept (q r) (rest found passed)

@@ -1,2 +1,4 @@
 pub mod Roster
+pub mod Index
+pub mod Board
 pub mod Kept

@@ -1,10 +1,10 @@
 -- The agents of a pod as a plain list, and what each call makes of it.
-use Rattle.lwp_types.specs.Agents.{belongs_to, event_agent, new_agent, without_agent}
+use Rattle.lwp_types.specs.Agents.{belongs_to, event_agents, new_agent, without_agent}
 use Rattle.lwp_types.specs.Letters.{with_holding}
-use Rattle.lwp_types.specs.State.{agent_numbers, agent_of, rises}
+use Rattle.lwp_types.specs.State.{agent_numbers, agent_of, passes, rises}
 use Rattle.lwp_types.specs.declared.rows.AgentRow.{AgentRow}
 use Rattle.std.specs.List.{find}
-use Rattle.std.specs.Prelude.{Bool, IsTrue, List, None, Option, Some, [], false, is_some, max, true, ℕ, ◌++◌, ◌∷◌}
+use Rattle.std.specs.Prelude.{Bool, IsTrue, List, None, Option, Some, [], false, is_some, max, not, slice_get, true, ℕ, ◌++◌, ◌∷◌}
 
 -- all that is kept of the agents
 pub record Roster : Type 0 where
@@ -15,17 +15,21 @@ pub record Roster : Type 0 where
 
 -- questions
 
+-- the agent of an event that stands at this place among them, in birth order
+abbrev pub nth_of : List AgentRow → ℕ → ℕ → Option ℕ
+nth_of rows e i = slice_get (agent_numbers (event_agents rows e)) i
+
 -- the first agent of a thread
 abbrev pub first_of : List AgentRow → ℕ → Option AgentRow
 first_of rows t = find (belongs_to t) rows
 
--- the event has an agent
-abbrev pub has_agent_for : List AgentRow → ℕ → Bool
-has_agent_for rows e = is_some (event_agent rows e)
-
 -- there is an agent of this number
 abbrev pub is_listed : List AgentRow → ℕ → Bool
 is_listed rows a = is_some (agent_of rows a)
+
+-- there is, and it holds no message
+abbrev pub is_idle : List AgentRow → ℕ → Bool
+is_idle rows a = passes (λ row. not row.holding) (agent_of rows a)
 
 -- the agents after each call
 
@@ -41,14 +45,9 @@ reserved r n = record r { places = max r.places n }
 abbrev pub created : Roster → ℕ → ℕ → ℕ → Roster
 created r a e t = record r { agents = r.agents ++ new_agent a e t ∷ [] }
 
--- the agent that was found holds a message
-abbrev pub with_held : Option AgentRow → List AgentRow → List AgentRow
-with_held None rows = rows
-with_held (Some row) rows = with_holding row.number true rows
-
--- the event's agent holds a message
+-- the agent holds a message
 abbrev pub held : Roster → ℕ → Roster
-held r e = record r { agents = with_held (event_agent r.agents e) r.agents }
+held r a = record r { agents = with_holding a true r.agents }
 
 -- the agent holds none any more
 abbrev pub released : Roster → ℕ → Roster

@@ -1,12 +1,13 @@
 // The agents.
-ghost use Rattle.std.specs.Prelude.{◌≡◌, ◌<◌, ◌≤◌, false, length, option_map, IfNone, IfSome, IsOk, IsTrue, IfOk, OnOk, OnErr};
+ghost use Rattle.std.specs.Prelude.{◌≡◌, ◌<◌, ◌≤◌, length, option_map, IfNone, IfSome, IsOk, IsTrue, IfOk, OnOk, OnErr};
 ghost use Rattle.std.specs.Slice.Scan.{HoldsNowhere, IsFirstPlace};
-ghost use Rattle.lwp_types.specs.Agents.{event_agent, is_armed};
+ghost use Rattle.lwp_types.specs.Agents.{is_armed};
 ghost use Rattle.lwp_types.specs.State.{agent_numbers, agent_of, all_below};
-ghost use Rattle.agents.specs.Roster.{IsInBirthOrder, created, destroyed, first_of, has_agent_for, held, is_listed, no_agents, released, reserved, without_first};
+ghost use Rattle.agents.specs.Roster.{IsInBirthOrder, created, destroyed, first_of, held, is_idle, is_listed, no_agents, nth_of, released, reserved, without_first};
 
-use crate::marks::{has_bit, next_bit, noted, noted_again, with_bit};
-use crate::rows::{agent_for, first_of, numbers, row_of, set_holding, take_out};
+use crate::board::{Board, Tally, one_if};
+use crate::index::Index;
+use crate::rows::{number_of, numbers, row_of, set_holding, take_out};
 use lwp_types::{AgentRow, IdList, NoMemory, Tid};
 use std::alloc::Global;
 use std::marker::Model;
@@ -14,18 +15,23 @@ use std::marker::Model;
 /// The live agents, in birth order.
 pub struct Agents {
     rows: Vec<AgentRow>,
+    // The agents of each event and of each owner, so that nobody looks at those of others.
+    by_event: Index,
+    by_owner: Index,
+    // How many agents each event has, and how many of them hold a message.
+    board: Board,
     // How many agents there may be with no more memory.
     places: usize,
-    // The bit of each event says whether the event can be delivered.
-    armed: u32,
 }
 
 impl Drop for Agents {
     fn drop(self) {
         let Agents {
             rows: _,
+            by_event: _,
+            by_owner: _,
+            board: _,
             places: _,
-            armed: _,
         } = self;
     }
 }
@@ -39,7 +45,7 @@ impl Model for Agents {
 
     ghost view = { λ a. record { agents = a.rows.items; places = a.places } };
 
-    ghost invariant = { λ a. IsKept (record { agents = a.rows.items; places = a.places }) (vec_capacity a.rows) a.armed };
+    ghost invariant = { λ a. IsKept (record { agents = a.rows.items; places = a.places }) (vec_capacity a.rows) a.by_event a.by_owner a.board };
 }
 
 impl Agents {
@@ -49,8 +55,10 @@ impl Agents {
     {
         Agents {
             rows: Vec::new(alloc),
+            by_event: Index::new(alloc),
+            by_owner: Index::new(alloc),
+            board: Board::new(),
             places: 0,
-            armed: 0,
         }
     }
 
@@ -64,15 +72,16 @@ impl Agents {
             return Ok(());
         }
         self.rows.reserve(n - self.rows.len())?;
+        self.by_event.reserve(n)?;
+        self.by_owner.reserve(n)?;
         self.places = n;
         Ok(())
     }
 
-    /// One agent more, of `owner` and for an event that has none. It holds no message.
+    /// One agent more, of `owner` and for an event from 1 to 32, which may have others. It holds no message.
     pub fn create(&mut self, a: Tid, event: u8, owner: Tid)
         requires least { 1 ≤ event }
-        requires most { event ≤ 31 }
-        requires free { has_agent_for self.old.agents event ≡ false }
+        requires most { event ≤ 32 }
         requires newest { IsTrue (all_below a (agent_numbers self.old.agents)) }
         requires room { length self.old.agents < self.old.places }
         ensures { self.new ≡ created self.old a event owner }
@@ -83,14 +92,26 @@ impl Agents {
             owner,
             holding: false,
         });
-        self.armed = noted(&self.rows);
+        self.by_event.add(u64::from(event), number_of(a));
+        self.by_owner.add(number_of(owner), number_of(a));
+        let before = self.board.tally(event);
+        let agents = before.agents + 1;
+        self.board.put(event, Tally { agents, ..before });
     }
 
-    /// The event's agent, if it has one.
-    pub fn agent_of(&self, event: u8) -> Option<Tid>
-        ensures { result ≡ option_map (λ row. row.number) (event_agent self.now.agents event) }
+    /// The event's `i`-th agent in birth order, from 0, if it has so many.
+    pub fn nth_of(&self, event: u8, i: usize) -> Option<Tid>
+        ensures { result ≡ nth_of self.now.agents event i }
     {
-        agent_for(&self.rows, event).map(|row| row.number)
+        let number = self.by_event.nth(u64::from(event), i)?;
+        Some(Tid { number })
+    }
+
+    /// How many agents there are.
+    pub fn len(&self) -> usize
+        ensures { result ≡ length self.now.agents }
+    {
+        self.rows.len()
     }
 
     /// The thread that gets the agent's messages, if there is such an agent.
@@ -100,11 +121,11 @@ impl Agents {
         row_of(&self.rows, a).map(|row| row.owner)
     }
 
-    /// Whether the event can be delivered: its agent holds no message.
+    /// Whether the event can be delivered: it has an agent, and none of its agents holds a message.
     pub fn armed(&self, event: u8) -> bool
         ensures { result ≡ is_armed self.now.agents event }
     {
-        has_bit(self.armed, event)
+        self.board.is_ready(event)
     }
 
     /// The first event from `from` on that can be delivered, if there is one below 32.
@@ -113,17 +134,18 @@ impl Agents {
         ensures below { IfSome result (λ event. event < 32) }
         ensures first { IfSome result (λ event. IsFirstPlace (is_armed self.now.agents) from 32 event) }
     {
-        next_bit(self.armed, from)
+        self.board.next_ready(from)
     }
 
-    /// The event is delivered: its agent holds the message until the reply.
-    pub fn hold(&mut self, event: u8)
-        requires { IsTrue (is_armed self.old.agents event) }
-        ensures { self.new ≡ held self.old event }
+    /// The agent has a message, which it holds until the reply.
+    pub fn hold(&mut self, a: Tid)
+        requires { IsTrue (is_idle self.old.agents a) }
+        ensures { self.new ≡ held self.old a }
     {
-        if let Some(row) = agent_for(&self.rows, event) {
-            set_holding(&mut self.rows, row.number, true);
-            self.armed = with_bit(self.armed, row.event, false);
+        if let Some(row) = set_holding(&mut self.rows, a, true) {
+            let before = self.board.tally(row.event);
+            let holding = before.holding + 1;
+            self.board.put(row.event, Tally { holding, ..before });
         }
     }
 
@@ -132,19 +154,30 @@ impl Agents {
         requires { IsTrue (is_listed self.old.agents a) }
         ensures { self.new ≡ released self.old a }
     {
-        if let Some(row) = row_of(&self.rows, a) {
-            set_holding(&mut self.rows, a, false);
-            self.armed = noted_again(self.armed, &self.rows, row.event);
+        if let Some(row) = set_holding(&mut self.rows, a, false) {
+            let before = self.board.tally(row.event);
+            let holding = before.holding - one_if(row.holding);
+            self.board.put(row.event, Tally { holding, ..before });
         }
     }
 
-    /// The agent is gone, and its event is free.
+    /// The agent is gone.
     pub fn destroy(&mut self, a: Tid)
         requires { IsTrue (is_listed self.old.agents a) }
         ensures { self.new ≡ destroyed self.old a }
     {
-        take_out(&mut self.rows, a);
-        self.armed = noted(&self.rows);
+        if let Some(row) = take_out(&mut self.rows, a) {
+            self.by_event.take(u64::from(row.event), number_of(a));
+            self.by_owner.take(number_of(row.owner), number_of(a));
+            let before = self.board.tally(row.event);
+            let agents = before.agents - 1;
+            let others_holding = before.holding - one_if(row.holding);
+            let rest = Tally {
+                agents,
+                holding: others_holding,
+            };
+            self.board.put(row.event, rest);
+        }
     }
 
     /// The oldest agent of the thread is gone; the answer is which. Called until None, it leaves the thread without agents.
@@ -152,10 +185,10 @@ impl Agents {
         ensures value { result ≡ option_map (λ row. row.number) (first_of self.old.agents owner) }
         ensures after { self.new ≡ without_first self.old owner }
     {
-        let row = first_of(&self.rows, owner)?;
-        take_out(&mut self.rows, row.number);
-        self.armed = noted(&self.rows);
-        Some(row.number)
+        let number = self.by_owner.nth(number_of(owner), 0)?;
+        let agent = Tid { number };
+        self.destroy(agent);
+        Some(agent)
     }
 
     /// All agents, in birth order.

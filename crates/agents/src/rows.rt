@@ -1,19 +1,18 @@
 // The rows of the agents: which one is meant, and what becomes of it.
-ghost use Rattle.std.specs.Prelude.{◌≡◌, vec_capacity, IfOk, IsTrue};
-ghost use Rattle.lwp_types.specs.Agents.{event_agent, without_agent};
+ghost use Rattle.std.specs.Prelude.{◌≡◌, IfNone, IfOk, IfSome, IsTrue, None, vec_capacity};
+ghost use Rattle.lwp_types.specs.Agents.{without_agent};
 ghost use Rattle.lwp_types.specs.Letters.{with_holding};
 ghost use Rattle.lwp_types.specs.State.{agent_numbers, agent_of, rises};
 ghost use Rattle.agents.specs.Kept.{IsAgentAt};
-ghost use Rattle.agents.specs.Roster.{first_of};
 
 use lwp_types::{AgentRow, IdList, NoMemory, Tid, likely_place};
 use std::alloc::Global;
 
-// The first agent of the event.
-pub fn agent_for(rows: &[AgentRow], event: u8) -> Option<AgentRow>
-    ensures { result ≡ event_agent rows.now event }
+// The number of a thread or an agent.
+pub fn number_of(tid: Tid) -> u64
+    ensures { result ≡ tid }
 {
-    rows.iter().copied().find(|row| row.event == event)
+    tid.number
 }
 
 // Where the agent most likely stands.
@@ -34,49 +33,62 @@ fn is_at(rows: &[AgentRow], agent: Tid, at: usize) -> bool
     }
 }
 
+// Where the agent of this number stands, found by halving.
+fn searched(rows: &[AgentRow], number: u64) -> Option<usize>
+    requires { IsTrue (rises (agent_numbers rows.now)) }
+    ensures absent { IfNone result (agent_of rows.now number ≡ None) }
+    ensures found { IfSome result (IsAgentAt number rows.now) }
+{
+    rows.binary_search_by_key(&number, |row| row.number.number)
+        .ok()
+}
+
+// Where the agent stands.
+fn place_of(rows: &[AgentRow], agent: Tid) -> Option<usize>
+    requires { IsTrue (rises (agent_numbers rows.now)) }
+    ensures absent { IfNone result (agent_of rows.now agent ≡ None) }
+    ensures found { IfSome result (IsAgentAt agent rows.now) }
+{
+    let likely = guessed(rows, agent);
+    if is_at(rows, agent, likely) {
+        return Some(likely);
+    }
+    searched(rows, agent.number)
+}
+
 // The agent of this number.
 pub fn row_of(rows: &[AgentRow], agent: Tid) -> Option<AgentRow>
     requires { IsTrue (rises (agent_numbers rows.now)) }
     ensures { result ≡ agent_of rows.now agent }
 {
-    let likely = guessed(rows, agent);
-    if is_at(rows, agent, likely) {
-        return Some(rows[likely]);
+    match place_of(rows, agent) {
+        Some(at) => Some(rows[at]),
+        None => None,
     }
-    rows.iter().copied().find(|row| row.number == agent)
 }
 
-// The first agent of the thread.
-pub fn first_of(rows: &[AgentRow], owner: Tid) -> Option<AgentRow>
-    ensures { result ≡ first_of rows.now owner }
-{
-    rows.iter().copied().find(|row| row.owner == owner)
-}
-
-// Says of the agent whether it holds a message.
-pub fn set_holding(rows: &mut Vec<AgentRow>, agent: Tid, holding: bool)
+// Says of the agent whether it holds a message. The answer is the agent as it was.
+pub fn set_holding(rows: &mut Vec<AgentRow>, agent: Tid, holding: bool) -> Option<AgentRow>
     requires { IsTrue (rises (agent_numbers rows.old.items)) }
+    ensures value { result ≡ agent_of rows.old.items agent }
     ensures items { rows.new.items ≡ with_holding agent holding rows.old.items }
     ensures capacity { vec_capacity rows.new ≡ vec_capacity rows.old }
 {
-    let likely = guessed(rows, agent);
-    if is_at(rows, agent, likely) {
-        rows[likely].holding = holding;
-        return;
-    }
-    for row in rows.iter_mut() {
-        if row.number == agent {
-            row.holding = holding;
-        }
-    }
+    let at = place_of(rows, agent)?;
+    let row = rows[at];
+    rows[at].holding = holding;
+    Some(row)
 }
 
-// Takes the agent out.
-pub fn take_out(rows: &mut Vec<AgentRow>, agent: Tid)
+// Takes the agent out. Those behind it move up in one piece.
+pub fn take_out(rows: &mut Vec<AgentRow>, agent: Tid) -> Option<AgentRow>
+    requires { IsTrue (rises (agent_numbers rows.old.items)) }
+    ensures value { result ≡ agent_of rows.old.items agent }
     ensures items { rows.new.items ≡ without_agent agent rows.old.items }
     ensures capacity { vec_capacity rows.new ≡ vec_capacity rows.old }
 {
-    rows.retain(|row| row.number != agent);
+    let at = place_of(rows, agent)?;
+    Some(rows.remove(at))
 }
 
 // The numbers of the agents.

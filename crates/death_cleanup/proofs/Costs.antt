@@ -69,7 +69,7 @@ spends_quiet s after less = record { few = omega (arith, less) }
 spends_still : (s : State) → Spends 0 s (still s)
 spends_still s = record { few = omega arith }
 
-spends_then : (a b : ℕ) (s : State) (first : Outcome) (more : State → Outcome) → Spends a s first → Spends b first.after (more first.after) → Spends (a + b) s (and_then first more)
+pub spends_then : (a b : ℕ) (s : State) (first : Outcome) (more : State → Outcome) → Spends a s first → Spends b first.after (more first.after) → Spends (a + b) s (and_then first more)
 unfolding and_then
 spends_then a b s first more one two = record { few = omega (arith, one.few, two.few, length-append first.effects (more first.after).effects) }
 
@@ -82,7 +82,7 @@ spends_each P change keeps spends (x ∷ xs) s was =
     record { few = omega (arith, all.few) }
 
 -- a loop over what the state lists
-spends_drain : {A : Type 0} (P : State → Type 0) (list : State → List A) (change : A → State → Outcome)
+pub spends_drain : {A : Type 0} (P : State → Type 0) (list : State → List A) (change : A → State → Outcome)
     → ((x : A) (xs : List A) (s : State) → P s → list s ≡ x ∷ xs → P (change x s).after × (list (change x s).after ≡ xs))
     → ((x : A) (xs : List A) (s : State) → P s → list s ≡ x ∷ xs → Spends 0 s (change x s))
     → (xs : List A) (s : State) → P s → list s ≡ xs → Spends 0 s (for_each change xs s)
@@ -99,7 +99,7 @@ module _ (s : State) (d : Option ℕ) (was : NineParts s d) (v : ℕ) (x : Threa
   put_one b = put_sum (λ row. row.number) (block_set v b) v waits_one (λ row away. rw away refl) s.threads x known (once_threads s d was v)
       ∙ ap (λ c. waiting s + one (not (is_not_blocked (cond c b x.block)))) (eq-eqb x.number v (number_known s.threads v x known))
 
-  spends_unblock : is_not_blocked x.block ≡ false → (a : Answer) → Spends 0 s (unblock a v s)
+  pub spends_unblock : is_not_blocked x.block ≡ false → (a : Answer) → Spends 0 s (unblock a v s)
   spends_unblock waits a = record { few = omega (arith, put_one block.Not, ap (λ b. one (not b)) waits) }
 
 -- the calls of exit procedures
@@ -193,6 +193,7 @@ awaits_blocks t block.Sending e = refl
 awaits_blocks t (block.Receiving from) e = refl
 awaits_blocks t (block.Entering m) e = refl
 awaits_blocks t (block.Waiting c) e = refl
+awaits_blocks t block.Sleeping e = refl
 
 joins_blocks : (t : ℕ) (b : Block) → joins t b ≡ true → is_not_blocked b ≡ false
 joins_blocks t block.Not e = absurd (let no : false ≡ true = e in cc)
@@ -201,6 +202,7 @@ joins_blocks t block.Sending e = refl
 joins_blocks t (block.Receiving from) e = refl
 joins_blocks t (block.Entering m) e = refl
 joins_blocks t (block.Waiting c) e = refl
+joins_blocks t block.Sleeping e = refl
 
 spends_end_agent : (s : State) (d : Option ℕ) → NineParts s d → (a : ℕ) → Spends 0 s (end_agent a s)
 spends_end_agent s d was a = spends_then 0 0 s _ (λ now. still (agent_gone a now)) (spends_wake (awaits a) (awaits_alone a) (awaits_blocks a) nonexist s d was) (record { few = omega arith })
@@ -235,7 +237,7 @@ module _ (t : ℕ) where
 
 -- how many wait, and how many exit procedures there are
 
-sum-most : (rows : List ThreadRow) → sum_by waits_one rows ≤ length rows
+pub sum-most : (rows : List ThreadRow) → sum_by waits_one rows ≤ length rows
 sum-most [] = omega arith
 sum-most (row ∷ rows) = omega (arith, sum-most rows, sum_by-cons waits_one row rows, one-le (not (is_not_blocked row.block)))
 

@@ -83,6 +83,7 @@ named-by what t (kind.Thread rec) h = by_block what rec.block h
     by_block awaited.Death (block.Receiving o) h = absurd (cc)
     by_block awaited.Death (block.Entering m) h = absurd (cc)
     by_block awaited.Death (block.Waiting c) h = absurd (cc)
+    by_block awaited.Death block.Sleeping h = absurd (cc)
     by_block awaited.Letter block.Not h = absurd (cc)
     by_block awaited.Letter (block.Joining u) h = absurd (cc)
     by_block awaited.Letter block.Sending h = absurd (cc)
@@ -90,6 +91,7 @@ named-by what t (kind.Thread rec) h = by_block what rec.block h
     by_block awaited.Letter (block.Receiving (Some u)) h = ap (λ n. Some n) (eqb-true u t h)
     by_block awaited.Letter (block.Entering m) h = absurd (cc)
     by_block awaited.Letter (block.Waiting c) h = absurd (cc)
+    by_block awaited.Letter block.Sleeping h = absurd (cc)
 
 any_kept : {X : Type 0} (p keep : X → Bool) → ((x : X) → p x ≡ true → keep x ≡ true) → (xs : List X) → list_any p xs ≡ true → list_any p (filter keep xs) ≡ true
 any_kept p keep imp [] h = h

@@ -29,7 +29,9 @@ alone what t (block.Receiving from) e = refl
 alone awaited.Death t (block.Entering m) e = absurd (cc)
 alone awaited.Letter t (block.Entering m) e = absurd (cc)
 alone awaited.Death t (block.Waiting c) e = absurd (cc)
+alone awaited.Death t block.Sleeping e = absurd (cc)
 alone awaited.Letter t (block.Waiting c) e = absurd (cc)
+alone awaited.Letter t block.Sleeping e = absurd (cc)
 
 waits : (b : Block) → is_alone b ≡ true → not (is_not_blocked b) ≡ true
 waits block.Not e = absurd (let no : false ≡ true = e in cc)
@@ -38,6 +40,7 @@ waits block.Sending e = refl
 waits (block.Receiving from) e = refl
 waits (block.Entering m) e = refl
 waits (block.Waiting c) e = refl
+waits block.Sleeping e = refl
 
 module _ (what : Awaited) (t : ℕ) where
   abbrev pub list : State → List ℕ

@@ -102,7 +102,7 @@ abbrev pub known : ℕ → ℕ → Known
 known t p = record { tid = t; prio = p; suspended = false; blocked = true }
 
 abbrev pub sched : Schedule
-sched = record { threads = known 0 1 ∷ known 1 5 ∷ known 2 5 ∷ known 3 5 ∷ known 4 5 ∷ known 5 5 ∷ known 6 5 ∷ known 7 5 ∷ []; order = []; maxpri = 9; places = 8 }
+sched = record { threads = known 0 1 ∷ known 1 5 ∷ known 2 5 ∷ known 3 5 ∷ known 4 5 ∷ known 5 5 ∷ known 6 5 ∷ known 7 5 ∷ []; order = []; timers = []; now = 0; maxpri = 9; places = 8 }
 
 abbrev pub mail : Mailbag
 mail = record {

@@ -19,6 +19,7 @@ block_name block.Sending = None
 block_name (block.Receiving from) = from
 block_name (block.Entering m) = None
 block_name (block.Waiting c) = None
+block_name block.Sleeping = None
 
 abbrev pub kind_name : Kind → Option ℕ
 kind_name (kind.Thread rec) = block_name rec.block

@@ -42,6 +42,7 @@ abbrev pub state_of : Parts → State
 state_of parts = record {
   threads = rows_of parts.last_prio parts.sched.threads parts.ids.live;
   order = parts.sched.order;
+  timers = parts.sched.timers;
   letters = parts.mail.letters;
   monitors = parts.mons.monitors;
   locks = parts.mons.locks;
@@ -49,6 +50,7 @@ state_of parts = record {
   conditions = parts.conds.conditions;
   waits = map cond.machine_row parts.conds.waits;
   agents = parts.agents.agents;
+  now = parts.sched.now;
   maxpri = parts.sched.maxpri;
   status = parts.exit;
   ended = parts.ended;

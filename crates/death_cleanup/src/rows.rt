@@ -46,7 +46,8 @@ pub fn name_of(block: &Block) -> Option<Tid>
     match *block {
         Block::Joining(of) => Some(of),
         Block::Receiving(from) => from,
-        Block::Not | Block::Sending | Block::Entering(_) | Block::Waiting(_) => None,
+        Block::Not | Block::Sending | Block::Entering(_) | Block::Waiting(_) | Block::Sleeping =>
+            None,
     }
 }
 

@@ -5,7 +5,7 @@ ghost use Rattle.script_lines.specs.Line.{who_text, test_text, built_text, slot_
 
 use lwp_types::NoMemory;
 use script_lines::{Kind, Phrase, Test, Whom};
-use trace_text::{add_flags, add_number, add_pattern, add_spaced, add_text, func_word, mode_word};
+use trace_text::{add_flags, add_mode, add_number, add_pattern, add_spaced, add_text, func_word};
 
 fn add_whom(out: &mut Vec<u8>, whom: Whom, name: &[u8]) -> Result<(), NoMemory>
     ensures { OnOk result (out.new.items ≡ out.old.items ++ who_text whom name.now) }
@@ -66,7 +66,7 @@ fn add_word(out: &mut Vec<u8>, phrase: &Phrase<'_>, kind: Kind) -> Result<(), No
         Kind::Client => add_number(out, u64::from(phrase.client)),
         Kind::Event => add_number(out, u64::from(phrase.event)),
         Kind::Flags => add_flags(out, phrase.flags),
-        Kind::Mode => add_text(out, mode_word(phrase.mode)),
+        Kind::Mode => add_mode(out, phrase.mode),
         Kind::Pattern => add_pattern(out, phrase.pattern),
         Kind::Func => add_text(out, func_word(phrase.func)),
         Kind::Test => add_test(out, phrase.test),

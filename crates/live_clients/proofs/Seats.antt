@@ -165,9 +165,9 @@ seat_kept events texts inlets t c seat h =
     }
 
 pub open_more : (events : List ℕ) (texts : List (List (List ℕ))) (e : ℕ) (inlets : List Intake) (t : Intake) (old new : List (Option Seat))
-    → AreOpen events texts e inlets old → 1 ≤ e → t ≡ fresh t.place e (clients_of events e) → AreSeated texts (length inlets) t.place (clients_of events e) old new
+    → AreOpen events texts e inlets old → t ≡ fresh t.place e (clients_of events e) → AreSeated texts (length inlets) t.place (clients_of events e) old new
     → AreOpen events texts (e + 1) (inlets ++ t ∷ []) new
-open_more events texts e inlets t old new h one is seats =
+open_more events texts e inlets t old new h is seats =
     let size : length (inlets ++ t ∷ []) ≡ length inlets + 1 = length-append inlets (t ∷ []) in
     let event : t.event ≡ e = ap (λ (u : Intake). u.event) is in
     let last : (d : Intake) → slice_index_or (inlets ++ t ∷ []) (length inlets) d ≡ t = λ d. get_or-append_seam inlets t [] d in
@@ -175,13 +175,12 @@ open_more events texts e inlets t old new h one is seats =
     record {
       low = λ k d lt. ⊎_elim
           (λ (it : k ≡ length inlets).
-          subst (λ (i : ℕ). (1 ≤ (slice_index_or (inlets ++ t ∷ []) i d).event) × ((slice_index_or (inlets ++ t ∷ []) i d).event < e + 1)) (sym it)
-          (subst (λ (u : Intake). (1 ≤ u.event) × (u.event < e + 1)) (sym (last d)) (omega (arith, one, event), omega (arith, event))))
+          subst (λ (i : ℕ). (slice_index_or (inlets ++ t ∷ []) i d).event < e + 1) (sym it)
+          (subst (λ (u : Intake). u.event < e + 1) (sym (last d)) (omega (arith, event))))
           (λ (n : k ≢ length inlets).
           let lt' : k < length inlets = omega (arith, size, lt, n) in
           let l = h.low k d lt' in
-          let l0 = l.0 in let l1 = l.1 in
-          subst (λ (u : Intake). (1 ≤ u.event) × (u.event < e + 1)) (sym (first k d lt')) (l0, omega (arith, l1)))
+          subst (λ (u : Intake). u.event < e + 1) (sym (first k d lt')) (omega (arith, l)))
           (same_or k (length inlets));
       rise = λ i j d low high.
           let lt : i < length inlets = omega (arith, size, low, high) in
@@ -189,7 +188,7 @@ open_more events texts e inlets t old new h one is seats =
           (λ (it : j ≡ length inlets).
           let a : (slice_index_or (inlets ++ t ∷ []) i d).event ≡ (slice_index_or inlets i d).event = ap (λ (u : Intake). u.event) (first i d lt) in
           let b : (slice_index_or (inlets ++ t ∷ []) j d).event ≡ t.event = ap (λ (u : Intake). u.event) (ap (λ (k : ℕ). slice_index_or (inlets ++ t ∷ []) k d) it ∙ last d) in
-          let l = (h.low i d lt).1 in
+          let l = h.low i d lt in
           omega (arith, a, b, l, event))
           (λ (n : j ≢ length inlets).
           let lt' : j < length inlets = omega (arith, size, high, n) in
@@ -220,19 +219,19 @@ open_more events texts e inlets t old new h one is seats =
     }
 
 -- before the first event nothing is open
-pub open_none : (events : List ℕ) (texts : List (List (List ℕ))) (seats : List (Option Seat)) → length seats ≡ length events → All (λ e. (1 ≤ e) × (e ≤ 31)) events → AreOpen events texts 1 [] seats
-open_none events texts seats size sound = record {
+pub open_none : (events : List ℕ) (texts : List (List (List ℕ))) (seats : List (Option Seat)) → length seats ≡ length events → AreOpen events texts 0 [] seats
+open_none events texts seats size = record {
   low = λ k d lt. absurd (omega (arith, lt));
   rise = λ i j d low high. absurd (omega (arith, high));
   new = λ k d lt. absurd (omega (arith, lt));
   size = size;
-  seated = λ c d low small. absurd (let s = (sound c 0 low).0 in omega (arith, s, small));
+  seated = λ c d low small. absurd (omega (arith, small));
 }
 
 pub open_nothing : (events : List ℕ) (texts : List (List (List ℕ))) (e : ℕ) (inlets : List Intake) (seats : List (Option Seat))
     → AreOpen events texts e inlets seats → clients_of events e ≡ [] → AreOpen events texts (e + 1) inlets seats
 open_nothing events texts e inlets seats h none = record {
-  low = λ k d lt. (let l = h.low k d lt in let l0 = l.0 in let l1 = l.1 in (l0, omega (arith, l1)));
+  low = λ k d lt. let l = h.low k d lt in omega (arith, l);
   rise = h.rise;
   new = h.new;
   size = h.size;
@@ -244,23 +243,23 @@ open_nothing events texts e inlets seats h none = record {
 
 -- then each event that has a client has its inlet
 pub open_for : (events : List ℕ) (texts : List (List (List ℕ))) (inlets : List Intake) (seats : List (Option Seat))
-    → AreOpen events texts 32 inlets seats → All (λ e. (1 ≤ e) × (e ≤ 31)) events → AreFor events inlets
+    → AreOpen events texts 32 inlets seats → All (λ e. e ≤ 31) events → AreFor events inlets
 open_for events texts inlets seats h sound = record {
-  rise = ((λ k d lt. (let l = h.low k d lt in let l0 = l.0 in let l1 = l.1 in (l0, omega (arith, l1)))), h.rise);
+  rise = ((λ k d lt. let l = h.low k d lt in omega (arith, l)), h.rise);
   clients = λ k d lt. ap (λ (t : Intake). t.noted) (h.new k d lt);
   found = λ k d lt.
       let zero_is : slice_index_or events k d ≡ event_of events k = get_or_default_zero events k d lt in
-      let s = (sound k 0 lt).1 in
+      let s = sound k 0 lt in
       let seat = h.seated k None lt (omega (arith, s)) in
       (seat.index, seat.inside, λ u. seat.event u ∙ sym zero_is);
 }
 
 -- ---- the threads
 
-pub all_seats : (events : List ℕ) (texts : List (List (List ℕ))) (inlets : List Intake) (seats rest : List (Option Seat)) (n : ℕ) → AreOpen events texts 32 inlets seats → All (λ e. (1 ≤ e) × (e ≤ 31)) events → rest ≡ seats → n ≡ 0 → HaveSeatsFrom events texts inlets n rest
+pub all_seats : (events : List ℕ) (texts : List (List (List ℕ))) (inlets : List Intake) (seats rest : List (Option Seat)) (n : ℕ) → AreOpen events texts 32 inlets seats → All (λ e. e ≤ 31) events → rest ≡ seats → n ≡ 0 → HaveSeatsFrom events texts inlets n rest
 all_seats events texts inlets seats rest n h sound same none = λ k d lt.
     let there : k < length events = (let size = ap length same in let as_many = h.size in omega (arith, size, as_many, lt)) in
-    let low = (sound k 0 there).1 in
+    let low = sound k 0 there in
     subst (λ (c : ℕ). HasSeat events texts inlets c (slice_index_or rest k d)) (let e : k ≡ n + k = omega (arith, none) in e)
     (subst (λ (xs : List (Option Seat)). HasSeat events texts inlets k (slice_index_or xs k d)) (sym same) (h.seated k d there (omega (arith, low))))
 

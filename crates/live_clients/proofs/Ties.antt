@@ -18,7 +18,7 @@ for_kept events before after same h =
     let event : (k : ℕ) (d : Intake) → k < length before → (slice_index_or after k d).event ≡ (slice_index_or before k d).event = λ k d lt. (same.1 k d lt).event in
     record {
       rise = (
-        (λ k d lt. subst (λ (e : ℕ). (1 ≤ e) × (e ≤ 31)) (sym (event k d (omega (arith, size, lt)))) (h.rise.0 k d (omega (arith, size, lt)))),
+        (λ k d lt. subst (λ (e : ℕ). e ≤ 31) (sym (event k d (omega (arith, size, lt)))) (h.rise.0 k d (omega (arith, size, lt)))),
         (λ i j d lt high.
             let a = event i d (omega (arith, size, lt, high)) in
             let b = event j d (omega (arith, size, high)) in

@@ -7,7 +7,7 @@ use Rattle.live_clients.specs.Inlets.{fresh}
 use Rattle.live_clients.specs.Served.{clients_of, texts_of}
 use Rattle.live_clients.specs.declared.opening.Seat.{Seat}
 use Rattle.std.specs.List.{All, AllPairs, slice_index_or}
-use Rattle.std.specs.Prelude.{List, None, Option, Some, false, length, true, ℕ, ◌+◌, ◌<◌, ◌≡◌, ◌≤◌}
+use Rattle.std.specs.Prelude.{List, None, Option, Some, false, length, true, ℕ, ◌+◌, ◌<◌, ◌≡◌}
 
 -- a client's end is there, ready for its texts, of the inlet that stands or will stand at this index
 abbrev pub IsSeatAt : ℕ → List ℕ → ℕ → List (List ℕ) → Option Seat → Type 0
@@ -29,7 +29,7 @@ pub record HasSeat (events : List ℕ) (texts : List (List (List ℕ))) (inlets 
 
 -- all inlets of events below e are open, and their clients have seats
 pub record AreOpen (events : List ℕ) (texts : List (List (List ℕ))) (e : ℕ) (inlets : List Intake) (seats : List (Option Seat)) : Type 0 where
-  pub low : All (λ t. (1 ≤ t.event) × (t.event < e)) inlets
+  pub low : All (λ t. t.event < e) inlets
   pub rise : AllPairs (λ t u. t.event < u.event) inlets
   pub new : All (λ t. t ≡ fresh t.place t.event (clients_of events t.event)) inlets
   pub size : length seats ≡ length events

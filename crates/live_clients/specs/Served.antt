@@ -15,9 +15,9 @@ clients_of events e = filter (λ c. eqb (event_of events c) e) (range_with_len 0
 abbrev pub texts_of : List (List (List ℕ)) → ℕ → List (List ℕ)
 texts_of texts c = slice_index_or texts c []
 
--- the events rise, from 1 to 31
+-- the events rise, up to 31
 abbrev pub EventsRise : List Intake → Type 0
-EventsRise inlets = All (λ t. (1 ≤ t.event) × (t.event ≤ 31)) inlets × AllPairs (λ t u. t.event < u.event) inlets
+EventsRise inlets = All (λ t. t.event ≤ 31) inlets × AllPairs (λ t u. t.event < u.event) inlets
 
 -- some inlet has the event
 abbrev pub HasEvent : List Intake → ℕ → Type 0

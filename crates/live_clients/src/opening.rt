@@ -14,7 +14,7 @@ use lwp_types::{NoMemory, Text};
 use std::alloc::Global;
 use std::sync::Wait;
 
-// The events go from 1 to one less.
+// How many events there are, from 0 on.
 const EVENTS: u8 = 32;
 
 /// A client's end, and the place of its inlet.
@@ -166,7 +166,7 @@ fn open_event<R: Wait>(
     inlets: &mut Vec<AnyInlet>,
     seats: &mut Vec<Option<Seat>>,
 ) -> Result<(), NoMemory>
-    requires event { (1 ≤ event) × (event < 32) }
+    requires event { event < 32 }
     requires clients { length events.now ≤ 16 }
     requires texts { length texts.now ≡ length events.now }
     requires few { All (λ ts. length ts.items ≤ 20000) texts.now }
@@ -190,14 +190,14 @@ pub(crate) fn open_all<R: Wait>(
     texts: &[Vec<Text>],
 ) -> Result<Opened, NoMemory>
     requires clients { length events.now ≤ 16 }
-    requires events { All (λ e. (1 ≤ e) × (e ≤ 31)) events.now }
+    requires events { All (λ e. e ≤ 31) events.now }
     requires texts { length texts.now ≡ length events.now }
     requires few { All (λ ts. length ts.items ≤ 20000) texts.now }
     ensures { IfOk result (λ o. AreOpen events.now (map (λ v. v.items) texts.now) 32 (map any_intake o.inlets.items) o.seats.items) }
 {
     let mut inlets = Vec::new(alloc);
     let mut seats = vacant_seats(alloc, events.len())?;
-    for event in 1..EVENTS {
+    for event in 0..EVENTS {
         open_event(rt, alloc, event, events, texts, &mut inlets, &mut seats)?;
     }
     Ok(Opened { inlets, seats })

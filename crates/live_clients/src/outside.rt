@@ -130,7 +130,7 @@ impl<'s> Outside<'s> {
         bell: &'s Bell,
     ) -> Result<Outside<'s>, NoMemory>
         requires clients { length events.now ≤ 16 }
-        requires events { All (λ e. (1 ≤ e) × (e ≤ 31)) events.now }
+        requires events { All (λ e. e ≤ 31) events.now }
         requires texts { length texts.now ≡ length events.now }
         requires few { All (λ ts. length ts.items ≤ 20000) texts.now }
         requires gates { length events.now ≤ length gates.items }

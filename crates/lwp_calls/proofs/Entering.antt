@@ -44,6 +44,7 @@ enters_not block.Sending e = refl
 enters_not (block.Receiving from) e = refl
 enters_not (block.Entering m) e = absurd (let no : false ≡ true = e in cc)
 enters_not (block.Waiting c) e = refl
+enters_not block.Sleeping e = refl
 
 module _ (parts : Parts) (lawful : LawfulParts parts) (t : ℕ) (may : is_eligible_in (state_of parts) t ≡ true) where
   open free_row (state_of parts) t may use {row, known, free}

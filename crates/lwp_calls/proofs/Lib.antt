@@ -4,6 +4,7 @@ pub mod Changes
 pub mod Compare
 pub mod Conditions
 pub mod Counts
+pub mod Delivering
 pub mod Destroys
 pub mod Ends
 pub mod Entering
@@ -17,8 +18,10 @@ pub mod Places
 pub mod Pods
 pub mod Ranks
 pub mod Results
+pub mod Sleeping
 pub mod Stacks
 pub mod Tables
+pub mod Ticking
 pub mod Unwound
 pub mod WaitMoves
 pub mod Waiting

@@ -15,7 +15,7 @@ use Rattle.lwp_types.specs.Counts.{is_sending, sendings_of}
 use Rattle.lwp_types.specs.Lawful.{NineParts}
 use Rattle.lwp_types.specs.Letters.{as_answer, as_received, is_letter_of, marked_received, post, receive_by, send, takes_from, unreceived}
 use Rattle.lwp_types.specs.State.{State, ThreadRow, agent_numbers, is_agent_row, is_not_blocked, is_number, is_thread, numbers, passes, still, thread_of, times_in}
-use Rattle.lwp_types.specs.Unblock.{blocked, unblock}
+use Rattle.lwp_types.specs.Unblock.{blocked, blocked_for, unblock}
 use Rattle.lwp_types.specs.declared.call.LwpErr.{LwpErr}
 use Rattle.lwp_types.specs.declared.call.LwpErr.TheVariants as error
 use Rattle.lwp_types.specs.declared.call.Mode.{Mode}
@@ -24,12 +24,12 @@ use Rattle.lwp_types.specs.declared.rows.Block.{Block}
 use Rattle.lwp_types.specs.declared.rows.Block.TheVariants as block
 use Rattle.lwp_types.specs.declared.rows.Letter.{Letter}
 use Rattle.pod_laws.proofs.Numbers.{once_rising}
-use Rattle.lwp_types.specs.Agents.{event_agent, is_for}
 use Rattle.lwp_types.specs.declared.call.Answer.TheVariants as answer
 use Rattle.lwp_types.specs.declared.call.Mode.TheVariants as mode
 use Rattle.rendezvous.specs.Mailbag.{Mailbag, has_letter_of, marked, taken}
 use Rattle.stale_ids.specs.Register.{AreRising, value_of}
-use Rattle.std.proofs.Common.{Bool, List, None, Option, Some, [], ap, arith, cond, eqb, false, length, length-append, map, not, refl, subst, sym, true, ℕ, ◌&&◌, ◌+◌, ◌++◌, ◌<◌, ◌∙◌, ◌∷◌, ◌≡◌, ◌≤◌}
+use Rattle.std.proofs.Common.{Bool, List, None, Option, Some, [], ap, arith, cond, eqb, false, length, length-append, map, not, refl, subst, sym, true, ℕ, ◌&&◌, ◌+◌, ◌++◌, ◌<◌, ◌==◌, ◌∙◌, ◌∷◌, ◌≡◌, ◌≤◌}
+use Rattle.std.proofs.lemmas.Bool.{eq-eqb, eqb-true}
 use Rattle.std.specs.List.{filter, find}
 use Rattle.std.specs.Prelude.{option_map}
 
@@ -69,6 +69,7 @@ taker-waits sender (Some row) takes = by_block row.block takes
     by_block (block.Receiving from) h = refl
     by_block (block.Entering m) h = refl
     by_block (block.Waiting c) h = refl
+    by_block block.Sleeping h = refl
 
 -- Send
 
@@ -165,6 +166,7 @@ module _ (s : State) (was : NineParts s None) (t : ℕ) (row : ThreadRow) (known
       by_block false (block.Receiving from) h = absurd (cc)
       by_block false (block.Entering m) h = absurd (cc)
       by_block false (block.Waiting c) h = absurd (cc)
+      by_block false block.Sleeping h = absurd (cc)
 
   -- there is a place for a letter of it
   pub place-left : length s.letters < length s.threads + length s.agents
@@ -194,17 +196,16 @@ module _ (s : State) (was : NineParts s None) (t : ℕ) (row : ThreadRow) (known
   ))
 
 -- an agent that holds nothing
-module _ (s : State) (was : NineParts s None) (e : ℕ) (row : AgentRow) (known : event_agent s.agents e ≡ Some row) (free : row.holding ≡ false) where
+module _ (s : State) (was : NineParts s None) (row : AgentRow) (own : find (is_agent_row row.number) s.agents ≡ Some row) (free : row.holding ≡ false) where
+  -- there is a place for a letter of it
   pub agent-place : length s.letters < length s.threads + length s.agents
   agent-place = omega (
     arith,
     letters-count s was,
     filter-le (λ (r : ThreadRow). is_sending r.block) s.threads,
-    filter-less (λ (r : AgentRow). r.holding) (is_for e) s.agents row known free,
+    filter-less (λ (r : AgentRow). r.holding) (is_agent_row row.number) s.agents row own free,
   )
 
--- and so has no letter
-module _ (s : State) (was : NineParts s None) (row : AgentRow) (own : find (is_agent_row row.number) s.agents ≡ Some row) (free : row.holding ≡ false) where
   no_thread : find (is_number row.number) s.threads ≡ None
   no_thread = by_found (find (is_number row.number) s.threads) refl
     where
@@ -212,6 +213,7 @@ module _ (s : State) (was : NineParts s None) (row : AgentRow) (own : find (is_a
       by_found None e = refl
       by_found (Some r) e = absurd (let never : false ≡ true = rw (e, own) at (was.numbers.2 row.number) in cc)
 
+  -- and it has none yet
   pub agent_no_letter : has_letter_of s.letters row.number ≡ false
   agent_no_letter = none_there (is_letter_of row.number) s.letters (omega (
     arith,
@@ -259,6 +261,21 @@ module _ (parts : Parts) (t : ℕ) (from : Option ℕ) where
   pub awaited-is : option_map as_received (unreceived s.letters t from) ≡ None → receive_by s t from mode.Block (unreceived s.letters t from) ≡ unanswered (still (blocked s t (block.Receiving from)))
   awaited-is given = ap (receive_by s t from mode.Block) (nothing given)
 
+  timed-is : (ticks : ℕ) (b : Bool) → (ticks == 0) ≡ b → option_map as_received (unreceived s.letters t from) ≡ None
+      → receive_by s t from (mode.Until ticks) (unreceived s.letters t from) ≡ cond b (refused s error.Timeout) (unanswered (still (blocked_for s t (block.Receiving from) ticks)))
+  timed-is ticks b test given = ap (receive_by s t from (mode.Until ticks)) (nothing given) ∙ ap (λ (x : Bool). cond x (refused s error.Timeout) (unanswered (still (blocked_for s t (block.Receiving from) ticks)))) test
+
+  pub timed_out-is : (ticks : ℕ) → ticks ≡ 0 → option_map as_received (unreceived s.letters t from) ≡ None → receive_by s t from (mode.Until ticks) (unreceived s.letters t from) ≡ refused s error.Timeout
+  timed_out-is ticks none given = timed-is ticks true (eq-eqb ticks 0 none) given
+
+  pub timed_await-is : (ticks : ℕ) → (ticks ≡ 0 → ⊥) → option_map as_received (unreceived s.letters t from) ≡ None
+      → receive_by s t from (mode.Until ticks) (unreceived s.letters t from) ≡ unanswered (still (blocked_for s t (block.Receiving from) ticks))
+  timed_await-is ticks some given = timed-is ticks false (by_test (ticks == 0) refl) given
+    where
+      by_test : (b : Bool) → (ticks == 0) ≡ b → (ticks == 0) ≡ false
+      by_test true e = absurd (some (eqb-true ticks 0 e))
+      by_test false e = e
+
 -- the caller waits for a letter
 pub awaited_comes : (parts new : Parts) (t : ℕ) (from : Option ℕ) (mail : Mailbag) (made : Case) → mail ≡ parts.mail
     → CameTo (record parts { mail = mail }) new [] [] (still (blocked (state_of (record parts { mail = mail })) t (block.Receiving from)))
@@ -266,4 +283,13 @@ pub awaited_comes : (parts new : Parts) (t : ℕ) (from : Option ℕ) (mail : Ma
 awaited_comes parts new t from mail made same came is =
     let there : CameTo parts new [] [] (still (blocked (state_of parts) t (block.Receiving from))) =
     subst (λ (m : Mailbag). CameTo (record parts { mail = m }) new [] [] (still (blocked (state_of (record parts { mail = m })) t (block.Receiving from)))) same came in
+    rw is (record { came = there; own = refl })
+
+-- and for no more than so many ticks
+pub timed_comes : (parts new : Parts) (t : ℕ) (from : Option ℕ) (ticks : ℕ) (mail : Mailbag) (made : Case) → mail ≡ parts.mail
+    → CameTo (record parts { mail = mail }) new [] [] (still (blocked_for (state_of (record parts { mail = mail })) t (block.Receiving from) ticks))
+    → made ≡ unanswered (still (blocked_for (state_of parts) t (block.Receiving from) ticks)) → ComesTo parts new [] [] made None
+timed_comes parts new t from ticks mail made same came is =
+    let there : CameTo parts new [] [] (still (blocked_for (state_of parts) t (block.Receiving from) ticks)) =
+    subst (λ (m : Mailbag). CameTo (record parts { mail = m }) new [] [] (still (blocked_for (state_of (record parts { mail = m })) t (block.Receiving from) ticks))) same came in
     rw is (record { came = there; own = refl })

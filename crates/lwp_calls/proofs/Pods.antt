@@ -1,35 +1,26 @@
 -- A pod's turns, calls and deliveries.
-use Rattle.agents.specs.Roster as roster
-use Rattle.death_cleanup.specs.Comes.{CameTo}
 use Rattle.death_cleanup.specs.View.{state_of}
 use Rattle.death_cleanup.specs.declared.parts.Parts.{Parts}
 use Rattle.lwp_calls.specs.Pod.{ForgetsTheDead, RunsExitsOnce, called_by, current_of, is_refusal, refuses}
-use Rattle.lwp_types.specs.Agents.{armed, deliver, deliver_to, event_agent, is_armed, is_for}
+use Rattle.lwp_types.specs.Agents.{armed, deliver, deliver_to, event_agents, is_armed}
 use Rattle.lwp_types.specs.Choice.{choice, is_eligible_in}
-use Rattle.lwp_types.specs.CountLaws.{count-cons, count_found, one}
 use Rattle.lwp_types.specs.Lawful.{Lawful, NineParts}
-use Rattle.lwp_types.specs.Letters.{post, with_holding}
-use Rattle.lwp_types.specs.State.{Outcome, State, agent_numbers, agent_of, and_then, is_agent_row, passes}
+use Rattle.lwp_types.specs.State.{Outcome, State, for_each, passes}
 use Rattle.lwp_types.specs.Step.{case_of, end_effects, ends, finished, own_effects, step, step_by}
+use Rattle.lwp_types.specs.Time.{may_tick, tick}
 use Rattle.lwp_types.specs.declared.call.Answer.{Answer}
 use Rattle.lwp_types.specs.declared.call.Answer.TheVariants as answer
 use Rattle.lwp_types.specs.declared.call.Call.{Call}
 use Rattle.lwp_types.specs.declared.call.Effect.{Effect}
 use Rattle.lwp_types.specs.declared.call.Effect.TheVariants as effect
-use Rattle.lwp_types.specs.declared.rows.AgentRow.{AgentRow}
-use Rattle.lwp_types.specs.declared.rows.Letter.{Letter}
-use Rattle.lwp_calls.proofs.Counts.{times-keys}
 use Rattle.pod_laws.proofs.Chosen.{chosen}
 use Rattle.pod_laws.proofs.Died.{the_dead_are_forgotten}
-use Rattle.pod_laws.proofs.Elements.{find_passes}
 use Rattle.pod_laws.proofs.EveryStep.{Lawful-step}
-use Rattle.pod_laws.proofs.Numbers.{once_rising}
 use Rattle.pod_laws.proofs.OnceCalls.{exits_run_once}
 use Rattle.pod_laws.proofs.Refusals.{refused_step}
-use Rattle.std.proofs.Common.{Bool, List, None, Option, Some, [], ap, append_assoc, arith, cond, count_by, false, not, refl, subst, sym, true, ℕ, ◌&&◌, ◌++◌, ◌∙◌, ◌∷◌, ◌≡◌, ◌≤◌}
-use Rattle.std.proofs.lemmas.Bool.{and_parts, eq-eqb, eqb-true}
-use Rattle.std.specs.List.{find}
-use Rattle.std.specs.Prelude.{IfNone, IfSome, IsTrue, is_some, option_map}
+use Rattle.std.proofs.Common.{Bool, List, None, Option, Some, [], ap, append_assoc, arith, cond, eqb, false, inl, inr, refl, subst, sym, true, ℕ, ◌&&◌, ◌++◌, ◌<◌, ◌∙◌, ◌∷◌, ◌≡◌, ◌≤◌}
+use Rattle.std.proofs.lemmas.Bool.{cases_lt, eq-eqb, ne_eqb}
+use Rattle.std.specs.Prelude.{IfNone, IfSome, IsTrue, is_some}
 use Rattle.std.specs.Slice.Scan.{HoldsNowhere, IsFirstPlace}
 
 -- whose turn it is may run
@@ -128,106 +119,59 @@ module _ (s now : State) (lawful : Lawful s None) (c : Call) (es : List Effect) 
   runs = runs-behind s now (current_of s) c es
       (subst (λ (x : State). RunsExitsOnce s c x (called_by (current_of s) c ++ es)) (sym after) (subst (λ (told : List Effect). RunsExitsOnce s c (step s c).after told) (sym effects) (exits_run_once s lawful c)))
 
--- Deliveries
+-- the clock, and all other events
 
--- who is found is found under its number, where each has its own
-pub found_own : (q : AgentRow → Bool) (rows : List AgentRow) (row : AgentRow) → ((n : ℕ) → count_by (is_agent_row n) rows ≤ 1) → find q rows ≡ Some row → find (is_agent_row row.number) rows ≡ Some row
-found_own q [] row once found = absurd (cc)
-found_own q (y ∷ ys) row once found = by_head (q y) found (λ later. found_own q ys row fewer later)
-  where
-    fewer : (n : ℕ) → count_by (is_agent_row n) ys ≤ 1
-    fewer n = omega (arith, once n, count-cons (is_agent_row n) y ys)
+module _ (s : State) (e : ℕ) (text : List ℕ) where
+  pub deliver-clock : eqb e 0 ≡ true → deliver s e text ≡ tick s
+  unfolding deliver
+  deliver-clock clock = rw clock refl
 
-    by_number : find (is_agent_row row.number) ys ≡ Some row → (b : Bool) → is_agent_row row.number y ≡ b → cond b (Some y) (find (is_agent_row row.number) ys) ≡ Some row
-    by_number own false e = own
-    by_number own true e = absurd (omega (arith, once row.number, count-cons (is_agent_row row.number) y ys, ap one e, count_found (is_agent_row row.number) ys row own))
+  pub deliver-agent : eqb e 0 ≡ false → deliver s e text ≡ for_each (deliver_to text) (event_agents s.agents e) s
+  unfolding deliver
+  deliver-agent other = rw other refl
 
-    by_head : (b : Bool) → cond b (Some y) (find q ys) ≡ Some row → (find q ys ≡ Some row → find (is_agent_row row.number) ys ≡ Some row) → find (is_agent_row row.number) (y ∷ ys) ≡ Some row
-    by_head true here rest =
-        let same : y ≡ row = cc in
-        rw (eq-eqb y.number row.number (ap (λ (r : AgentRow). r.number) same)) here
-    by_head false later rest = by_number (rest later) (is_agent_row row.number y) refl
+-- in a pod that goes on, an event can be delivered where the clock can tick, or its agents are armed
+module _ (s : State) (goes_on : s.ended ≡ false) where
+  agents-armed : (k : ℕ) → 1 ≤ k → armed s k ≡ is_armed s.agents k
+  agents-armed k least = rw (goes_on, ne_eqb k 0 (λ zero. omega (arith, least, zero))) refl
 
--- the event's agent, that holds nothing
-pub record Armed (s : State) (e : ℕ) : Type 0 where
-  pub row : AgentRow
-  pub known : event_agent s.agents e ≡ Some row
-  pub free : row.holding ≡ false
-  pub event : row.event ≡ e
-  pub own : agent_of s.agents row.number ≡ Some row
+  module _ (from : ℕ) (least : 1 ≤ from) where
+    pub nowhere-armed : (o : Option ℕ) → IfNone o (HoldsNowhere (is_armed s.agents) from 32) → IfNone o (HoldsNowhere (armed s) from 32)
+    nowhere-armed None h = λ k low high. agents-armed k (omega (arith, least, low)) ∙ h k low high
+    nowhere-armed (Some e) h = h
 
-pub armed_row : (s : State) → NineParts s None → (e : ℕ) → armed s e ≡ true → Armed s e
-armed_row s was e arms = by_found (event_agent s.agents e) refl (and_parts _ _ arms).1
-  where
-    once : (n : ℕ) → count_by (is_agent_row n) s.agents ≤ 1
-    once n = omega (arith, once_rising (agent_numbers s.agents) was.numbers.0.1 n, times-keys (λ (row : AgentRow). row.number) s.agents n)
-
-    free_of : (b : Bool) → not b ≡ true → b ≡ false
-    free_of true h = absurd (cc)
-    free_of false h = refl
-
-    by_found : (o : Option AgentRow) → event_agent s.agents e ≡ o → passes (λ row. not row.holding) o ≡ true → Armed s e
-    by_found None known h = absurd (cc)
-    by_found (Some row) known h = record {
-      row = row;
-      known = known;
-      free = free_of row.holding h;
-      event = eqb-true row.event e (find_passes (is_for e) s.agents row known);
-      own = found_own (is_for e) s.agents row once known;
+    pub first-armed : (o : Option ℕ) → IfSome o (λ e. IsFirstPlace (is_armed s.agents) from 32 e) → IfSome o (λ e. IsFirstPlace (armed s) from 32 e)
+    first-armed None h = h
+    first-armed (Some e) h = record {
+      low = h.low;
+      high = h.high;
+      before = λ k low under. agents-armed k (omega (arith, least, low)) ∙ h.before k low under;
+      hit = λ within. agents-armed e (omega (arith, least, h.low)) ∙ h.hit within;
     }
 
-module _ (parts : Parts) (e : ℕ) (text : List ℕ) (row : AgentRow) (known : event_agent parts.agents.agents e ≡ Some row) where
-  abbrev pub holding : Parts
-  holding = record parts { agents = roster.held parts.agents e }
+  -- the clock is looked at first
+  pub clock-armed : may_tick s ≡ true → IsFirstPlace (armed s) 0 32 0
+  clock-armed ticks = record { low = omega arith; high = omega arith; before = λ k low under. absurd (omega (arith, under)); hit = λ within. rw goes_on ticks }
 
-  abbrev letter : Letter
-  letter = record { from = row.number; to = row.owner; text = text; room = 240; received = false }
+  module _ (over : may_tick s ≡ false) where
+    unarmed : (k : ℕ) → k < 1 → armed s k ≡ false
+    unarmed k under = rw (goes_on, eq-eqb k 0 (omega (arith, under))) over
 
-  abbrev first : Outcome
-  first = record { after = record (state_of parts) { agents = with_holding row.number true parts.agents.agents }; effects = effect.Delivered row.number row.event ∷ [] }
+    pub nowhere-zero : (o : Option ℕ) → IfNone o (HoldsNowhere (armed s) 1 32) → IfNone o (HoldsNowhere (armed s) 0 32)
+    nowhere-zero None h = λ k low high. elim (cases_lt k 1) [
+      | inl under ↦ unarmed k under
+      | inr above ↦ h k (omega (arith, above)) high
+    ]
+    nowhere-zero (Some e) h = h
 
-  held-is : state_of holding ≡ first.after
-  held-is = ap (λ o. record (state_of parts) { agents = roster.with_held o parts.agents.agents }) known
-
-  delivers : deliver (state_of parts) e text ≡ and_then first (post letter)
-  unfolding deliver
-  delivers = ap (deliver_to (state_of parts) text) known
-
-  -- the letter is posted where the agent holds it
-  pub came_delivered : (new : Parts) (before after : List Effect) → CameTo holding new (before ++ effect.Delivered row.number row.event ∷ []) after (post letter (state_of holding)) → CameTo parts new before after (deliver (state_of parts) e text)
-  unfolding and_then
-  came_delivered new before after came = rw delivers (record {
-    state = came.state ∙ ap (λ (s : State). (post letter s).after) held-is;
-    effects = came.effects ∙ append_assoc before (effect.Delivered row.number row.event ∷ []) (post letter (state_of holding)).effects ∙ ap (λ (s : State). before ++ (effect.Delivered row.number row.event ∷ [] ++ (post letter s).effects)) held-is;
-    step = came.step;
-    dying = came.dying;
-  })
-
-  -- the same, of an agent and an owner that were looked up
-  pub came_looked : (new : Parts) (before told after : List Effect) (agents : roster.Roster) (a o : ℕ) → agents ≡ roster.held parts.agents e → told ≡ before ++ effect.Delivered a e ∷ [] → row.number ≡ a → row.owner ≡ o → row.event ≡ e
-      → CameTo (record parts { agents = agents }) new told after (post (record { from = a; to = o; text = text; room = 240; received = false }) (state_of (record parts { agents = agents }))) → CameTo parts new before after (deliver (state_of parts) e text)
-  came_looked new before told after agents a o held tells number owner event came =
-      let at_agents = subst (λ (x : roster.Roster). CameTo (record parts { agents = x }) new told after (post (record { from = a; to = o; text = text; room = 240; received = false }) (state_of (record parts { agents = x })))) held came in
-      let at_told = subst (λ (x : List Effect). CameTo holding new x after (post (record { from = a; to = o; text = text; room = 240; received = false }) (state_of holding))) tells at_agents in
-      let at_number = subst (λ (x : ℕ). CameTo holding new (before ++ effect.Delivered x e ∷ []) after (post (record { from = x; to = o; text = text; room = 240; received = false }) (state_of holding))) (sym number) at_told in
-      let at_owner = subst (λ (x : ℕ). CameTo holding new (before ++ effect.Delivered row.number e ∷ []) after (post (record { from = row.number; to = x; text = text; room = 240; received = false }) (state_of holding))) (sym owner) at_number in
-      came_delivered new before after (subst (λ (x : ℕ). CameTo holding new (before ++ effect.Delivered row.number x ∷ []) after (post letter (state_of holding))) (sym event) at_owner)
-
--- what a look-up gives of the row that is there
-pub looked : (f : AgentRow → ℕ) (o : Option AgentRow) (row : AgentRow) (r : Option ℕ) (a : ℕ) → o ≡ Some row → r ≡ option_map f o → r ≡ Some a → f row ≡ a
-looked f o row r a known is found =
-    let same : Some (f row) ≡ Some a = sym (ap (option_map f) known) ∙ sym is ∙ found in
-    cc
-
-pub looked_none : {P : Type 0} (f : AgentRow → ℕ) (o : Option AgentRow) (row : AgentRow) (r : Option ℕ) → o ≡ Some row → r ≡ option_map f o → r ≡ None → P
-looked_none f o row r known is missing = absurd (let same : Some (f row) ≡ None = sym (ap (option_map f) known) ∙ sym is ∙ missing in cc)
-
--- in a pod that goes on, an event can be delivered where its agent is armed
-module _ (s : State) (goes_on : s.ended ≡ false) where
-  pub nowhere-armed : (from : ℕ) (o : Option ℕ) → IfNone o (HoldsNowhere (is_armed s.agents) from 32) → IfNone o (HoldsNowhere (armed s) from 32)
-  nowhere-armed from None h = λ k least most. rw goes_on (h k least most)
-  nowhere-armed from (Some e) h = h
-
-  pub first-armed : (from : ℕ) (o : Option ℕ) → IfSome o (λ e. IsFirstPlace (is_armed s.agents) from 32 e) → IfSome o (λ e. IsFirstPlace (armed s) from 32 e)
-  first-armed from None h = h
-  first-armed from (Some e) h = record { low = h.low; high = h.high; before = λ k least under. rw goes_on (h.before k least under); hit = λ within. rw goes_on (h.hit within) }
+    pub first-zero : (o : Option ℕ) → IfSome o (λ e. IsFirstPlace (armed s) 1 32 e) → IfSome o (λ e. IsFirstPlace (armed s) 0 32 e)
+    first-zero None h = h
+    first-zero (Some e) h = record {
+      low = omega arith;
+      high = h.high;
+      before = λ k low under. elim (cases_lt k 1) [
+        | inl first ↦ unarmed k first
+        | inr above ↦ h.before k (omega (arith, above)) under
+      ];
+      hit = h.hit;
+    }

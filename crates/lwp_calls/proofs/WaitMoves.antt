@@ -112,6 +112,7 @@ waiting-is k block.Sending = refl
 waiting-is k (block.Receiving from) = refl
 waiting-is k (block.Entering m) = refl
 waiting-is k (block.Waiting c) = refl
+waiting-is k block.Sleeping = refl
 
 waits_not : (b : Block) → is_not_blocked b ≡ true → is_to_wait b ≡ false
 waits_not block.Not e = refl
@@ -120,6 +121,7 @@ waits_not block.Sending e = refl
 waits_not (block.Receiving from) e = refl
 waits_not (block.Entering m) e = refl
 waits_not (block.Waiting c) e = absurd (let no : false ≡ true = e in cc)
+waits_not block.Sleeping e = refl
 
 waits_stand : (s : State) (d : Option ℕ) → NineParts s d → Stand (λ (w : WaitRow). w.tid) (λ w. w.cond) is_to_wait spot_of s.threads s.waits
 waits_stand s d was = record { here = λ t k. by_row t k (thread_of s t) refl }

@@ -1,5 +1,5 @@
 // Calls on agents.
-ghost use Rattle.std.specs.Prelude.{◌≡◌, ◌<◌, ◌≤◌, false, Some, None, IsErr, IsTrue, OnErr, OnOk, [], length};
+ghost use Rattle.std.specs.Prelude.{◌≡◌, ◌<◌, ◌≤◌, Some, None, IsErr, IsTrue, OnErr, OnOk, [], length};
 ghost use Rattle.death_cleanup.specs.Comes.{Answers, CameTo};
 ghost use Rattle.death_cleanup.specs.Ties.{InStep, LawfulParts};
 ghost use Rattle.death_cleanup.specs.View.{state_of};
@@ -9,7 +9,6 @@ ghost use Rattle.lwp_types.specs.Families.{agent_call};
 ghost use Rattle.lwp_types.specs.State.{agent_numbers, still};
 ghost use Rattle.lwp_types.specs.Step.{case_of};
 ghost use Rattle.lwp_types.specs.declared.call.IdKind.TheVariants as kind;
-ghost use Rattle.agents.specs.Roster.{has_agent_for};
 ghost use Rattle.lwp_calls.specs.Asks.{HasAgentPlaces, asks_memory};
 ghost use Rattle.lwp_calls.specs.Comes.{IsAsBefore, Told};
 
@@ -17,11 +16,11 @@ use crate::asks::{next_count, tell_ids, thread_count};
 use death_cleanup::{Kind, Parts};
 use lwp_types::{AgentCall, Answer, Effects, IdKind, LwpErr, NoMemory, Tid};
 
-// Events are numbered from 1 to this.
-const MOST_EVENT: u32 = 31;
+// The events that an agent may have are numbered from 1 to this.
+const MOST_EVENT: u32 = 32;
 
-// The most agents that live at once: one an event.
-const MOST_AGENTS: usize = 31;
+// The most agents that live at once.
+const MOST_AGENTS: usize = 256;
 
 /// A call of this family.
 #[inline(never)]
@@ -45,7 +44,7 @@ pub fn carry_out(
     }
 }
 
-// An agent of the caller, for an event that has none. What a delivery needs later is reserved now.
+// An agent of the caller. What a delivery needs later is reserved now.
 #[inline(never)]
 fn create(parts: &mut Parts, caller: Tid, event: u32, effects: &mut Effects) -> Result<(), NoMemory>
     requires lawful { LawfulParts parts.old }
@@ -59,17 +58,12 @@ fn create(parts: &mut Parts, caller: Tid, event: u32, effects: &mut Effects) -> 
         effects.done(caller, Err(LwpErr::InvalidArg));
         return Ok(());
     }
-    let event = event as u8;
-    if parts.agents.agent_of(event).is_some() {
-        effects.done(caller, Err(LwpErr::InUse));
-        return Ok(());
-    }
-    if parts.ids.births() >= parts.ids.limit() {
+    if parts.agents.len() >= MOST_AGENTS || parts.ids.births() >= parts.ids.limit() {
         effects.done(caller, Err(LwpErr::NoRoom));
         return Ok(());
     }
-    make_places(parts, event)?;
-    let agent = begin(parts, caller, event);
+    make_places(parts)?;
+    let agent = begin(parts, caller, event as u8);
     effects.answered(caller, Answer::Thread(agent));
     Ok(())
 }
@@ -81,8 +75,7 @@ fn begin(parts: &mut Parts, caller: Tid, event: u8) -> Tid
     requires places { HasAgentPlaces parts.old }
     requires births { parts.old.ids.births < parts.old.ids.limit }
     requires least { 1 ≤ event }
-    requires most { event ≤ 31 }
-    requires free { has_agent_for parts.old.agents.agents event ≡ false }
+    requires most { event ≤ 32 }
     ensures number { result ≡ parts.old.ids.births }
     ensures came { CameTo parts.old parts.new [] [] (still (agent_born (state_of parts.old) caller event)) }
 {
@@ -93,25 +86,23 @@ fn begin(parts: &mut Parts, caller: Tid, event: u8) -> Tid
     tid
 }
 
-// Places for one agent more, of an event that has none, and for its letter.
-fn make_places(parts: &mut Parts, _event: u8) -> Result<(), NoMemory>
+// Places for one agent more, and for its letter: so a delivery takes no memory, however many agents it goes to.
+fn make_places(parts: &mut Parts) -> Result<(), NoMemory>
     requires lawful { LawfulParts parts.old }
     requires alone { parts.old.dying ≡ None }
     requires births { parts.old.ids.births < parts.old.ids.limit }
-    requires least { 1 ≤ _event }
-    requires most { _event ≤ 31 }
-    requires free { has_agent_for parts.old.agents.agents _event ≡ false }
     ensures ok { OnOk result (HasAgentPlaces parts.new) }
     ensures as_before { IsAsBefore parts.old parts.new }
     ensures births { parts.new.ids.births ≡ parts.old.ids.births }
     ensures limit { parts.new.ids.limit ≡ parts.old.ids.limit }
     ensures agents { parts.new.agents.agents ≡ parts.old.agents.agents }
 {
-    let count = thread_count(parts);
+    let threads = thread_count(parts);
+    let agents = parts.agents.len() + 1;
     let living = next_count(&parts.ids);
     parts.ids.reserve(living)?;
-    parts.agents.reserve(MOST_AGENTS)?;
-    parts.mail.reserve(count + MOST_AGENTS)
+    parts.agents.reserve(agents)?;
+    parts.mail.reserve(threads + agents)
 }
 
 // The live agents.

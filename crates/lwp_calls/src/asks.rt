@@ -1,5 +1,5 @@
 // What several calls ask of the parts and tell their caller, and how one begins to wait.
-ghost use Rattle.std.specs.Prelude.{◌≡◌, ◌<◌, ◌+◌, ◌++◌, ◌∷◌, false, length, IfOk, IsTrue, Some, None, []};
+ghost use Rattle.std.specs.Prelude.{◌≡◌, ◌<◌, ◌≤◌, ◌+◌, ◌++◌, ◌∷◌, false, length, IfOk, IsTrue, Some, None, []};
 ghost use Rattle.std.specs.List.{list_all};
 ghost use Rattle.death_cleanup.specs.Comes.{CameTo};
 ghost use Rattle.death_cleanup.specs.Ties.{InStep, LawfulParts};
@@ -7,7 +7,7 @@ ghost use Rattle.death_cleanup.specs.View.{state_of};
 ghost use Rattle.lwp_types.specs.Choice.{is_eligible_in};
 ghost use Rattle.lwp_types.specs.Letters.{receivers_of};
 ghost use Rattle.lwp_types.specs.State.{is_not_blocked, is_thread, numbers, priority_in, still};
-ghost use Rattle.lwp_types.specs.Unblock.{blocked};
+ghost use Rattle.lwp_types.specs.Unblock.{blocked, blocked_for};
 ghost use Rattle.lwp_types.specs.declared.call.Answer.TheVariants as answer;
 ghost use Rattle.lwp_types.specs.declared.call.Effect.TheVariants as effect;
 ghost use Rattle.lwp_calls.specs.Asks.{serves};
@@ -56,6 +56,20 @@ pub fn block(parts: &mut Parts, tid: Tid, why: Block)
     note(&mut parts.named, &parts.ids, tid, &why);
     parts.sched.block(tid);
     set_block(&mut parts.ids, tid, why);
+}
+
+/// A thread that may run waits for something, and for no more than so many ticks.
+pub fn block_for(parts: &mut Parts, tid: Tid, why: Block, ticks: u32)
+    requires lawful { LawfulParts parts.old }
+    requires alone { parts.old.dying ≡ None }
+    requires may_run { IsTrue (is_eligible_in (state_of parts.old) tid) }
+    requires waits { is_not_blocked why ≡ false }
+    requires some { 1 ≤ ticks }
+    ensures { CameTo parts.old parts.new [] [] (still (blocked_for (state_of parts.old) tid why ticks)) }
+{
+    block(parts, tid, why);
+    let due = parts.sched.now() + u64::from(ticks);
+    parts.sched.set_timer(tid, due);
 }
 
 /// The live threads, in the order of birth.

@@ -14,7 +14,7 @@ ghost use Rattle.rendezvous.specs.Mailbag.{has_letter_of};
 ghost use Rattle.lwp_calls.specs.Asks.{asks_memory, first_refusal};
 ghost use Rattle.lwp_calls.specs.Comes.{ComesTo, IsAsBefore, Told};
 
-use crate::asks::{block, receivers, tell_ids};
+use crate::asks::{block, block_for, receivers, tell_ids};
 use death_cleanup::{Kind, Parts, is_id, is_thread, reply, wake_lettered};
 use lwp_types::{Block, Effects, IdKind, Letter, LetterCall, LwpErr, Mode, NoMemory, Text, Tid};
 use std::alloc::Global;
@@ -151,7 +151,7 @@ fn source_refusal(parts: &Parts, caller: Tid, from: &Option<Tid>) -> Option<LwpE
 // The caller has the first letter of whom it names, or of anybody. With none it waits, or is refused.
 #[inline(never)]
 fn receive(parts: &mut Parts, caller: Tid, from: &Option<Tid>, mode: Mode, effects: &mut Effects)
-    requires step { InStep parts.old }
+    requires lawful { LawfulParts parts.old }
     requires alone { parts.old.dying ≡ None }
     requires may_run { IsTrue (is_eligible_in (state_of parts.old) caller) }
     requires room { effects.old ≡ [] }
@@ -169,6 +169,8 @@ fn receive(parts: &mut Parts, caller: Tid, from: &Option<Tid>, mode: Mode, effec
     match mode {
         Mode::Poll => effects.done(caller, Err(LwpErr::Timeout)),
         Mode::Block => block(parts, caller, Block::Receiving(*from)),
+        Mode::Until { ticks: 0 } => effects.done(caller, Err(LwpErr::Timeout)),
+        Mode::Until { ticks } => block_for(parts, caller, Block::Receiving(*from), ticks),
     }
 }
 

@@ -9,13 +9,13 @@ ghost use Rattle.lwp_types.specs.Death.{destroy};
 ghost use Rattle.lwp_types.specs.Families.{life_call};
 ghost use Rattle.lwp_types.specs.State.{numbers, still};
 ghost use Rattle.lwp_types.specs.Step.{case_of};
-ghost use Rattle.lwp_types.specs.Threads.{create, created, join, ping};
+ghost use Rattle.lwp_types.specs.Threads.{create, created, join, ping, sleep};
 ghost use Rattle.lwp_types.specs.declared.call.IdKind.TheVariants as kind;
 ghost use Rattle.exc_stack.specs.Stack.{one_frame};
 ghost use Rattle.lwp_calls.specs.Asks.{HasPlaces, asks_memory, first_refusal};
 ghost use Rattle.lwp_calls.specs.Comes.{ComesTo, IsAsBefore, Told};
 
-use crate::asks::{block, next_count, tell_ids, thread_count, threads};
+use crate::asks::{block, block_for, next_count, tell_ids, thread_count, threads};
 use death_cleanup::{Kind, Parts, ThreadRec, die, end_agent, is_agent, is_id, is_thread};
 use exc_stack::ExcStack;
 use lwp_types::{Answer, Block, Effects, Flags, IdKind, LifeCall, LwpErr, NoMemory, Tid};
@@ -23,9 +23,6 @@ use std::alloc::Global;
 
 // The most threads that live at once.
 const MOST_THREADS: usize = 1024;
-
-// The most agents that live at once: one an event.
-const MOST_AGENTS: usize = 31;
 
 /// A call of this family.
 #[inline(never)]
@@ -52,6 +49,7 @@ pub fn carry_out(
         LifeCall::Destroy(other) => destroy(parts, tid, other, effects),
         LifeCall::Ping(other) => Some(ping(parts, other)),
         LifeCall::Join(other) => join(parts, tid, other),
+        LifeCall::Sleep(ticks) => sleep(parts, tid, ticks),
         LifeCall::Threads => return list(parts, alloc, tid, effects),
     };
     effects.done_now(tid, own);
@@ -120,10 +118,11 @@ fn make_places(parts: &mut Parts) -> Result<(), NoMemory>
     ensures limit { parts.new.ids.limit ≡ parts.old.ids.limit }
 {
     let count = thread_count(parts) + 1;
+    let agents = parts.agents.len();
     let living = next_count(&parts.ids);
     parts.ids.reserve(living)?;
     parts.sched.reserve(count)?;
-    parts.mail.reserve(count + MOST_AGENTS)?;
+    parts.mail.reserve(count + agents)?;
     parts.mons.reserve(count)?;
     parts.conds.reserve(count)
 }
@@ -201,6 +200,20 @@ fn join(parts: &mut Parts, caller: Tid, tid: Tid) -> Option<Result<i64, LwpErr>>
         return Some(Err(LwpErr::InvalidArg));
     }
     block(parts, caller, Block::Joining(tid));
+    None
+}
+
+// The caller waits for so many ticks.
+fn sleep(parts: &mut Parts, caller: Tid, ticks: u32) -> Option<Result<i64, LwpErr>>
+    requires lawful { LawfulParts parts.old }
+    requires alone { parts.old.dying ≡ None }
+    requires may_run { IsTrue (is_eligible_in (state_of parts.old) caller) }
+    ensures { ComesTo parts.old parts.new [] [] (sleep (state_of parts.old) caller ticks) (option_map answer_by result) }
+{
+    if ticks == 0 {
+        return Some(Ok(0));
+    }
+    block_for(parts, caller, Block::Sleeping, ticks);
     None
 }
 

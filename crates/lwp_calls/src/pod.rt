@@ -18,15 +18,14 @@ ghost use Rattle.lwp_calls.specs.Opening.{no_thread};
 ghost use Rattle.lwp_calls.specs.Pod.{ForgetsTheDead, RunsExitsOnce, called_by, current_of, ending_of, is_refusal};
 
 use crate::asks::all_serve;
-use crate::letters::post;
+use crate::clock::{CLOCK, may_tick, tick};
+use crate::messages::deliver_to_agents;
 use crate::{agent_calls, letters, lives, locks, marks, numbers, turns, waits};
 use agents::Agents;
 use conditions::Conds;
 use death_cleanup::{Kind, Named, Parts, ThreadRec, is_id};
 use exc_stack::ExcStack;
-use lwp_types::{
-    Block, Call, Effect, Effects, Family, Flags, Letter, NoMemory, PodParams, Text, Tid,
-};
+use lwp_types::{Block, Call, Effect, Effects, Family, Flags, NoMemory, PodParams, Text, Tid};
 use monitors::Monitors;
 use pod_sched::Sched;
 use rendezvous::Mail;
@@ -34,8 +33,8 @@ use stale_ids::Registry;
 use std::alloc::Global;
 use std::marker::Model;
 
-// An agent's letter has room for a reply of so many bytes.
-const AGENT_ROOM: u8 = 240;
+// The first event that an agent can have.
+const FIRST_EVENT: u8 = 1;
 
 /// Why it is nobody's turn: the pod has ended, with a status; or nobody may run as it stands.
 #[derive(Clone, Copy, Debug, PartialEq, Eq)]
@@ -201,11 +200,25 @@ impl Pod {
         is_id(&self.parts, tid)
     }
 
-    /// Whether an event can be delivered: its agent holds no message, and the pod goes on.
+    /// How often the clock has ticked.
+    pub fn now(&self) -> u64
+        ensures { result ≡ self.entry.now.now }
+    {
+        self.parts.sched.now()
+    }
+
+    /// Whether an event can be delivered: the clock can tick, or the event has an agent and none of its agents holds a message; and
+    /// the pod goes on.
     pub fn armed(&self, event: u8) -> bool
         ensures { result ≡ armed self.now event }
     {
-        !self.parts.ended && self.parts.agents.armed(event)
+        if self.parts.ended {
+            return false;
+        }
+        if event == CLOCK {
+            return may_tick(&self.parts);
+        }
+        self.parts.agents.armed(event)
     }
 
     /// The first event from `from` on that can be delivered, if there is one below 32.
@@ -217,7 +230,13 @@ impl Pod {
         if self.parts.ended {
             return None;
         }
-        self.parts.agents.next_armed(from)
+        if from > CLOCK {
+            return self.parts.agents.next_armed(from);
+        }
+        if may_tick(&self.parts) {
+            return Some(CLOCK);
+        }
+        self.parts.agents.next_armed(FIRST_EVENT)
     }
 
     /// One call of the thread whose turn it is. `effects` is emptied first, and then has what the step did besides the call itself,
@@ -248,12 +267,13 @@ impl Pod {
         }
     }
 
-    /// An event's text becomes a letter of its agent to the agent's owner. `effects` is emptied first, and then has what that
-    /// did, in order.
+    /// An event's text becomes a letter of each of its agents to the agent's owner; the clock ticks, and tells nobody the text.
+    /// `effects` is emptied first, and then has what that did, in order.
     pub fn deliver(&mut self, event: u8, text: Text, effects: &mut Effects)
         requires { IsTrue (armed self.old event) }
         ensures after { self.new ≡ (deliver self.old event text).after }
         ensures effects { effects.new ≡ (deliver self.old event text).effects }
+        ensures few { 1 ≤ event → length effects.new ≤ 512 }
         ensures lawful { Lawful self.new None }
     {
         effects.clear();
@@ -270,22 +290,11 @@ fn deliver(parts: &mut Parts, event: u8, text: Text, effects: &mut Effects)
     requires room { effects.old ≡ [] }
     ensures { CameTo parts.old parts.new effects.old effects.new (deliver (state_of parts.old) event text) }
 {
-    let Some(agent) = parts.agents.agent_of(event) else {
-        return;
-    };
-    let Some(owner) = parts.agents.owner_of(agent) else {
-        return;
-    };
-    parts.agents.hold(event);
-    effects.push(Effect::Delivered { agent, event });
-    let letter = Letter {
-        from: agent,
-        to: owner,
-        text,
-        room: AGENT_ROOM,
-        received: false,
-    };
-    post(parts, &letter, effects);
+    if event == CLOCK {
+        tick(parts, effects);
+    } else {
+        deliver_to_agents(parts, event, &text, effects);
+    }
 }
 
 // What the call comes to, before the end of the pod is tested. The caller's answer, if it has one now, is told last.

@@ -27,11 +27,12 @@ pub struct Flags {
     pub server: bool,
 }
 
-/// Whether a receive waits for a letter.
+/// Whether a receive waits for a letter, and for how many ticks of the clock at most.
 #[derive(Clone, Copy)]
 pub enum Mode {
     Poll,
     Block,
+    Until { ticks: u32 },
 }
 
 /// What a handler catches: every exception, or those of one number from 1 to 2,147,483,647.
@@ -224,6 +225,9 @@ pub enum Call {
     Join {
         tid: Tid,
     },
+    Sleep {
+        ticks: u32,
+    },
     Me,
     SetMaxPri {
         prio: u32,
@@ -349,6 +353,9 @@ pub enum Effect {
     Delivered {
         agent: Tid,
         event: u8,
+    },
+    Ticked {
+        now: u64,
     },
     Ended {
         status: u8,

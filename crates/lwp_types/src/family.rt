@@ -4,13 +4,14 @@ ghost use Rattle.lwp_types.specs.Families.{call_of};
 
 use crate::{Call, Cid, ExitCall, Flags, Func, Mid, Mode, Pattern, Text, Tid};
 
-/// A call by which threads come and go.
+/// A call by which threads come and go, or wait for another or for the clock.
 #[derive(Clone, Copy)]
 pub enum LifeCall {
     Create(u32, u32, Flags),
     Destroy(Tid),
     Ping(Tid),
     Join(Tid),
+    Sleep(u32),
     Threads,
 }
 
@@ -118,6 +119,7 @@ impl Call {
             Call::Destroy { tid } => Family::Lives(LifeCall::Destroy(*tid)),
             Call::Ping { tid } => Family::Lives(LifeCall::Ping(*tid)),
             Call::Join { tid } => Family::Lives(LifeCall::Join(*tid)),
+            Call::Sleep { ticks } => Family::Lives(LifeCall::Sleep(*ticks)),
             Call::Threads => Family::Lives(LifeCall::Threads),
             Call::Yield { to } => Family::Turns(TurnCall::Yield(*to)),
             Call::Resched { prio } => Family::Turns(TurnCall::Resched(*prio)),

@@ -2,7 +2,7 @@
 //! from and go to; and the machine itself, as definitions over plain lists.
 //!
 //! The contract of everything above is written in these definitions (`specs/`): the state, the thread that is chosen, one
-//! step for each call, deaths, agents, and what holds of every state. They compute. The crate stands on nothing but std.
+//! step for each call, deaths, the clock, agents, and what holds of every state. They compute. The crate stands on nothing but std.
 #![tactic(auto)]
 
 mod body;
@@ -28,7 +28,9 @@ pub use family::{
 };
 pub use ids::{Cid, Mid, NULL_CID, NULL_MID, NULL_TID, NoMemory, Tid, likely_place};
 pub use memory::{MemSink, MemSource};
-pub use rows::{AgentRow, Block, CondRow, ExitMark, Found, Letter, Lock, Mark, Request, WaitRow};
+pub use rows::{
+    AgentRow, Block, CondRow, ExitMark, Found, Letter, Lock, Mark, Request, TimerRow, WaitRow,
+};
 pub use sequence::{IdList, Sequence};
 pub use stream::{Failed, Sink, Source};
 pub use text::{TEXT_MAX, Text};

@@ -10,6 +10,7 @@ pub enum Block {
     Receiving(Option<Tid>),
     Entering(Mid),
     Waiting(Cid),
+    Sleeping,
 }
 
 /// An entry of a thread's stack: the start of a procedure, or what it set since.
@@ -41,6 +42,13 @@ pub struct Found {
     pub mark: u32,
     pub func: Func,
     pub arg: u32,
+}
+
+/// A thread that waits for so long, and the tick at which it is to wait no longer.
+#[derive(Clone, Copy)]
+pub struct TimerRow {
+    pub tid: Tid,
+    pub due: u64,
 }
 
 /// A message on its way; `room` is how long a reply its sender takes, in bytes.

@@ -1,9 +1,9 @@
 -- A call that names who isn't there is refused; and a delivery runs no exit procedure, and tells of no death.
-use Rattle.lwp_types.specs.Agents.{deliver, deliver_to, event_agent}
+use Rattle.lwp_types.specs.Agents.{deliver, deliver_to, event_agents, message}
 use Rattle.lwp_types.specs.Case.{Case, Check, refused, unless}
-use Rattle.lwp_types.specs.CountLaws.{count-cons}
+use Rattle.lwp_types.specs.CountLaws.{count-append}
 use Rattle.lwp_types.specs.Letters.{as_answer, as_received, post, takes_from, with_holding}
-use Rattle.lwp_types.specs.State.{State, ThreadRow, and_then, is_agent, is_id, is_thread, passes, still, thread_of}
+use Rattle.lwp_types.specs.State.{Outcome, State, ThreadRow, and_then, for_each, is_agent, is_id, is_thread, passes, still, thread_of}
 use Rattle.lwp_types.specs.Step.{case_of}
 use Rattle.lwp_types.specs.Unblock.{unblock}
 use Rattle.lwp_types.specs.declared.call.Call.{Call}
@@ -13,15 +13,17 @@ use Rattle.lwp_types.specs.declared.rows.Letter.{Letter}
 use Rattle.lwp_types.specs.declared.call.Call.TheVariants as call
 use Rattle.lwp_types.specs.declared.call.Effect.TheVariants as effect
 use Rattle.lwp_types.specs.declared.call.LwpErr.TheVariants as error
-use Rattle.pod_laws.proofs.Deathless.{deathless_post}
+use Rattle.lwp_types.specs.declared.rows.Block.TheVariants as block
 use Rattle.pod_laws.proofs.Elements.{not_of}
-use Rattle.pod_laws.proofs.OnceMoves.{even_post}
+use Rattle.pod_laws.proofs.OnceMoves.{block_kept}
 use Rattle.lwp_types.specs.Exits.{exit_case}
+use Rattle.lwp_types.specs.Time.{due_threads, tick, ticked, time_out}
+use Rattle.lwp_types.specs.declared.call.Answer.{Answer}
 use Rattle.lwp_types.specs.declared.call.ExitCall.{ExitCall}
 use Rattle.lwp_types.specs.declared.call.ExitCall.TheVariants as exit
 use Rattle.pod_laws.specs.Forgotten.{CondSendRefusesTheAbsent, DeliveriesAreQuiet, ExitsRefuseTheAbsent, IsQuiet, TheAbsentAreRefused, asks_for, exit_asks_for, is_died}
-use Rattle.pod_laws.specs.Once.{ExitTest, exited_passes, exits_passing}
-use Rattle.std.proofs.Common.{Bool, List, None, Option, Some, [], ap, arith, cond, eqb, false, not, refl, true, ℕ, ◌++◌, ◌∙◌, ◌∷◌, ◌≡◌}
+use Rattle.pod_laws.specs.Once.{exited_passes}
+use Rattle.std.proofs.Common.{Bool, List, None, Some, [], ap, arith, cond, eqb, false, not, refl, true, ℕ, ◌++◌, ◌+◌, ◌∙◌, ◌∷◌, ◌≡◌}
 use Rattle.std.proofs.lemmas.Bool.{eqb-true, or_parts}
 
 -- the first check strikes
@@ -48,6 +50,7 @@ module _ (s : State) (t n : ℕ) (absent : is_id s n ≡ false) where
   absent_refused (call.Suspend u) asks = first_strikes s _ _ _ _ (no_thread u asks)
   absent_refused (call.Resume u) asks = first_strikes s _ _ _ _ (no_thread u asks)
   absent_refused (call.Join u) asks = first_strikes s _ _ _ _ (no_thread u asks)
+  absent_refused (call.Sleep ticks) asks = absurd (cc)
   absent_refused call.Me asks = absurd (cc)
   absent_refused (call.SetMaxPri q) asks = absurd (cc)
   absent_refused (call.SetExit code) asks = absurd (cc)
@@ -118,27 +121,47 @@ cond_send_refuses_the_absent s t n c absent live last =
 pub the_absent_are_refused : TheAbsentAreRefused
 the_absent_are_refused s t n absent c asks = absent_refused s t n absent c asks
 
--- a letter that is posted runs no exit procedure
-post_no_exit : (p : ExitTest) (l : Letter) (s : State) → exits_passing p (post l s).effects ≡ 0
-post_no_exit p l s = by_test (passes (λ (row : ThreadRow). takes_from l.from row.block) (thread_of s l.to))
-  where
-    by_test : (b : Bool) → exits_passing p (cond b (unblock (as_answer l) l.to (record s { letters = s.letters ++ as_received l ∷ [] })) (still (record s { letters = s.letters ++ l ∷ [] }))).effects ≡ 0
-    by_test true = refl
-    by_test false = refl
+-- Deliveries.
 
--- nor does one that an agent sends
-delivered_quiet : (s : State) (row : AgentRow) (l : Letter) → IsQuiet s (and_then (record { after = record s { agents = with_holding row.number true s.agents }; effects = effect.Delivered row.number row.event ∷ [] }) (post l))
+quiet_then : (s : State) (first : Outcome) (more : State → Outcome) → IsQuiet s first → IsQuiet first.after (more first.after) → IsQuiet s (and_then first more)
 unfolding and_then
-delivered_quiet s row l = record {
-  marks = λ p. omega (arith, (even_post p l (record s { agents = with_holding row.number true s.agents })).even, post_no_exit p l (record s { agents = with_holding row.number true s.agents }));
-  exits = λ p. omega (arith, count-cons (exited_passes p) (effect.Delivered row.number row.event) (post l (record s { agents = with_holding row.number true s.agents })).effects, post_no_exit p l (record s { agents = with_holding row.number true s.agents }));
-  deaths = λ n. omega (arith, count-cons (is_died n) (effect.Delivered row.number row.event) (post l (record s { agents = with_holding row.number true s.agents })).effects, (deathless_post n l (record s { agents = with_holding row.number true s.agents })).none);
+quiet_then s first more one two = record {
+  marks = λ p. two.marks p ∙ one.marks p;
+  exits = λ p. omega (arith, one.exits p, two.exits p, count-append (exited_passes p) first.effects (more first.after).effects);
+  deaths = λ n. omega (arith, one.deaths n, two.deaths n, count-append (is_died n) first.effects (more first.after).effects);
 }
+
+quiet_each : {A : Type 0} (change : A → State → Outcome) → ((x : A) (s : State) → IsQuiet s (change x s)) → (xs : List A) (s : State) → IsQuiet s (for_each change xs s)
+unfolding for_each
+quiet_each change quiet [] s = record { marks = λ p. refl; exits = λ p. refl; deaths = λ n. refl }
+quiet_each change quiet (x ∷ xs) s = quiet_then s (change x s) (for_each change xs) (quiet x s) (quiet_each change quiet xs (change x s).after)
+
+-- who goes on runs no exit procedure
+unblock_quiet : (a : Answer) (t : ℕ) (s : State) → IsQuiet s (unblock a t s)
+unblock_quiet a t s = record { marks = λ p. block_kept p t block.Not s.threads; exits = λ p. refl; deaths = λ n. refl }
+
+-- nor does a letter that is posted
+post_quiet : (l : Letter) (s : State) → IsQuiet s (post l s)
+post_quiet l s = by_test (passes (λ (row : ThreadRow). takes_from l.from row.block) (thread_of s l.to))
+  where
+    by_test : (b : Bool) → IsQuiet s (cond b (unblock (as_answer l) l.to (record s { letters = s.letters ++ as_received l ∷ [] })) (still (record s { letters = s.letters ++ l ∷ [] })))
+    by_test true = record { marks = λ p. block_kept p l.to block.Not s.threads; exits = λ p. refl; deaths = λ n. refl }
+    by_test false = record { marks = λ p. refl; exits = λ p. refl; deaths = λ n. refl }
+
+delivered_quiet : (text : List ℕ) (row : AgentRow) (s : State) → IsQuiet s (deliver_to text row s)
+delivered_quiet text row s = quiet_then s (record { after = record s { agents = with_holding row.number true s.agents }; effects = effect.Delivered row.number row.event ∷ [] }) (post (message text row))
+    (record { marks = λ p. refl; exits = λ p. refl; deaths = λ n. refl })
+    (post_quiet (message text row) (record s { agents = with_holding row.number true s.agents }))
+
+tick_quiet : (s : State) → IsQuiet s (tick s)
+tick_quiet s = quiet_then s (record { after = ticked s; effects = effect.Ticked (s.now + 1) ∷ [] }) (λ now. for_each time_out (due_threads now) now)
+    (record { marks = λ p. refl; exits = λ p. refl; deaths = λ n. refl })
+    (quiet_each time_out (λ t now. unblock_quiet _ t now) (due_threads (ticked s)) (ticked s))
 
 pub deliveries_are_quiet : DeliveriesAreQuiet
 unfolding deliver
-deliveries_are_quiet s e text = by_agent (event_agent s.agents e)
+deliveries_are_quiet s e text = by_clock (eqb e 0)
   where
-    by_agent : (o : Option AgentRow) → IsQuiet s (deliver_to s text o)
-    by_agent None = record { marks = λ p. refl; exits = λ p. refl; deaths = λ n. refl }
-    by_agent (Some row) = delivered_quiet s row (record { from = row.number; to = row.owner; text = text; room = 240; received = false })
+    by_clock : (b : Bool) → IsQuiet s (cond b (tick s) (for_each (deliver_to text) (event_agents s.agents e) s))
+    by_clock true = tick_quiet s
+    by_clock false = quiet_each (deliver_to text) (delivered_quiet text) (event_agents s.agents e) s

@@ -1,6 +1,6 @@
 -- Whoever died in a step is forgotten after it.
 use Rattle.lwp_types.specs.Agents.{end_agent}
-use Rattle.lwp_types.specs.Case.{Case, Check, refused, unanswered, unless, with_zero}
+use Rattle.lwp_types.specs.Case.{Case, Check, refused, unanswered, unless, valued, with_zero}
 use Rattle.lwp_types.specs.Choice.{choice}
 use Rattle.lwp_types.specs.CountLaws.{count-append, count-cons, count-push, one}
 use Rattle.lwp_types.specs.Death.{answer_joiners, bury, death, destroy, end_agents, refuse_receivers, refuse_sender, refuse_senders, release_all, return_from, run_all_exits, withdraw}
@@ -12,7 +12,7 @@ use Rattle.lwp_types.specs.Marks.{caught_marks, first_frames, found, frames, lat
 use Rattle.lwp_types.specs.Release.{last_lock, release}
 use Rattle.lwp_types.specs.State.{Outcome, State, ThreadRow, all_below, and_then, is_number, numbers, in_order, is_agent, is_id, is_thread, marks_in, still, thread_of}
 use Rattle.lwp_types.specs.Step.{case_of, end_effects, ends, finished, own_effects, step, step_by, step_if}
-use Rattle.lwp_types.specs.Unblock.{blocked, nonexist, unblock, zero_answer}
+use Rattle.lwp_types.specs.Unblock.{blocked, blocked_for, nonexist, unblock, zero_answer}
 use Rattle.lwp_types.specs.declared.call.Answer.{Answer}
 use Rattle.lwp_types.specs.declared.call.Call.{Call}
 use Rattle.lwp_types.specs.declared.call.Func.{Func}
@@ -22,6 +22,7 @@ use Rattle.lwp_types.specs.declared.rows.Letter.{Letter}
 use Rattle.lwp_types.specs.declared.call.Call.TheVariants as call
 use Rattle.lwp_types.specs.declared.call.Effect.TheVariants as effect
 use Rattle.lwp_types.specs.declared.call.Func.TheVariants as func
+use Rattle.lwp_types.specs.declared.call.LwpErr.TheVariants as error
 use Rattle.lwp_types.specs.declared.call.Mode.TheVariants as mode
 use Rattle.lwp_types.specs.declared.rows.Block.TheVariants as block
 use Rattle.pod_laws.proofs.Checks.{Passed}
@@ -78,6 +79,8 @@ module _ (n : ℕ) where
   received_deathless s t from mode.Poll (Some letter) = deathless_nil n
   received_deathless s t from mode.Block None = deathless_nil n
   received_deathless s t from mode.Block (Some letter) = deathless_nil n
+  received_deathless s t from (mode.Until ticks) None = cond_deathless (eqb ticks 0) (refused s error.Timeout) (unanswered (still (blocked_for s t (block.Receiving from) ticks))) (deathless_nil n) (deathless_nil n)
+  received_deathless s t from (mode.Until ticks) (Some letter) = deathless_nil n
 
   match_deathless : (s : State) (on_match : Found → Case) (o : Option Found) → ((f : Found) → Deathless n (on_match f).others) → Deathless n (with_match s on_match o).others
   match_deathless s on_match None none = deathless_nil n
@@ -146,6 +149,7 @@ module _ (n : ℕ) where
   case_died s was t x known (call.Suspend u) = absent (unless_deathless n s _ _ (deathless_nil n))
   case_died s was t x known (call.Resume u) = absent (unless_deathless n s _ _ (deathless_nil n))
   case_died s was t x known (call.Join u) = absent (unless_deathless n s _ _ (deathless_nil n))
+  case_died s was t x known (call.Sleep ticks) = absent (cond_deathless (eqb ticks 0) (valued s 0) (unanswered (still (blocked_for s t block.Sleeping ticks))) (deathless_nil n) (deathless_nil n))
   case_died s was t x known call.Me = absent (deathless_nil n)
   case_died s was t x known (call.SetMaxPri q) = absent (unless_deathless n s _ _ (deathless_nil n))
   case_died s was t x known (call.SetExit code) = absent (unless_deathless n s _ _ (deathless_nil n))

@@ -1,6 +1,6 @@
 -- A number is given once: whoever is gone stays gone, whatever is called or delivered.
-use Rattle.lwp_types.specs.Agents.{agent_born, agent_gone, deliver, deliver_to, end_agent, event_agent, new_agent}
-use Rattle.lwp_types.specs.Case.{Case, Check, unanswered, unless, with_zero}
+use Rattle.lwp_types.specs.Agents.{agent_born, agent_gone, deliver, deliver_to, end_agent, event_agents, message, new_agent}
+use Rattle.lwp_types.specs.Case.{Case, Check, refused, unanswered, unless, valued, with_zero}
 use Rattle.lwp_types.specs.Choice.{choice}
 use Rattle.lwp_types.specs.Death.{answer_joiners, bury, death, destroyed, end_agents, refuse_receivers, refuse_sender, refuse_senders, release_all, run_all_exits, withdraw}
 use Rattle.lwp_types.specs.Exits.{caught, exit_case, leave_frame, notified_by, run_exit, unwind}
@@ -11,7 +11,8 @@ use Rattle.lwp_types.specs.Release.{grant, last_lock, next_owner, release, witho
 use Rattle.lwp_types.specs.State.{Outcome, State, ThreadRow, agent_of, and_then, block_set, for_each, in_order, is_agent, is_agent_row, is_number, is_thread, marked, marks_in, marks_set, passes, priority_set, still, suspension_set, thread_of, with_block, with_marks, with_suspension}
 use Rattle.lwp_types.specs.Step.{case_of, step, step_by, step_if}
 use Rattle.lwp_types.specs.Threads.{born, created}
-use Rattle.lwp_types.specs.Unblock.{blocked, nonexist, unblock, zero_answer}
+use Rattle.lwp_types.specs.Time.{due_threads, tick, ticked, time_out}
+use Rattle.lwp_types.specs.Unblock.{blocked, blocked_for, nonexist, unblock, zero_answer}
 use Rattle.lwp_types.specs.Waits.{condition_of, waited, woken, woken_all}
 use Rattle.lwp_types.specs.declared.call.Answer.{Answer}
 use Rattle.lwp_types.specs.declared.call.Call.{Call}
@@ -40,6 +41,7 @@ use Rattle.lwp_types.specs.declared.call.Answer.TheVariants as answer
 use Rattle.lwp_types.specs.declared.call.Call.TheVariants as call
 use Rattle.lwp_types.specs.declared.call.ExitCall.TheVariants as exit
 use Rattle.lwp_types.specs.declared.call.Func.TheVariants as func
+use Rattle.lwp_types.specs.declared.call.LwpErr.TheVariants as error
 use Rattle.lwp_types.specs.declared.call.Mode.TheVariants as mode
 use Rattle.lwp_types.specs.declared.rows.Block.TheVariants as block
 
@@ -239,6 +241,8 @@ module _ (n : ℕ) where
   fades_received s t from mode.Poll (Some letter) = fades_plain s _ refl refl refl
   fades_received s t from mode.Block None = fades_block s _ t (block.Receiving from) refl refl refl
   fades_received s t from mode.Block (Some letter) = fades_plain s _ refl refl refl
+  fades_received s t from (mode.Until ticks) None = cond_fades s (eqb ticks 0) (refused s error.Timeout) (unanswered (still (blocked_for s t (block.Receiving from) ticks))) (fades_still s) (fades_block s _ t (block.Receiving from) refl refl refl)
+  fades_received s t from (mode.Until ticks) (Some letter) = fades_plain s _ refl refl refl
 
   fades_match : (s : State) (on_match : Found → Case) (o : Option Found) → ((f : Found) → Fades n s (on_match f).after) → Fades n s (with_match s on_match o).after
   fades_match s on_match None fine = fades_still s
@@ -267,6 +271,7 @@ module _ (n : ℕ) where
   case_fades s t (call.Suspend u) = unless_fades s _ _ (fades_suspension s _ u true refl refl refl)
   case_fades s t (call.Resume u) = unless_fades s _ _ (fades_suspension s _ u false refl refl refl)
   case_fades s t (call.Join u) = unless_fades s _ _ (fades_block s _ t (block.Joining u) refl refl refl)
+  case_fades s t (call.Sleep ticks) = cond_fades s (eqb ticks 0) (valued s 0) (unanswered (still (blocked_for s t block.Sleeping ticks))) (fades_still s) (fades_block s _ t block.Sleeping refl refl refl)
   case_fades s t call.Me = fades_still s
   case_fades s t (call.SetMaxPri q) = unless_fades s _ _ (fades_plain s _ refl refl refl)
   case_fades s t (call.SetExit code) = unless_fades s _ _ (fades_plain s _ refl refl refl)
@@ -315,15 +320,23 @@ module _ (n : ℕ) where
       by_choice None = fades_still s
       by_choice (Some t) = fades_then s (case_of s t c).after _ (case_fades s t c) (fades_plain (case_of s t c).after _ refl refl refl)
 
+  fades_tick : (s : State) → Fades n s (tick s).after
+  unfolding and_then
+  fades_tick s = fades_then s (ticked s) _ (fades_plain s _ refl refl refl) (fades_each time_out (λ t s. fades_block s _ t block.Not refl refl refl) (due_threads (ticked s)) (ticked s))
+
+  fades_delivered : (text : List ℕ) (row : AgentRow) (s : State) → Fades n s (deliver_to text row s).after
+  unfolding and_then
+  fades_delivered text row s =
+      let holds = record s { agents = with_holding row.number true s.agents } in
+      fades_then s holds _ (fades_holding s holds row.number true refl refl refl) (fades_post (message text row) holds)
+
   pub deliver_fades : (s : State) (e : ℕ) (text : List ℕ) → Fades n s (deliver s e text).after
-  unfolding deliver and_then
-  deliver_fades s e text = by_agent (event_agent s.agents e)
+  unfolding deliver
+  deliver_fades s e text = by_clock (eqb e 0)
     where
-      by_agent : (o : Option AgentRow) → Fades n s (deliver_to s text o).after
-      by_agent None = fades_still s
-      by_agent (Some row) =
-          let holds = record s { agents = with_holding row.number true s.agents } in
-          fades_then s holds _ (fades_holding s holds row.number true refl refl refl) (fades_post (record { from = row.number; to = row.owner; text = text; room = 240; received = false }) holds)
+      by_clock : (b : Bool) → Fades n s (cond b (tick s) (for_each (deliver_to text) (event_agents s.agents e) s)).after
+      by_clock true = fades_tick s
+      by_clock false = fades_each (deliver_to text) (fades_delivered text) (event_agents s.agents e) s
 
   -- whoever is gone
   pub gone_stays : (s after : State) → Fades n s after → IsGone s n → IsGone after n

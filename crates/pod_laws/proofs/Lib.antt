@@ -5,6 +5,7 @@ pub mod Rows
 pub mod Views
 pub mod Rowed
 pub mod Orders
+pub mod Timers
 pub mod Still
 pub mod ThreadMoves
 pub mod OrderMoves
@@ -38,6 +39,8 @@ pub mod DeathStarts
 pub mod DeathLoops
 pub mod DeathEnds
 pub mod Deaths
+pub mod Ticks
+pub mod Alarms
 pub mod Delivery
 pub mod EveryStep
 pub mod Turns
@@ -51,6 +54,7 @@ pub mod OnceCalls
 pub mod Deathless
 pub mod Died
 pub mod Fading
+pub mod TimerMoves
 pub mod Absent
 pub mod Paid
 pub mod PaidDeaths

@@ -4,11 +4,13 @@
 //! | what is said | law, and where it stands |
 //! |---|---|
 //! | every state of a pod is lawful | `OpeningsAreLawful`, `StepsAreLawful`, `DeliveriesAreLawful`, `ExitsAreLawful`, `DeathsAreLawful` (`specs/Laws.antt`) |
+//! | a delivery to all agents has no more than 512 effects | `DeliveriesAreFew` (`specs/Laws.antt`) |
 //! | whose turn it is, and when a pod is over | `TurnsDoAgree` (`specs/Laws.antt`) |
 //! | a refusal changes nothing | `RefusalsChangeNothing` (`specs/Laws.antt`) |
 //! | exit procedures run once, in the thread that set them | `ExitsRunOnce` (`specs/Once.antt`) |
 //! | the dead are named nowhere, their numbers are never given again, and a call that names them is refused | `TheDeadAreForgotten`, `TheGoneStayGone`, `TheAbsentAreRefused`, `ExitsRefuseTheAbsent`, `CondSendRefusesTheAbsent` (`specs/Forgotten.antt`), `NobodyNamesTheAbsent` (`specs/Laws.antt`) |
 //! | whoever waits for the dead is answered once, and rightly | `WaitersAreAnswered`, `StepsAnswerWaiters` (`specs/Waiters.antt`) |
+//! | whoever waits with a timer is woken once, by whatever comes first, and never by a timer of an earlier wait | `TicksAnswerTheDue`, `WaitsEndTimers`, `NoTimerComesUnasked` (`specs/Timers.antt`) |
 //!
 //! Another crate cites a law by the lemma of `proofs/` that the function's answer names, as `EveryStep.{Lawful-step}` or
 //! `EveryStep.{case_keeps}`, or it calls the function and takes what it ensures. What single calls and single moves keep are
@@ -18,9 +20,10 @@
 #![tactic(auto)]
 
 ghost use Rattle.pod_laws.specs.Once.{ExitsRunOnce};
+ghost use Rattle.pod_laws.specs.Timers.{NoTimerComesUnasked, TicksAnswerTheDue, WaitsEndTimers};
 ghost use Rattle.pod_laws.specs.Waiters.{StepsAnswerWaiters, WaitersAreAnswered};
 ghost use Rattle.pod_laws.specs.Forgotten.{CondSendRefusesTheAbsent, DeliveriesAreQuiet, ExitsRefuseTheAbsent, TheAbsentAreRefused, TheDeadAreForgotten, TheGoneStayGone};
-ghost use Rattle.pod_laws.specs.Laws.{DeathsAreLawful, DeliveriesAreLawful, ExitsAreLawful, NobodyNamesTheAbsent, OpeningsAreLawful, RefusalsChangeNothing, StepsAreLawful, TurnsDoAgree};
+ghost use Rattle.pod_laws.specs.Laws.{DeathsAreLawful, DeliveriesAreFew, DeliveriesAreLawful, ExitsAreLawful, NobodyNamesTheAbsent, OpeningsAreLawful, RefusalsChangeNothing, StepsAreLawful, TurnsDoAgree};
 
 /// A pod begins with a lawful state.
 pub fn every_opening()
@@ -35,6 +38,11 @@ pub fn every_step()
 /// Every delivery takes a lawful state to a lawful one.
 pub fn every_delivery()
     ensures { DeliveriesAreLawful }
+{}
+
+/// Two effects for each agent are the most that a delivery to agents has, so with 256 agents 512.
+pub fn every_message()
+    ensures { DeliveriesAreFew }
 {}
 
 /// Every exit procedure keeps the first nine parts, whoever is dying.
@@ -105,4 +113,19 @@ pub fn every_waiter()
 /// So it is in every step, for each thread that dies in it.
 pub fn every_waiter_of_a_step()
     ensures { StepsAnswerWaiters }
+{}
+
+/// A tick tells each thread whose timer is due that its wait is over, once, in the order in which the timers arrived.
+pub fn every_tick()
+    ensures { TicksAnswerTheDue }
+{}
+
+/// Whoever waits no more has no timer: where it goes on, where it dies, and where it begins another wait.
+pub fn every_end_of_a_wait()
+    ensures { WaitsEndTimers }
+{}
+
+/// No timer comes but the one that the call of the thread whose turn it is asks for.
+pub fn every_timer()
+    ensures { NoTimerComesUnasked }
 {}

@@ -1,12 +1,13 @@
 -- A delivery leaves whoever may run in the order, and ends no pod.
-use Rattle.std.proofs.Common.{◌≡◌, ℕ, List, [], ◌∷◌, ◌++◌, Bool, true, false, cond, None, Some, refl}
+use Rattle.std.proofs.Common.{◌≡◌, ℕ, List, [], ◌∷◌, ◌++◌, Bool, true, false, cond, eqb, None, Some, ◌∙◌, refl}
 use Rattle.std.specs.Prelude.{Option, is_some, nat_le}
 use Rattle.std.specs.List.{fold}
 use Rattle.event_gate.specs.Shelves.{first_left}
-use Rattle.lwp_types.specs.Agents.{armed, deliver, deliver_to, event_agent}
+use Rattle.lwp_types.specs.Agents.{armed, deliver, deliver_to, event_agents, message}
 use Rattle.lwp_types.specs.Choice.{best_by, better_by, choice}
 use Rattle.lwp_types.specs.Letters.{as_answer, as_received, post, takes_from}
-use Rattle.lwp_types.specs.State.{Outcome, State, and_then, is_suspended_in, passes, priority_in, still, thread_of}
+use Rattle.lwp_types.specs.State.{Outcome, State, and_then, for_each, is_suspended_in, passes, priority_in, still, thread_of}
+use Rattle.lwp_types.specs.Time.{due_threads, tick, ticked, time_out}
 use Rattle.lwp_types.specs.Unblock.{unblock}
 use Rattle.lwp_types.specs.declared.call.Line.{Line}
 use Rattle.lwp_types.specs.declared.rows.AgentRow.{AgentRow}
@@ -50,14 +51,32 @@ post-kept letter s = by_taken (passes (λ row. takes_from letter.from row.block)
     by_taken true = record { ended = refl; chosen = order-kept (priority_in s) _ s.order letter.to (is_suspended_in s letter.to) }
     by_taken false = record { ended = refl; chosen = order-same (priority_in s) _ s.order }
 
-deliver_to-kept : (s : State) (text : List ℕ) (o : Option AgentRow) → Kept s (deliver_to s text o).after
+kept-then : (s u v : State) → Kept s u → Kept u v → Kept s v
+kept-then s u v one two = record { ended = two.ended ∙ one.ended; chosen = λ h. two.chosen (one.chosen h) }
+
+kept-each : {A : Type 0} (change : A → State → Outcome) → ((x : A) (s : State) → Kept s (change x s).after) → (xs : List A) (s : State) → Kept s (for_each change xs s).after
+unfolding for_each and_then
+kept-each change kept [] s = record { ended = refl; chosen = λ h. h }
+kept-each change kept (x ∷ xs) s = kept-then s (change x s).after _ (kept x s) (kept-each change kept xs (change x s).after)
+
+time_out-kept : (t : ℕ) (s : State) → Kept s (time_out t s).after
+time_out-kept t s = record { ended = refl; chosen = order-kept (priority_in s) _ s.order t (is_suspended_in s t) }
+
+tick-kept : (s : State) → Kept s (tick s).after
 unfolding and_then
-deliver_to-kept s text None = record { ended = refl; chosen = λ h. h }
-deliver_to-kept s text (Some row) = let k = post-kept (record { from = row.number; to = row.owner; text = text; room = 240; received = false }) _ in record { ended = k.ended; chosen = λ h. k.chosen h }
+tick-kept s = kept-then s (ticked s) _ (record { ended = refl; chosen = λ h. h }) (kept-each time_out time_out-kept (due_threads (ticked s)) (ticked s))
+
+deliver_to-kept : (text : List ℕ) (row : AgentRow) (s : State) → Kept s (deliver_to text row s).after
+unfolding and_then
+deliver_to-kept text row s = let k = post-kept (message text row) _ in record { ended = k.ended; chosen = λ h. k.chosen h }
 
 pub deliver-kept : (s : State) (e : ℕ) (text : List ℕ) → Kept s (deliver s e text).after
 unfolding deliver
-deliver-kept s e text = deliver_to-kept s text (event_agent s.agents e)
+deliver-kept s e text = by_clock (eqb e 0)
+  where
+    by_clock : (b : Bool) → Kept s (cond b (tick s) (for_each (deliver_to text) (event_agents s.agents e) s)).after
+    by_clock true = tick-kept s
+    by_clock false = kept-each (deliver_to text) (deliver_to-kept text) (event_agents s.agents e) s
 
 pub phase-kept : (s u : State) (turns calls : ℕ) → Kept s u → phase_of s turns calls ≡ phase.Turn → phase_of u turns calls ≡ phase.Turn
 phase-kept s u turns calls k h = by_end s.ended (choice s) u.ended (choice u) k.ended k.chosen h

@@ -477,7 +477,7 @@ module _ {B P : Type 0} (next : Next B) (bodies : P → List B) (procs : P → L
     λ k d low. let within = low_of k low in
         let e = gives-event takes (slice_index_or a k d) (slice_index_or b k d) (p.1 k d within) in
         let r = rise.0 k d within in
-        (omega (arith, e, r.0), omega (arith, e, r.1)),
+        omega (arith, e, r),
     λ i j d less low. let within = low_of j low in
         let under : i < length a = omega (arith, less, within) in
         let e = gives-event takes (slice_index_or a i d) (slice_index_or b i d) (p.1 i d under) in

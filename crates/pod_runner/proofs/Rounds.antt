@@ -136,12 +136,15 @@ module _ {B P : Type 0} (next : Next B) (bodies : P → List B) (procs : P → L
 
   -- ---- one event more
 
+  -- the events below n, in turn
   abbrev first_events : ℕ → Planned B → Plan B → Plan B
-  first_events n planned plan = fold (λ (now : Plan B) e. offered planned e now) plan (range_with_len 1 n)
+  first_events n planned plan = fold (λ (now : Plan B) e. offered planned e now) plan (range_with_len 0 n)
 
-  more-events : (planned : Planned B) (plan : Plan B) (n : ℕ) → offered planned (1 + n) (first_events n planned plan) ≡ first_events (n + 1) planned plan
-  more-events planned plan n = sym (ap (λ es. fold (λ (now : Plan B) e. offered planned e now) plan es) (one_more 1 n)
-      ∙ fold-append (λ (now : Plan B) e. offered planned e now) plan (range_with_len 1 n) ((1 + n) ∷ []))
+  more-events : (planned : Planned B) (plan : Plan B) (n : ℕ) → offered planned n (first_events n planned plan) ≡ first_events (n + 1) planned plan
+  more-events planned plan n =
+      let at : 0 + n ≡ n = omega arith in
+      sym (ap (λ es. fold (λ (now : Plan B) e. offered planned e now) plan es) (one_more 0 n ∙ ap (λ k. range_with_len 0 n ++ k ∷ []) at)
+      ∙ fold-append (λ (now : Plan B) e. offered planned e now) plan (range_with_len 0 n) (n ∷ []))
     where
       one_more : (a n : ℕ) → range_with_len a (n + 1) ≡ range_with_len a n ++ (a + n) ∷ []
       one_more a zero = let at : a ≡ a + 0 = omega arith in ap (λ k. k ∷ []) at
@@ -152,70 +155,63 @@ module _ {B P : Type 0} (next : Next B) (bodies : P → List B) (procs : P → L
       → Came (stream w w f f) (λ planned plan. first_events 0 planned plan) run run stock stock (Ok x)
   events-begin w f run stock x sound made room = does-nothing w f run stock x sound made room
 
-  pub events-more : {T : Type 0} (a b c : Option (List ℕ)) (i j k : ℕ) (old mid new : Played P) (stock some left : Shelves) (e : ℕ) (x : T) (r : Result (Unit {0}) RunErr) → 1 ≤ e
-      → Came (stream a b i j) (λ planned plan. first_events (e - 1) planned plan) old mid stock some (Ok x) → Came (stream b c j k) (λ planned plan. offered planned e plan) mid new some left r
-      → Came (stream a c i k) (λ planned plan. first_events (e + 1 - 1) planned plan) old new stock left r
-  events-more a b c i j k old mid new stock some left e x r low p q =
-      let is : 1 + (e - 1) ≡ e = omega (arith, low) in
-      let more : (e - 1) + 1 ≡ e + 1 - 1 = omega (arith, low) in
-      does-by (stream a c i k) (λ planned plan. offered planned e (first_events (e - 1) planned plan)) (λ planned plan. first_events (e + 1 - 1) planned plan) old new stock left r
-      (ap (λ e'. offered (planned_of next bodies old) e' (first_events (e - 1) (planned_of next bodies old) (plan_now next bodies old stock))) (sym is)
-      ∙ more-events (planned_of next bodies old) (plan_now next bodies old stock) (e - 1)
-      ∙ ap (λ n. first_events n (planned_of next bodies old) (plan_now next bodies old stock)) more)
-      (does-then a b c i j k (λ planned plan. first_events (e - 1) planned plan) (λ planned plan. offered planned e plan) old mid new stock some left x r p q)
+  pub events-more : {T : Type 0} (a b c : Option (List ℕ)) (i j k : ℕ) (old mid new : Played P) (stock some left : Shelves) (e : ℕ) (x : T) (r : Result (Unit {0}) RunErr)
+      → Came (stream a b i j) (λ planned plan. first_events e planned plan) old mid stock some (Ok x) → Came (stream b c j k) (λ planned plan. offered planned e plan) mid new some left r
+      → Came (stream a c i k) (λ planned plan. first_events (e + 1) planned plan) old new stock left r
+  events-more a b c i j k old mid new stock some left e x r p q =
+      does-by (stream a c i k) (λ planned plan. offered planned e (first_events e planned plan)) (λ planned plan. first_events (e + 1) planned plan) old new stock left r
+      (more-events (planned_of next bodies old) (plan_now next bodies old stock) e)
+      (does-then a b c i j k (λ planned plan. first_events e planned plan) (λ planned plan. offered planned e plan) old mid new stock some left x r p q)
 
   cut : (a m n : ℕ) → range_with_len a m ++ range_with_len (a + m) n ≡ range_with_len a (m + n)
   cut a zero n = let at : a + 0 ≡ a = omega arith in let all : n ≡ 0 + n = omega arith in ap (λ k. range_with_len k n) at ∙ ap (range_with_len a) all
   cut a (suc m) n = let e : a + suc m ≡ a + 1 + m = omega arith in let more : suc m + n ≡ suc (m + n) = omega arith in
       ap (λ k. a ∷ (range_with_len (a + 1) m ++ range_with_len k n)) e ∙ ap (λ es. a ∷ es) (cut (a + 1) m n) ∙ sym (ap (range_with_len a) more)
 
+  -- the events below a, and so many more
+  joined : (planned : Planned B) (plan : Plan B) (a n b : ℕ) → a + n ≡ b → fold (λ (now : Plan B) e. offered planned e now) (first_events a planned plan) (range_with_len a n) ≡ fold (λ (now : Plan B) e. offered planned e now) plan (range_with_len 0 b)
+  joined planned plan a n b total =
+      let at : a ≡ 0 + a = omega arith in
+      sym (fold-append (λ (now : Plan B) e. offered planned e now) plan (range_with_len 0 a) (range_with_len a n))
+      ∙ ap (λ es. fold (λ (now : Plan B) e. offered planned e now) plan es) (ap (λ k. range_with_len 0 a ++ range_with_len k n) at ∙ cut 0 a n ∙ ap (range_with_len 0) total)
+
   -- events that can't be delivered are passed over
-  pub events-skip : {T : Type 0} (s : Stream) (old new : Played P) (stock left : Shelves) (a b : ℕ) (x : T) → 1 ≤ a → a ≤ b
+  pub events-skip : {T : Type 0} (s : Stream) (old new : Played P) (stock left : Shelves) (a b : ℕ) (x : T) → a ≤ b
       → HoldsNowhere (armed (session_of next bodies new).live.state) a b
-      → Came s (λ planned plan. first_events (a - 1) planned plan) old new stock left (Ok x) → Came s (λ planned plan. first_events (b - 1) planned plan) old new stock left (Ok x)
-  events-skip s old new stock left a b x low up none p =
+      → Came s (λ planned plan. first_events a planned plan) old new stock left (Ok x) → Came s (λ planned plan. first_events b planned plan) old new stock left (Ok x)
+  events-skip s old new stock left a b x up none p =
       let planned = planned_of next bodies old in
       let plan = plan_now next bodies old stock in
       let now = plan_now next bodies new left in
       let n = b - a in
-      let at : 1 + (a - 1) ≡ a = omega (arith, low) in
       let reach : b ≡ a + n = omega (arith, up) in
-      let total : (a - 1) + n ≡ b - 1 = omega (arith, low, up) in
       let still : fold (λ (now : Plan B) e. offered planned e now) now (range_with_len a n) ≡ now = serves-unarmed planned now a n (subst (λ e. HoldsNowhere (armed (session_of next bodies new).live.state) a e) reach none) in
-      let further : fold (λ (now : Plan B) e. offered planned e now) (first_events (a - 1) planned plan) (range_with_len a n) ≡ first_events (b - 1) planned plan =
-      ap (λ k. fold (λ (now : Plan B) e. offered planned e now) (first_events (a - 1) planned plan) (range_with_len k n)) (sym at)
-      ∙ sym (fold-append (λ (now : Plan B) e. offered planned e now) plan (range_with_len 1 (a - 1)) (range_with_len (1 + (a - 1)) n))
-      ∙ ap (λ es. fold (λ (now : Plan B) e. offered planned e now) plan es) (cut 1 (a - 1) n ∙ ap (range_with_len 1) total) in
-      does-by s (λ planned plan. first_events (a - 1) planned plan) (λ planned plan. first_events (b - 1) planned plan) old new stock left (Ok x)
-      (sym p.comes ∙ sym still ∙ ap (λ q. fold (λ (now : Plan B) e. offered planned e now) q (range_with_len a n)) p.comes ∙ further) p
+      does-by s (λ planned plan. first_events a planned plan) (λ planned plan. first_events b planned plan) old new stock left (Ok x)
+      (sym p.comes ∙ sym still ∙ ap (λ q. fold (λ (now : Plan B) e. offered planned e now) q (range_with_len a n)) p.comes ∙ joined planned plan a n b (sym reach)) p
 
   pub events-end : {T : Type 0} (s : Stream) (old new : Played P) (stock left : Shelves) (e : ℕ) (x : T) → e ≡ 32
-      → Came s (λ planned plan. first_events (e - 1) planned plan) old new stock left (Ok x) → Came s (λ planned plan. boundary planned plan) old new stock left (Ok x)
+      → Came s (λ planned plan. first_events e planned plan) old new stock left (Ok x) → Came s (λ planned plan. boundary planned plan) old new stock left (Ok x)
   unfolding events
-  events-end s old new stock left e x is p = does-by s (λ planned plan. first_events (e - 1) planned plan) (λ planned plan. boundary planned plan) old new stock left (Ok x)
-      (ap (λ n. first_events (n - 1) (planned_of next bodies old) (plan_now next bodies old stock)) is) p
+  events-end s old new stock left e x is p = does-by s (λ planned plan. first_events e planned plan) (λ planned plan. boundary planned plan) old new stock left (Ok x)
+      (ap (λ n. first_events n (planned_of next bodies old) (plan_now next bodies old stock)) is) p
 
   -- where the run fails at an event, the rest isn't done
-  events-rest : (planned : Planned B) (plan : Plan B) (e : ℕ) → e < 32 → IsFirstPart (first_events e planned plan) (boundary planned plan)
+  events-rest : (planned : Planned B) (plan : Plan B) (e : ℕ) → e ≤ 32 → IsFirstPart (first_events e planned plan) (boundary planned plan)
   unfolding events
   events-rest planned plan e low =
-      let n = 31 - e in
-      let total : e + n ≡ 31 = omega (arith, low) in
-      subst (λ whole. IsFirstPart (first_events e planned plan) whole)
-      (sym (fold-append (λ (now : Plan B) e. offered planned e now) plan (range_with_len 1 e) (range_with_len (1 + e) n)) ∙ ap (λ es. fold (λ (now : Plan B) e. offered planned e now) plan es) (cut 1 e n ∙ ap (range_with_len 1) total))
-      (serves-grow planned (range_with_len (1 + e) n) (first_events e planned plan))
+      let n = 32 - e in
+      let total : e + n ≡ 32 = omega (arith, low) in
+      subst (λ whole. IsFirstPart (first_events e planned plan) whole) (joined planned plan e n 32 total) (serves-grow planned (range_with_len e n) (first_events e planned plan))
 
-  pub events-part : {T U : Type 0} (a b c : Option (List ℕ)) (i j k : ℕ) (old mid new : Played P) (stock some left : Shelves) (e : ℕ) (x : T) (r : Result U RunErr) (error : RunErr) → IsErrAnd r (λ given. given ≡ error) → 1 ≤ e → e < 32
-      → Came (stream a b i j) (λ planned plan. first_events (e - 1) planned plan) old mid stock some (Ok x) → Came {T = Unit {0}} (stream b c j k) (λ planned plan. offered planned e plan) mid new some left (Err error)
+  pub events-part : {T U : Type 0} (a b c : Option (List ℕ)) (i j k : ℕ) (old mid new : Played P) (stock some left : Shelves) (e : ℕ) (x : T) (r : Result U RunErr) (error : RunErr) → IsErrAnd r (λ given. given ≡ error) → e < 32
+      → Came (stream a b i j) (λ planned plan. first_events e planned plan) old mid stock some (Ok x) → Came {T = Unit {0}} (stream b c j k) (λ planned plan. offered planned e plan) mid new some left (Err error)
       → Came (stream a c i k) (λ planned plan. boundary planned plan) old new stock left r
-  events-part a b c i j k old mid new stock some left e x r error is low high p q =
-      let same : e + 1 - 1 ≡ e = omega arith in
+  events-part a b c i j k old mid new stock some left e x r error is high p q =
       does-err _ (stream a c i k) (λ planned plan. boundary planned plan) old new stock left r error is
       (does-by (stream a c i k) (λ planned plan. boundary planned (plan_now next bodies old stock)) (λ planned plan. boundary planned plan) old new stock left (Err error) refl
-      (does-part _ _ (stream a c i k) (λ planned plan. first_events (e + 1 - 1) planned plan) (λ planned plan. boundary planned (plan_now next bodies old stock)) old new stock left error
-      (subst (λ n. IsFirstPart (first_events n (planned_of next bodies old) (plan_now next bodies old stock)) (boundary (planned_of next bodies old) (plan_now next bodies old stock))) (sym same)
-      (events-rest (planned_of next bodies old) (plan_now next bodies old stock) e high))
-      (events-more a b c i j k old mid new stock some left e x (Err error) low p q)))
+      (does-part _ _ (stream a c i k) (λ planned plan. first_events (e + 1) planned plan) (λ planned plan. boundary planned (plan_now next bodies old stock)) old new stock left error
+      (events-rest (planned_of next bodies old) (plan_now next bodies old stock) (e + 1) (omega (arith, high)))
+      (events-more a b c i j k old mid new stock some left e x (Err error) p q)))
 
   -- ---- one step
 

@@ -8,9 +8,9 @@ use Rattle.trace_text.specs.declared.ends.Halt.TheVariants.{Ended, Spent, Stuck}
 use Rattle.std.specs.List.{list_any, range_with_len}
 use Rattle.std.specs.Prelude.{Bool, List, None, Option, Some, if◌then◌else◌, is_some, nat_le, ℕ, ◌&&◌}
 
--- the events there are
+-- the events there are; event 0 is the clock
 unfoldable pub events : List ℕ
-events = range_with_len 1 31
+events = range_with_len 0 32
 
 -- a line of the event is left, and can be delivered
 abbrev pub can_take : State → Shelves → ℕ → Bool

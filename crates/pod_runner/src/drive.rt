@@ -45,7 +45,7 @@ fn serve_all<B: Body, P: Program<B>, G: Gate, K: Sink>(
     requires room { run.old.calls ≤ run.old.turns }
     ensures { Does B.next P.bodies P.proc_names (record { old = K.written sink.old; new = K.written sink.new; faults_old = K.faults sink.old; faults_new = K.faults sink.new }) (λ planned plan. boundary planned plan) run.old run.new (G.stock gate.old) (G.stock gate.new) result }
 {
-    let mut from = 1;
+    let mut from = 0;
     while let Some(event) = run.next_wanted(from) {
         take_line(run, gate, event, sink)?;
         from = event + 1;

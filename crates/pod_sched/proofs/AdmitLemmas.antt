@@ -83,10 +83,10 @@ module _ (slots : Lists) (order : Order) (rows : List Known) (slot_of : ℕ → 
         ordered_now = IsOrdered-admitted _ _ held.ordered t prio suspended not_found
 
         pub view_out : suspended ≡ true → schedule_of (moved_to_back slots 0 slot) order rows' maxpri places ≡ admitted (schedule_of slots order rows maxpri places) t prio suspended
-        view_out held_back = rw (known_now, threads_now, tids_out) (ap (λ b. record { threads = map (row_at rows) (items slots 0) ++ newcomer t prio suspended ∷ []; order = cond b (map (tid_at rows) order.order) (map (tid_at rows) order.order ++ t ∷ []); maxpri = maxpri; places = places }) (sym held_back))
+        view_out held_back = rw (known_now, threads_now, tids_out) (ap (λ b. record { threads = map (row_at rows) (items slots 0) ++ newcomer t prio suspended ∷ []; order = cond b (map (tid_at rows) order.order) (map (tid_at rows) order.order ++ t ∷ []); timers = []; now = 0; maxpri = maxpri; places = places }) (sym held_back))
 
         pub view_in : suspended ≡ false → schedule_of (moved_to_back slots 0 slot) (put_last order slot prio) rows' maxpri places ≡ admitted (schedule_of slots order rows maxpri places) t prio suspended
-        view_in joins = rw (known_now, threads_now, tids_in) (ap (λ b. record { threads = map (row_at rows) (items slots 0) ++ newcomer t prio suspended ∷ []; order = cond b (map (tid_at rows) order.order) (map (tid_at rows) order.order ++ t ∷ []); maxpri = maxpri; places = places }) (sym joins))
+        view_in joins = rw (known_now, threads_now, tids_in) (ap (λ b. record { threads = map (row_at rows) (items slots 0) ++ newcomer t prio suspended ∷ []; order = cond b (map (tid_at rows) order.order) (map (tid_at rows) order.order ++ t ∷ []); timers = []; now = 0; maxpri = maxpri; places = places }) (sym joins))
 
         pub IsHeld-out : suspended ≡ true → IsHeld (moved_to_back slots 0 slot) order rows' slot_of' map_len' room' maxpri places
         IsHeld-out held_back = record {

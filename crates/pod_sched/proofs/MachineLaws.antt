@@ -8,6 +8,7 @@ use Rattle.lwp_types.specs.State.{State, ThreadRow, is_not_blocked, passes, put_
 use Rattle.lwp_types.specs.Threads as threads
 use Rattle.lwp_types.specs.Unblock as unblock
 use Rattle.lwp_types.specs.Threads.{moved_to_end}
+use Rattle.lwp_types.specs.Unblock.{without_timer}
 use Rattle.lwp_types.specs.declared.call.Flags.{Flags}
 use Rattle.lwp_types.specs.declared.rows.Block.{Block}
 use Rattle.lwp_types.specs.declared.rows.Block.TheVariants as block
@@ -148,6 +149,8 @@ module _ (dying : Option ℕ) (v : Schedule) (s : State) (shows : Shows dying v 
   blocked-shown t b waits = record {
     threads = λ u. moved-shown (sched.block_set t true) (machine.block_set t b) u (λ k. refl) (λ row. refl) (block-row t b true (ap not (sym waits)));
     order = ap (without t) shows.order;
+    timers = shows.timers;
+    now = shows.now;
     maxpri = shows.maxpri;
   }
 
@@ -159,6 +162,8 @@ module _ (dying : Option ℕ) (v : Schedule) (s : State) (shows : Shows dying v 
     unblocked-shown = record {
       threads = λ u. moved-shown (sched.block_set t false) (machine.block_set t block.Not) u (λ k. refl) (λ row. refl) (block-row t block.Not false refl);
       order = ap (λ b. cond b v.order (v.order ++ t ∷ [])) same.suspended ∙ ap (λ o. cond (machine.is_suspended_in s t) o (o ++ t ∷ [])) shows.order;
+      timers = ap (without_timer t) shows.timers;
+      now = shows.now;
       maxpri = shows.maxpri;
     }
 
@@ -166,6 +171,8 @@ module _ (dying : Option ℕ) (v : Schedule) (s : State) (shows : Shows dying v 
     suspended-shown = record {
       threads = λ u. moved-shown (sched.suspension_set t true) (machine.suspension_set t true) u (λ k. refl) (λ row. refl) (λ row. refl);
       order = ap (without t) shows.order;
+      timers = shows.timers;
+      now = shows.now;
       maxpri = shows.maxpri;
     }
 
@@ -175,6 +182,8 @@ module _ (dying : Option ℕ) (v : Schedule) (s : State) (shows : Shows dying v 
       order = ap (λ b. cond (b && not (sched.is_blocked_in v t)) (v.order ++ t ∷ []) v.order) same.suspended
           ∙ (ap (λ b. cond (machine.is_suspended_in s t && not b) (v.order ++ t ∷ []) v.order) same.blocked
           ∙ ap (λ o. cond (machine.is_suspended_in s t && not (machine.is_blocked_in s t)) (o ++ t ∷ []) o) shows.order);
+      timers = shows.timers;
+      now = shows.now;
       maxpri = shows.maxpri;
     }
 
@@ -184,6 +193,8 @@ module _ (dying : Option ℕ) (v : Schedule) (s : State) (shows : Shows dying v 
       order = ap (λ b. cond (b && not (eqb (sched.priority_in v t) p)) (to_end t v.order) v.order) same.eligible
           ∙ (ap (λ n. cond (choice.is_eligible_in s t && not (eqb n p)) (to_end t v.order) v.order) same.priority
           ∙ ap (λ o. cond (choice.is_eligible_in s t && not (eqb (machine.priority_in s t) p)) (to_end t o) o) shows.order);
+      timers = shows.timers;
+      now = shows.now;
       maxpri = shows.maxpri;
     }
 
@@ -191,6 +202,8 @@ module _ (dying : Option ℕ) (v : Schedule) (s : State) (shows : Shows dying v 
   marks-hidden t ms = record {
     threads = λ u. shows.threads u ∙ ap (λ o. cond (is_same_option dying u) None o) (by_found (machine.thread_of s u) ∙ ap (option_map known_of) (sym (find-moved (machine.is_number u) (machine.marks_set t ms) (λ row. refl) s.threads)));
     order = shows.order;
+    timers = shows.timers;
+    now = shows.now;
     maxpri = shows.maxpri;
   }
     where
@@ -211,6 +224,8 @@ module _ (v : Schedule) (s : State) (shows : Shows None v s) where
   yielded-shown t to = record {
     threads = shows.threads;
     order = ap (λ o. cond (eqb t to) (to_end t o) (put_before to t (without to o))) shows.order;
+    timers = shows.timers;
+    now = shows.now;
     maxpri = shows.maxpri;
   }
 
@@ -219,6 +234,8 @@ module _ (v : Schedule) (s : State) (shows : Shows None v s) where
     threads = shows.threads;
     order = ap (λ o. moved_to_end o v.order) (find-same (λ t. eqb (sched.priority_in v t) p) (λ t. eqb (machine.priority_in s t) p) (λ t. ap (λ n. eqb n p) (priority-all t)) v.order)
         ∙ ap (λ o. moved_to_end (find (λ t. eqb (machine.priority_in s t) p) o) o) shows.order;
+    timers = shows.timers;
+    now = shows.now;
     maxpri = shows.maxpri;
   }
 
@@ -230,6 +247,8 @@ module _ (v : Schedule) (s : State) (shows : Shows None v s) where
         ∙ (by_found (eqb s.births u) (machine.thread_of s u)
         ∙ ap (option_map known_of) (sym (find-append (machine.is_number u) s.threads (threads.born s.births prio flags ∷ [])))));
     order = ap (λ o. cond flags.suspended o (o ++ s.births ∷ [])) shows.order;
+    timers = shows.timers;
+    now = shows.now;
     maxpri = shows.maxpri;
   }
     where
@@ -260,6 +279,8 @@ module _ (v : Schedule) (s : State) (t : ℕ) where
       | inr differs ↦ rw (ne_eqb t u differs) (find-stays (sched.is_of u) (sched.is_of t) (λ k is. ne_eqb k.tid t (λ here. differs (sym here ∙ eqb-true _ _ is))) v.threads ∙ (shows.threads u ∙ sym (unmoved u differs)))
     ];
     order = ap (without t) shows.order;
+    timers = ap (without_timer t) shows.timers;
+    now = shows.now;
     maxpri = shows.maxpri;
   }
 
@@ -270,6 +291,8 @@ module _ (v : Schedule) (s : State) (t : ℕ) where
       | inr differs ↦ shows.threads u ∙ (ap (λ b. cond b None (option_map known_of (machine.thread_of s u))) (ne_eqb t u differs) ∙ ap (option_map known_of) (sym (find-stays (machine.is_number u) (machine.is_number t) (λ row is. ne_eqb row.number t (λ here. differs (sym here ∙ eqb-true _ _ is))) s.threads)))
     ];
     order = shows.order;
+    timers = shows.timers;
+    now = shows.now;
     maxpri = shows.maxpri;
   }
 
@@ -293,7 +316,7 @@ flags_shown dying t lives = record {
   suspended = λ v s shows. suspended-shown dying v s shows t lives;
   resumed = λ v s shows. resumed-shown dying v s shows t lives;
   prioritized = λ p v s shows. prioritized-shown dying v s shows t lives p;
-  raised = λ p v s shows. record { threads = shows.threads; order = shows.order; maxpri = refl };
+  raised = λ p v s shows. record { threads = shows.threads; order = shows.order; timers = shows.timers; now = shows.now; maxpri = refl };
 }
 
 pub births_shown : BirthsAreShown

@@ -1,4 +1,4 @@
--- The invariant of `Sched` over its fields. No public clause cites this module.
+-- The invariant of `Turns` over its fields. No public clause cites this module.
 use Rattle.buckets.specs.Order.{Order, prio_of}
 use Rattle.chains.specs.Lists.{Lists, items}
 use Rattle.lwp_types.specs.State.{to_end, without}
@@ -6,17 +6,19 @@ use Rattle.pod_sched.specs.Schedule.{IsOrdered, Schedule, is_of}
 use Rattle.pod_sched.specs.Slots.{AreSlots, IsReady, row_at}
 use Rattle.pod_sched.specs.declared.rows.Known.{Known}
 use Rattle.std.specs.List.{AllByRecursion}
-use Rattle.std.specs.Prelude.{List, Option, if◌then◌else◌, length, map, ℕ, ◌+◌, ◌≡◌, ◌≤◌}
+use Rattle.std.specs.Prelude.{List, Option, [], if◌then◌else◌, length, map, ℕ, ◌+◌, ◌≡◌, ◌≤◌}
 
 -- the id of the thread at a slot
 abbrev pub tid_at : List Known → ℕ → ℕ
 tid_at rows s = (row_at rows s).tid
 
--- what a contract sees
+-- what a contract sees: nobody has a timer
 abbrev pub schedule_of : Lists → Order → List Known → ℕ → ℕ → Schedule
 schedule_of slots order rows maxpri places = record {
   threads = map (row_at rows) (items slots 0);
   order = map (tid_at rows) order.order;
+  timers = [];
+  now = 0;
   maxpri = maxpri;
   places = places;
 }

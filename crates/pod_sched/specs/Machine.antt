@@ -22,10 +22,12 @@ known_of row = record { tid = row.number; prio = row.priority; suspended = row.s
 abbrev pub seen : Option ℕ → State → ℕ → Option Known
 seen dying s t = if is_same_option dying t then None else option_map known_of (machine.thread_of s t)
 
--- the scheduler knows the machine's threads but the dying one, and has their order
+-- the scheduler knows the machine's threads but the dying one, and has their order, their timers and the clock
 pub record Shows (dying : Option ℕ) (v : Schedule) (s : State) : Type 0 where
   pub threads : (t : ℕ) → sched.thread_of v t ≡ seen dying s t
   pub order : v.order ≡ s.order
+  pub timers : v.timers ≡ s.timers
+  pub now : v.now ≡ s.now
   pub maxpri : v.maxpri ≡ s.maxpri
 
 -- thread t isn't the dying one

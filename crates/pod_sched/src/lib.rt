@@ -4,7 +4,8 @@
 //! The contract of each call is one equation between lists: the known threads, and the order of those that may run
 //! (`specs/Schedule.antt`). It says for a scheduler by itself what the machine of `lwp_types` does to a pod's threads and
 //! order; what both speak of, the choice among them, is cited from there, and `laws` says so of the machine's state. Only
-//! `new` and `reserve` take memory, and no call goes over the threads or the order: it stands on `buckets` and `chains`.
+//! `new` and `reserve` take memory, and no call goes over the threads, the order or the timers: it stands on `buckets`, `chains`
+//! and `timers`, which has the clock.
 #![tactic(auto)]
 
 mod bucket;
@@ -12,6 +13,7 @@ mod index;
 pub mod laws;
 mod rows;
 mod sched;
+mod turns;
 
 pub use bucket::{Bucket, Steps};
 pub use rows::Known;

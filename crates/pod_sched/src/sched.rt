@@ -1,65 +1,43 @@
 // The scheduler.
-ghost use Rattle.std.specs.Prelude.{◌≡◌, ◌+◌, ◌<◌, ◌≤◌, ◌==◌, Some, false, length, true, IsTrue, IsOk, IfOk, OnOk, OnErr};
+ghost use Rattle.std.specs.Prelude.{◌≡◌, ◌+◌, ◌<◌, ◌≤◌, ◌==◌, Some, false, length, option_map, true, IsTrue, IsOk, IfOk, OnOk, OnErr};
 ghost use Rattle.lwp_types.specs.First.{FindsBest};
-ghost use Rattle.std.specs.List.{find};
-ghost use Rattle.pod_sched.specs.Schedule.{IsOrdered, admitted, blocked, choice, empty_schedule, is_blocked_in, is_eligible, is_eligible_in, knows, left, prio_in, prioritized, priority_in, rescheduled, reserved, resumed, suspended, thread_of, unblocked, with_maxpri, yielded};
+ghost use Rattle.pod_sched.specs.Schedule.{IsOrdered, admitted, blocked, choice, empty_schedule, first_due, has_timer, is_blocked_in, is_eligible_in, knows, left, popped, prio_in, prioritized, priority_in, rescheduled, reserved, resumed, suspended, ticked, timed, unblocked, with_maxpri, yielded};
 
-use crate::Known;
-use crate::bucket::{self, Bucket, Steps};
-use crate::index::{self, Index};
-use crate::rows::{LEVELS, extend_rows, free_slots, may_run, put_row, row_at};
-use buckets::Buckets;
-use chains::Chains;
+use crate::bucket::Steps;
+use crate::turns::Turns;
 use lwp_types::{NoMemory, Tid};
 use std::alloc::Global;
 use std::marker::Model;
 use std::sync::ledger::Ledger;
+use timers::Timers;
 
-/// Who is known, and who may run after whom.
+/// Who is known, who may run after whom, and who waits for the clock until when.
 pub struct Sched {
-    // Each known thread has a slot. The list 0 is of their slots, the thread that was admitted first at its head, and the
-    // list 1 of those that are free.
-    slots: Chains,
-    // The slots of those that may run.
-    order: Buckets,
-    // The row of each slot.
-    rows: Vec<Known>,
-    // The slot of each known thread.
-    index: Index,
-    maxpri: u32,
-    // There is memory for so many.
-    places: usize,
+    turns: Turns,
+    timers: Timers,
 }
 
 impl Drop for Sched {
     fn drop(self) {
         let Sched {
-            slots: _,
-            order: _,
-            rows: _,
-            index: _,
-            maxpri: _,
-            places: _,
+            turns: _,
+            timers: _,
         } = self;
     }
 }
 
 impl Model for Sched {
-    ghost use Rattle.std.specs.Prelude.{length};
-    ghost use Rattle.pod_sched.specs.Index.{slot_in};
-    ghost use Rattle.pod_sched.specs.Held.{IsHeld, schedule_of};
+    ghost use Rattle.pod_sched.specs.Clock.{IsTimed, with_clock};
     ghost use Rattle.pod_sched.specs.Schedule.{Schedule};
 
     ghost Value = { Schedule };
 
-    ghost view = { λ s. schedule_of s.slots s.order s.rows.items s.maxpri s.places };
+    ghost view = { λ s. with_clock s.timers s.turns };
 
-    ghost invariant = { λ s. IsHeld s.slots s.order s.rows.items (slot_in s.index.entries) (length s.index.entries) s.index.room s.maxpri s.places };
+    ghost invariant = { λ s. IsTimed s.turns.threads s.timers s.turns.places };
 }
 
 impl Sched {
-    ghost use Rattle.pod_sched.specs.Held.{back_with, out_with};
-
     /// A scheduler that knows nobody yet, with priorities from 1 to `maxpri`.
     pub fn new(alloc: Global, maxpri: u32) -> Result<Sched, NoMemory>
         requires least { 1 ≤ maxpri }
@@ -67,12 +45,8 @@ impl Sched {
         ensures { IfOk result (λ s. s ≡ empty_schedule maxpri) }
     {
         Ok(Sched {
-            slots: Chains::new(alloc, LEVELS)?,
-            order: Buckets::new(alloc, LEVELS)?,
-            rows: Vec::new(alloc),
-            index: index::empty(alloc)?,
-            maxpri,
-            places: 0,
+            turns: Turns::new(alloc, maxpri)?,
+            timers: Timers::new(alloc),
         })
     }
 
@@ -82,19 +56,62 @@ impl Sched {
         ensures err { OnErr result (self.new ≡ self.old) }
         ensures has_room { n ≤ self.old.places → IsOk result }
     {
-        if n <= self.places {
-            return Ok(());
-        }
-        if n > usize::MAX - LEVELS {
-            return Err(NoMemory);
-        }
-        self.slots.reserve(LEVELS + n)?;
-        self.order.reserve(n)?;
-        extend_rows(&mut self.rows, n)?;
-        index::reserve(&mut self.index, n)?;
-        free_slots(&mut self.slots, LEVELS + self.places, LEVELS + n);
-        self.places = n;
-        Ok(())
+        self.timers.reserve(n)?;
+        self.turns.reserve(n)
+    }
+
+    /// Forgets a thread, and with it its place in the order and its timer.
+    pub fn leave(&mut self, tid: Tid)
+        requires { IsTrue (knows self.old tid) }
+        ensures { self.new ≡ left self.old tid }
+    {
+        self.timers.drop_of(tid);
+        self.turns.leave(tid);
+    }
+
+    /// The thread has what it waited for, or waits no longer: its timer goes. It goes last, unless it is suspended.
+    pub fn unblock(&mut self, tid: Tid)
+        requires { IsTrue (is_blocked_in self.old tid) }
+        ensures { self.new ≡ unblocked self.old tid }
+    {
+        self.timers.drop_of(tid);
+        self.turns.unblock(tid);
+    }
+
+    /// How often the clock has ticked.
+    pub fn now(&self) -> u64
+        ensures value { result ≡ self.entry.now.now }
+        ensures most { result ≤ 4294967295 }
+    {
+        self.timers.now()
+    }
+
+    /// The clock ticks.
+    pub fn tick(&mut self)
+        requires { self.old.now < 4294967295 }
+        ensures { self.new ≡ ticked self.old }
+    {
+        self.timers.tick();
+    }
+
+    /// A thread that waits is to wait no longer than until this tick.
+    pub fn set_timer(&mut self, tid: Tid, due: u64)
+        requires waits { IsTrue (is_blocked_in self.old tid) }
+        requires new { has_timer self.old tid ≡ false }
+        requires later { self.old.now < due }
+        ensures { self.new ≡ timed self.old tid due }
+    {
+        // The check learns here that there are no more threads than places.
+        let _known = self.turns.len();
+        self.timers.set(tid, due);
+    }
+
+    /// The first timer whose tick has come goes; the answer is whose it was. Called until None, it leaves none that is due.
+    pub fn pop_due(&mut self) -> Option<Tid>
+        ensures value { result ≡ option_map (λ row. row.tid) (first_due self.old.timers self.old.now) }
+        ensures after { self.new ≡ popped self.old }
+    {
+        self.timers.pop()
     }
 
     /// Knows one thread more, which isn't blocked. It goes last, unless it begins suspended.
@@ -105,36 +122,7 @@ impl Sched {
         requires most { prio ≤ self.old.maxpri }
         ensures { self.new ≡ admitted self.old tid prio suspended }
     {
-        // As many slots are free as threads can still be known.
-        let Some(slot) = self.slots.first(1) else {
-            unreachable!()
-        };
-        self.slots.move_to_back(0, slot);
-        put_row(
-            &mut self.rows,
-            slot,
-            Known {
-                tid,
-                prio,
-                suspended,
-                blocked: false,
-            },
-        );
-        index::put(&mut self.index, tid.number, slot);
-        if !suspended {
-            self.order.put_last(slot, prio);
-        }
-    }
-
-    /// Forgets a thread, and with it its place in the order.
-    pub fn leave(&mut self, tid: Tid)
-        requires { IsTrue (knows self.old tid) }
-        ensures { self.new ≡ left self.old tid }
-    {
-        let slot = index::known_slot(&self.index, tid.number);
-        index::take(&mut self.index, tid.number);
-        self.slots.move_to_back(1, slot);
-        self.order.take(slot);
+        self.turns.admit(tid, prio, suspended);
     }
 
     /// The thread begins to wait for something.
@@ -142,31 +130,7 @@ impl Sched {
         requires { IsTrue (knows self.old tid) }
         ensures { self.new ≡ blocked self.old tid }
     {
-        let row = self.row(tid);
-        self.put_out(
-            tid,
-            Known {
-                blocked: true,
-                ..row
-            },
-        );
-    }
-
-    /// The thread has what it waited for. It goes last, unless it is suspended.
-    pub fn unblock(&mut self, tid: Tid)
-        requires { IsTrue (is_blocked_in self.old tid) }
-        ensures { self.new ≡ unblocked self.old tid }
-    {
-        let row = self.row(tid);
-        let now = Known {
-            blocked: false,
-            ..row
-        };
-        if row.suspended {
-            self.put_out(tid, now);
-        } else {
-            self.put_back(tid, now);
-        }
+        self.turns.block(tid);
     }
 
     /// The thread may not run until it is resumed, whether or not it is blocked.
@@ -174,14 +138,7 @@ impl Sched {
         requires { IsTrue (knows self.old tid) }
         ensures { self.new ≡ suspended self.old tid }
     {
-        let row = self.row(tid);
-        self.put_out(
-            tid,
-            Known {
-                suspended: true,
-                ..row
-            },
-        );
+        self.turns.suspend(tid);
     }
 
     /// Ends a suspension. The thread goes last, unless it is blocked; one that isn't suspended keeps its place.
@@ -189,16 +146,7 @@ impl Sched {
         requires { IsTrue (knows self.old tid) }
         ensures { self.new ≡ resumed self.old tid }
     {
-        let row = self.row(tid);
-        let now = Known {
-            suspended: false,
-            ..row
-        };
-        if row.blocked {
-            self.put_out(tid, now);
-        } else if row.suspended {
-            self.put_back(tid, now);
-        }
+        self.turns.resume(tid);
     }
 
     /// Gives a thread a priority, and answers the one that it had. Where the two differ and it may run, it goes last.
@@ -209,15 +157,7 @@ impl Sched {
         ensures before { result ≡ priority_in self.old tid }
         ensures after { self.new ≡ prioritized self.old tid prio }
     {
-        let row = self.row(tid);
-        let now = Known { prio, ..row };
-        let runs = may_run(&row);
-        if !runs {
-            self.put_out(tid, now);
-        } else if row.prio != prio {
-            self.put_back(tid, now);
-        }
-        row.prio
+        self.turns.set_prio(tid, prio)
     }
 
     /// `from` lets `to` run right before it, or goes last where the two are one.
@@ -227,24 +167,14 @@ impl Sched {
         requires same_prio { priority_in self.old from ≡ priority_in self.old to }
         ensures { self.new ≡ yielded self.old from to }
     {
-        if from == to {
-            let row = self.row(from);
-            self.put_back(from, row);
-        } else {
-            let slot = index::known_slot(&self.index, from.number);
-            let other = index::known_slot(&self.index, to.number);
-            self.order.put_before(other, slot);
-        }
+        self.turns.yield_to(from, to);
     }
 
     /// The first of this priority goes last. Where there is none, nothing happens.
     pub fn resched(&mut self, prio: u32)
         ensures { self.new ≡ rescheduled self.old prio }
     {
-        if let Some(tid) = self.first_of(prio) {
-            let row = self.row(tid);
-            self.put_back(tid, row);
-        }
+        self.turns.resched(prio);
     }
 
     /// Raises the greatest priority.
@@ -253,7 +183,7 @@ impl Sched {
         requires most { maxpri ≤ 255 }
         ensures { self.new ≡ with_maxpri self.old maxpri }
     {
-        self.maxpri = maxpri;
+        self.turns.set_maxpri(maxpri);
     }
 
     /// The thread that runs next. It stays in the order.
@@ -262,7 +192,7 @@ impl Sched {
         ensures first_best { FindsBest (prio_in self.now.threads) self.now.order result }
         ensures ordered { IsOrdered self.now.threads self.now.order }
     {
-        bucket::peek(&self.best())
+        self.turns.current()
     }
 
     /// What `current` answers, with its looks at buckets counted: one, however many priorities there are.
@@ -271,14 +201,14 @@ impl Sched {
         ensures cost { steps.new ≤ steps.old + self.now.maxpri }
         ensures one_look { steps.new ≤ steps.old + 1 }
     {
-        self.best().first(steps)
+        self.turns.current_counted(steps)
     }
 
     /// Whether the thread was admitted and hasn't left.
     pub fn knows(&self, tid: Tid) -> bool
         ensures { result ≡ knows self.now tid }
     {
-        self.row_of(tid).is_some()
+        self.turns.knows(tid)
     }
 
     /// How many threads it knows, each once.
@@ -286,14 +216,14 @@ impl Sched {
         ensures value { result ≡ length self.now.threads }
         ensures ordered { IsOrdered self.now.threads self.now.order }
     {
-        index::count(&self.index)
+        self.turns.len()
     }
 
     /// The greatest priority that a thread may be given.
     pub fn maxpri(&self) -> u32
         ensures { result ≡ self.now.maxpri }
     {
-        self.maxpri
+        self.turns.maxpri()
     }
 
     /// The thread's priority.
@@ -301,99 +231,20 @@ impl Sched {
         requires { IsTrue (knows self.now tid) }
         ensures { result ≡ priority_in self.now tid }
     {
-        self.row(tid).prio
+        self.turns.prio_of(tid)
     }
 
     /// Whether the thread may run; an unknown one may not.
     pub fn eligible(&self, tid: Tid) -> bool
         ensures { result ≡ is_eligible_in self.now tid }
     {
-        self.row_of(tid)
-            .is_some_and(|row| !row.suspended && !row.blocked)
+        self.turns.eligible(tid)
     }
 
     /// Whether the thread waits for something; an unknown one doesn't.
     pub fn blocked(&self, tid: Tid) -> bool
         ensures { result ≡ is_blocked_in self.now tid }
     {
-        self.row_of(tid).is_some_and(|row| row.blocked)
-    }
-
-    // The bucket of the greatest priority that has somebody.
-    fn best(&self) -> Bucket
-        ensures value { result ≡ choice self.now }
-        ensures first_best { FindsBest (prio_in self.now.threads) self.now.order result }
-        ensures ordered { IsOrdered self.now.threads self.now.order }
-        ensures least { 1 ≤ self.now.maxpri }
-    {
-        bucket::led_by(self.first_best())
-    }
-
-    // The first of that bucket.
-    fn first_best(&self) -> Option<Tid>
-        ensures value { result ≡ choice self.now }
-        ensures first_best { FindsBest (prio_in self.now.threads) self.now.order result }
-        ensures ordered { IsOrdered self.now.threads self.now.order }
-        ensures least { 1 ≤ self.now.maxpri }
-    {
-        let slot = self.order.best()?;
-        Some(row_at(&self.rows, slot).tid)
-    }
-
-    // The thread's row, if it is known.
-    fn row_of(&self, tid: Tid) -> Option<Known>
-        ensures { result ≡ thread_of self.now tid }
-    {
-        let slot = index::slot_of(&self.index, tid.number)?;
-        Some(row_at(&self.rows, slot))
-    }
-
-    // A known thread's row.
-    fn row(&self, tid: Tid) -> Known
-        requires { IsTrue (knows self.now tid) }
-        ensures value { thread_of self.now tid ≡ Some result }
-        ensures same { result.tid ≡ tid }
-        ensures low { result.prio < 256 }
-        ensures most { self.now.maxpri ≤ 255 }
-        ensures ordered { IsOrdered self.now.threads self.now.order }
-    {
-        let slot = index::known_slot(&self.index, tid.number);
-        row_at(&self.rows, slot)
-    }
-
-    // The first of this priority.
-    fn first_of(&self, prio: u32) -> Option<Tid>
-        ensures value { result ≡ find (λ t. priority_in self.now t == prio) self.now.order }
-        ensures ordered { IsOrdered self.now.threads self.now.order }
-    {
-        let slot = self.order.first_of(prio)?;
-        Some(row_at(&self.rows, slot).tid)
-    }
-
-    // A thread that may not run has this row from now on.
-    fn put_out(&mut self, tid: Tid, row: Known)
-        requires known { IsTrue (knows self.old tid) }
-        requires same { row.tid ≡ tid }
-        requires low { row.prio < 256 }
-        requires out { is_eligible row ≡ false }
-        ensures { self.new ≡ out_with self.old tid row }
-    {
-        let slot = index::known_slot(&self.index, tid.number);
-        put_row(&mut self.rows, slot, row);
-        self.order.take(slot);
-    }
-
-    // A thread that may run has this row from now on, and goes last.
-    fn put_back(&mut self, tid: Tid, row: Known)
-        requires known { IsTrue (knows self.old tid) }
-        requires same { row.tid ≡ tid }
-        requires low { row.prio < 256 }
-        requires in_order { is_eligible row ≡ true }
-        ensures { self.new ≡ back_with self.old tid row }
-    {
-        let slot = index::known_slot(&self.index, tid.number);
-        let prio = row.prio;
-        put_row(&mut self.rows, slot, row);
-        self.order.put_last(slot, prio);
+        self.turns.blocked(tid)
     }
 }

@@ -36,6 +36,7 @@ exit_call_of texts sender names (exit_stmt.Note n) = exit.Note (text_at texts n)
 -- what a statement calls that names nothing; a skip or an again makes no call, and nobody asks for it
 abbrev pub plain_call : List (List ℕ) → Stmt → Call
 plain_call texts (stmt.Resched p) = call.Resched p
+plain_call texts (stmt.Sleep ticks) = call.Sleep ticks
 plain_call texts (stmt.SetMaxPri p) = call.SetMaxPri p
 plain_call texts stmt.Me = call.Me
 plain_call texts (stmt.SetExit code) = call.SetExit code

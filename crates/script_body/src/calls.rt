@@ -100,6 +100,7 @@ fn set_plain_call(texts: &Texts, stmt: &Stmt, call: &mut Call)
 {
     match stmt {
         Stmt::Resched { prio } => *call = Call::Resched { prio: *prio },
+        Stmt::Sleep { ticks } => *call = Call::Sleep { ticks: *ticks },
         Stmt::SetMaxPri { prio } => *call = Call::SetMaxPri { prio: *prio },
         Stmt::Me => *call = Call::Me,
         Stmt::SetExit { code } => *call = Call::SetExit { code: *code },

@@ -34,9 +34,6 @@ IsOf n post = post.client < n
 abbrev IsLow : ℕ → Type 0
 IsLow e = e ≤ 31
 
-abbrev IsNamed : ℕ → Type 0
-IsNamed e = 1 ≤ e
-
 -- the lines of one client, whatever their texts are
 abbrev of_posts : List (List ℕ) → ℕ → List Post → List Line
 of_posts texts c posts = of c (map (line_of texts) posts)
@@ -45,7 +42,6 @@ of_posts texts c posts = of c (map (line_of texts) posts)
 record Posted (n : ℕ) (d : Draft) : Type 0 where
   counts : length d.posted ≡ length d.script.clients
   most : length d.script.clients ≤ 16
-  named : All IsNamed d.script.clients
   events : All IsLow d.script.clients
   clients : All (IsOf (length d.script.clients)) d.script.posts
   numbered : (texts : List (List ℕ)) (c : ℕ) → IsNumbered 0 (of_posts texts c d.script.posts)
@@ -87,16 +83,15 @@ may-post (n ∷ ns) (suc c) h = let more = may-post ns c h in (omega (arith, mor
 
 -- ---- a line more
 
--- the number of a client is 15 at most, and its event 1 to 31
-client_fits : (o : Op) (p : Phrase) → role_of o ≡ role.Client → AllByRecursion (SlotFits p) (slots_of o) → (p.client ≤ 15) × (1 ≤ p.event) × (p.event ≤ 31)
+-- the number of a client is 15 at most, and its event 31
+client_fits : (o : Op) (p : Phrase) → role_of o ≡ role.Client → AllByRecursion (SlotFits p) (slots_of o) → (p.client ≤ 15) × (p.event ≤ 31)
 unfolding row_of
-client_fits o p e h = let g = subst (λ x. AllByRecursion (SlotFits p) (slots_of x)) (only_of_role role.Client op.Client refl o e) h in (g.0, g.1.0.0, g.1.0.1)
+client_fits o p e h = let g = subst (λ x. AllByRecursion (SlotFits p) (slots_of x)) (only_of_role role.Client op.Client refl o e) h in (g.0, g.1.0)
 
 kept : (n : ℕ) (d e : Draft) → Posted n d → e.posted ≡ d.posted → e.script.clients ≡ d.script.clients → e.script.posts ≡ d.script.posts → Posted (suc n) e
 kept n d e h posted clients posts = record {
   counts = ap length posted ∙ h.counts ∙ ap length (sym clients);
   most = omega (arith, h.most, ap length clients);
-  named = rw clients h.named;
   events = rw clients h.events;
   clients = rw (clients, posts) h.clients;
   numbered = λ texts c. rw posts (h.numbered texts c);
@@ -105,12 +100,11 @@ kept n d e h posted clients posts = record {
   few = omega (arith, h.few, ap length posts);
 }
 
-client_more : (n : ℕ) (at : Places) (d : Draft) (p : Phrase) → p.client ≡ length d.posted → p.client ≤ 15 → 1 ≤ p.event → p.event ≤ 31 → Posted n d
+client_more : (n : ℕ) (at : Places) (d : Draft) (p : Phrase) → p.client ≡ length d.posted → p.client ≤ 15 → p.event ≤ 31 → Posted n d
     → Posted (suc n) (added_at role.Client at (entered d p) p)
-client_more n at d p is fits some low h = record {
+client_more n at d p is fits low h = record {
   counts = omega (arith, h.counts, length-append d.posted (0 ∷ []), length-append d.script.clients (p.event ∷ []));
   most = omega (arith, h.counts, is, fits, length-append d.script.clients (p.event ∷ []));
-  named = All-push IsNamed d.script.clients p.event h.named some;
   events = All-push IsLow d.script.clients p.event h.events low;
   clients = All-weaker (IsOf (length d.script.clients)) (IsOf (length (d.script.clients ++ p.event ∷ []))) (λ post less. omega (arith, less, length-append d.script.clients (p.event ∷ []))) d.script.posts h.clients;
   numbered = h.numbered;
@@ -123,7 +117,6 @@ post_more : (n : ℕ) (at : Places) (d : Draft) (p : Phrase) → p.client < leng
 post_more n at d p known small h = record {
   counts = length-raised p.client d.posted ∙ h.counts;
   most = h.most;
-  named = h.named;
   events = h.events;
   clients = All-push (IsOf (length d.script.clients)) d.script.posts post h.clients (omega (arith, known, h.counts));
   numbered = λ texts c. ⊎_elim
@@ -151,7 +144,7 @@ posted_more : (r : Role) (n : ℕ) (known : Declared) (at : Places) (d : Draft) 
 posted_more role.Header n known at d p e k f h = kept n d (added_at role.Header at (entered d p) p) h refl refl refl
 posted_more role.Pod n known at d p e k f h = kept n d (added_at role.Pod at (entered d p) p) h refl refl refl
 posted_more role.Limit n known at d p e k f h = kept n d (added_at role.Limit at (entered d p) p) h refl refl refl
-posted_more role.Client n known at d p e k f h = let fits = client_fits p.op p e f in client_more n at d p (eqb-true p.client (length d.posted) k) fits.0 fits.1 fits.2 h
+posted_more role.Client n known at d p e k f h = let fits = client_fits p.op p e f in client_more n at d p (eqb-true p.client (length d.posted) k) fits.0 fits.1 h
 posted_more role.Native n known at d p e k f h = kept n d (added_at role.Native at (entered d p) p) h refl refl refl
 posted_more role.Proc n known at d p e k f h = kept n d (added_at role.Proc at (entered d p) p) h refl refl refl
 posted_more role.Post n known at d p e k f h = let may = may-post d.posted p.client k in post_more n at d p may.0 may.1 h
@@ -181,7 +174,6 @@ posted_start : Posted 0 empty_draft
 posted_start = record {
   counts = refl;
   most = omega arith;
-  named = All-nil IsNamed;
   events = All-nil IsLow;
   clients = All-nil (IsOf 0);
   numbered = λ texts c. tt;
@@ -197,7 +189,6 @@ lines_are_posted text script lines h =
     let same : length text ≡ length (spelling lines) = ap length h.text_is in
     record {
       most = all.most;
-      named = all.named;
       events = all.events;
       clients = All-map (λ (line : Line). line.client < length d.script.clients) (line_of d.script.texts) d.script.posts all.clients;
       numbered = all.numbered d.script.texts;

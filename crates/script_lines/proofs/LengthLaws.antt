@@ -22,7 +22,7 @@ use Rattle.script_lines.specs.Phrase.{Phrase}
 use Rattle.script_lines.specs.Words.{is_lowercase, is_name, is_name_byte, is_reserved}
 use Rattle.script_lines.specs.Table.{Row, key_of, slots_of}
 use Rattle.trace_text.specs.Lines.{spaced, flags_text, mode_text, pattern_text, func_text}
-use Rattle.script_lines.specs.Line.{who_text, built_text, test_text, SourceFits, TestFits, PatternFits, BuiltFits, slot_text, phrase_text, SlotFits, IsPhrase}
+use Rattle.script_lines.specs.Line.{who_text, built_text, test_text, SourceFits, TestFits, PatternFits, ModeFits, BuiltFits, slot_text, phrase_text, SlotFits, IsPhrase}
 use Rattle.script_lines.specs.Reading.{flags_by, phrase_at}
 use Rattle.script_lines.proofs.TableLaws.{on_rows}
 use Rattle.script_lines.proofs.WordLemmas.{both}
@@ -62,9 +62,10 @@ flags_length f = by_letters f.suspended f.nolastrites f.server
     by_letters false true true = lit≤ tt
     by_letters true true true = lit≤ tt
 
-mode_length : (m : Mode) → length (mode_text m) ≤ 4
-mode_length mode.Poll = lit≤ tt
-mode_length mode.Block = lit≤ tt
+mode_length : (m : Mode) → ModeFits m → length (mode_text m) ≤ 10
+mode_length mode.Poll h = lit≤ tt
+mode_length mode.Block h = lit≤ tt
+mode_length (mode.Until n) h = number_length n h
 
 func_length : (x : Func) → length (func_text x) ≤ 4
 func_length func.Nothing = lit≤ tt
@@ -101,9 +102,9 @@ slot_length p kind.Condition h = omega (arith, name_length p.condition h)
 slot_length p kind.Number h = omega (arith, number_length p.number h)
 slot_length p kind.Room h = omega (arith, number_length p.room (omega (arith, h)))
 slot_length p kind.Client h = omega (arith, number_length p.client (omega (arith, h)))
-slot_length p kind.Event h = omega (arith, number_length p.event (omega (arith, h.1)))
+slot_length p kind.Event h = omega (arith, number_length p.event (omega (arith, h)))
 slot_length p kind.Flags h = omega (arith, flags_length p.flags)
-slot_length p kind.Mode h = omega (arith, mode_length p.mode)
+slot_length p kind.Mode h = omega (arith, mode_length p.mode h)
 slot_length p kind.Pattern h = omega (arith, pattern_length p.pattern h)
 slot_length p kind.Func h = omega (arith, func_length p.func)
 slot_length p kind.Test h = omega (arith, test_length p.test h)

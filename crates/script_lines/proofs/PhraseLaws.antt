@@ -34,8 +34,8 @@ use Rattle.script_lines.specs.Words.{is_lowercase, is_reserved, is_name, is_name
 use Rattle.script_lines.specs.Table.{Row, key_of, role_of, slots_of, has, starts, op_at, is_half, key_length}
 use Rattle.lwp_types.specs.TextFields.{is_text}
 use Rattle.trace_text.specs.Lines.{spaced, flags_text, mode_text, pattern_text, func_text}
-use Rattle.script_lines.specs.Line.{who_text, built_text, test_text, WhoFits, SourceFits, TestFits, PatternFits, IsEvent, BuiltFits, slot_text, phrase_text, SlotFits, IsPhrase, blank, copy_slot, copy_slots, needed, IsNeeded}
-use Rattle.script_lines.specs.Reading.{flags_by, all_flags, flags_in, flags_at, within_room, room_at, client_at, event_at, pattern_at, func_at, who_at, source_at, name_in, mode_at, value_at, test_at, spaced_name, session_at, built_at, fill_word, fill_text, fill_test, fill_built, fill_spaced, slot_at, fill, phrase_at}
+use Rattle.script_lines.specs.Line.{who_text, built_text, test_text, WhoFits, SourceFits, TestFits, PatternFits, ModeFits, IsEvent, IsAgentEvent, BuiltFits, slot_text, phrase_text, SlotFits, IsPhrase, blank, copy_slot, copy_slots, needed, IsNeeded}
+use Rattle.script_lines.specs.Reading.{flags_by, all_flags, flags_in, flags_at, within_room, room_at, client_at, event_at, agent_event_at, pattern_at, func_at, who_at, source_at, name_in, mode_at, value_at, test_at, spaced_name, session_at, built_at, fill_word, fill_text, fill_test, fill_built, fill_spaced, slot_at, fill, phrase_at}
 use Rattle.script_lines.proofs.TableLaws.{on_rows, op_found, op_again}
 use Rattle.script_lines.proofs.WordLemmas.{both, Stops, reach-append, reach_in, number_again, number_found, own}
 
@@ -249,7 +249,7 @@ fills_built p x y = record { op = refl; others = λ j ne. elim j as (λ i. same_
 fills_text : (p : Phrase) (x : List ℕ) → Filled kind.Text p (record p { text = x })
 fills_text p x = record { op = refl; others = λ j ne. elim j as (λ i. same_field i kind.Text ≡ false → slot_value (record p { text = x }) i ≡ slot_value p i) [ kind.Text ↦ λ f. absurd cc | _ ↦ λ f. refl ] ne }
 
--- ---- Rooms, flags, modes and tests.
+-- ---- Rooms, flags and tests.
 
 -- a room that is read was written so
 room_found : (w : List ℕ) (n : ℕ) → room_at w ≡ Some n → (w ≡ decimal n) × (n ≤ 240)
@@ -263,20 +263,6 @@ room_found w n e =
 -- a room that is written is read
 room_again : (n : ℕ) → n ≤ 240 → room_at (decimal n) ≡ Some n
 room_again n h = rw (number_again n (omega arith), le-leb n 240 h) refl
-
--- a mode that is read was written so
-mode_found : (w : List ℕ) (m : Mode) → mode_at w ≡ Some m → w ≡ mode_text m
-mode_found w m e = elim (bytes_eq w (codes "poll")) as (λ v. bytes_eq w (codes "poll") ≡ v → cond v (Some mode.Poll) (cond (bytes_eq w (codes "wait")) (Some mode.Block) None) ≡ Some m → w ≡ mode_text m) [
-  | true ↦ λ i f. let h : mode.Poll ≡ m = cc in subst (λ (x : Mode). w ≡ mode_text x) h ((bytes_eq-Decides w (codes "poll")).0 i)
-  | false ↦ λ i f.
-      let t = cond_some (bytes_eq w (codes "wait")) mode.Block m f in
-      subst (λ (x : Mode). w ≡ mode_text x) t.1 ((bytes_eq-Decides w (codes "wait")).0 t.0)
-] refl e
-
--- a mode that is written is read
-mode_again : (m : Mode) → mode_at (mode_text m) ≡ Some m
-mode_again mode.Poll = refl
-mode_again mode.Block = refl
 
 flags_in_found : (fs : List Flags) (w : List ℕ) (f : Flags) → flags_in fs w ≡ Some f → w ≡ flags_text f
 flags_in_found [] w f e = absurd cc
@@ -342,7 +328,7 @@ test_again test.Refused h = refl
 test_again test.Caught h = refl
 test_again (test.Value n) h = rw (number_again n h) refl
 
--- ---- Clients, events, patterns and functions.
+-- ---- Clients, events, patterns, modes and functions.
 
 map_some : {A B : Type 0} (f : A → B) (o : Option A) (y : B) → option_map f o ≡ Some y → (x : A) × (o ≡ Some x) × (f x ≡ y)
 map_some f None y e = absurd cc
@@ -361,15 +347,26 @@ client_again n h = rw (number_again n (omega arith), le-leb n 15 h) refl
 
 event_found : (w : List ℕ) (n : ℕ) → event_at w ≡ Some n → (w ≡ decimal n) × IsEvent n
 event_found w n e =
+    option_and_then_some (λ m. cond (leb m 31) (Some m) None) (number_at w) n e
+    (λ m i f.
+    let t = cond_some (leb m 31) m n f in
+    let d = number_found w m i in
+    (d.0 ∙ ap decimal t.1, subst IsEvent t.1 (leb-true m 31 t.0)))
+
+event_again : (n : ℕ) → IsEvent n → event_at (decimal n) ≡ Some n
+event_again n h = rw (number_again n (omega (arith, h)), le-leb n 31 h) refl
+
+agent_event_found : (w : List ℕ) (n : ℕ) → agent_event_at w ≡ Some n → (w ≡ decimal n) × IsAgentEvent n
+agent_event_found w n e =
     option_and_then_some (λ m. cond (leb 1 m && leb m 31) (Some m) None) (number_at w) n e
     (λ m i f.
     let t = cond_some (leb 1 m && leb m 31) m n f in
     let u = both (leb 1 m) (leb m 31) t.0 in
     let d = number_found w m i in
-    (d.0 ∙ ap decimal t.1, subst IsEvent t.1 (leb-true 1 m u.0, leb-true m 31 u.1)))
+    (d.0 ∙ ap decimal t.1, subst IsAgentEvent t.1 (leb-true 1 m u.0, leb-true m 31 u.1)))
 
-event_again : (n : ℕ) → IsEvent n → event_at (decimal n) ≡ Some n
-event_again n h = rw (number_again n (omega (arith, h.1)), le-leb 1 n h.0, le-leb n 31 h.1) refl
+agent_event_again : (n : ℕ) → IsAgentEvent n → agent_event_at (decimal n) ≡ Some n
+agent_event_again n h = rw (number_again n (omega (arith, h.1)), le-leb 1 n h.0, le-leb n 31 h.1) refl
 
 pattern_found : (w : List ℕ) (x : Pattern) → pattern_at w ≡ Some x → (w ≡ pattern_text x) × PatternFits x
 pattern_found w x e = elim (bytes_eq w (codes "all")) as (λ v. bytes_eq w (codes "all") ≡ v → cond v (Some pattern.All) (option_map (λ n. pattern.Num n) (number_at w)) ≡ Some x → (w ≡ pattern_text x) × PatternFits x) [
@@ -390,6 +387,25 @@ number_is_no_word n w h other = elim (bytes_eq (decimal n) w) as (λ v. bytes_eq
 pattern_again : (x : Pattern) → PatternFits x → pattern_at (pattern_text x) ≡ Some x
 pattern_again pattern.All h = refl
 pattern_again (pattern.Num n) h = rw (number_is_no_word n (codes "all") h refl, number_again n h) refl
+
+-- a mode that is read was written so
+mode_found : (w : List ℕ) (m : Mode) → mode_at w ≡ Some m → (w ≡ mode_text m) × ModeFits m
+mode_found w m e = elim (bytes_eq w (codes "poll")) as (λ v. bytes_eq w (codes "poll") ≡ v → cond v (Some mode.Poll) (cond (bytes_eq w (codes "wait")) (Some mode.Block) (option_map (λ ticks. mode.Until ticks) (number_at w))) ≡ Some m → (w ≡ mode_text m) × ModeFits m) [
+  | true ↦ λ i f. let h : mode.Poll ≡ m = cc in subst (λ (x : Mode). (w ≡ mode_text x) × ModeFits x) h ((bytes_eq-Decides w (codes "poll")).0 i, tt)
+  | false ↦ λ i f. elim (bytes_eq w (codes "wait")) as (λ v. bytes_eq w (codes "wait") ≡ v → cond v (Some mode.Block) (option_map (λ ticks. mode.Until ticks) (number_at w)) ≡ Some m → (w ≡ mode_text m) × ModeFits m) [
+    | true ↦ λ j g. let h : mode.Block ≡ m = cc in subst (λ (x : Mode). (w ≡ mode_text x) × ModeFits x) h ((bytes_eq-Decides w (codes "wait")).0 j, tt)
+    | false ↦ λ j g.
+        let n = map_some (λ ticks. mode.Until ticks) (number_at w) m g in
+        let d = number_found w n.0 n.1 in
+        subst (λ (x : Mode). (w ≡ mode_text x) × ModeFits x) n.2 (d.0, d.1)
+  ] refl f
+] refl e
+
+-- a mode that is written is read
+mode_again : (m : Mode) → ModeFits m → mode_at (mode_text m) ≡ Some m
+mode_again mode.Poll h = refl
+mode_again mode.Block h = refl
+mode_again (mode.Until n) h = rw (number_is_no_word n (codes "poll") h refl, number_is_no_word n (codes "wait") h refl, number_again n h) refl
 
 func_found : (w : List ℕ) (x : Func) → func_at w ≡ Some x → w ≡ func_text x
 func_found w x e = elim (bytes_eq w (codes "-")) as (λ v. bytes_eq w (codes "-") ≡ v → cond v (Some func.Nothing) (cond (bytes_eq w (codes "give")) (Some func.Give) (cond (bytes_eq w (codes "sum")) (Some func.Sum) None)) ≡ Some x → w ≡ func_text x) [
@@ -473,15 +489,15 @@ spaced_name_found (b ∷ bs) n e = elim (eqb b 32) as (λ v. eqb b 32 ≡ v → 
 
 -- a session and its words
 abbrev IsSession : List ℕ → ℕ × List ℕ → Type 0
-IsSession w x = (w ≡ decimal x.0 ++ 32 ∷ x.1) × IsEvent x.0 × (is_name x.1 ≡ true)
+IsSession w x = (w ≡ decimal x.0 ++ 32 ∷ x.1) × IsAgentEvent x.0 × (is_name x.1 ≡ true)
 
 session_found : (w : List ℕ) (x : ℕ × List ℕ) → session_at w ≡ Some x → IsSession w x
 session_found w x e =
-    option_and_then_some (λ event. option_map (λ name. (event, name)) (spaced_name (drop (reach 32 w) w))) (event_at (take (reach 32 w) w)) x e
+    option_and_then_some (λ event. option_map (λ name. (event, name)) (spaced_name (drop (reach 32 w) w))) (agent_event_at (take (reach 32 w) w)) x e
     (λ event i f.
     let m = map_some (λ (name : List ℕ). (event, name)) (spaced_name (drop (reach 32 w) w)) x f in
     let n = spaced_name_found (drop (reach 32 w) w) m.0 m.1 in
-    let d = event_found (take (reach 32 w) w) event i in
+    let d = agent_event_found (take (reach 32 w) w) event i in
     subst (IsSession w) m.2 (sym (take-append-drop (reach 32 w) w) ∙ ap (λ l. l ++ drop (reach 32 w) w) d.0 ∙ ap (λ l. decimal event ++ l) n.0, d.1, n.1))
 
 abbrev IsBuilt : List ℕ → ℕ × List ℕ → Type 0
@@ -530,7 +546,7 @@ built_again e w (inr h) =
     let some : eqb e 0 ≡ false = ne_eqb e 0 (λ z. omega (arith, h.0.0)) in
     let ds : reach 32 (decimal e) ≡ length (decimal e) = digits_are_whole (decimal e) (digits_decimal own e (omega (arith, h.0.1))) in
     let n : reach 32 (decimal e ++ 32 ∷ w) ≡ length (decimal e) = reach-append 32 (decimal e) (32 ∷ w) ds refl in
-    rw some (rw (n, take_at (decimal e) (32 ∷ w) (length (decimal e)) refl, drop_at (decimal e) (32 ∷ w) (length (decimal e)) refl, event_again e h.0, h.1) refl)
+    rw some (rw (n, take_at (decimal e) (32 ∷ w) (length (decimal e)) refl, drop_at (decimal e) (32 ∷ w) (length (decimal e)) refl, agent_event_again e h.0, h.1) refl)
 
 -- ---- What is read is what was written.
 
@@ -591,7 +607,7 @@ word_found kind.Flags p q w e =
 word_found kind.Mode p q w e =
     let m = map_some (λ (x : Mode). record p { mode = x }) (mode_at w) q e in
     let g = mode_found w m.0 m.1 in
-    subst (λ x. FilledWith kind.Mode p x (32 ∷ w)) m.2 (record { filled = fills_mode p m.0; text_is = ap (λ t. 32 ∷ t) g; fits = tt })
+    subst (λ x. FilledWith kind.Mode p x (32 ∷ w)) m.2 (record { filled = fills_mode p m.0; text_is = ap (λ t. 32 ∷ t) g.0; fits = g.1 })
 word_found kind.Pattern p q w e =
     let m = map_some (λ (x : Pattern). record p { pattern = x }) (pattern_at w) q e in
     let g = pattern_found w m.0 m.1 in
@@ -748,9 +764,10 @@ func_is_whole func.Nothing = refl
 func_is_whole func.Give = refl
 func_is_whole func.Sum = refl
 
-mode_is_whole : (m : Mode) → reach 32 (mode_text m) ≡ length (mode_text m)
-mode_is_whole mode.Poll = refl
-mode_is_whole mode.Block = refl
+mode_is_whole : (m : Mode) → ModeFits m → reach 32 (mode_text m) ≡ length (mode_text m)
+mode_is_whole mode.Poll h = refl
+mode_is_whole mode.Block h = refl
+mode_is_whole (mode.Until n) h = digits_are_whole (decimal n) (digits_decimal own n (omega arith))
 
 flags_are_whole : (f : Flags) → reach 32 (flags_text f) ≡ length (flags_text f)
 flags_are_whole f = by_letters f.suspended f.nolastrites f.server
@@ -790,9 +807,9 @@ slot_again kind.Room p q after h s l =
 slot_again kind.Client p q after h s l =
     spaced_again kind.Client q (record q { client = p.client }) (decimal p.client) after (digits_are_whole (decimal p.client) (digits_decimal own p.client (omega arith))) s (rw (client_again p.client h) refl)
 slot_again kind.Event p q after h s l =
-    spaced_again kind.Event q (record q { event = p.event }) (decimal p.event) after (digits_are_whole (decimal p.event) (digits_decimal own p.event (omega (arith, h.1)))) s (rw (event_again p.event h) refl)
+    spaced_again kind.Event q (record q { event = p.event }) (decimal p.event) after (digits_are_whole (decimal p.event) (digits_decimal own p.event (omega (arith, h)))) s (rw (event_again p.event h) refl)
 slot_again kind.Flags p q after h s l = spaced_again kind.Flags q (record q { flags = p.flags }) (flags_text p.flags) after (flags_are_whole p.flags) s (rw (flags_again p.flags) refl)
-slot_again kind.Mode p q after h s l = spaced_again kind.Mode q (record q { mode = p.mode }) (mode_text p.mode) after (mode_is_whole p.mode) s (rw (mode_again p.mode) refl)
+slot_again kind.Mode p q after h s l = spaced_again kind.Mode q (record q { mode = p.mode }) (mode_text p.mode) after (mode_is_whole p.mode h) s (rw (mode_again p.mode h) refl)
 slot_again kind.Pattern p q after h s l = spaced_again kind.Pattern q (record q { pattern = p.pattern }) (pattern_text p.pattern) after (pattern_is_whole p.pattern h) s (rw (pattern_again p.pattern h) refl)
 slot_again kind.Func p q after h s l = spaced_again kind.Func q (record q { func = p.func }) (func_text p.func) after (func_is_whole p.func) s (rw (func_again p.func) refl)
 slot_again kind.Test p q after h s l =

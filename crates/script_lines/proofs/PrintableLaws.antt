@@ -26,7 +26,7 @@ use Rattle.script_lines.specs.Phrase.{Phrase}
 use Rattle.script_lines.specs.Words.{is_name}
 use Rattle.script_lines.specs.Table.{Row, key_of, slots_of}
 use Rattle.trace_text.specs.Lines.{spaced, flags_text, mode_text, pattern_text, func_text}
-use Rattle.script_lines.specs.Line.{who_text, built_text, test_text, SourceFits, TestFits, PatternFits, BuiltFits, slot_text, phrase_text, SlotFits, IsPhrase}
+use Rattle.script_lines.specs.Line.{who_text, built_text, test_text, SourceFits, TestFits, PatternFits, ModeFits, BuiltFits, slot_text, phrase_text, SlotFits, IsPhrase}
 use Rattle.script_lines.specs.Reading.{flags_by, phrase_at}
 use Rattle.script_lines.proofs.TableLaws.{on_rows}
 use Rattle.script_lines.proofs.WordLemmas.{both, name_is_text, own}
@@ -74,9 +74,10 @@ flags_are_printable f = by_letters f.suspended f.nolastrites f.server
     by_letters false true true = refl
     by_letters true true true = refl
 
-mode_is_printable : (m : Mode) → is_printable (mode_text m) ≡ true
-mode_is_printable mode.Poll = refl
-mode_is_printable mode.Block = refl
+mode_is_printable : (m : Mode) → ModeFits m → is_printable (mode_text m) ≡ true
+mode_is_printable mode.Poll h = refl
+mode_is_printable mode.Block h = refl
+mode_is_printable (mode.Until n) h = number_is_printable n h
 
 func_is_printable : (x : Func) → is_printable (func_text x) ≡ true
 func_is_printable func.Nothing = refl
@@ -113,9 +114,9 @@ slot_is_printable p kind.Condition h = name_is_printable p.condition h
 slot_is_printable p kind.Number h = number_is_printable p.number h
 slot_is_printable p kind.Room h = number_is_printable p.room (omega (arith, h))
 slot_is_printable p kind.Client h = number_is_printable p.client (omega (arith, h))
-slot_is_printable p kind.Event h = number_is_printable p.event (omega (arith, h.1))
+slot_is_printable p kind.Event h = number_is_printable p.event (omega (arith, h))
 slot_is_printable p kind.Flags h = flags_are_printable p.flags
-slot_is_printable p kind.Mode h = mode_is_printable p.mode
+slot_is_printable p kind.Mode h = mode_is_printable p.mode h
 slot_is_printable p kind.Pattern h = pattern_is_printable p.pattern h
 slot_is_printable p kind.Func h = func_is_printable p.func
 slot_is_printable p kind.Test h = test_is_printable p.test h

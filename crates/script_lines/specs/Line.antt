@@ -4,6 +4,7 @@ use Rattle.std.specs.List.{flat_map, AllByRecursion}
 use Rattle.std.specs.Fmt.{decimal}
 use Rattle.lwp_types.specs.TextFields.{is_text}
 use Rattle.lwp_types.specs.declared.call.Func.TheVariants as func
+use Rattle.lwp_types.specs.declared.call.Mode.{Mode}
 use Rattle.lwp_types.specs.declared.call.Mode.TheVariants as mode
 use Rattle.lwp_types.specs.declared.call.Pattern.{Pattern}
 use Rattle.lwp_types.specs.declared.call.Pattern.TheVariants as pattern
@@ -93,13 +94,23 @@ abbrev pub PatternFits : Pattern → Type 0
 PatternFits pattern.All = Unit {0}
 PatternFits (pattern.Num n) = n < 2 ^ 32
 
--- an event
+-- and so are the ticks that a receive waits for
+abbrev pub ModeFits : Mode → Type 0
+ModeFits mode.Poll = Unit {0}
+ModeFits mode.Block = Unit {0}
+ModeFits (mode.Until ticks) = ticks < 2 ^ 32
+
+-- an event; 0 is the clock
 abbrev pub IsEvent : ℕ → Type 0
-IsEvent e = (1 ≤ e) × (e ≤ 31)
+IsEvent e = e ≤ 31
+
+-- an event that an agent may have: any but the clock
+abbrev pub IsAgentEvent : ℕ → Type 0
+IsAgentEvent e = (1 ≤ e) × (e ≤ 31)
 
 -- a store has neither an event nor a name, and a session has both
 abbrev pub BuiltFits : ℕ → List ℕ → Type 0
-BuiltFits event w = (event ≡ 0) × (w ≡ []) ⊎ IsEvent event × IsTrue (is_name w)
+BuiltFits event w = (event ≡ 0) × (w ≡ []) ⊎ IsAgentEvent event × IsTrue (is_name w)
 
 -- what a slot may hold
 abbrev pub SlotFits : Phrase → Kind → Type 0
@@ -114,7 +125,7 @@ SlotFits p kind.Room = p.room ≤ 240
 SlotFits p kind.Client = p.client ≤ 15
 SlotFits p kind.Event = IsEvent p.event
 SlotFits p kind.Flags = Unit {0}
-SlotFits p kind.Mode = Unit {0}
+SlotFits p kind.Mode = ModeFits p.mode
 SlotFits p kind.Pattern = PatternFits p.pattern
 SlotFits p kind.Func = Unit {0}
 SlotFits p kind.Test = TestFits p.test

@@ -61,9 +61,9 @@ within_room n = if nat_le n 240 then Some n else None
 abbrev pub room_at : List ℕ → Option ℕ
 room_at w = option_and_then within_room (number_at w)
 
--- whether to wait, written so
+-- whether to wait and for how many ticks, written so
 abbrev pub mode_at : List ℕ → Option Mode
-mode_at w = if bytes_eq w (codes "poll") then Some mode.Poll else if bytes_eq w (codes "wait") then Some mode.Block else None
+mode_at w = if bytes_eq w (codes "poll") then Some mode.Poll else if bytes_eq w (codes "wait") then Some mode.Block else option_map (λ ticks. mode.Until ticks) (number_at w)
 
 -- a client that is written so
 abbrev pub client_at : List ℕ → Option ℕ
@@ -71,7 +71,11 @@ client_at w = option_and_then (λ n. if nat_le n 15 then Some n else None) (numb
 
 -- an event that is written so
 abbrev pub event_at : List ℕ → Option ℕ
-event_at w = option_and_then (λ n. if nat_le 1 n && nat_le n 31 then Some n else None) (number_at w)
+event_at w = option_and_then (λ n. if nat_le n 31 then Some n else None) (number_at w)
+
+-- an event that an agent may have, written so
+abbrev pub agent_event_at : List ℕ → Option ℕ
+agent_event_at w = option_and_then (λ n. if nat_le 1 n && nat_le n 31 then Some n else None) (number_at w)
 
 -- a pattern that is written so
 abbrev pub pattern_at : List ℕ → Option Pattern
@@ -136,7 +140,7 @@ spaced_name (b ∷ bs) = if b == 32 then name_in bs else None
 
 -- the event and the name of a session: two words, with one space between them
 abbrev pub session_at : List ℕ → Option (ℕ × List ℕ)
-session_at w = option_and_then (λ event. option_map (λ name. (event, name)) (spaced_name (drop (reach 32 w) w))) (event_at (take (reach 32 w) w))
+session_at w = option_and_then (λ event. option_map (λ name. (event, name)) (spaced_name (drop (reach 32 w) w))) (agent_event_at (take (reach 32 w) w))
 
 -- what a built-in procedure is, written so: a store has no event
 abbrev pub built_at : List ℕ → Option (ℕ × List ℕ)

@@ -89,6 +89,7 @@ rows =
     row op.Me (codes "self") role.Statement [] ∷
     row op.SetExit (codes "setexit") role.Statement (kind.Number ∷ []) ∷
     row op.Senders (codes "senders") role.Statement [] ∷
+    row op.Sleep (codes "sleep") role.Statement (kind.Number ∷ []) ∷
     row op.Threads (codes "threads") role.Statement [] ∷
     row op.Unhandle (codes "unhandle") role.Statement [] ∷
     row op.UniqPatt (codes "uniqpatt") role.Statement [] ∷

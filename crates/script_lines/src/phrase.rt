@@ -4,7 +4,7 @@ ghost use Rattle.script_lines.specs.Words.{is_name};
 ghost use Rattle.script_lines.specs.Table.{is_half, key_length};
 ghost use Rattle.script_lines.specs.Line.{blank};
 ghost use Rattle.trace_text.specs.Lines.{flags_text};
-ghost use Rattle.script_lines.specs.Reading.{flags_by, flags_in, flags_at, room_at, client_at, event_at, mode_at, pattern_at, func_at, value_at, test_at, name_in, who_at, source_at, session_at, built_at, fill_word, fill_text, fill_test, fill_built, slot_at, fill, said_by, phrase_at};
+ghost use Rattle.script_lines.specs.Reading.{flags_by, flags_in, flags_at, room_at, client_at, event_at, agent_event_at, mode_at, pattern_at, func_at, value_at, test_at, name_in, who_at, source_at, session_at, built_at, fill_word, fill_text, fill_test, fill_built, slot_at, fill, said_by, phrase_at};
 
 use crate::table::{Kind, Op, Test, Whom};
 use crate::words::{is_name, is_text, number_at, reach};
@@ -161,6 +161,16 @@ fn event_at(word: &[u8]) -> Option<u8>
     ensures { result ≡ event_at word.now }
 {
     match number_at(word) {
+        Some(event) if event <= 31 => Some(event as u8),
+        _ => None,
+    }
+}
+
+// The number of an event that an agent may have: not the clock's.
+fn agent_event_at(word: &[u8]) -> Option<u8>
+    ensures { result ≡ agent_event_at word.now }
+{
+    match number_at(word) {
         Some(event) if 1 <= event && event <= 31 => Some(event as u8),
         _ => None,
     }
@@ -198,7 +208,7 @@ fn mode_at(word: &[u8]) -> Option<Mode>
     } else if word == b"wait".as_slice() {
         Some(Mode::Block)
     } else {
-        None
+        number_at(word).map(|ticks| Mode::Until { ticks })
     }
 }
 
@@ -274,7 +284,7 @@ fn session_at(words: &[u8]) -> Option<(u8, &[u8])>
     ensures { option_map (λ x. (x.0, x.1.now)) result ≡ session_at words.now }
 {
     let (event, rest) = words.split_at(reach(b' ', words));
-    match (event_at(event), rest) {
+    match (agent_event_at(event), rest) {
         (Some(event), [b' ', name @ ..]) if is_name(name) => Some((event, name)),
         _ => None,
     }

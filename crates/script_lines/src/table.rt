@@ -24,11 +24,11 @@ pub enum Kind {
     Room,
     /// The number of a client, at most 15.
     Client,
-    /// The number of an event, 1 to 31.
+    /// The number of an event, at most 31; 0 is the clock.
     Event,
     /// The flags of a new thread.
     Flags,
-    /// Whether to wait for a letter.
+    /// Whether to wait for a letter, and for how many ticks.
     Mode,
     /// The pattern of a handler.
     Pattern,
@@ -104,6 +104,7 @@ pub enum Op {
     Me,
     SetExit,
     Senders,
+    Sleep,
     Threads,
     Unhandle,
     UniqPatt,
@@ -131,7 +132,7 @@ type Row = (Op, &'static [u8], Role, &'static [Kind]);
 
 // The table. Its rows stand in the order of the operations, which is that of the first letters of their keys; among those of one
 // letter the most frequent stand first.
-static ROWS: [Row; 64] = [
+static ROWS: [Row; 65] = [
     (
         Op::Agent,
         b"agent",
@@ -326,6 +327,7 @@ static ROWS: [Row; 64] = [
     (Op::Me, b"self", Role::Statement, &[]),
     (Op::SetExit, b"setexit", Role::Statement, &[Kind::Number]),
     (Op::Senders, b"senders", Role::Statement, &[]),
+    (Op::Sleep, b"sleep", Role::Statement, &[Kind::Number]),
     (Op::Threads, b"threads", Role::Statement, &[]),
     (Op::Unhandle, b"unhandle", Role::Statement, &[]),
     (Op::UniqPatt, b"uniqpatt", Role::Statement, &[]),

@@ -76,7 +76,7 @@ are_names c h = both (is_name (115 ∷ decimal c)) (is_name (97 ∷ decimal c)) 
 
 is_client_line : (l : ClientLine) (c : ℕ) → c < 16 → IsLine (client_phrase l c)
 unfolding row_of
-is_client_line line.Client c h = ((omega arith, ((omega arith, omega arith), tt)), refl)
+is_client_line line.Client c h = ((omega arith, (omega arith, tt)), refl)
 is_client_line line.Native c h = (((are_names c h).0, (inr ((omega arith, omega arith), refl), tt)), refl)
 is_client_line line.Create c h = (((are_names c h).1, ((are_names c h).0, (omega arith, (tt, tt)))), refl)
 is_client_line line.Join c h = (((are_names c h).1, tt), refl)

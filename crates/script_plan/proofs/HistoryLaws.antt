@@ -148,7 +148,7 @@ module _ (clients : List ℕ) (posts : List Line) (planned : Planned ThreadBody)
 
   low_events : AllByRecursion (λ e. e < 256) events
   unfolding events
-  low_events = low_range 1 31 (omega arith)
+  low_events = low_range 0 32 (omega arith)
 
   keeps_boundary : (plan : Plan ThreadBody) → Keeps clients posts plan → Keeps clients posts (boundary planned plan)
   keeps_boundary plan h = keeps_all events plan low_events h

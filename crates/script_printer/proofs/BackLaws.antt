@@ -199,6 +199,7 @@ said_by N T at p op.Suspend b f e = (stmt.Suspend (who_of p.who at.thread), refl
 said_by N T at p op.Resume b f e = (stmt.Resume (who_of p.who at.thread), refl, who_back N at.thread p.who p.thread (blank op.Resume) b.thread f.0 ∙ e)
 said_by N T at p op.Join b f e = (stmt.Join (who_of p.who at.thread), refl, who_back N at.thread p.who p.thread (blank op.Join) b.thread f.0 ∙ e)
 said_by N T at p op.Resched b f e = (stmt.Resched p.number, refl, e)
+said_by N T at p op.Sleep b f e = (stmt.Sleep p.number, refl, e)
 said_by N T at p op.SetPri b f e = (stmt.SetPri (who_of p.who at.thread) p.number, refl, who_back N at.thread p.who p.thread (record (blank op.SetPri) { number = p.number }) b.thread f.0 ∙ e)
 said_by N T at p op.SetMaxPri b f e = (stmt.SetMaxPri p.number, refl, e)
 said_by N T at p op.Me b f e = (stmt.Me, refl, e)

@@ -52,6 +52,7 @@ exit_line names texts (exit.Note t) = text_line op.ExitNote (text_at texts t)
 -- a statement that names nothing, or one that sets an exit procedure
 abbrev pub plain_line : Names → List (List ℕ) → Stmt → Phrase
 plain_line names texts (stmt.Resched prio) = number_line op.Resched prio
+plain_line names texts (stmt.Sleep ticks) = number_line op.Sleep ticks
 plain_line names texts (stmt.SetMaxPri prio) = number_line op.SetMaxPri prio
 plain_line names texts stmt.Me = blank op.Me
 plain_line names texts (stmt.SetExit code) = number_line op.SetExit code

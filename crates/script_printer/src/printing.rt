@@ -80,6 +80,7 @@ fn plain_line<'s>(names: &'s Names, texts: &'s Texts, stmt: Stmt) -> Phrase<'s>
 {
     match stmt {
         Stmt::Resched { prio } => number_line(Op::Resched, prio),
+        Stmt::Sleep { ticks } => number_line(Op::Sleep, ticks),
         Stmt::SetMaxPri { prio } => number_line(Op::SetMaxPri, prio),
         Stmt::Me => blank(Op::Me),
         Stmt::SetExit { code } => number_line(Op::SetExit, code),

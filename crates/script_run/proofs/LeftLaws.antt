@@ -98,14 +98,17 @@ left-at posts takes c a (e ∷ es) from under = ⊎_elim
 
 -- ---- the history
 
+-- it isn't a client of this event
+abbrev pub IsAway : List ℕ → ℕ → ℕ → Type 0
+IsAway clients e c = (event_of clients c ≢ e) ⊎ (length clients ≤ c)
+
 -- the lines taken of each client, which all are of its event, are its first
 pub record IsGiven (has : ℕ → Type 0) (clients : List ℕ) (posts : List Line) (takes lost : List Took) : Type 0 where
-  -- no line of an event is another client's
-  pub stray : (e c : ℕ) → has e → event_of clients c ≢ e → of c (lines_taken e (takes ++ lost)) ≡ []
+  -- no line of an event is that of another's client, or of nobody's
+  pub stray : (e c : ℕ) → has e → IsAway clients e c → of c (lines_taken e (takes ++ lost)) ≡ []
   -- those of a client's event are its first
   pub first : (c : ℕ) → c < length clients → (rest : List Line) × (of c (lines_taken (event_of clients c) (takes ++ lost)) ++ rest ≡ of c posts)
   pub known : AllByRecursion (λ (took : Took). has took.event) takes
-  pub low : (e : ℕ) → has e → 1 ≤ e
 
 -- what a script posts, and to which events
 pub record ArePosts (clients : List ℕ) (posts : List Line) : Type 0 where
@@ -125,24 +128,25 @@ none-left : (xs ys : List Line) → xs ++ ys ≡ [] → ys ≡ []
 none-left [] ys h = h
 none-left (x ∷ xs) ys h = absurd (cc h)
 
--- a take is of the event of its client
+-- a take is of the event of its client, and there is such a client
 abbrev IsAtEvent : List ℕ → Took → Type 0
-IsAtEvent clients t = event_of clients t.line.client ≡ t.event
+IsAtEvent clients t = (event_of clients t.line.client ≡ t.event) × (t.line.client < length clients)
 
 at-events : (has : ℕ → Type 0) (clients : List ℕ) (before rest : List Took)
-    → ((e c : ℕ) → has e → event_of clients c ≢ e → of c (lines_taken e (before ++ rest)) ≡ []) → AllByRecursion (λ (took : Took). has took.event) rest → AllByRecursion (IsAtEvent clients) rest
+    → ((e c : ℕ) → has e → IsAway clients e c → of c (lines_taken e (before ++ rest)) ≡ []) → AllByRecursion (λ (took : Took). has took.event) rest → AllByRecursion (IsAtEvent clients) rest
 at-events has clients before [] stray known = tt
 at-events has clients before (t ∷ ts) stray known = (
-  ⊎_elim
-      (λ (same : event_of clients t.line.client ≡ t.event). same)
-      (λ (other : event_of clients t.line.client ≢ t.event). absurd (let c = t.line.client in
+  (let c = t.line.client in
+      let nowhere : IsAway clients t.event c → ⊥ = (λ away.
       let nothing : of c (lines_taken t.event before) ++ of c (lines_taken t.event (t ∷ ts)) ≡ []
-      = sym (of-append c (lines_taken t.event before) (lines_taken t.event (t ∷ ts))) ∙ ap (of c) (sym (taken-append t.event before (t ∷ ts))) ∙ stray t.event c known.0 other in
+      = sym (of-append c (lines_taken t.event before) (lines_taken t.event (t ∷ ts))) ∙ ap (of c) (sym (taken-append t.event before (t ∷ ts))) ∙ stray t.event c known.0 away in
       let some : of c (lines_taken t.event (t ∷ ts)) ≡ t.line ∷ of c (lines_taken t.event ts)
       = ap (of c) (taken-push t.event t ts refl) ∙ cond_same c c (t.line ∷ of c (lines_taken t.event ts)) (of c (lines_taken t.event ts)) refl in
       let no : t.line ∷ of c (lines_taken t.event ts) ≡ [] = sym some ∙ none-left (of c (lines_taken t.event before)) (of c (lines_taken t.event (t ∷ ts))) nothing in
-      cc no))
-      (same_or (event_of clients t.line.client) t.event),
+      cc no) in (
+        ⊎_elim (λ (same : event_of clients c ≡ t.event). same) (λ (other : event_of clients c ≢ t.event). absurd (nowhere (inl other))) (same_or (event_of clients c) t.event),
+        ⊎_elim (λ (under : c < length clients). under) (λ (past : length clients ≤ c). absurd (nowhere (inr past))) (cases_lt c (length clients)),
+      )),
   at-events has clients (before ++ t ∷ []) ts (λ e c h other. ap (λ xs. of c (lines_taken e xs)) (append_assoc before (t ∷ []) ts) ∙ stray e c h other) known.1,
 )
 
@@ -154,7 +158,7 @@ own clients c (t ∷ ts) all = let e = event_of clients c in ⊎_elim
     cond_same t.line.client c (t.line ∷ of c (lines_of (pairs_of ts))) (of c (lines_of (pairs_of ts))) same
     ∙ ap (λ ls. t.line ∷ ls) (own clients c ts all.1)
     ∙ sym (cond_same t.line.client c (t.line ∷ of c (lines_taken e ts)) (of c (lines_taken e ts)) same)
-    ∙ ap (of c) (sym (taken-push e t ts (sym all.0 ∙ ap (event_of clients) same))))
+    ∙ ap (of c) (sym (taken-push e t ts (sym all.0.0 ∙ ap (event_of clients) same))))
     (λ (other : t.line.client ≢ c).
     cond_other t.line.client c (t.line ∷ of c (lines_of (pairs_of ts))) (of c (lines_of (pairs_of ts))) other
     ∙ own clients c ts all.1
@@ -180,22 +184,15 @@ none-of : (c n : ℕ) (xs : List Line) → n ≤ c → AllByRecursion (λ (line 
 none-of c n [] past all = refl
 none-of c n (l ∷ ls) past all = cond_other l.client c (l ∷ of c ls) (of c ls) (λ is. absurd (omega (arith, is, past, all.0))) ∙ none-of c n ls past all.1
 
-past-event : (clients : List ℕ) (c : ℕ) → length clients ≤ c → event_of clients c ≡ 0
-past-event [] c past = refl
-past-event (e ∷ es) zero past = absurd (omega (arith, past))
-past-event (e ∷ es) (suc c) past = past-event es c (omega (arith, past))
-
-none-taken : (has : ℕ → Type 0) (c : ℕ) (clients : List ℕ) (takes : List Took) → ((e : ℕ) → has e → 1 ≤ e) → length clients ≤ c → AllByRecursion (λ (took : Took). has took.event) takes → AllByRecursion (IsAtEvent clients) takes
-    → of c (lines_of (pairs_of takes)) ≡ []
-none-taken has c clients [] low past known all = refl
-none-taken has c clients (t ∷ ts) low past known all =
-    cond_other t.line.client c (t.line ∷ of c (lines_of (pairs_of ts))) (of c (lines_of (pairs_of ts)))
-    (λ is. absurd (let e : t.event ≡ 0 = sym all.0 ∙ ap (event_of clients) is ∙ past-event clients c past in omega (arith, e, low t.event known.0)))
-    ∙ none-taken has c clients ts low past known.1 all.1
+none-taken : (c : ℕ) (clients : List ℕ) (takes : List Took) → length clients ≤ c → AllByRecursion (IsAtEvent clients) takes → of c (lines_of (pairs_of takes)) ≡ []
+none-taken c clients [] past all = refl
+none-taken c clients (t ∷ ts) past all =
+    cond_other t.line.client c (t.line ∷ of c (lines_of (pairs_of ts))) (of c (lines_of (pairs_of ts))) (λ is. absurd (let under = all.0.1 in omega (arith, is, past, under)))
+    ∙ none-taken c clients ts past all.1
 
 events-of : (clients : List ℕ) (takes : List Took) → AllByRecursion (IsAtEvent clients) takes → AllByRecursion (λ t. event_of clients t.1.client ≡ t.0) (pairs_of takes)
 events-of clients [] all = tt
-events-of clients (t ∷ ts) all = (all.0, events-of clients ts all.1)
+events-of clients (t ∷ ts) all = (all.0.0, events-of clients ts all.1)
 
 module _ (has : ℕ → Type 0) (clients : List ℕ) (posts : List Line) (takes lost : List Took) (h : IsGiven has clients posts takes lost) (p : ArePosts clients posts) where
   are-at : AllByRecursion (IsAtEvent clients) takes
@@ -224,7 +221,7 @@ module _ (has : ℕ → Type 0) (clients : List ℕ) (posts : List Line) (takes 
           )
       by (inr past) = (
         [],
-        append-nil (of c (lines_of (pairs_of takes))) ∙ none-taken has c clients takes h.low past h.known are-at
+        append-nil (of c (lines_of (pairs_of takes))) ∙ none-taken c clients takes past are-at
             ∙ sym (none-of c (length clients) posts past (recursion_from_All (λ (line : Line). line.client < length clients) posts p.clients_are)),
       )
 
@@ -310,7 +307,7 @@ none-for clients e left none = by left none
 -- no line that can be delivered is left, where of each event that waits none is
 pub wants-none : (s : State) (clients : List ℕ) (left : List Line) → ((e c : ℕ) → armed s e ≡ true → event_of clients c ≡ e → of c left ≡ []) → is_wanted s (stocked clients left) ≡ false
 unfolding events
-wants-none s clients left none = by 1 31 (omega arith)
+wants-none s clients left none = by 0 32 (omega arith)
   where
     one : (e : ℕ) (b : Bool) → e < 256 → armed s e ≡ b → b && is_some (first_left (stocked clients left) e) ≡ false
     one e false low is = refl

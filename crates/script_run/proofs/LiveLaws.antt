@@ -8,7 +8,7 @@ use Rattle.live_clients.specs.Inlets.{fresh}
 use Rattle.live_clients.specs.Served.{HasLines, IsServed, texts_of}
 use Rattle.script_run.proofs.BesideLaws.{fed-fresh}
 use Rattle.script_run.proofs.ClientLaws.{items_of}
-use Rattle.script_run.proofs.LeftLaws.{ArePosts, IsGiven, counts-are, counts_by, history-of, left-past, left_lines, lines-for, none-left-of, over-with, wants-none}
+use Rattle.script_run.proofs.LeftLaws.{ArePosts, IsAway, IsGiven, counts-are, counts_by, history-of, left-past, left_lines, lines-for, none-left-of, over-with, wants-none}
 use Rattle.script_session.proofs.RunLaws.{Plays, before-is, lines-is, plays, session-is, setting-is}
 use Rattle.whole_streams.proofs.WriteLaws.{appended-append}
 use Rattle.script_session.proofs.SaidLaws.{IsRanEnd}
@@ -45,7 +45,7 @@ use Rattle.trace_text.specs.declared.ends.Halt.{Halt}
 use Rattle.trace_text.specs.declared.ends.Halt.TheVariants as halts
 use Rattle.std.specs.List.{All, AllByRecursion}
 use Rattle.std.specs.Prelude.{Ok, Option, Result, ◌⊎◌}
-use Rattle.std.proofs.Common.{Global, List, Vec, [], ap, append-nil, append_assoc, arith, false, inl, inr, length, length-append, map, refl, slice_index_or, subst, suc, sym, take, true, zero, ℕ, ◌++◌, ◌+◌, ◌-◌, ◌<◌, ◌∙◌, ◌∷◌, ◌≡◌, ◌≢◌, ◌≤◌}
+use Rattle.std.proofs.Common.{Global, List, Vec, [], ap, append-nil, append_assoc, arith, false, inl, inr, length, length-append, map, refl, slice_index_or, subst, suc, sym, take, true, zero, ℕ, ◌++◌, ◌+◌, ◌-◌, ◌<◌, ◌∙◌, ◌∷◌, ◌≡◌, ◌≤◌}
 use Rattle.std.proofs.Math.Seq.{take-append-add}
 use Rattle.std.proofs.lemmas.Bool.{cases_lt}
 use Rattle.std.proofs.lemmas.List.{length-map}
@@ -64,9 +64,13 @@ first-lines c n zero ts = (lines_from c n ts, refl)
 first-lines c n (suc k) [] = ([], refl)
 first-lines c n (suc k) (t ∷ ts) = let h = first-lines c (suc n) k ts in (h.0, ap (λ ls. record { client = c; seq = n; text = t } ∷ ls) h.1)
 
-none-of-another : (clients : List ℕ) (e c : ℕ) (xs : List Line) → AllByRecursion (λ (line : Line). (line.client < length clients) × (event_of clients line.client ≡ e)) xs → event_of clients c ≢ e → of c xs ≡ []
-none-of-another clients e c [] all other = refl
-none-of-another clients e c (l ∷ ls) all other = cond_other l.client c (l ∷ of c ls) (of c ls) (λ is. other (sym (ap (event_of clients) is) ∙ all.0.1)) ∙ none-of-another clients e c ls all.1 other
+none-of-another : (clients : List ℕ) (e c : ℕ) (xs : List Line) → AllByRecursion (λ (line : Line). (line.client < length clients) × (event_of clients line.client ≡ e)) xs → IsAway clients e c → of c xs ≡ []
+none-of-another clients e c [] all away = refl
+none-of-another clients e c (l ∷ ls) all away = cond_other l.client c (l ∷ of c ls) (of c ls) (λ is. by is away) ∙ none-of-another clients e c ls all.1 away
+  where
+    by : l.client ≡ c → IsAway clients e c → ⊥
+    by is (inl other) = other (sym (ap (event_of clients) is) ∙ all.0.1)
+    by is (inr past) = absurd (let under = all.0.0 in omega (arith, is, past, under))
 
 -- the texts that a client was given, as those of its lines
 texts-are : (clients : List ℕ) (posts : List Line) (texts : List (List (List ℕ))) (c : ℕ) → texts ≡ texts_from 0 clients posts → ArePosts clients posts → c < length clients → lines_from c 0 (texts_of texts c) ≡ of c posts
@@ -79,12 +83,12 @@ are-posts script h = record { clients_are = h.clients; numbered = h.numbered }
 module _ (clients : List ℕ) (posts : List Line) (texts : List (List (List ℕ))) (inlets : List Intake) (texts_is : texts ≡ texts_from 0 clients posts) (p : ArePosts clients posts) where
   pub given-of : (takes : List Took) (most : ℕ) (f : IsFed takes inlets most) → AreBack clients texts inlets → IsGiven (HasEvent inlets) clients posts takes f.lost
   given-of takes most f back = record {
-    stray = λ e c has other.
+    stray = λ e c has away.
         let t = slice_index_or inlets has.0 blank in
         let s : IsServed clients texts back.0 t = back.1.served has.0 blank has.1 in
         let at : t.event ≡ e = has.2 blank in
         ap (λ k. of c (lines_taken k (takes ++ f.lost))) (sym at) ∙ ap (of c) (sym (f.given has.0 blank has.1))
-        ∙ none-of-another clients t.event c t.taken (recursion_from_All (λ (line : Line). (line.client < length clients) × (event_of clients line.client ≡ t.event)) t.taken s.mine) (λ is. other (is ∙ at));
+        ∙ none-of-another clients t.event c t.taken (recursion_from_All (λ (line : Line). (line.client < length clients) × (event_of clients line.client ≡ t.event)) t.taken s.mine) (subst (λ (k : ℕ). IsAway clients k c) (sym at) away);
     first = λ c low.
         let has : HasEvent inlets (event_of clients c) = back.1.are_for.found c 0 low in
         let t = slice_index_or inlets has.0 blank in
@@ -100,7 +104,6 @@ module _ (clients : List ℕ) (posts : List Line) (texts : List (List (List ℕ)
               ∙ texts-are clients posts texts c texts_is p low,
         );
     known = recursion_from_All (λ (took : Took). HasEvent inlets took.event) takes f.known;
-    low = λ e has. let r = (back.1.are_for.rise.0 has.0 blank has.1).0 in let at = has.2 blank in omega (arith, r, at);
   }
     where
       blank : Intake
@@ -131,8 +134,8 @@ texts-few script vs is posted = λ k d low.
     omega (arith, ap length at, length-map (of k (lines_posted script)) (λ (line : Line). line.text), posted.each k)
 
 -- each client has an event
-pub events-are : (script : Script) → IsPosted script → All (λ e. (1 ≤ e) × (e ≤ 31)) script.clients
-events-are script posted = λ k d low. (posted.named k d low, posted.events k d low)
+pub events-are : (script : Script) → IsPosted script → All (λ e. e ≤ 31) script.clients
+events-are script posted = posted.events
 
 -- ---- a session of the script
 

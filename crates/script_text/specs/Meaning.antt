@@ -103,6 +103,7 @@ exit_statement _ at p = None
 -- a statement that names nothing, or one that sets an exit procedure
 abbrev pub plain_statement : Op → Places → Phrase → Option Stmt
 plain_statement op.Resched at p = Some (stmt.Resched p.number)
+plain_statement op.Sleep at p = Some (stmt.Sleep p.number)
 plain_statement op.SetMaxPri at p = Some (stmt.SetMaxPri p.number)
 plain_statement op.Me at p = Some stmt.Me
 plain_statement op.SetExit at p = Some (stmt.SetExit p.number)

@@ -143,6 +143,7 @@ fn plain_statement(at: Places, phrase: &Phrase<'_>) -> Option<Stmt>
     let number = phrase.number;
     match phrase.op {
         Op::Resched => Some(Stmt::Resched { prio: number }),
+        Op::Sleep => Some(Stmt::Sleep { ticks: number }),
         Op::SetMaxPri => Some(Stmt::SetMaxPri { prio: number }),
         Op::Me => Some(Stmt::Me),
         Op::SetExit => Some(Stmt::SetExit { code: number }),

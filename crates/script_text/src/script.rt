@@ -54,6 +54,9 @@ pub enum Stmt {
     Join {
         who: Who,
     },
+    Sleep {
+        ticks: u32,
+    },
     Resched {
         prio: u32,
     },

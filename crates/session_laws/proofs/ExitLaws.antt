@@ -1,10 +1,11 @@
 -- Exit procedures run once, over a whole session.
-use Rattle.lwp_types.specs.Agents.{deliver, deliver_to, event_agent}
+use Rattle.lwp_types.specs.Agents.{deliver, deliver_to, event_agents}
 use Rattle.lwp_types.specs.Choice.{choice}
 use Rattle.lwp_types.specs.CountLaws.{count_never, one}
 use Rattle.lwp_types.specs.Lawful.{Lawful}
-use Rattle.lwp_types.specs.State.{State, ThreadRow, and_then, is_number, marks_in, opening}
+use Rattle.lwp_types.specs.State.{State, ThreadRow, and_then, for_each, is_number, marks_in, opening}
 use Rattle.lwp_types.specs.Step.{step}
+use Rattle.lwp_types.specs.Time.{tick}
 use Rattle.lwp_types.specs.declared.call.Call.{Call}
 use Rattle.lwp_types.specs.declared.call.PodParams.{PodParams}
 use Rattle.lwp_types.specs.declared.rows.AgentRow.{AgentRow}
@@ -72,12 +73,16 @@ number_now s k (Some t) c = number_set s k t c (what_it_sets c)
 
 -- a delivery tells of none that is set
 none_told : (p : ExitTest) (s : State) (e : ℕ) (text : List ℕ) → exits_set_in p (deliver s e text).effects ≡ 0
-unfolding deliver and_then
-none_told p s e text = by_agent (event_agent s.agents e)
+unfolding deliver and_then for_each
+none_told p s e text = by_clock (eqb e 0)
   where
-    by_agent : (o : Option AgentRow) → exits_set_in p (deliver_to s text o).effects ≡ 0
-    by_agent None = refl
-    by_agent (Some row) = refl
+    by_agents : (rows : List AgentRow) → exits_set_in p (for_each (deliver_to text) rows s).effects ≡ 0
+    by_agents [] = refl
+    by_agents (row ∷ rows) = refl
+
+    by_clock : (b : Bool) → exits_set_in p (cond b (tick s) (for_each (deliver_to text) (event_agents s.agents e) s)).effects ≡ 0
+    by_clock true = refl
+    by_clock false = by_agents (event_agents s.agents e)
 
 even_idle : (s : State) (steps : List Made) → Even s steps → Even s (steps ++ record { take = None; effects = [] } ∷ [])
 even_idle s steps was =

@@ -1,5 +1,5 @@
 -- What gives the next exit procedure its number: an OnExit that isn't refused, and nothing else.
-use Rattle.lwp_types.specs.Agents.{deliver, deliver_to, end_agent, event_agent}
+use Rattle.lwp_types.specs.Agents.{deliver, deliver_to, end_agent, event_agents, message}
 use Rattle.lwp_types.specs.Case.{Case, Check, refused, unanswered, unless, valued, with_zero}
 use Rattle.lwp_types.specs.Choice.{choice}
 use Rattle.lwp_types.specs.Death.{answer_joiners, bury, death, destroyed, end_agents, refuse_receivers, refuse_sender, refuse_senders, release_all, run_all_exits, withdraw}
@@ -10,7 +10,8 @@ use Rattle.lwp_types.specs.Marks.{caught_marks, exits_of, first_frames, found, f
 use Rattle.lwp_types.specs.Release.{grant, last_lock, next_owner, release, without_lock}
 use Rattle.lwp_types.specs.State.{Outcome, State, ThreadRow, and_then, for_each, in_order, is_agent, marked, marks_in, passes, still, thread_of, with_marks}
 use Rattle.lwp_types.specs.Step.{case_of, step, step_by, step_if}
-use Rattle.lwp_types.specs.Unblock.{blocked, nonexist, unblock, zero_answer}
+use Rattle.lwp_types.specs.Time.{due_threads, tick, ticked, time_out}
+use Rattle.lwp_types.specs.Unblock.{blocked, blocked_for, nonexist, unblock, zero_answer}
 use Rattle.lwp_types.specs.Waits.{condition_of, waited, woken, woken_all}
 use Rattle.lwp_types.specs.declared.call.Call.{Call}
 use Rattle.lwp_types.specs.declared.call.ExitCall.{ExitCall}
@@ -142,6 +143,8 @@ none_received s t from mode.Poll None = refl
 none_received s t from mode.Poll (Some letter) = refl
 none_received s t from mode.Block None = refl
 none_received s t from mode.Block (Some letter) = refl
+none_received s t from (mode.Until ticks) None = none_cond s (eqb ticks 0) (refused s error.Timeout) (unanswered (still (blocked_for s t (block.Receiving from) ticks))) refl refl
+none_received s t from (mode.Until ticks) (Some letter) = refl
 
 none_matched : (s : State) (on_match : Found → Case) (o : Option Found) → ((f : Found) → NoneGiven s (on_match f).after) → NoneGiven s (with_match s on_match o).after
 none_matched s on_match None fine = refl
@@ -190,6 +193,7 @@ case_numbers s t (call.SetPri u q) = plain s t _ _ refl (none_unless s _ _ refl)
 case_numbers s t (call.Suspend u) = plain s t _ _ refl (none_unless s _ _ refl)
 case_numbers s t (call.Resume u) = plain s t _ _ refl (none_unless s _ _ refl)
 case_numbers s t (call.Join u) = plain s t _ _ refl (none_unless s _ _ refl)
+case_numbers s t (call.Sleep ticks) = plain s t _ _ refl (none_cond s (eqb ticks 0) (valued s 0) (unanswered (still (blocked_for s t block.Sleeping ticks))) refl refl)
 case_numbers s t call.Me = plain s t _ _ refl refl
 case_numbers s t (call.SetMaxPri q) = plain s t _ _ refl (none_unless s _ _ refl)
 case_numbers s t (call.SetExit code) = plain s t _ _ refl (none_unless s _ _ refl)
@@ -240,8 +244,8 @@ steps_number_exits s c = by_choice (choice s)
 
 pub deliveries_number_none : DeliveriesNumberNone
 unfolding deliver and_then
-deliveries_number_none s e text = by_agent (event_agent s.agents e)
+deliveries_number_none s e text = by_clock (eqb e 0)
   where
-    by_agent : (o : Option AgentRow) → NoneGiven s (deliver_to s text o).after
-    by_agent None = refl
-    by_agent (Some row) = none_posted (record { from = row.number; to = row.owner; text = text; room = 240; received = false }) (record s { agents = with_holding row.number true s.agents })
+    by_clock : (b : Bool) → NoneGiven s (cond b (tick s) (for_each (deliver_to text) (event_agents s.agents e) s)).after
+    by_clock true = none_each time_out (λ u now. refl) (due_threads (ticked s)) (ticked s)
+    by_clock false = none_each (deliver_to text) (λ row now. none_posted (message text row) (record now { agents = with_holding row.number true now.agents })) (event_agents s.agents e) s

@@ -1,17 +1,30 @@
 -- What is known of the standard streams.
-use Rattle.std.specs.Io.Buffered.{writer_buffer}
-use Rattle.std.specs.Prelude.{List, ℕ}
-use Rattle.std_streams.specs.declared.streams.StdSink.{StdSink}
+use Rattle.std.specs.Io.Buffered.{writer_buffer, writer_inner}
+use Rattle.std.specs.Prelude.{Bool, List, true, ℕ, ◌≡◌}
+use Rattle.std_streams.specs.declared.streams.GatheringSink.{GatheringSink}
 use Rattle.std_streams.specs.declared.streams.StdSource.{StdSource}
+use Rattle.std_streams.specs.declared.until_fault.UntilFault.{UntilFault}
 
 -- how many reads have failed
 abbrev pub read_faults : StdSource → ℕ
 read_faults source = source.faults
 
+-- a writer that is given no byte any more
+abbrev pub closed : {W : Type 0} → UntilFault W → UntilFault W
+closed writer = record writer { is_closed = true }
+
 -- how many writes have failed
-abbrev pub write_faults : StdSink → ℕ
+abbrev pub write_faults : {W : Type 0} → GatheringSink W → ℕ
 write_faults sink = sink.faults
 
 -- the bytes that were taken and aren't written yet
-abbrev pub gathered : StdSink → List ℕ
-gathered sink = writer_buffer sink.stdout
+abbrev pub gathered : {W : Type 0} → GatheringSink W → List ℕ
+gathered sink = writer_buffer sink.out
+
+-- a write has failed, so none comes any more
+abbrev pub is_closed : {W : Type 0} → GatheringSink W → Bool
+is_closed sink = (writer_inner sink.out).is_closed
+
+-- the writer below is as it was: nothing was written to it
+abbrev pub IsLeft : {W : Type 0} → GatheringSink W → GatheringSink W → Type 0
+IsLeft old new = writer_inner new.out ≡ writer_inner old.out

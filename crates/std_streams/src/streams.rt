@@ -1,8 +1,8 @@
 // Standard input and standard output.
-ghost use Rattle.std.specs.Prelude.{◌≡◌, ◌<◌, ◌≤◌, [], IfOk, OnOk, length};
-ghost use Rattle.std.specs.Io.Buffered.{writer_buffer, writer_contents};
+ghost use Rattle.std.specs.Prelude.{◌≡◌, ◌<◌, ◌≤◌, [], false, true, IfOk, IsErr, IsTrue, OnErr, OnOk, length};
 ghost use Rattle.std.specs.Io.KnownBytes.{Keeps, ReadConsumes, WriteAppends};
 
+use crate::until_fault::UntilFault;
 use lwp_types::{Failed, Sink, Source};
 use std::alloc::Global;
 use std::io;
@@ -18,13 +18,16 @@ pub struct StdSource {
     faults: u64,
 }
 
-/// Standard output, to which bytes are written as many at a time as are gathered; `finish` writes the rest. It tells nothing of its
-/// bytes, and counts the writes that failed.
+/// A writer to which bytes are written as many at a time as are gathered; `finish` writes the rest. It tells nothing of its bytes, and
+/// counts the writes that failed. After the first of these it writes no more: not the rest, and also not when it is dropped.
 #[derive(Drop)]
-pub struct StdSink {
-    stdout: BufWriter<Stdout>,
+pub struct GatheringSink<W: Write + Drop> {
+    out: BufWriter<UntilFault<W>>,
     faults: u64,
 }
+
+/// Standard output, as a sink.
+pub type StdSink = GatheringSink<Stdout>;
 
 impl StdSource {
     ghost use Rattle.std_streams.specs.Streams.{read_faults};
@@ -36,34 +39,47 @@ impl StdSource {
     }
 }
 
-impl StdSink {
+impl<W: Write + Drop> GatheringSink<W> {
     ghost use Rattle.lwp_types.specs.Streams.{HasCause};
-    ghost use Rattle.std_streams.specs.Streams.{gathered, write_faults};
+    ghost use Rattle.std_streams.specs.Streams.{IsLeft, gathered, is_closed, write_faults};
 
     /// Takes the memory for all that it will ever gather, which is `most`. Where that is 0, each write goes out at once.
-    pub fn new(alloc: Global, stdout: Stdout, most: usize) -> io::Result<StdSink>
+    pub fn new(alloc: Global, out: W, most: usize) -> io::Result<GatheringSink<W>>
         ensures faults { IfOk result (λ sink. write_faults sink ≡ 0) }
         ensures empty { IfOk result (λ sink. gathered sink ≡ []) }
+        ensures open { IfOk result (λ sink. is_closed sink ≡ false) }
     {
-        let stdout = BufWriter::with_capacity(alloc, most, stdout)?;
-        Ok(StdSink { stdout, faults: 0 })
+        let out = BufWriter::with_capacity(alloc, most, UntilFault::new(out))?;
+        Ok(GatheringSink { out, faults: 0 })
     }
 
     /// Writes what is gathered.
     pub fn finish(&mut self) -> Result<(), Failed>
         ensures cause { HasCause (write_faults self.old) (write_faults self.new) result }
         ensures rest { OnOk result (gathered self.new ≡ []) }
+        ensures closed { IsTrue (is_closed self.old) → IsErr result × IsLeft self.old self.new }
     {
-        match flush_past_signals(&mut self.stdout) {
+        if self.out.get_ref().is_closed() {
+            return self.fail();
+        }
+        match self.out.flush() {
             Ok(()) => Ok(()),
-            Err(_) => {
-                self.faults = self.faults.saturating_add(1);
-                Err(Failed)
-            }
+            Err(_) => self.fail(),
         }
     }
-}
 
+    // A write has failed: no other comes.
+    fn fail<T>(&mut self) -> Result<T, Failed>
+        ensures failed { IsErr result }
+        ensures cause { HasCause (write_faults self.old) (write_faults self.new) result }
+        ensures closed { IsTrue (is_closed self.new) }
+        ensures left { IsTrue (is_closed self.old) → IsLeft self.old self.new }
+    {
+        self.faults = self.faults.saturating_add(1);
+        self.out.get_mut().close();
+        Err(Failed)
+    }
+}
 // Reads once, and again as long as a signal comes in between.
 fn read_past_signals<R: Read>(reader: &mut R, buf: &mut [u8]) -> io::Result<usize>
     ensures bound { IfOk result (λ n. n ≤ length buf.new) }
@@ -71,36 +87,6 @@ fn read_past_signals<R: Read>(reader: &mut R, buf: &mut [u8]) -> io::Result<usiz
 {
     for _ in 0..u64::MAX {
         match reader.read(buf) {
-            Err(error) if error.kind() == ErrorKind::Interrupted => {}
-            answer => return answer,
-        }
-    }
-    Err(ErrorKind::Interrupted.into())
-}
-
-// Writes once, and again as long as a signal comes in between. A write that takes none of some bytes has failed.
-fn write_past_signals<W: Write>(writer: &mut W, bytes: &[u8]) -> io::Result<usize>
-    ensures bound { IfOk result (λ n. n ≤ length bytes.now) }
-    ensures some { IfOk result (λ n. 0 < length bytes.now → 0 < n) }
-    ensures bytes { WriteAppends (W.contents writer.old) (W.contents writer.new) result bytes.now }
-{
-    for _ in 0..u64::MAX {
-        match writer.write(bytes) {
-            Err(error) if error.kind() == ErrorKind::Interrupted => {}
-            Ok(0) if !bytes.is_empty() => return Err(ErrorKind::WriteZero.into()),
-            answer => return answer,
-        }
-    }
-    Err(ErrorKind::Interrupted.into())
-}
-
-// Writes all that is gathered, and again as long as a signal comes in between.
-fn flush_past_signals<W: Write + Drop>(writer: &mut BufWriter<W>) -> io::Result<()>
-    ensures bytes { Keeps (writer_contents W.contents writer.old) (writer_contents W.contents writer.new) }
-    ensures rest { OnOk result (writer_buffer writer.new ≡ []) }
-{
-    for _ in 0..u64::MAX {
-        match writer.flush() {
             Err(error) if error.kind() == ErrorKind::Interrupted => {}
             answer => return answer,
         }
@@ -124,19 +110,29 @@ impl Source for StdSource {
     }
 }
 
-impl Sink for StdSink {
+impl<W: Write + Drop> Sink for GatheringSink<W> {
     ghost use Rattle.std.specs.Prelude.{None};
+    ghost use Rattle.lwp_types.specs.Streams.{HasCause};
+    ghost use Rattle.std_streams.specs.Streams.{IsLeft, is_closed, write_faults};
 
     ghost written = { λ s. None };
 
     ghost faults = { λ s. s.faults };
 
-    fn write(&mut self, bytes: &[u8]) -> Result<usize, Failed> {
-        let Ok(n) = write_past_signals(&mut self.stdout, bytes) else {
-            self.faults = self.faults.saturating_add(1);
-            return Err(Failed);
-        };
-        Ok(n)
+    fn write(&mut self, bytes: &[u8]) -> Result<usize, Failed>
+        ensures bound { IfOk result (λ n. n ≤ length bytes.now) }
+        ensures some { IfOk result (λ n. 0 < length bytes.now → 0 < n) }
+        ensures cause { HasCause (write_faults self.old) (write_faults self.new) result }
+        ensures fails { OnErr result (IsTrue (is_closed self.new)) }
+        ensures closed { IsTrue (is_closed self.old) → IsErr result × IsLeft self.old self.new }
+    {
+        if self.out.get_ref().is_closed() {
+            return self.fail();
+        }
+        match self.out.write(bytes) {
+            Ok(n) if n > 0 || bytes.is_empty() => Ok(n),
+            _ => self.fail(),
+        }
     }
 }
 
@@ -196,7 +192,7 @@ mod tests {
             let mut stream = Signalled { signals: 2, count };
             assert_eq!(rt; read_past_signals(&mut stream, &mut buf).ok(), read);
             let mut stream = Signalled { signals: 2, count };
-            assert_eq!(rt; write_past_signals(&mut stream, b"four").ok(), written);
+            assert_eq!(rt; UntilFault::new(stream).write(b"four").ok(), written);
         }
         Ok(())
     }
@@ -209,6 +205,56 @@ mod tests {
         let mut sink = StdSink::new(rt.alloc(), rt.stdout(), GATHERED)?;
         assert_eq!(rt; sink.write(b""), Ok(0));
         assert_eq!(rt; sink.finish(), Ok(()));
+        Ok(())
+    }
+
+    // Takes all that it is given, but fails at one write.
+    #[derive(Drop)]
+    struct FailsOnce {
+        before: u32,
+        taken: usize,
+    }
+
+    impl Write for FailsOnce {
+        fn write(&mut self, buf: &[u8]) -> io::Result<usize> {
+            if self.before == 0 {
+                self.before = u32::MAX;
+                return Err(ErrorKind::StorageFull.into());
+            }
+            self.before -= 1;
+            self.taken = self.taken.saturating_add(buf.len());
+            Ok(buf.len())
+        }
+
+        fn flush(&mut self) -> io::Result<()> {
+            Ok(())
+        }
+    }
+
+    // Writes four times six bytes, eight gathered at most, and drops the sink; answers which writes failed, and the last call.
+    fn writes_that_fail(alloc: Global, out: &mut FailsOnce) -> io::Result<[bool; 5]> {
+        let mut sink = GatheringSink::new(alloc, out, 8)?;
+        let mut failed = [false; 5];
+        for it in failed.iter_mut().take(4) {
+            *it = sink.write(b"sixth\n").is_err();
+        }
+        failed[4] = sink.finish().is_err();
+        Ok(failed)
+    }
+
+    #[test]
+    fn nothing_is_written_after_a_fault(rt: HostRuntime) -> Result<(), Fail> {
+        let cases = [
+            (0, [false, true, true, true, true], 0),
+            (1, [false, false, true, true, true], 6),
+            (3, [false, false, false, false, true], 18),
+            (4, [false; 5], 24),
+        ];
+        for (before, failed, taken) in cases {
+            let mut out = FailsOnce { before, taken: 0 };
+            assert_eq!(rt; writes_that_fail(rt.alloc(), &mut out)?, failed);
+            assert_eq!(rt; out.taken, taken);
+        }
         Ok(())
     }
 }

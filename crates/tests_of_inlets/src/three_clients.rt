@@ -52,7 +52,7 @@ fn drain_one<R: Wait>(rt: &R, inlet: &mut AnyInlet, tally: &mut Tally)
     for _ in rt.forever() {
         let Some(line) = inlet.take(rt) else { return };
         let client = usize::from(line.client);
-        if client >= 3 || line.seq != tally.counts[client] || event != [7u8, 5, 7][client] {
+        if client >= 3 || line.seq != tally.counts[client] || event != [7u8, 0, 7][client] {
             tally.in_order = false;
         } else {
             tally.counts[client] = tally.counts[client].wrapping_add(1);
@@ -85,7 +85,7 @@ fn last_word(inlet: &AnyInlet) -> (u8, u32) {
 
 // Whether there is an inlet for each event, and no line is left.
 fn are_empty(inlets: &[AnyInlet]) -> bool {
-    inlets.len() == 2 && last_word(&inlets[0]) == (5, 0) && last_word(&inlets[1]) == (7, 0)
+    inlets.len() == 2 && last_word(&inlets[0]) == (0, 0) && last_word(&inlets[1]) == (7, 0)
 }
 
 // What came of it, whether all was posted, and whether nothing was left.
@@ -129,7 +129,7 @@ fn start_and_take<'s, E, R: Threads + Wait + Sync>(
     requires texts { (length texts.now ≡ 3) × All (λ ts. length ts.items ≤ 20000) texts.now }
     requires gates { length gates.items ≡ 3 }
 {
-    let mut outside = Outside::start(scope, rt, alloc, &[7, 5, 7], texts, gates, bell)?;
+    let mut outside = Outside::start(scope, rt, alloc, &[7, 0, 7], texts, gates, bell)?;
     Ok(take_beside(rt, &mut outside, bell))
 }
 

@@ -15,19 +15,26 @@ const B: Tid = Tid { number: 4 };
 
 const C: Tid = Tid { number: 7 };
 
+const D: Tid = Tid { number: 9 };
+
 fn are_known(agents: &Agents) -> bool {
-    holds(agents.list(), &[2, 4, 7])
-        && agents.agent_of(31) == Some(B)
-        && agents.agent_of(5).is_none()
+    holds(agents.list(), &[2, 4, 7, 9])
+        && agents.len() == 4
+        && agents.nth_of(32, 0) == Some(B)
+        && agents.nth_of(9, 0) == Some(A)
+        && agents.nth_of(9, 1) == Some(D)
+        && agents.nth_of(9, 2).is_none()
+        && agents.nth_of(5, 0).is_none()
         && agents.owner_of(B) == Some(OTHER)
         && agents.owner_of(OWNER).is_none()
 }
 
 fn are_armed(agents: &Agents, want: [bool; 3]) -> bool {
-    [agents.armed(9), agents.armed(31), agents.armed(6)] == want
+    [agents.armed(9), agents.armed(32), agents.armed(6)] == want
 }
 
-// An agent holds a message until the reply; agents end one by one, or with their owner.
+// An agent holds a message until the reply, and its event can't be delivered meanwhile; agents end one by one, or with their
+// owner.
 fn does_all(agents: &mut Agents) -> bool
     requires { agents.old ≡ no_agents }
 {
@@ -35,15 +42,20 @@ fn does_all(agents: &mut Agents) -> bool
         return false;
     };
     agents.create(A, 9, OWNER);
-    agents.create(B, 31, OTHER);
+    agents.create(B, 32, OTHER);
     agents.create(C, 6, OWNER);
-    agents.hold(31);
-    let held = are_armed(agents, [true, false, true]) && agents.next_armed(10).is_none();
+    agents.create(D, 9, OTHER);
+    agents.hold(B);
+    agents.hold(D);
+    let held = are_armed(agents, [false, false, true]) && agents.next_armed(7).is_none();
     agents.release(B);
+    agents.release(D);
     let known = are_known(agents) && are_armed(agents, [true; 3]);
     agents.destroy(B);
     held && known
         && agents.next_armed(7) == Some(9)
+        && agents.next_armed(10).is_none()
+        && agents.forget_owner(OTHER) == Some(D)
         && agents.forget_owner(OTHER).is_none()
         && agents.forget_owner(OWNER) == Some(A)
         && agents.forget_owner(OWNER) == Some(C)

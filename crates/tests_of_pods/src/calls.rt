@@ -107,6 +107,17 @@ fn takes_an_event(pod: &mut Pod, effects: &mut Effects, agent: Tid) -> bool {
         && pod.armed(5)
 }
 
+// The thread sleeps until the clock, which is event 0, has ticked twice.
+fn sleeps(pod: &mut Pod, effects: &mut Effects) -> bool {
+    makes(pod, effects, &Call::Sleep { ticks: 2 }) == Some(0)
+        && delivers(pod, effects, 0) == 1
+        && pod.ending() == Some(PodEnd::Idle)
+        && delivers(pod, effects, 0) == 2
+        && is_answered(effects)
+        && pod.now() == 2
+        && pod.ending().is_none()
+}
+
 fn ends(pod: &mut Pod, effects: &mut Effects) -> bool {
     makes(pod, effects, &Call::PodExit { code: 98 }) == Some(1)
         && pod.ending() == Some(PodEnd::Ended(98))
@@ -118,6 +129,7 @@ fn does_all(pod: &mut Pod, effects: &mut Effects) -> bool {
     gives_memory(pod, effects)
         && waits(pod, effects, agent)
         && takes_an_event(pod, effects, agent)
+        && sleeps(pod, effects)
         && ends(pod, effects)
 }
 
@@ -135,4 +147,40 @@ fn is_done(alloc: Global) -> bool {
 #[test]
 fn a_pod_makes_its_calls_and_takes_an_event(rt: HostRuntime) {
     assert!(rt; is_done(rt.alloc()));
+}
+
+const CROWDED: PodParams = PodParams {
+    maxpri: 1,
+    births: 258,
+    procs: 1,
+};
+
+// The agent of an event is made, for the thread whose turn it is.
+fn makes_agent(pod: &mut Pod, effects: &mut Effects) -> bool {
+    makes(pod, effects, &Call::Agent { event: 7 }) == Some(1) && is_answered(effects)
+}
+
+// As many agents as may live are made, all of one event. Each of them has a letter of one line, and the event waits then.
+fn reaches_all(pod: &mut Pod, effects: &mut Effects) -> bool {
+    for _ in 0..256 {
+        if !makes_agent(pod, effects) {
+            return false;
+        }
+    }
+    !makes_agent(pod, effects) && delivers(pod, effects, 7) == 256 && !pod.armed(7)
+}
+
+fn is_crowded(alloc: Global) -> bool {
+    let Ok(mut effects) = Effects::new(alloc) else {
+        return false;
+    };
+    let Ok(mut pod) = Pod::new(alloc, CROWDED) else {
+        return false;
+    };
+    reaches_all(&mut pod, &mut effects)
+}
+
+#[test]
+fn a_line_reaches_as_many_agents_as_may_live(rt: HostRuntime) {
+    assert!(rt; is_crowded(rt.alloc()));
 }

@@ -204,7 +204,7 @@ fn armed(alloc: Global) -> Result<Agents, NoMemory>
     let mut agents = Agents::new(alloc);
     agents.reserve(1)?;
     agents.create(AGENT, 3, DYING);
-    agents.hold(3);
+    agents.hold(AGENT);
     Ok(agents)
 }
 

@@ -10,14 +10,15 @@ const FLAGS: Flags = Flags {
 
 fn add_words(out: &mut Vec<u8>) -> Result<(), NoMemory> {
     add_text(out, func_word(Func::Give))?;
-    add_spaced(out, mode_word(Mode::Block))?;
+    add_spaced(out, b"up ")?;
+    add_mode(out, Mode::Block)?;
     add_number(out, 250)?;
     add_pattern(out, Pattern::All)?;
     add_flags(out, FLAGS)?;
     add_text(out, b"\n")
 }
 
-// What a refusal and a death are written as.
+// What a refusal, a death and a later delivery are written as.
 fn add_step(out: &mut Vec<u8>, effects: &mut Effects) -> Result<(), NoMemory> {
     effects.clear();
     effects.push(Effect::Answered {
@@ -26,6 +27,10 @@ fn add_step(out: &mut Vec<u8>, effects: &mut Effects) -> Result<(), NoMemory> {
     });
     effects.push(Effect::Died {
         tid: Tid { number: 4 },
+    });
+    effects.push(Effect::Delivered {
+        agent: Tid { number: 3 },
+        event: 5,
     });
     add_step_lines(out, effects, None, &[])
 }
@@ -41,7 +46,7 @@ fn add_lines(out: &mut Vec<u8>, alloc: Global) -> Result<(), NoMemory> {
 }
 
 const LINES: &[u8] =
-    b"give wait250allsv\nt0 ! LE_NONEXIST\nt4 dies\npod ends 3\nstuck\nleft client 1 2\n";
+    b"give up wait250allsv\nt0 ! LE_NONEXIST\nt4 dies\nalso t3\npod ends 3\nstuck\nleft client 1 2\n";
 
 fn are_written(alloc: Global) -> Result<bool, NoMemory> {
     let mut out = Vec::new(alloc);

@@ -13,14 +13,14 @@ use Rattle.std.proofs.Common.{Bool, List, None, Option, Some, [], ap, arith, cod
 use Rattle.std.proofs.lemmas.Bool.{eqb-false, eqb-true}
 use Rattle.std.specs.Fmt.{decimal}
 use Rattle.std.specs.Prelude.{negsuc, pos}
-use Rattle.trace_lines.proofs.WordLaws.{EndsDigits, behind_again, id_again, id_alone, id_is_word, not_number, number_again, number_alone, number_is_word, rest_again, who_again, who_alone}
-use Rattle.trace_lines.specs.Entries.{call_entry, entry_of, exit_entry, gain_of, id_of, is_suspended, shows, thread_entry, who_of}
-use Rattle.trace_lines.specs.Told.{AnswersAreRead, CallsAreRead, DeathsAreRead, EndsAreRead, EventsAreRead, ExitsAreRead, IsAnswer, IsPrinted, exit_target, exit_verb, gain_told, is_refused, suspended_told, target_told, verb_told}
+use Rattle.trace_lines.proofs.WordLaws.{EndsDigits, behind_again, id_again, id_alone, id_is_word, not_number, not_number_on, number_again, number_alone, number_is_word, rest_again, who_again, who_alone, whole_alone}
+use Rattle.trace_lines.specs.Entries.{also_told, call_entry, entry_of, event_told, exit_entry, gain_of, id_of, is_suspended, posted, shows, thread_entry, tick_told, who_of}
+use Rattle.trace_lines.specs.Told.{AlsoIsRead, AnswersAreRead, CallsAreRead, DeathsAreRead, EndsAreRead, EventsAreRead, ExitsAreRead, IsAnswer, IsPrinted, TicksAreRead, exit_target, exit_verb, gain_told, is_refused, suspended_told, target_told, verb_told}
 use Rattle.trace_lines.specs.Words.{reach, rest, starts}
 use Rattle.trace_lines.specs.declared.entry.Entry.TheVariants as entry
 use Rattle.trace_lines.specs.declared.entry.Gain.TheVariants as gain
 use Rattle.trace_lines.specs.declared.entry.Verb.TheVariants as verb
-use Rattle.trace_text.specs.Lines.{answer_text, call_text, exit_text, flags_text, id_text, proc_text, spaced, thread_text}
+use Rattle.trace_text.specs.Lines.{answer_text, call_text, exit_text, flags_text, id_text, posted_text, proc_text, spaced, thread_text}
 
 -- a line that begins with a thread
 thread_line : (t : ℕ) (r : List ℕ) → t < null_id → EndsDigits r → entry_of (thread_text t ++ r) ≡ thread_entry (Some t) r
@@ -30,7 +30,7 @@ thread_line t r lt e = by_null (eqb t null_id) refl
     by_null true h = absurd (omega (arith, eqb-true t null_id h))
     by_null false h =
         let fits : t < 2 ^ 64 = omega (arith, lt) in
-        rw (number_again t r fits e, behind_again t r fits e) refl
+        rw (not_number_on 105 (codes "ck ") t r fits refl, number_again t r fits e, behind_again t r fits e) refl
 
 -- ---- calls
 
@@ -68,6 +68,7 @@ asked procs t (call.SetPri u p) h = refl
 asked procs t (call.Suspend u) h = ap (λ n. Some (entry.Called t verb.Suspend n false)) (who_alone t u h)
 asked procs t (call.Resume u) h = ap (λ n. Some (entry.Called t verb.Resume n false)) (who_alone t u h)
 asked procs t (call.Join u) h = ap (λ n. Some (entry.Called t verb.Join n false)) (who_alone t u h)
+asked procs t (call.Sleep ticks) h = refl
 asked procs t call.Me h = refl
 asked procs t (call.SetMaxPri p) h = refl
 asked procs t (call.SetExit code) h = refl
@@ -175,18 +176,35 @@ ends_spaced : (text : List ℕ) → EndsDigits (spaced text)
 ends_spaced [] = tt
 ends_spaced (b ∷ bs) = refl
 
-pub delivered_again : (procs : List (List ℕ)) (line : Line) (agent e : ℕ) → EventsAreRead procs line agent e
-delivered_again procs line agent e he hc hs =
+posted_again : (line : Line) → line.client < 2 ^ 8 → line.seq < 2 ^ 32 → posted (posted_text line) ≡ Some (line.client, line.seq)
+posted_again line hc hs =
     let tail = spaced line.text in
     let third = decimal line.seq ++ tail in
-    let second = decimal line.client ++ (codes " seq " ++ third) in
     rw (
-      number_again e (codes " client " ++ second) (omega (arith, he)) refl,
-      behind_again e (codes " client " ++ second) (omega (arith, he)) refl,
       number_again line.client (codes " seq " ++ third) (omega (arith, hc)) refl,
       behind_again line.client (codes " seq " ++ third) (omega (arith, hc)) refl,
       number_again line.seq tail (omega (arith, hs)) (ends_spaced line.text),
     ) refl
+
+pub delivered_again : (procs : List (List ℕ)) (line : Line) (agent e : ℕ) → EventsAreRead procs line agent e
+delivered_again procs line agent e he hc hs =
+    let fits : e < 2 ^ 64 = omega (arith, he) in
+    rw (number_again e (posted_text line) fits refl, behind_again e (posted_text line) fits refl) (ap (event_told e) (posted_again line hc hs))
+
+-- ---- later deliveries
+
+pub also_again : (procs : List (List ℕ)) (agent e : ℕ) → AlsoIsRead procs agent e
+also_again procs agent e lt = by_null (eqb agent null_id) refl
+  where
+    by_null : (v : Bool) → eqb agent null_id ≡ v → entry_of (codes "also " ++ cond v (codes "none") (116 ∷ decimal agent)) ≡ Some (entry.Also agent)
+    by_null true h = absurd (omega (arith, eqb-true agent null_id h))
+    by_null false h = ap also_told (whole_alone agent (omega (arith, lt)))
+
+-- ---- ticks
+
+pub ticked_again : (procs : List (List ℕ)) (line : Line) (now : ℕ) → TicksAreRead procs line now
+ticked_again procs line now fits hc hs =
+    rw (number_again now (posted_text line) fits refl, behind_again now (posted_text line) fits refl) (ap (tick_told now) (posted_again line hc hs))
 
 -- ---- ends
 

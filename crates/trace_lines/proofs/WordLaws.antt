@@ -1,7 +1,7 @@
 -- What numbers and words of a line are read as.
 use Rattle.lwp_types.specs.Names.{null_id}
 use Rattle.std.proofs.Common.{Bool, List, Some, [], ap, arith, cond, drop, eqb, false, length, refl, rules, suc, sym, true, ℕ, ◌&&◌, ◌++◌, ◌<◌, ◌∙◌, ◌∷◌, ◌≡◌, ◌≤◌, ◌^◌, codes}
-use Rattle.std.proofs.lemmas.Bool.{lt-ltb, eqb-true, eqb-false}
+use Rattle.std.proofs.lemmas.Bool.{lt-ltb, eq-eqb, eqb-true, eqb-false}
 use Rattle.std.proofs.lemmas.Fmt.{decimal_nonempty, digits_decimal, digits_value-decimal}
 use Rattle.std.proofs.lemmas.List.{append-nil, drop_at, take_at}
 use Rattle.std.proofs.lemmas.Str.Parse.{IsNumeralModel, numerals_by_fold}
@@ -9,7 +9,7 @@ use Rattle.std.specs.Char.{is_ascii_digit}
 use Rattle.std.specs.Fmt.{decimal}
 use Rattle.std.specs.Str.{all_ascii_digits}
 use Rattle.trace_lines.specs.Entries.{id_of, who_of}
-use Rattle.trace_lines.specs.Words.{behind, digits, number, reach, rest, starts, value_after, value_of}
+use Rattle.trace_lines.specs.Words.{behind, digits, number, reach, rest, starts, value_after, value_of, whole_number}
 use Rattle.trace_text.specs.Lines.{id_text, thread_text, who_text}
 
 both : (a b : Bool) → (a && b) ≡ true → (a ≡ true) × (b ≡ true)
@@ -47,6 +47,11 @@ behind_again n r lt e = rw (digits_of n r lt e) (drop_at (decimal n) r (length (
 
 pub number_alone : (n : ℕ) → n < 2 ^ 64 → number (decimal n) ≡ Some n
 number_alone n lt = ap number (sym (append-nil (decimal n))) ∙ number_again n [] lt tt
+
+pub whole_alone : (n : ℕ) → n < 2 ^ 64 → whole_number (decimal n) ≡ Some n
+whole_alone n lt =
+    let all : digits (decimal n) ≡ length (decimal n) = ap digits (sym (append-nil (decimal n))) ∙ digits_of n [] lt tt in
+    rw (eq-eqb (digits (decimal n)) (length (decimal n)) all) (number_alone n lt)
 
 -- ---- ids
 
@@ -119,13 +124,16 @@ id_is_word b n other le = by_null (eqb n null_id) refl
         rw other (ap suc (number_is_word n lt))
 
 -- what begins with another byte than a digit isn't in front of a number
-not_in_front : (b : ℕ) (bs ds : List ℕ) → is_ascii_digit b ≡ false → all_ascii_digits ds ≡ true → 0 < length ds → starts (b ∷ bs) ds ≡ false
-not_in_front b bs [] other h some = absurd (omega arith)
-not_in_front b bs (d ∷ ds) other h some = by_head (eqb b d) refl (both (is_ascii_digit d) (all_ascii_digits ds) h).0
+not_in_front : (b : ℕ) (bs ds r : List ℕ) → is_ascii_digit b ≡ false → all_ascii_digits ds ≡ true → 0 < length ds → starts (b ∷ bs) (ds ++ r) ≡ false
+not_in_front b bs [] r other h some = absurd (omega arith)
+not_in_front b bs (d ∷ ds) r other h some = by_head (eqb b d) refl (both (is_ascii_digit d) (all_ascii_digits ds) h).0
   where
-    by_head : (v : Bool) → eqb b d ≡ v → is_ascii_digit d ≡ true → (v && starts bs ds) ≡ false
+    by_head : (v : Bool) → eqb b d ≡ v → is_ascii_digit d ≡ true → (v && starts bs (ds ++ r)) ≡ false
     by_head true e g = absurd (let f : false ≡ true = sym other ∙ ap is_ascii_digit (eqb-true b d e) ∙ g in cc)
     by_head false e g = refl
 
+pub not_number_on : (b : ℕ) (bs : List ℕ) (n : ℕ) (r : List ℕ) → n < 2 ^ 64 → is_ascii_digit b ≡ false → starts (b ∷ bs) (decimal n ++ r) ≡ false
+not_number_on b bs n r lt other = not_in_front b bs (decimal n) r other (digits_decimal own n lt) (decimal_nonempty n lt)
+
 pub not_number : (b : ℕ) (bs : List ℕ) (n : ℕ) → n < 2 ^ 64 → is_ascii_digit b ≡ false → starts (b ∷ bs) (decimal n) ≡ false
-not_number b bs n lt other = not_in_front b bs (decimal n) other (digits_decimal own n lt) (decimal_nonempty n lt)
+not_number b bs n lt other = ap (starts (b ∷ bs)) (sym (append-nil (decimal n))) ∙ not_number_on b bs n [] lt other

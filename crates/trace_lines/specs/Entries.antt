@@ -1,7 +1,7 @@
 -- What a line of a trace tells.
 use Rattle.lwp_types.specs.Names.{null_id}
 use Rattle.std.specs.Prelude.{Bool, List, None, Option, Some, bytes_eq, codes, drop, false, if◌then◌else◌, true, unwrap_or, ℕ, ◌&&◌, ◌||◌}
-use Rattle.trace_lines.specs.Words.{behind, number, rest, starts, word}
+use Rattle.trace_lines.specs.Words.{behind, number, rest, starts, whole_number, word}
 use Rattle.trace_lines.specs.declared.entry.Entry.{Entry}
 use Rattle.trace_lines.specs.declared.entry.Entry.TheVariants as entry
 use Rattle.trace_lines.specs.declared.entry.Gain.{Gain}
@@ -17,6 +17,7 @@ thread_verb w =
     else if bytes_eq w (codes "suspend") then Some verb.Suspend
     else if bytes_eq w (codes "resume") then Some verb.Resume
     else if bytes_eq w (codes "join") then Some verb.Join
+    else if bytes_eq w (codes "sleep") then Some verb.Sleep
     else if bytes_eq w (codes "send") then Some verb.Send
     else if bytes_eq w (codes "recv") then Some verb.Receive
     else None
@@ -74,6 +75,7 @@ who_of me text = if starts (codes "self") text then me else id_of text
 abbrev pub target_of : Verb → ℕ → List ℕ → ℕ
 target_of verb.Create me text = null_id
 target_of verb.OnExit me text = null_id
+target_of verb.Sleep me text = null_id
 target_of verb.Other me text = null_id
 target_of verb.Agent me text = unwrap_or (number text) null_id
 target_of verb.Destroy me text = who_of me text
@@ -143,18 +145,43 @@ abbrev pub exit_entry : Option ℕ → List ℕ → Option Entry
 exit_entry None text = None
 exit_entry (Some reg) text = if starts (codes " ") text then exited reg (rest (drop 1 text)) (verb_of (word (drop 1 text))) else None
 
-abbrev pub event_told : ℕ → ℕ → Option ℕ → Option Entry
-event_told event client None = None
-event_told event client (Some seq) = Some (entry.Event event client seq)
+abbrev pub numbered : ℕ → Option ℕ → Option (ℕ × ℕ)
+numbered client None = None
+numbered client (Some seq) = Some (client, seq)
 
-abbrev pub event_client : ℕ → Option ℕ → List ℕ → Option Entry
-event_client event None text = None
-event_client event (Some client) text = if starts (codes " seq ") text then event_told event client (number (drop 5 text)) else None
+abbrev pub posted_by : Option ℕ → List ℕ → Option (ℕ × ℕ)
+posted_by None text = None
+posted_by (Some client) text = if starts (codes " seq ") text then numbered client (number (drop 5 text)) else None
+
+-- whose line was taken, and its number
+abbrev pub posted : List ℕ → Option (ℕ × ℕ)
+posted text = if starts (codes " client ") text then posted_by (number (drop 8 text)) (behind (drop 8 text)) else None
+
+abbrev pub event_told : ℕ → Option (ℕ × ℕ) → Option Entry
+event_told event None = None
+event_told event (Some line) = Some (entry.Event event line.0 line.1)
 
 -- the line of a delivery, behind its event
 abbrev pub event_entry : Option ℕ → List ℕ → Option Entry
 event_entry None text = None
-event_entry (Some event) text = if starts (codes " client ") text then event_client event (number (drop 8 text)) (behind (drop 8 text)) else None
+event_entry (Some event) text = event_told event (posted text)
+
+abbrev pub also_told : Option ℕ → Option Entry
+also_told None = None
+also_told (Some agent) = Some (entry.Also agent)
+
+-- the line of a later delivery, behind its letter: a number, and nothing else
+abbrev pub also_entry : List ℕ → Option Entry
+also_entry text = also_told (whole_number text)
+
+abbrev pub tick_told : ℕ → Option (ℕ × ℕ) → Option Entry
+tick_told now None = None
+tick_told now (Some line) = Some (entry.Tick now line.0 line.1)
+
+-- the line of a tick, behind its number
+abbrev pub tick_entry : Option ℕ → List ℕ → Option Entry
+tick_entry None text = None
+tick_entry (Some now) text = tick_told now (posted text)
 
 -- whether the line stands behind the last step
 abbrev pub is_closing : List ℕ → Bool
@@ -163,8 +190,10 @@ is_closing line = starts (codes "pod ends ") line || bytes_eq line (codes "stuck
 -- what a line tells, without its newline
 abbrev pub entry_of : List ℕ → Option Entry
 entry_of line =
-    if starts (codes "t") line then thread_entry (number (drop 1 line)) (behind (drop 1 line))
+    if starts (codes "tick ") line then tick_entry (number (drop 5 line)) (behind (drop 5 line))
+    else if starts (codes "t") line then thread_entry (number (drop 1 line)) (behind (drop 1 line))
     else if starts (codes "exit x") line then exit_entry (number (drop 6 line)) (behind (drop 6 line))
     else if starts (codes "event ") line then event_entry (number (drop 6 line)) (behind (drop 6 line))
+    else if starts (codes "also t") line then also_entry (drop 6 line)
     else if is_closing line then Some entry.Closing
     else None

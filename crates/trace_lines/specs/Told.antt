@@ -26,6 +26,7 @@ verb_told (call.Destroy t) = verb.Destroy
 verb_told (call.Suspend t) = verb.Suspend
 verb_told (call.Resume t) = verb.Resume
 verb_told (call.Join t) = verb.Join
+verb_told (call.Sleep ticks) = verb.Sleep
 verb_told (call.Send t room text) = verb.Send
 verb_told (call.Recv from mode) = verb.Receive
 verb_told (call.Enter m) = verb.Enter
@@ -130,6 +131,15 @@ ExitsAreRead procs took t reg x a = reg < 2 ^ 64 → exit_target x ≤ null_id
 abbrev pub EventsAreRead : List (List ℕ) → Line → ℕ → ℕ → Type 0
 EventsAreRead procs line agent e = e < 2 ^ 8 → line.client < 2 ^ 8 → line.seq < 2 ^ 32
     → entry_of (line_text procs (Some line) (effect.Delivered agent e)) ≡ Some (entry.Event e line.client line.seq)
+
+-- a later delivery of a step is read back as its agent
+abbrev pub AlsoIsRead : List (List ℕ) → ℕ → ℕ → Type 0
+AlsoIsRead procs agent e = agent < null_id → entry_of (line_text procs None (effect.Delivered agent e)) ≡ Some (entry.Also agent)
+
+-- a tick is read back, with the line that was taken for it
+abbrev pub TicksAreRead : List (List ℕ) → Line → ℕ → Type 0
+TicksAreRead procs line now = now < 2 ^ 64 → line.client < 2 ^ 8 → line.seq < 2 ^ 32
+    → entry_of (line_text procs (Some line) (effect.Ticked now)) ≡ Some (entry.Tick now line.client line.seq)
 
 -- the lines behind the last step are read back; each is what `end_text` prints, without its newline
 pub record EndsAreRead : Type 0 where

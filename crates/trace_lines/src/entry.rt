@@ -11,6 +11,7 @@ pub enum Verb {
     Suspend,
     Resume,
     Join,
+    Sleep,
     Send,
     Receive,
     Enter,
@@ -66,6 +67,16 @@ pub enum Entry {
     /// A client's line was taken.
     Event {
         event: u64,
+        client: u64,
+        seq: u64,
+    },
+    /// A later agent of the event has a letter with the same text.
+    Also {
+        agent: u64,
+    },
+    /// The clock has ticked; a client's line was taken for it.
+    Tick {
+        now: u64,
         client: u64,
         seq: u64,
     },

@@ -1,10 +1,11 @@
 // What `trace_text` prints is read back.
-ghost use Rattle.std.specs.Prelude.{ℕ, List, Option};
+ghost use Rattle.std.specs.Prelude.{ℕ, List, None, Option, codes, ◌≡◌};
 ghost use Rattle.lwp_types.specs.declared.call.Answer.{Answer};
 ghost use Rattle.lwp_types.specs.declared.call.Call.{Call};
 ghost use Rattle.lwp_types.specs.declared.call.ExitCall.{ExitCall};
 ghost use Rattle.lwp_types.specs.declared.call.Line.{Line};
-ghost use Rattle.trace_lines.specs.Told.{AnswersAreRead, CallsAreRead, DeathsAreRead, EndsAreRead, EventsAreRead, ExitsAreRead};
+ghost use Rattle.trace_lines.specs.Entries.{entry_of};
+ghost use Rattle.trace_lines.specs.Told.{AlsoIsRead, AnswersAreRead, CallsAreRead, DeathsAreRead, EndsAreRead, EventsAreRead, ExitsAreRead, TicksAreRead};
 
 /// A call's line is read back as the call.
 pub fn called_again()
@@ -29,6 +30,24 @@ pub fn died_again()
 /// The line of a delivery is read back.
 pub fn delivered_again()
     ensures { (procs : List (List ℕ)) (line : Line) (agent e : ℕ) → EventsAreRead procs line agent e }
+{}
+
+/// The line of a later delivery of a step is read back as its agent.
+pub fn also_again()
+    ensures { (procs : List (List ℕ)) (agent e : ℕ) → AlsoIsRead procs agent e }
+{}
+
+/// Less than that, more than that or another letter is no line of a trace.
+pub fn only_also()
+    ensures bare { entry_of (codes "also") ≡ None }
+    ensures unnumbered { entry_of (codes "also t") ≡ None }
+    ensures followed { entry_of (codes "also t1 x") ≡ None }
+    ensures other { entry_of (codes "also m1") ≡ None }
+{}
+
+/// The line of a tick is read back.
+pub fn ticked_again()
+    ensures { (procs : List (List ℕ)) (line : Line) (now : ℕ) → TicksAreRead procs line now }
 {}
 
 /// The lines behind the last step are read back.

@@ -1,7 +1,7 @@
 //! The lines of a trace, read back.
 //!
 //! `entry_of` takes a line to what a picture of the trace needs of it: who called what, who was answered, what an exit procedure
-//! did, who died, which line was taken, or how it ended. `specs/Entries.antt` has the definitions. The line is looked at no
+//! did, who died, which line was taken and which further agents it went to, when the clock has ticked, or how it ended. `specs/Entries.antt` has the definitions. The line is looked at no
 //! further than that, so what stands behind the words that are needed may be anything; a line of which they can't be read is no
 //! line of a trace. `called_again` and its neighbours say that whatever `trace_text` prints is read back.
 //!
@@ -15,7 +15,8 @@ mod words;
 
 pub use entry::{Entry, Gain, NOBODY, Verb};
 pub use laws::{
-    answered_again, called_again, closed_again, delivered_again, died_again, exited_again,
+    also_again, answered_again, called_again, closed_again, delivered_again, died_again,
+    exited_again, only_also, ticked_again,
 };
 pub use reading::entry_of;
 pub use words::{reach, skip, whole_number};

@@ -1,10 +1,10 @@
 // What a line tells.
 ghost use Rattle.std.specs.Prelude.{◌≡◌, ◌&&◌, bytes_eq};
-ghost use Rattle.trace_lines.specs.Entries.{answer_entry, call_entry, entry_of, event_client, event_entry, exit_entry, exited, gain_of, id_of, is_closing, is_list, is_mark, is_quiet, is_suspended, monitor_verb, plain_verb, shows, target_of, thread_entry, thread_verb, verb_of, who_of};
+ghost use Rattle.trace_lines.specs.Entries.{also_entry, answer_entry, call_entry, entry_of, event_entry, exit_entry, exited, gain_of, id_of, is_closing, is_list, is_mark, is_quiet, is_suspended, monitor_verb, plain_verb, posted, posted_by, shows, target_of, thread_entry, thread_verb, tick_entry, verb_of, who_of};
 ghost use Rattle.trace_lines.specs.Words.{behind, number, rest, word};
 
 use crate::entry::{Entry, Gain, NOBODY, Verb};
-use crate::words::{behind, number, rest, skip, starts, word};
+use crate::words::{behind, number, rest, skip, starts, whole_number, word};
 
 // Whether a word is this.
 #[inline]
@@ -27,6 +27,8 @@ fn thread_verb(word: &[u8]) -> Option<Verb>
         Some(Verb::Resume)
     } else if is(word, b"join") {
         Some(Verb::Join)
+    } else if is(word, b"sleep") {
+        Some(Verb::Sleep)
     } else if is(word, b"send") {
         Some(Verb::Send)
     } else if is(word, b"recv") {
@@ -163,7 +165,7 @@ fn target_of(verb: Verb, me: u64, text: &[u8]) -> u64
     ensures { result ≡ target_of verb me text.now }
 {
     match verb {
-        Verb::Create | Verb::OnExit | Verb::Other => NOBODY,
+        Verb::Create | Verb::OnExit | Verb::Sleep | Verb::Other => NOBODY,
         Verb::Agent => event_of(text),
         Verb::Destroy | Verb::Suspend | Verb::Resume | Verb::Join | Verb::Send | Verb::Receive =>
             who_of(me, text),
@@ -254,6 +256,7 @@ fn shows(verb: Verb) -> bool
         | Verb::Destroy
         | Verb::Suspend
         | Verb::Join
+        | Verb::Sleep
         | Verb::Send
         | Verb::Receive
         | Verb::Enter
@@ -291,8 +294,8 @@ fn exit_entry(text: &[u8]) -> Option<Entry>
     exit_call(reg, skip(1, behind))
 }
 
-fn event_client(event: u64, text: &[u8]) -> Option<Entry>
-    ensures { result ≡ event_client event (number text.now) (behind text.now) }
+fn posted_by(text: &[u8]) -> Option<(u64, u64)>
+    ensures { result ≡ posted_by (number text.now) (behind text.now) }
 {
     let client = number(text)?;
     let behind = behind(text);
@@ -300,7 +303,17 @@ fn event_client(event: u64, text: &[u8]) -> Option<Entry>
         return None;
     }
     let seq = number(skip(5, behind))?;
-    Some(Entry::Event { event, client, seq })
+    Some((client, seq))
+}
+
+// Whose line was taken, and its number.
+fn posted(text: &[u8]) -> Option<(u64, u64)>
+    ensures { result ≡ posted text.now }
+{
+    if !starts(b" client ", text) {
+        return None;
+    }
+    posted_by(skip(8, text))
 }
 
 // The line of a delivery, behind its word.
@@ -308,11 +321,25 @@ fn event_entry(text: &[u8]) -> Option<Entry>
     ensures { result ≡ event_entry (number text.now) (behind text.now) }
 {
     let event = number(text)?;
-    let behind = behind(text);
-    if !starts(b" client ", behind) {
-        return None;
-    }
-    event_client(event, skip(8, behind))
+    let (client, seq) = posted(behind(text))?;
+    Some(Entry::Event { event, client, seq })
+}
+
+// The line of a later delivery, behind its letter: nothing stands behind the number.
+fn also_entry(text: &[u8]) -> Option<Entry>
+    ensures { result ≡ also_entry text.now }
+{
+    let agent = whole_number(text)?;
+    Some(Entry::Also { agent })
+}
+
+// The line of a tick, behind its word.
+fn tick_entry(text: &[u8]) -> Option<Entry>
+    ensures { result ≡ tick_entry (number text.now) (behind text.now) }
+{
+    let now = number(text)?;
+    let (client, seq) = posted(behind(text))?;
+    Some(Entry::Tick { now, client, seq })
 }
 
 fn is_closing(line: &[u8]) -> bool
@@ -328,6 +355,9 @@ fn is_closing(line: &[u8]) -> bool
 pub fn entry_of(line: &[u8]) -> Option<Entry>
     ensures { result ≡ entry_of line.now }
 {
+    if starts(b"tick ", line) {
+        return tick_entry(skip(5, line));
+    }
     if starts(b"t", line) {
         return thread_entry(skip(1, line));
     }
@@ -336,6 +366,9 @@ pub fn entry_of(line: &[u8]) -> Option<Entry>
     }
     if starts(b"event ", line) {
         return event_entry(skip(6, line));
+    }
+    if starts(b"also t", line) {
+        return also_entry(skip(6, line));
     }
     if is_closing(line) {
         return Some(Entry::Closing);

@@ -11,7 +11,7 @@ use Rattle.trace_page.specs.Frame as frame
 use Rattle.trace_page.specs.Nesting.{Outside, Quoted, at, is_closed, is_nested, read, read_on}
 use Rattle.trace_page.specs.Page.{groups, page, shown, told_all, told_line}
 use Rattle.trace_page.specs.Scene.{Seen, need_of, opening}
-use Rattle.trace_page.specs.Shapes.{arrow_text, band_text, bar_text, class_text, closed, closing_text, due_text, escaped, event_text, group_closed, group_open, group_text, held_text, label_closed, label_text, letter_text, line_text, move_text, named_text, number_text, path_text, posted_text, rect_text, shape_text, shapes_text, sign_open, tag_text, tick_text, title_text, use_open, use_text, value_text, wait_class, wait_text, waits_text, wanted_text, way_class, x_of, y_of}
+use Rattle.trace_page.specs.Shapes.{arrow_text, band_text, bar_text, class_text, clock_text, closed, closing_text, due_text, escaped, event_text, group_closed, group_open, group_text, held_text, label_closed, label_text, letter_text, line_text, move_text, named_text, number_text, path_text, posted_text, rect_text, shape_text, shapes_text, sign_open, tag_text, tick_text, title_text, use_open, use_text, value_text, wait_class, wait_text, waits_text, wanted_text, way_class, x_of, y_of}
 use Rattle.trace_page.specs.Steps.{finished, is_shown}
 use Rattle.trace_page.specs.Titles.{is_plain}
 use Rattle.trace_page.specs.declared.scene.Kind.{Kind}
@@ -162,6 +162,7 @@ wait_is_plain need.Letter = record { plain = refl }
 wait_is_plain need.Monitor = record { plain = refl }
 wait_is_plain need.Condition = record { plain = refl }
 wait_is_plain need.Death = record { plain = refl }
+wait_is_plain need.Clock = record { plain = refl }
 wait_is_plain need.Nothing = record { plain = refl }
 
 wait_keeps : (s : Seen) (lane : Lane) (to : Moment) → Keeps (wait_text s lane to)
@@ -192,6 +193,7 @@ unfolding way_class
 way_is_plain way.Letter = record { plain = refl }
 way_is_plain way.Reply = record { plain = refl }
 way_is_plain way.Wake = record { plain = refl }
+way_is_plain way.Also = record { plain = refl }
 
 arrow_keeps : (s : Seen) (w : Way) (from : ℕ) (left : Moment) (to : ℕ) (at : Moment) → Keeps (arrow_text s w from left to at)
 unfolding arrow_text
@@ -208,6 +210,13 @@ event_keeps s client seq nth agent at = record {
       on (label_opens (record { plain = refl }) _ _ names) (on ((posted_keeps client seq).keeps _) (on (label_closes names) ((path_keeps (record { plain = refl }) _ _ _ _).keeps names)));
 }
 
+clock_keeps : (s : Seen) (now nth : ℕ) (at : Moment) → Keeps (clock_text s now nth at)
+unfolding clock_text
+clock_keeps s now nth at = record {
+  keeps = λ names.
+      on (label_opens (record { plain = refl }) _ _ names) (on ((number_keeps now).keeps _) (on (label_closes names) ((use_keeps (record { plain = refl }) _ _).keeps names)));
+}
+
 closing_keeps : (s : Seen) (line : List ℕ) (nth : ℕ) (at : Moment) → Keeps (closing_text s line nth at)
 unfolding closing_text
 closing_keeps s line nth at = label_keeps (record { plain = refl }) _ _ (line_keeps line)
@@ -219,6 +228,7 @@ wanted_keeps need.Letter = text_keeps (record { plain = refl })
 wanted_keeps need.Monitor = text_keeps (record { plain = refl })
 wanted_keeps need.Condition = text_keeps (record { plain = refl })
 wanted_keeps need.Death = text_keeps (record { plain = refl })
+wanted_keeps need.Clock = text_keeps (record { plain = refl })
 wanted_keeps need.Nothing = text_keeps (record { plain = refl })
 
 letter_keeps : (n : Need) → Keeps (letter_text n)
@@ -228,6 +238,7 @@ letter_keeps need.Letter = text_keeps (record { plain = refl })
 letter_keeps need.Monitor = text_keeps (record { plain = refl })
 letter_keeps need.Condition = text_keeps (record { plain = refl })
 letter_keeps need.Death = text_keeps (record { plain = refl })
+letter_keeps need.Clock = text_keeps (record { plain = refl })
 letter_keeps need.Nothing = text_keeps (record { plain = refl })
 
 named_keeps : (n : Need) (target : ℕ) → Keeps (named_text n target)
@@ -251,6 +262,7 @@ shape_keeps s line (shape.Arrow way from left to at) = arrow_keeps s way from le
 shape_keeps s line (shape.Exit tid at) = use_keeps (record { plain = refl }) _ _
 shape_keeps s line (shape.Death tid at) = use_keeps (record { plain = refl }) _ _
 shape_keeps s line (shape.Event client seq nth agent at) = event_keeps s client seq nth agent at
+shape_keeps s line (shape.Clock now nth at) = clock_keeps s now nth at
 shape_keeps s line (shape.Closing nth at) = closing_keeps s line nth at
 shape_keeps s line (shape.Due lane at) = due_keeps s lane at
 

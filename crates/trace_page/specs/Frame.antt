@@ -12,7 +12,7 @@ opening = codes "<!DOCTYPE html>\n<html lang='en'>\n<head>\n<meta charset='utf-8
 
 -- the colours, in light and dark
 unfoldable pub colours : List ℕ
-colours = codes ":root{color-scheme:light dark;--paper:#fff;--ink:#1c1c1c;--soft:#667;--line:#b9bec8;--reply:#c2541b;--letter:#1f6fb4;--monitor:#b3261e;--condition:#7a3fa0;--death:#5a5a5a;--suspended:#a07800;--held:#cfe6d2;--edge:#3c7a46;--under:darken}\n@media(prefers-color-scheme:dark){:root{--paper:#15171a;--ink:#e8e8e8;--soft:#a4abb8;--line:#4a505c;--reply:#ff9a5c;--letter:#6db8ff;--monitor:#ff7d74;--condition:#cf9bf2;--death:#b9b9b9;--suspended:#f0c64a;--held:#24442a;--edge:#7fc98b;--under:lighten}}\n"
+colours = codes ":root{color-scheme:light dark;--paper:#fff;--ink:#1c1c1c;--soft:#667;--line:#b9bec8;--reply:#c2541b;--letter:#1f6fb4;--monitor:#b3261e;--condition:#7a3fa0;--death:#5a5a5a;--clock:#00767c;--suspended:#a07800;--held:#cfe6d2;--edge:#3c7a46;--under:darken}\n@media(prefers-color-scheme:dark){:root{--paper:#15171a;--ink:#e8e8e8;--soft:#a4abb8;--line:#4a505c;--reply:#ff9a5c;--letter:#6db8ff;--monitor:#ff7d74;--condition:#cf9bf2;--death:#b9b9b9;--clock:#5fd3d8;--suspended:#f0c64a;--held:#24442a;--edge:#7fc98b;--under:lighten}}\n"
 
 -- how the page is laid out
 unfoldable pub layout : List ℕ
@@ -20,11 +20,11 @@ layout = codes "body{margin:0;padding:8px;display:flex;flex-direction:column;bac
 
 -- how marks look
 unfoldable pub marks : List ℕ
-marks = codes "text{font:12px sans-serif}\n.name{font-weight:bold}\n.number,.event{font-size:10px;fill:var(--soft);text-anchor:middle}\n.tag{font-size:8px;fill:var(--ink)}\n.end{font-weight:bold}\n.due{font-weight:bold;fill:var(--monitor)}\n.life,#rule{fill:var(--line);mix-blend-mode:var(--under);pointer-events:none}\n#rule{opacity:.5}\n.held{fill:var(--held);stroke:var(--edge);stroke-width:.8}\n.reply,.letter,.monitor,.condition,.death,.suspended{stroke-width:1}\n"
+marks = codes "text{font:12px sans-serif}\n.name{font-weight:bold}\n.number,.event{font-size:10px;fill:var(--soft);text-anchor:middle}\n.clock{font-size:10px;fill:var(--clock);text-anchor:middle}\n.tag{font-size:8px;fill:var(--ink)}\n.end{font-weight:bold}\n.due{font-weight:bold;fill:var(--monitor)}\n.life,#rule{fill:var(--line);mix-blend-mode:var(--under);pointer-events:none}\n#rule{opacity:.5}\n#clock{fill:var(--clock)}\n#clock rect{opacity:.5;pointer-events:none}\n.held{fill:var(--held);stroke:var(--edge);stroke-width:.8}\n.reply,.letter,.monitor,.condition,.death,.sleep,.suspended{stroke-width:1}\n"
 
 -- how waits look: by colour and by pattern
 unfoldable pub waits : List ℕ
-waits = codes ".reply{fill:url(#p-reply);stroke:var(--reply)}\n.letter{fill:url(#p-letter);stroke:var(--letter)}\n.monitor{fill:url(#p-monitor);stroke:var(--monitor)}\n.condition{fill:url(#p-condition);stroke:var(--condition)}\n.death{fill:url(#p-death);stroke:var(--death)}\n.suspended{fill:url(#p-suspended);stroke:var(--suspended)}\n#p-reply path{stroke:var(--reply);stroke-width:1.4;fill:none}\n#p-letter path{stroke:var(--letter);stroke-width:1.4;fill:none}\n#p-monitor path{stroke:var(--monitor);stroke-width:1.4;fill:none}\n#p-condition path{stroke:var(--condition);stroke-width:1.4;fill:none}\n#p-death path{stroke:var(--death);stroke-width:1.4;fill:none}\n#p-suspended path{stroke:var(--suspended);stroke-width:1.4;fill:none}\n"
+waits = codes ".reply{fill:url(#p-reply);stroke:var(--reply)}\n.letter{fill:url(#p-letter);stroke:var(--letter)}\n.monitor{fill:url(#p-monitor);stroke:var(--monitor)}\n.condition{fill:url(#p-condition);stroke:var(--condition)}\n.death{fill:url(#p-death);stroke:var(--death)}\n.sleep{fill:url(#p-sleep);stroke:var(--clock)}\n.suspended{fill:url(#p-suspended);stroke:var(--suspended)}\n#p-reply path{stroke:var(--reply);stroke-width:1.4;fill:none}\n#p-letter path{stroke:var(--letter);stroke-width:1.4;fill:none}\n#p-monitor path{stroke:var(--monitor);stroke-width:1.4;fill:none}\n#p-condition path{stroke:var(--condition);stroke-width:1.4;fill:none}\n#p-death path{stroke:var(--death);stroke-width:1.4;fill:none}\n#p-sleep path{stroke:var(--clock);stroke-width:1.4;fill:none}\n#p-suspended path{stroke:var(--suspended);stroke-width:1.4;fill:none}\n"
 
 -- how arrows look
 unfoldable pub ways : List ℕ
@@ -32,11 +32,11 @@ ways = codes "path.sent,path.replied,path.woken,path.event{fill:none;stroke-widt
 
 -- the patterns of waits
 unfoldable pub patterns : List ℕ
-patterns = codes "<svg class='key' viewBox='0 0 900 76'>\n<defs><pattern id='p-reply' width='6' height='6' patternUnits='userSpaceOnUse'><path d='M0 6L6 0'/></pattern><pattern id='p-letter' width='6' height='6' patternUnits='userSpaceOnUse'><path d='M1 3h1.5M4 0h1.5M4 6h1.5'/></pattern><pattern id='p-monitor' width='6' height='6' patternUnits='userSpaceOnUse'><path d='M0 0L6 6M0 6L6 0'/></pattern><pattern id='p-condition' width='6' height='6' patternUnits='userSpaceOnUse'><path d='M1 0V6M4 0V6'/></pattern><pattern id='p-death' width='6' height='6' patternUnits='userSpaceOnUse'><path d='M0 0L6 6'/></pattern><pattern id='p-suspended' width='6' height='6' patternUnits='userSpaceOnUse'><path d='M0 1.5H6M0 4.5H6'/></pattern>"
+patterns = codes "<svg class='key' viewBox='0 0 900 76'>\n<defs><pattern id='p-reply' width='6' height='6' patternUnits='userSpaceOnUse'><path d='M0 6L6 0'/></pattern><pattern id='p-letter' width='6' height='6' patternUnits='userSpaceOnUse'><path d='M1 3h1.5M4 0h1.5M4 6h1.5'/></pattern><pattern id='p-monitor' width='6' height='6' patternUnits='userSpaceOnUse'><path d='M0 0L6 6M0 6L6 0'/></pattern><pattern id='p-condition' width='6' height='6' patternUnits='userSpaceOnUse'><path d='M1 0V6M4 0V6'/></pattern><pattern id='p-death' width='6' height='6' patternUnits='userSpaceOnUse'><path d='M0 0L6 6'/></pattern><pattern id='p-sleep' width='6' height='6' patternUnits='userSpaceOnUse'><path d='M0 4.5L3 1.5L6 4.5'/></pattern><pattern id='p-suspended' width='6' height='6' patternUnits='userSpaceOnUse'><path d='M0 1.5H6M0 4.5H6'/></pattern>"
 
 -- arrow heads and signs
 unfoldable pub signs : List ℕ
-signs = codes "<marker id='a-sent' viewBox='0 0 8 8' refX='7' refY='4' markerWidth='6' markerHeight='6' orient='auto'><path d='M0 0L8 4L0 8z'/></marker><marker id='a-replied' viewBox='0 0 8 8' refX='7' refY='4' markerWidth='6' markerHeight='6' orient='auto'><path d='M0 0L8 4L0 8z'/></marker><marker id='a-woken' viewBox='0 0 8 8' refX='7' refY='4' markerWidth='6' markerHeight='6' orient='auto'><path d='M0 0L8 4L0 8z'/></marker><g id='tick'><rect x='-4' y='0' width='8' height='20' fill='transparent'/><rect x='-1' y='2' width='2' height='16'/></g><g id='exit'><path class='sign' d='M0 4L5 10L0 16L-5 10z'/></g><g id='death'><path class='sign' d='M3 5L13 15M3 15L13 5'/></g><rect id='rule' x='-.5' y='0' width='1' height='100%'/></defs>\n"
+signs = codes "<marker id='a-sent' viewBox='0 0 8 8' refX='7' refY='4' markerWidth='6' markerHeight='6' orient='auto'><path d='M0 0L8 4L0 8z'/></marker><marker id='a-replied' viewBox='0 0 8 8' refX='7' refY='4' markerWidth='6' markerHeight='6' orient='auto'><path d='M0 0L8 4L0 8z'/></marker><marker id='a-woken' viewBox='0 0 8 8' refX='7' refY='4' markerWidth='6' markerHeight='6' orient='auto'><path d='M0 0L8 4L0 8z'/></marker><g id='tick'><rect x='-4' y='0' width='8' height='20' fill='transparent'/><rect x='-1' y='2' width='2' height='16'/></g><g id='exit'><path class='sign' d='M0 4L5 10L0 16L-5 10z'/></g><g id='death'><path class='sign' d='M3 5L13 15M3 15L13 5'/></g><rect id='rule' x='-.5' y='0' width='1' height='100%'/><g id='clock'><circle r='3'/><rect x='-.5' y='0' width='1' height='100%'/></g></defs>\n"
 
 -- the legend: what is waited for
 unfoldable pub key_waits : List ℕ
@@ -44,7 +44,7 @@ key_waits = codes "<rect class='reply' x='8' y='6' width='28' height='12'/><text
 
 -- the legend: marks and arrows
 unfoldable pub key_marks : List ℕ
-key_marks = codes "<use href='#tick' x='20' y='28'/><text x='34' y='42'>a call</text><use href='#exit' x='110' y='28'/><text x='122' y='42'>an exit procedure</text><use href='#death' x='242' y='28'/><text x='262' y='42'>a death</text><path class='sent' d='M330 38L360 38'/><text x='366' y='42'>a letter</text><path class='replied' d='M430 38L460 38'/><text x='466' y='42'>a reply</text><path class='woken' d='M530 38L560 38'/><text x='566' y='42'>wakes</text><text class='event' x='632' y='42'>0:1</text><text x='648' y='42'>a line: client and number</text><text x='8' y='66'>Calls go from left to right, every tenth has its number above. Point at a mark to see its line of the trace.</text></svg>\n<div class='page'>\n<svg class='run'>\n"
+key_marks = codes "<use href='#tick' x='20' y='28'/><text x='34' y='42'>a call</text><use href='#exit' x='110' y='28'/><text x='122' y='42'>an exit procedure</text><use href='#death' x='242' y='28'/><text x='262' y='42'>a death</text><path class='sent' d='M330 38L360 38'/><text x='366' y='42'>a letter</text><path class='replied' d='M430 38L460 38'/><text x='466' y='42'>a reply</text><path class='woken' d='M530 38L560 38'/><text x='566' y='42'>wakes</text><text class='event' x='632' y='42'>0:1</text><text x='648' y='42'>a line: client and number</text><text x='8' y='66'>Calls go from left to right, every tenth has its number above. Point at a mark to see its line of the trace.</text><rect class='sleep' x='678' y='56' width='28' height='12'/><text x='712' y='66'>sleeps</text><use href='#clock' x='796' y='62'/><text class='clock' x='808' y='66'>7</text><text x='822' y='66'>a tick</text></svg>\n<div class='page'>\n<svg class='run'>\n"
 
 unfoldable pub head_style : List ℕ
 head_style = opening ++ (colours ++ (layout ++ (marks ++ (waits ++ (ways)))))

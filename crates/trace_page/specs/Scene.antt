@@ -13,7 +13,7 @@ use Rattle.trace_page.specs.declared.scene.Shape.{Shape}
 use Rattle.trace_page.specs.declared.scene.Span.{Span}
 
 -- The calls behind `base`, up to `last`, are drawn; there are more where a call came behind the last. `time` is when the last line
--- happened, and the caller who made the last call. Lanes stand in the order of birth.
+-- happened, the caller who made the last call, and the agent who sent the last letter. Lanes stand in the order of birth.
 pub record Seen : Type 0 where
   pub base : ℕ
   pub last : ℕ
@@ -21,6 +21,7 @@ pub record Seen : Type 0 where
   pub time : Moment
   pub caller : ℕ
   pub events : ℕ
+  pub agent : ℕ
   pub closings : ℕ
   pub lanes : List Lane
   pub spans : List Span
@@ -37,6 +38,7 @@ opening base last = record {
   time = record { call = 0; late = false };
   caller = null_id;
   events = 0;
+  agent = null_id;
   closings = 0;
   lanes = [];
   spans = [];
@@ -69,6 +71,7 @@ need_of verb.Receive = need.Letter
 need_of verb.Enter = need.Monitor
 need_of verb.Wait = need.Condition
 need_of verb.Join = need.Death
+need_of verb.Sleep = need.Clock
 need_of verb.Create = need.Nothing
 need_of verb.Destroy = need.Nothing
 need_of verb.Suspend = need.Nothing
@@ -102,4 +105,4 @@ begun span s = record s { spans = s.spans ++ span ∷ [] }
 
 -- a lane more, which lives from now on
 abbrev pub opened : ℕ → ℕ → ℕ → Seen → Seen
-opened id event owner s = begun (record { tid = id; kind = kind.Life; of = owner; since = s.time; level = 0 }) (record s { lanes = s.lanes ++ blank id event s.time ∷ [] })
+opened id event owner s = begun (record { tid = id; kind = kind.Life; of = owner; since = s.time; level = 0; event = event }) (record s { lanes = s.lanes ++ blank id event s.time ∷ [] })

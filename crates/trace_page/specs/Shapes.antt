@@ -102,6 +102,7 @@ wait_class need.Letter = codes "letter"
 wait_class need.Monitor = codes "monitor"
 wait_class need.Condition = codes "condition"
 wait_class need.Death = codes "death"
+wait_class need.Clock = codes "sleep"
 wait_class need.Nothing = codes "other"
 
 unfoldable pub wait_text : Seen → Lane → Moment → List ℕ
@@ -132,6 +133,7 @@ unfoldable pub way_class : Way → List ℕ
 way_class way.Letter = codes "sent"
 way_class way.Reply = codes "replied"
 way_class way.Wake = codes "woken"
+way_class way.Also = codes "event"
 
 unfoldable pub arrow_text : Seen → Way → ℕ → Moment → ℕ → Moment → List ℕ
 arrow_text s way from left to at = path_text (way_class way) (x_of s left) (y_of s from + 10) (x_of s at) (y_of s to + 10)
@@ -144,6 +146,10 @@ unfoldable pub event_text : Seen → ℕ → ℕ → ℕ → ℕ → Moment → 
 event_text s client seq nth agent at =
     label_text (codes "event") (x_of s at) (24 + 11 * (nth % 3)) ++ (posted_text client seq ++ (label_closed ++ path_text (codes "event") (x_of s at) 48 (x_of s at) (y_of s agent + 10)))
 
+-- a tick has its number above, and a rule from there down through all lanes
+unfoldable pub clock_text : Seen → ℕ → ℕ → Moment → List ℕ
+clock_text s now nth at = label_text (codes "clock") (x_of s at) (24 + 11 * (nth % 3)) ++ (decimal now ++ (label_closed ++ use_text (codes "#clock") (x_of s at) 52))
+
 unfoldable pub closing_text : Seen → List ℕ → ℕ → Moment → List ℕ
 closing_text s line nth at = label_text (codes "end") (x_of s at + 24) (14 + 14 * min nth 16) ++ (escaped line ++ label_closed)
 
@@ -154,6 +160,7 @@ wanted_text need.Letter = codes "a letter"
 wanted_text need.Monitor = codes "monitor"
 wanted_text need.Condition = codes "condition"
 wanted_text need.Death = codes "the death"
+wanted_text need.Clock = codes "the clock"
 wanted_text need.Nothing = codes "nothing"
 
 -- the letter of what it names
@@ -163,6 +170,7 @@ letter_text need.Condition = codes " c"
 letter_text need.Reply = codes " of t"
 letter_text need.Letter = codes " of t"
 letter_text need.Death = codes " of t"
+letter_text need.Clock = codes " "
 letter_text need.Nothing = codes " "
 
 unfoldable pub named_text : Need → ℕ → List ℕ
@@ -184,6 +192,7 @@ shape_text s line (shape.Arrow way from left to at) = arrow_text s way from left
 shape_text s line (shape.Exit tid at) = use_text (codes "#exit") (x_of s at) (y_of s tid)
 shape_text s line (shape.Death tid at) = use_text (codes "#death") (x_of s at) (y_of s tid)
 shape_text s line (shape.Event client seq nth agent at) = event_text s client seq nth agent at
+shape_text s line (shape.Clock now nth at) = clock_text s now nth at
 shape_text s line (shape.Closing nth at) = closing_text s line nth at
 shape_text s line (shape.Due lane at) = due_text s lane at
 

@@ -1,4 +1,5 @@
 -- What goes on, and what ends it.
+use Rattle.lwp_types.specs.Names.{null_id}
 use Rattle.std.specs.List.{flat_map}
 use Rattle.std.specs.Prelude.{Bool, List, [], false, if◌then◌else◌, nat_lt, not, true, ℕ, ◌&&◌, ◌++◌, ◌==◌, ◌||◌, ◌∷◌}
 use Rattle.trace_page.specs.Scene.{Seen, one_more}
@@ -84,6 +85,15 @@ changed c s = record s { spans = kept c s.spans; shapes = s.shapes ++ bars c s.t
 abbrev pub is_owned : ℕ → Span → Bool
 is_owned t span = (is_held span.kind || is_given span.kind) && (span.tid == t)
 
+-- the life of an agent of this event
+abbrev pub is_agent : ℕ → Span → Bool
+is_agent event span = is_life span.kind && (span.event == event)
+
+-- the first agent of this event that lives
+abbrev pub agent_of : ℕ → List Span → ℕ
+agent_of event [] = null_id
+agent_of event (span ∷ spans) = if is_agent event span then span.tid else agent_of event spans
+
 -- the greater of a level and that of this
 abbrev pub raised : Bool → ℕ → Span → ℕ
 raised counts level span = if counts && nat_lt level span.level then span.level else level
@@ -105,4 +115,4 @@ last_from found t level (span ∷ spans) = last_from (if is_owned t span && (spa
 
 -- a thread holds a monitor from now on, above those that it holds
 abbrev pub held_more : ℕ → ℕ → Seen → Span
-held_more t m s = record { tid = t; kind = kind.Held; of = m; since = s.time; level = one_more (top_from 0 t s.spans) }
+held_more t m s = record { tid = t; kind = kind.Held; of = m; since = s.time; level = one_more (top_from 0 t s.spans); event = 0 }

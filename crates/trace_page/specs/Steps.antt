@@ -8,7 +8,7 @@ use Rattle.trace_lines.specs.declared.entry.Gain.TheVariants as gain
 use Rattle.trace_lines.specs.declared.entry.Verb.{Verb}
 use Rattle.trace_lines.specs.declared.entry.Verb.TheVariants as verb
 use Rattle.trace_page.specs.Scene.{Seen, begun, drawn, lane_of, need_of, one_more, opened, place, put, together}
-use Rattle.trace_page.specs.Spans.{changed, held_more, last_from, level_from, top_from}
+use Rattle.trace_page.specs.Spans.{agent_of, changed, held_more, last_from, level_from, top_from}
 use Rattle.trace_page.specs.declared.scene.Kind.TheVariants as kind
 use Rattle.trace_page.specs.declared.scene.Lane.{Lane}
 use Rattle.trace_page.specs.declared.scene.Moment.{Moment}
@@ -46,6 +46,7 @@ given_up tid verb.Destroy s = s
 given_up tid verb.Suspend s = s
 given_up tid verb.Resume s = s
 given_up tid verb.Join s = s
+given_up tid verb.Sleep s = s
 given_up tid verb.Send s = s
 given_up tid verb.Receive s = s
 given_up tid verb.Enter s = s
@@ -70,6 +71,7 @@ may_wait need.Letter = true
 may_wait need.Monitor = true
 may_wait need.Condition = true
 may_wait need.Death = true
+may_wait need.Clock = true
 may_wait need.Nothing = false
 
 -- it has waited until now
@@ -79,9 +81,9 @@ has_waited lane now = lane.waits && not (together lane.since now)
 abbrev pub waited : Lane → Moment → List Shape
 waited lane now = if has_waited lane now && may_wait (need_of lane.verb) then shape.Wait lane now ∷ [] else []
 
--- who has woken it: not itself, and only where it has waited
+-- who has woken it, unless the clock has: not itself, and only where it has waited
 abbrev pub woken : Lane → ℕ → Moment → List Shape
-woken lane caller now = if has_waited lane now && not (caller == lane.id) then shape.Arrow way.Wake caller now lane.id now ∷ [] else []
+woken lane caller now = if has_waited lane now && not (caller == lane.id || (caller == null_id)) then shape.Arrow way.Wake caller now lane.id now ∷ [] else []
 
 -- what came to it with the answer
 abbrev pub came : Lane → Gain → Seen → List Shape
@@ -97,7 +99,7 @@ shown_answer lane g s = record s { shapes = s.shapes ++ (waited lane s.time ++ c
 
 -- a new thread begins suspended
 abbrev pub parked : Bool → ℕ → Seen → Seen
-parked suspended id s = if suspended then begun (record { tid = id; kind = kind.Parked; of = null_id; since = s.time; level = 0 }) s else s
+parked suspended id s = if suspended then begun (record { tid = id; kind = kind.Parked; of = null_id; since = s.time; level = 0; event = 0 }) s else s
 
 abbrev pub created : Lane → Gain → Seen → Seen
 created lane (gain.Thread u) s = parked lane.suspended u (met_thread u s)
@@ -141,6 +143,7 @@ granted lane verb.MonExit g s = left lane.id lane.target s
 granted lane verb.MonBreak g s = changed (change.Breaks lane.target) s
 granted lane verb.Wait g s = changed (change.Wakes lane.id s.time) s
 granted lane verb.Join g s = s
+granted lane verb.Sleep g s = s
 granted lane verb.Send g s = s
 granted lane verb.Receive g s = s
 granted lane verb.Other g s = s
@@ -176,6 +179,7 @@ carried tid verb.Create target s = s
 carried tid verb.Destroy target s = s
 carried tid verb.Suspend target s = s
 carried tid verb.Join target s = s
+carried tid verb.Sleep target s = s
 carried tid verb.Send target s = s
 carried tid verb.Receive target s = s
 carried tid verb.Enter target s = s
@@ -197,20 +201,27 @@ died tid s =
     let ends = record begins { shapes = begins.shapes ++ waited lane begins.time } in
     changed (change.Dies tid) (drawn (shape.Death tid begins.time) (put (record lane { waits = false }) ends))
 
--- the last of these lanes that is an agent of this event
-abbrev pub agent_from : ℕ → ℕ → List Lane → ℕ
-agent_from found event [] = found
-agent_from found event (lane ∷ lanes) = agent_from (if lane.event == event then lane.id else found) event lanes
-
 -- the agent has sent its letter
 abbrev pub sent : ℕ → Seen → Seen
-sent id s = put (record (lane_of s id) { since = s.time }) s
+sent id s = put (record (lane_of s id) { since = s.time }) (record s { agent = id })
 
 abbrev pub event_taken : ℕ → ℕ → ℕ → Seen → Seen
 event_taken event client seq s =
     let late = record s { time = record s.time { late = true }; events = one_more s.events } in
-    let agent = agent_from null_id event s.lanes in
+    let agent = agent_of event s.spans in
     sent agent (drawn (shape.Event client seq s.events agent late.time) late)
+
+-- a later agent of the event has sent the same: the line goes on to it, from the agent before
+abbrev pub also_sent : ℕ → Seen → Seen
+also_sent agent s =
+    let late = record s { time = record s.time { late = true } } in
+    sent agent (drawn (shape.Arrow way.Also s.agent late.time agent late.time) late)
+
+-- the clock ticks: whom it wakes is woken by nobody
+abbrev pub ticked : ℕ → Seen → Seen
+ticked now s =
+    let late = record s { time = record s.time { late = true }; caller = null_id; events = one_more s.events } in
+    drawn (shape.Clock now s.events late.time) late
 
 abbrev pub closed : Seen → Seen
 closed s = drawn (shape.Closing s.closings s.time) (record s { closings = one_more s.closings })
@@ -223,6 +234,8 @@ done (entry.Answered tid g) s = answered tid g s
 done (entry.Exited reg v target refused) s = exited reg v target refused s
 done (entry.Died tid) s = died tid s
 done (entry.Event event client seq) s = event_taken event client seq s
+done (entry.Also agent) s = also_sent agent s
+done (entry.Tick now client seq) s = ticked now s
 done entry.Closing s = closed s
 
 abbrev pub is_call : Entry → Bool
@@ -231,6 +244,8 @@ is_call (entry.Answered tid g) = false
 is_call (entry.Exited reg v target refused) = false
 is_call (entry.Died tid) = false
 is_call (entry.Event event client seq) = false
+is_call (entry.Also agent) = false
+is_call (entry.Tick now client seq) = false
 is_call entry.Closing = false
 
 -- the line stands behind the last call that is drawn

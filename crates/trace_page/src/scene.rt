@@ -31,6 +31,8 @@ pub enum Need {
     Monitor,
     Condition,
     Death,
+    /// A tick of the clock.
+    Clock,
     Nothing,
 }
 
@@ -46,7 +48,7 @@ pub enum Kind {
 }
 
 /// What goes on, of whom, and since when. `of` is the monitor that is held or the owner of an agent; the level of a monitor is one
-/// more than those of the monitors held before.
+/// more than those of the monitors held before, and the event that of an agent that lives; 0 of anything else.
 #[derive(Clone, Copy)]
 pub struct Span {
     pub tid: u64,
@@ -54,6 +56,7 @@ pub struct Span {
     pub of: u64,
     pub since: Moment,
     pub level: u64,
+    pub event: u64,
 }
 
 /// An exit procedure, and who has set it.
@@ -69,6 +72,8 @@ pub enum Way {
     Letter,
     Reply,
     Wake,
+    /// A line that was taken goes on, from an agent to the next of its event.
+    Also,
 }
 
 /// Something that is drawn.
@@ -105,12 +110,18 @@ pub enum Shape {
         tid: u64,
         at: Moment,
     },
-    /// A line that was taken, how many were taken before, and the agent.
+    /// A line that was taken, how many were taken before, and the first agent of its event.
     Event {
         client: u64,
         seq: u64,
         nth: u64,
         agent: u64,
+        at: Moment,
+    },
+    /// A tick of the clock by its number, and how many lines were taken before.
+    Clock {
+        now: u64,
+        nth: u64,
         at: Moment,
     },
     /// A line behind the last step, and how many such lines came before.
@@ -133,6 +144,7 @@ pub struct Scene {
     pub(crate) time: Moment,
     pub(crate) caller: u64,
     pub(crate) events: u64,
+    pub(crate) agent: u64,
     pub(crate) closings: u64,
     pub(crate) lanes: Vec<Lane>,
     pub(crate) spans: Vec<Span>,
@@ -149,6 +161,7 @@ impl Drop for Scene {
             time: _,
             caller: _,
             events: _,
+            agent: _,
             closings: _,
             lanes: _,
             spans: _,
@@ -163,5 +176,5 @@ impl Model for Scene {
 
     ghost Value = { Seen };
 
-    ghost view = { λ s. record { base = s.base; last = s.last; more = s.more; time = s.time; caller = s.caller; events = s.events; closings = s.closings; lanes = s.lanes.items; spans = s.spans.items; settings = s.settings.items; shapes = s.shapes.items } };
+    ghost view = { λ s. record { base = s.base; last = s.last; more = s.more; time = s.time; caller = s.caller; events = s.events; agent = s.agent; closings = s.closings; lanes = s.lanes.items; spans = s.spans.items; settings = s.settings.items; shapes = s.shapes.items } };
 }

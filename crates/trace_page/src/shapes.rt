@@ -1,7 +1,7 @@
 // The text of what is drawn. Each function but those that answer a number or a word puts its part at the end of the bytes so far.
 ghost use Rattle.std.specs.Prelude.{◌≡◌, ◌≤◌, ◌+◌, ◌++◌, OnOk, codes};
 ghost use Rattle.std.specs.Fmt.{decimal};
-ghost use Rattle.trace_page.specs.Shapes.{class_text, closed, group_closed, group_open, label_closed, posted_text, sign_open, tag_text, title_text, use_open, value_text, waits_text, arrow_text, band_text, bar_text, closing_text, deep, due_text, escaped, escaped_byte, event_text, group_text, half, held_text, label_text, letter_text, named_text, number_text, path_text, rect_text, shape_text, shapes_text, tick_text, use_text, wait_class, wait_text, wanted_text, way_class, x_of, y_of};
+ghost use Rattle.trace_page.specs.Shapes.{class_text, closed, group_closed, group_open, label_closed, posted_text, sign_open, tag_text, title_text, use_open, value_text, waits_text, arrow_text, band_text, bar_text, clock_text, closing_text, deep, due_text, escaped, escaped_byte, event_text, group_text, half, held_text, label_text, letter_text, named_text, number_text, path_text, rect_text, shape_text, shapes_text, tick_text, use_text, wait_class, wait_text, wanted_text, way_class, x_of, y_of};
 
 use crate::scene::{Kind, Lane, Moment, Need, Scene, Shape, Span, Way};
 use crate::steps::{need_of, place};
@@ -195,6 +195,7 @@ fn wait_class(need: Need) -> &'static [u8]
         Need::Monitor => b"monitor",
         Need::Condition => b"condition",
         Need::Death => b"death",
+        Need::Clock => b"sleep",
         Need::Nothing => b"other",
     }
 }
@@ -207,6 +208,7 @@ fn way_class(way: Way) -> &'static [u8]
         Way::Letter => b"sent",
         Way::Reply => b"replied",
         Way::Wake => b"woken",
+        Way::Also => b"event",
     }
 }
 
@@ -220,6 +222,7 @@ fn wanted(need: Need) -> &'static [u8]
         Need::Monitor => b"monitor",
         Need::Condition => b"condition",
         Need::Death => b"the death",
+        Need::Clock => b"the clock",
         Need::Nothing => b"nothing",
     }
 }
@@ -232,7 +235,7 @@ fn letter(need: Need) -> &'static [u8]
         Need::Monitor => b" m",
         Need::Condition => b" c",
         Need::Reply | Need::Letter | Need::Death => b" of t",
-        Need::Nothing => b" ",
+        Need::Clock | Need::Nothing => b" ",
     }
 }
 
@@ -434,6 +437,17 @@ impl Scene {
         add_path(out, b"event", x, 48, x, y)
     }
 
+    #[tactic(auto, unfolding(crate::specs::Shapes::clock_text))]
+    fn add_clock(&self, out: &mut Vec<u8>, now: u64, nth: u64, at: Moment) -> Result<(), NoMemory>
+        ensures { OnOk result (out.new.items ≡ out.old.items ++ clock_text self.now now nth at) }
+    {
+        let x = self.x_of(at);
+        add_label(out, b"clock", x, 24 + 11 * (nth % 3))?;
+        add_number(out, now)?;
+        add_label_closed(out)?;
+        add_use(out, b"#clock", x, 52)
+    }
+
     #[tactic(auto, unfolding(crate::specs::Shapes::closing_text))]
     fn add_closing(
         &self,
@@ -486,6 +500,7 @@ impl Scene {
                 agent,
                 at,
             } => self.add_event(out, client, seq, nth, agent, at),
+            Shape::Clock { now, nth, at } => self.add_clock(out, now, nth, at),
             Shape::Closing { nth, at } => self.add_closing(out, line, nth, at),
             Shape::Due { lane, at } => self.add_due(out, lane, at),
         }

@@ -1,9 +1,10 @@
 // What goes on, and what ends it.
 ghost use Rattle.std.specs.Prelude.{◌≡◌, ◌++◌, ◌&&◌, ◌==◌, OnOk};
-ghost use Rattle.trace_page.specs.Spans.{after, bars, is_drawn, is_given, is_held, is_life, is_owned, is_parked, kept, last_from, level_from, raised, top_from, touches, turned};
+ghost use Rattle.trace_page.specs.Spans.{after, agent_of, bars, is_agent, is_drawn, is_given, is_held, is_life, is_owned, is_parked, kept, last_from, level_from, raised, top_from, touches, turned};
 
 use crate::scene::{Kind, Moment, Shape, Span};
 use lwp_types::NoMemory;
+use trace_lines::NOBODY;
 
 /// What changes of all that goes on.
 #[derive(Clone, Copy)]
@@ -157,6 +158,24 @@ fn is_owned(tid: u64, span: Span) -> bool
     ensures { result ≡ is_owned tid span }
 {
     (is_held(span.kind) || is_given(span.kind)) && span.tid == tid
+}
+
+fn is_agent(event: u64, span: Span) -> bool
+    ensures { result ≡ is_agent event span }
+{
+    is_life(span.kind) && span.event == event
+}
+
+/// The first agent of this event that lives; nobody, where there is none.
+pub fn agent_of(event: u64, spans: &[Span]) -> u64
+    ensures { result ≡ agent_of event spans.now }
+{
+    for span in spans {
+        if is_agent(event, *span) {
+            return span.tid;
+        }
+    }
+    NOBODY
 }
 
 fn raised(counts: bool, level: u64, span: Span) -> u64

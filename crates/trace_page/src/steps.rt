@@ -2,10 +2,10 @@
 ghost use Rattle.std.specs.Prelude.{◌≡◌, ◌++◌, ◌&&◌, OnOk};
 ghost use Rattle.trace_page.specs.Scene.{begun, blank, drawn, lane_of, need_of, one_more, opened, opening, place, put, same_bool, together};
 ghost use Rattle.trace_page.specs.Spans.{changed, held_more};
-ghost use Rattle.trace_page.specs.Steps.{agent_from, all_due, answered, asking, called, came, carried, closed, counted, created, died, done, due, event_taken, exited, finished, given_up, granted, has_waited, is_call, is_past, is_shown, left, may_wait, met, met_thread, owner_of, parked, sent, set, settled, shown_answer, told, waited, with_agent, woken};
+ghost use Rattle.trace_page.specs.Steps.{all_due, also_sent, answered, asking, called, came, carried, closed, counted, created, died, done, due, event_taken, exited, finished, given_up, granted, has_waited, is_call, is_past, is_shown, left, may_wait, met, met_thread, owner_of, parked, sent, set, settled, shown_answer, ticked, told, waited, with_agent, woken};
 
 use crate::scene::{Kind, Lane, Moment, Need, Scene, Setting, Shape, Span, Way};
-use crate::spans::{Change, add_bars, add_kept, level_of, monitor_at, top_level};
+use crate::spans::{Change, add_bars, add_kept, agent_of, level_of, monitor_at, top_level};
 use lwp_types::NoMemory;
 use std::alloc::Global;
 use trace_lines::{Entry, Gain, NOBODY, Verb};
@@ -59,19 +59,6 @@ fn owner_of(reg: u64, settings: &[Setting]) -> u64
     NOBODY
 }
 
-// The last lane that is an agent of this event.
-fn agent_of(event: u64, lanes: &[Lane]) -> u64
-    ensures { result ≡ agent_from 18446744073709551615 event lanes.now }
-{
-    let mut found = NOBODY;
-    for lane in lanes {
-        if lane.event == event {
-            found = lane.id;
-        }
-    }
-    found
-}
-
 /// What a call of this kind may wait for.
 #[tactic(auto, unfolding(crate::specs::Scene::need_of))]
 pub fn need_of(verb: Verb) -> Need
@@ -83,6 +70,7 @@ pub fn need_of(verb: Verb) -> Need
         Verb::Enter => Need::Monitor,
         Verb::Wait => Need::Condition,
         Verb::Join => Need::Death,
+        Verb::Sleep => Need::Clock,
         Verb::Create
         | Verb::Destroy
         | Verb::Suspend
@@ -101,7 +89,8 @@ fn may_wait(need: Need) -> bool
     ensures { result ≡ may_wait need }
 {
     match need {
-        Need::Reply | Need::Letter | Need::Monitor | Need::Condition | Need::Death => true,
+        Need::Reply | Need::Letter | Need::Monitor | Need::Condition | Need::Death | Need::Clock =>
+            true,
         Need::Nothing => false,
     }
 }
@@ -124,7 +113,7 @@ fn add_waited(out: &mut Vec<Shape>, lane: Lane, now: Moment) -> Result<(), NoMem
 fn add_woken(out: &mut Vec<Shape>, lane: Lane, caller: u64, now: Moment) -> Result<(), NoMemory>
     ensures { OnOk result (out.new.items ≡ out.old.items ++ woken lane caller now) }
 {
-    if has_waited(lane, now) && caller != lane.id {
+    if has_waited(lane, now) && !(caller == lane.id || caller == NOBODY) {
         out.push(Shape::Arrow {
             way: Way::Wake,
             from: caller,
@@ -184,6 +173,7 @@ impl Scene {
             },
             caller: NOBODY,
             events: 0,
+            agent: NOBODY,
             closings: 0,
             lanes: Vec::new(alloc),
             spans: Vec::new(alloc),
@@ -237,6 +227,7 @@ impl Scene {
             of: owner,
             since: self.time,
             level: 0,
+            event,
         })
     }
 
@@ -297,6 +288,7 @@ impl Scene {
             | Verb::Suspend
             | Verb::Resume
             | Verb::Join
+            | Verb::Sleep
             | Verb::Send
             | Verb::Receive
             | Verb::Enter
@@ -368,6 +360,7 @@ impl Scene {
             of: NOBODY,
             since: self.time,
             level: 0,
+            event: 0,
         })
     }
 
@@ -421,6 +414,7 @@ impl Scene {
             of: mon,
             since: self.time,
             level,
+            event: 0,
         })
     }
 
@@ -441,7 +435,7 @@ impl Scene {
                 let now = self.time;
                 self.change(Change::Wakes { tid: lane.id, now })
             }
-            Verb::Join | Verb::Send | Verb::Receive | Verb::Other => Ok(()),
+            Verb::Join | Verb::Sleep | Verb::Send | Verb::Receive | Verb::Other => Ok(()),
         }
     }
 
@@ -480,6 +474,7 @@ impl Scene {
             | Verb::Destroy
             | Verb::Suspend
             | Verb::Join
+            | Verb::Sleep
             | Verb::Send
             | Verb::Receive
             | Verb::Enter
@@ -525,13 +520,14 @@ impl Scene {
             since: self.time,
             ..self.lane_of(id)
         };
+        self.agent = id;
         self.put(lane);
     }
 
     fn take(&mut self, event: u64, client: u64, seq: u64) -> Result<(), NoMemory>
         ensures { OnOk result (self.new ≡ event_taken event client seq self.old) }
     {
-        let agent = agent_of(event, &self.lanes);
+        let agent = agent_of(event, &self.spans);
         let nth = self.events;
         self.time = Moment {
             late: true,
@@ -548,6 +544,41 @@ impl Scene {
         })?;
         self.send(agent);
         Ok(())
+    }
+
+    // A later agent of the event has the letter too.
+    fn also(&mut self, agent: u64) -> Result<(), NoMemory>
+        ensures { OnOk result (self.new ≡ also_sent agent self.old) }
+    {
+        self.time = Moment {
+            late: true,
+            ..self.time
+        };
+        let at = self.time;
+        self.draw(Shape::Arrow {
+            way: Way::Also,
+            from: self.agent,
+            left: at,
+            to: agent,
+            at,
+        })?;
+        self.send(agent);
+        Ok(())
+    }
+
+    // The clock ticks.
+    fn tick(&mut self, now: u64) -> Result<(), NoMemory>
+        ensures { OnOk result (self.new ≡ ticked now self.old) }
+    {
+        let nth = self.events;
+        self.time = Moment {
+            late: true,
+            ..self.time
+        };
+        self.caller = NOBODY;
+        self.events = one_more(nth);
+        let at = self.time;
+        self.draw(Shape::Clock { now, nth, at })
     }
 
     fn close(&mut self) -> Result<(), NoMemory>
@@ -579,6 +610,12 @@ impl Scene {
             } => self.exit(reg, verb, target, refused),
             Entry::Died { tid } => self.die(tid),
             Entry::Event { event, client, seq } => self.take(event, client, seq),
+            Entry::Also { agent } => self.also(agent),
+            Entry::Tick {
+                now,
+                client: _,
+                seq: _,
+            } => self.tick(now),
             Entry::Closing => self.close(),
         }
     }

@@ -70,6 +70,7 @@ flags_text flags = if flags.suspended || (flags.nolastrites || flags.server)
 abbrev pub mode_text : Mode → List ℕ
 mode_text mode.Poll = codes "poll"
 mode_text mode.Block = codes "wait"
+mode_text (mode.Until ticks) = decimal ticks
 
 -- a handler's pattern
 abbrev pub pattern_text : Pattern → List ℕ
@@ -109,6 +110,7 @@ call_text procs me (call.SetPri t p) = codes "setpri " ++ (who_text me t ++ (cod
 call_text procs me (call.Suspend t) = codes "suspend " ++ who_text me t
 call_text procs me (call.Resume t) = codes "resume " ++ who_text me t
 call_text procs me (call.Join t) = codes "join " ++ who_text me t
+call_text procs me (call.Sleep ticks) = codes "sleep " ++ decimal ticks
 call_text procs me call.Me = codes "self"
 call_text procs me (call.SetMaxPri p) = codes "setmaxpri " ++ decimal p
 call_text procs me (call.SetExit code) = codes "setexit " ++ decimal code
@@ -180,14 +182,27 @@ answer_text (answer.Caught depth mark p) = codes " caught " ++ decimal p
 answer_text (answer.Ids kind ids) = codes " = ids" ++ ids_text kind ids
 answer_text (answer.Refused e) = codes " ! " ++ error_text e
 
--- a line that a client has posted, at its event
-abbrev pub taken_text : ℕ → Line → List ℕ
-taken_text e line = codes "event " ++ (decimal e ++ (codes " client " ++ (decimal line.client ++ (codes " seq " ++ (decimal line.seq ++ spaced line.text)))))
+-- a line that a client has posted
+abbrev pub posted_text : Line → List ℕ
+posted_text line = codes " client " ++ (decimal line.client ++ (codes " seq " ++ (decimal line.seq ++ spaced line.text)))
 
--- a delivery prints the line that was taken for it
-abbrev pub delivered_text : ℕ → Option Line → List ℕ
-delivered_text e None = []
-delivered_text e (Some line) = taken_text e line
+-- the same, at its event
+abbrev pub taken_text : ℕ → Line → List ℕ
+taken_text e line = codes "event " ++ (decimal e ++ posted_text line)
+
+-- the same, at the clock, which has ticked so often
+abbrev pub ticked_text : ℕ → Line → List ℕ
+ticked_text now line = codes "tick " ++ (decimal now ++ posted_text line)
+
+-- the first delivery of a step prints the line that was taken for it, and a later one the agent that has the same text
+abbrev pub delivered_text : ℕ → ℕ → Option Line → List ℕ
+delivered_text agent e None = codes "also " ++ thread_text agent
+delivered_text agent e (Some line) = taken_text e line
+
+-- a tick prints the line that was taken for it
+abbrev pub tick_text : ℕ → Option Line → List ℕ
+tick_text now None = []
+tick_text now (Some line) = ticked_text now line
 
 -- the line of an effect, without its newline
 abbrev pub line_text : List (List ℕ) → Option Line → Effect → List ℕ
@@ -195,16 +210,22 @@ line_text procs took (effect.Called t c) = thread_text t ++ (codes ": " ++ call_
 line_text procs took (effect.Answered t a) = thread_text t ++ answer_text a
 line_text procs took (effect.Exited t reg x a) = codes "exit x" ++ (decimal reg ++ (codes " " ++ (exit_text None x ++ answer_text a)))
 line_text procs took (effect.Died t) = thread_text t ++ codes " dies"
-line_text procs took (effect.Delivered agent e) = delivered_text e took
+line_text procs took (effect.Delivered agent e) = delivered_text agent e took
+line_text procs took (effect.Ticked now) = tick_text now took
 line_text procs took (effect.Ended status) = codes "pod ends " ++ decimal status
 
 -- a text with a newline at its end
 abbrev pub ended_line : List ℕ → List ℕ
 ended_line text = text ++ 10 ∷ []
 
--- a line for each effect of a step, in which this line was taken, if any
+-- a line for each of these effects, of which none is the first of a take
+abbrev pub later_lines : List (List ℕ) → List Effect → List ℕ
+later_lines procs effects = flat_map (λ e. ended_line (line_text procs None e)) effects
+
+-- a line for each effect of a step, in which this line was taken, if any: the first effect prints it
 abbrev pub step_lines : List (List ℕ) → Option Line → List Effect → List ℕ
-step_lines procs took effects = flat_map (λ e. ended_line (line_text procs took e)) effects
+step_lines procs took [] = []
+step_lines procs took (e ∷ es) = ended_line (line_text procs took e) ++ later_lines procs es
 
 -- how a session ended, where the pod itself didn't
 abbrev pub halt_text : ℕ → Halt → List ℕ

@@ -4,8 +4,8 @@ ghost use Rattle.lwp_types.specs.Families.{agent_call, letter_call, life_call, l
 ghost use Rattle.trace_text.specs.Lines.{source_text, exit_text, call_text};
 
 use crate::words::{
-    add_flags, add_pattern, add_proc, add_spaced, add_who, add_word, add_word_id, add_word_number,
-    add_word_text, add_word_who, add_word_who_text, func_word, mode_word,
+    add_flags, add_mode, add_pattern, add_proc, add_spaced, add_who, add_word, add_word_id,
+    add_word_number, add_word_text, add_word_who, add_word_who_text, func_word,
 };
 use lwp_types::{
     AgentCall, Call, ExitCall, Family, Flags, Func, LetterCall, LifeCall, LockCall, MarkCall, Mode,
@@ -91,7 +91,7 @@ fn add_receive(
     add_word(out, b"recv ")?;
     add_source(out, me, from)?;
     add_word(out, b" ")?;
-    add_word(out, mode_word(mode))
+    add_mode(out, mode)
 }
 
 fn add_cond_send(out: &mut Vec<u8>, me: Option<Tid>, cond: u64, tid: Tid) -> Result<(), NoMemory>
@@ -131,6 +131,7 @@ fn add_life(
         LifeCall::Destroy(tid) => add_word_who(out, b"destroy ", me, tid),
         LifeCall::Ping(tid) => add_word_who(out, b"ping ", me, tid),
         LifeCall::Join(tid) => add_word_who(out, b"join ", me, tid),
+        LifeCall::Sleep(ticks) => add_word_number(out, b"sleep ", ticks),
         LifeCall::Threads => add_word(out, b"threads"),
     }
 }

@@ -15,4 +15,4 @@ mod words;
 
 pub use ends::{Halt, end_lines};
 pub use lines::{add_call_line, add_step_lines, trace_line};
-pub use words::{add_flags, add_number, add_pattern, add_spaced, add_text, func_word, mode_word};
+pub use words::{add_flags, add_mode, add_number, add_pattern, add_spaced, add_text, func_word};

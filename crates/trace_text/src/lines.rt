@@ -1,6 +1,6 @@
 // The line of each effect.
 ghost use Rattle.std.specs.Prelude.{◌≡◌, ◌++◌, [], OnOk, IfOk, None, option_copied};
-ghost use Rattle.trace_text.specs.Lines.{taken_text, delivered_text, line_text, ended_line, step_lines};
+ghost use Rattle.trace_text.specs.Lines.{posted_text, taken_text, ticked_text, delivered_text, tick_text, line_text, ended_line, step_lines};
 
 use crate::answers::add_answer;
 use crate::calls::{add_call, add_exit};
@@ -8,14 +8,30 @@ use crate::words::{add_byte, add_id, add_number, add_spaced, add_word, add_word_
 use lwp_types::{Answer, Call, Effect, Effects, ExitCall, Line, NoMemory, Text, Tid};
 use std::alloc::Global;
 
+#[inline(always)]
+fn add_posted(out: &mut Vec<u8>, line: &Line) -> Result<(), NoMemory>
+    ensures { OnOk result (out.new.items ≡ out.old.items ++ posted_text line.now) }
+{
+    add_word_number(out, b" client ", u32::from(line.client))?;
+    add_word_number(out, b" seq ", line.seq)?;
+    add_spaced(out, line.text.bytes())
+}
+
 #[inline(never)]
 fn add_taken(out: &mut Vec<u8>, event: u8, line: &Line) -> Result<(), NoMemory>
     ensures { OnOk result (out.new.items ≡ out.old.items ++ taken_text event line.now) }
 {
     add_word_number(out, b"event ", u32::from(event))?;
-    add_word_number(out, b" client ", u32::from(line.client))?;
-    add_word_number(out, b" seq ", line.seq)?;
-    add_spaced(out, line.text.bytes())
+    add_posted(out, line)
+}
+
+#[inline(never)]
+fn add_tick(out: &mut Vec<u8>, now: u64, line: &Line) -> Result<(), NoMemory>
+    ensures { OnOk result (out.new.items ≡ out.old.items ++ ticked_text now line.now) }
+{
+    add_word(out, b"tick ")?;
+    add_number(out, now)?;
+    add_posted(out, line)
 }
 
 #[inline(always)]
@@ -53,11 +69,33 @@ fn add_died(out: &mut Vec<u8>, tid: Tid) -> Result<(), NoMemory>
     add_word(out, b" dies")
 }
 
-fn add_delivered(out: &mut Vec<u8>, event: u8, took: Option<&Line>) -> Result<(), NoMemory>
-    ensures { OnOk result (out.new.items ≡ out.old.items ++ delivered_text event (option_copied took.entry)) }
+#[inline(never)]
+fn add_also(out: &mut Vec<u8>, agent: Tid) -> Result<(), NoMemory>
+    ensures { OnOk result (out.new.items ≡ out.old.items ++ delivered_text agent 0 None) }
+{
+    add_word(out, b"also ")?;
+    add_id(out, b't', agent.number)
+}
+
+fn add_delivered(
+    out: &mut Vec<u8>,
+    agent: Tid,
+    event: u8,
+    took: Option<&Line>,
+) -> Result<(), NoMemory>
+    ensures { OnOk result (out.new.items ≡ out.old.items ++ delivered_text agent event (option_copied took.entry)) }
 {
     match took {
         Some(line) => add_taken(out, event, line),
+        None => add_also(out, agent),
+    }
+}
+
+fn add_ticked(out: &mut Vec<u8>, now: u64, took: Option<&Line>) -> Result<(), NoMemory>
+    ensures { OnOk result (out.new.items ≡ out.old.items ++ tick_text now (option_copied took.entry)) }
+{
+    match took {
+        Some(line) => add_tick(out, now, line),
         None => Ok(()),
     }
 }
@@ -81,7 +119,8 @@ fn add_line(
             answer,
         } => add_exited(out, *reg, call, answer),
         Effect::Died { tid } => add_died(out, *tid),
-        Effect::Delivered { agent: _, event } => add_delivered(out, *event, took),
+        Effect::Delivered { agent, event } => add_delivered(out, *agent, *event, took),
+        Effect::Ticked { now } => add_ticked(out, *now, took),
         Effect::Ended { status } => add_word_number(out, b"pod ends ", u32::from(*status)),
     }
 }
@@ -115,8 +154,9 @@ pub fn add_call_line(
     add_byte(out, b'\n')
 }
 
-/// The lines of a step: a line for each effect. `took` is the line that was taken in that step, if any, and `names` are the
-/// procedures' names by number. After an error some of the lines may stand there.
+/// The lines of a step: a line for each effect. `took` is the line that was taken in that step, if any: the first effect prints
+/// it, and each later delivery its agent. `names` are the procedures' names by number. After an error some of the lines may stand
+/// there.
 #[inline(always)]
 pub fn add_step_lines(
     out: &mut Vec<u8>,
@@ -126,14 +166,15 @@ pub fn add_step_lines(
 ) -> Result<(), NoMemory>
     ensures { OnOk result (out.new.items ≡ out.old.items ++ step_lines names.now (option_copied took.entry) effects.now) }
 {
+    let mut left = took;
     for i in 0..effects.len() {
-        add_ended(out, effects.get(i), took, names)?;
+        add_ended(out, effects.get(i), left.take(), names)?;
     }
     Ok(())
 }
 
-/// The line of an effect, with its newline. `took` is the line that was taken, where the effect is a delivery, and `names` are
-/// the procedures' names by number.
+/// The line of an effect, with its newline. `took` is the line that was taken, where the effect is a tick or the first delivery
+/// of its step, and `names` are the procedures' names by number.
 pub fn trace_line(
     alloc: Global,
     e: &Effect,

@@ -172,12 +172,14 @@ pub fn add_flags(out: &mut Vec<u8>, flags: Flags) -> Result<(), NoMemory>
     add_if(out, flags.server, b"v")
 }
 
-pub fn mode_word(mode: Mode) -> &'static [u8]
-    ensures { result.now ≡ mode_text mode }
+/// How a receive waits: a word, or the number of ticks.
+pub fn add_mode(out: &mut Vec<u8>, mode: Mode) -> Result<(), NoMemory>
+    ensures { OnOk result (out.new.items ≡ out.old.items ++ mode_text mode) }
 {
     match mode {
-        Mode::Poll => b"poll",
-        Mode::Block => b"wait",
+        Mode::Poll => add_word(out, b"poll"),
+        Mode::Block => add_word(out, b"wait"),
+        Mode::Until { ticks } => add_number(out, u64::from(ticks)),
     }
 }
 

@@ -1,1 +1,2 @@
 mod ManyThreads
+mod ManyAgents

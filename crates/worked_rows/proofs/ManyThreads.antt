@@ -28,7 +28,7 @@ use Rattle.worked_rows.specs.Words.{Row}
 abbrev called_on : Planned ThreadBody → Plan ThreadBody → Plan ThreadBody
 called_on planned plan = elim (has_choice plan) [ true ↦ one_call planned plan | false ↦ plan ]
 
-unfoldable only_calls : Planned ThreadBody → ℕ → Plan ThreadBody → Plan ThreadBody
+unfoldable pub only_calls : Planned ThreadBody → ℕ → Plan ThreadBody → Plan ThreadBody
 only_calls planned zero plan = plan
 only_calls planned (suc n) plan = elim (plan_over planned plan) [ None ↦ only_calls planned n (called_on planned plan) | Some halt ↦ plan ]
 
@@ -58,7 +58,7 @@ bare-on planned plan bare = by (has_choice plan)
     by true = bare
     by false = bare
 
-calls-are : (planned : Planned ThreadBody) (n : ℕ) (plan : Plan ThreadBody) → IsBare plan → to_the_end planned n plan ≡ only_calls planned n plan
+pub calls-are : (planned : Planned ThreadBody) (n : ℕ) (plan : Plan ThreadBody) → IsBare plan → to_the_end planned n plan ≡ only_calls planned n plan
 unfolding to_the_end only_calls
 calls-are planned zero plan bare = refl
 calls-are planned (suc n) plan bare =
@@ -70,7 +70,7 @@ calls-are planned (suc n) plan bare =
     by (Some halt) more = refl
 
 -- where nobody posts, no event has a line
-none-left : (clients : List ℕ) (a n e : ℕ) → first_left (map (full clients []) (range_with_len a n)) e ≡ None
+pub none-left : (clients : List ℕ) (a n e : ℕ) → first_left (map (full clients []) (range_with_len a n)) e ≡ None
 none-left clients a zero e = refl
 none-left clients a (suc n) zero = refl
 none-left clients a (suc n) (suc e) = none-left clients (a + 1) n e

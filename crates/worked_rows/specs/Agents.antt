@@ -212,36 +212,36 @@ agent_dies_with_owner = record {
   takes = [];
 }
 
--- Events are 1 to 31, with one agent each; the list has the agents of all threads.
+-- Events are 1 to 32, and any number of agents may have the same; the list has the agents of all threads.
 --   lwp 1 / pod 1
---   proc main / agent a 0 / agent b 32 / agent c 1 / agent d 31 / agent e 1 / create f w 1 - / yield self / agents
---   proc w / agent g 2 / agent h 31 / yield self
+--   proc main / agent a 0 / agent b 33 / agent c 1 / agent d 32 / agent e 1 / create f w 1 - / yield self / agents
+--   proc w / agent g 2 / agent h 32 / yield self
 abbrev pub events_at_both_ends : Row
 events_at_both_ends = record {
   script = pod 1 (named (codes "main" ∷ codes "w" ∷ []) (codes "a" ∷ codes "b" ∷ codes "c" ∷ codes "d" ∷ codes "e" ∷ codes "f" ∷ codes "g" ∷ codes "h" ∷ []) [] [])
-      (procedure 0 (stmt.Agent 0 0 ∷ stmt.Agent 1 32 ∷ stmt.Agent 2 1 ∷ stmt.Agent 3 31 ∷ stmt.Agent 4 1 ∷ stmt.Create 5 1 1 plain
+      (procedure 0 (stmt.Agent 0 0 ∷ stmt.Agent 1 33 ∷ stmt.Agent 2 1 ∷ stmt.Agent 3 32 ∷ stmt.Agent 4 1 ∷ stmt.Create 5 1 1 plain
       ∷ stmt.Yield who.Me ∷ stmt.Agents ∷ [])
-      ∷ procedure 1 (stmt.Agent 6 2 ∷ stmt.Agent 7 31 ∷ stmt.Yield who.Me ∷ [])
+      ∷ procedure 1 (stmt.Agent 6 2 ∷ stmt.Agent 7 32 ∷ stmt.Yield who.Me ∷ [])
       ∷ []);
   turns = 100000;
-  trace = codes "t0: agent 0\nt0 ! LE_INVALIDARG\nt0: agent 32\nt0 ! LE_INVALIDARG\nt0: agent 1\nt0 = t1\nt0: agent 31\nt0 = t2\nt0: agent 1\nt0 ! LE_INUSE\nt0: create w 1 -\nt0 = t3\nt0: yield self\nt0 = 0\nt3: agent 2\nt3 = t4\nt3: agent 31\nt3 ! LE_INUSE\nt3: yield self\nt3 = 0\nt0: agents\nt0 = ids t1 t2 t4\nt0: return\nt0 dies\nt3: return\nt3 dies\npod ends 0\n";
+  trace = codes "t0: agent 0\nt0 ! LE_INVALIDARG\nt0: agent 33\nt0 ! LE_INVALIDARG\nt0: agent 1\nt0 = t1\nt0: agent 32\nt0 = t2\nt0: agent 1\nt0 = t3\nt0: create w 1 -\nt0 = t4\nt0: yield self\nt0 = 0\nt4: agent 2\nt4 = t5\nt4: agent 32\nt4 = t6\nt4: yield self\nt4 = 0\nt0: agents\nt0 = ids t1 t2 t3 t5 t6\nt0: return\nt0 dies\nt4: return\nt4 dies\npod ends 0\n";
   halt = Ended 0;
   calls = 13;
   takes = [];
 }
 
--- No such event, then an event that is taken, then no births left.
+-- No such event, then no births left.
 --   lwp 1 / pod 1 / limit births 2
---   proc main / agent a 3 / agent b 32 / agent c 3 / agent d 4
+--   proc main / agent a 3 / agent b 33 / agent c 3
 abbrev pub agent_is_refused_in_order : Row
 agent_is_refused_in_order = record {
-  script = limited 2 (pod 1 (named (codes "main" ∷ []) (codes "a" ∷ codes "b" ∷ codes "c" ∷ codes "d" ∷ []) [] [])
-      (procedure 0 (stmt.Agent 0 3 ∷ stmt.Agent 1 32 ∷ stmt.Agent 2 3 ∷ stmt.Agent 3 4 ∷ [])
+  script = limited 2 (pod 1 (named (codes "main" ∷ []) (codes "a" ∷ codes "b" ∷ codes "c" ∷ []) [] [])
+      (procedure 0 (stmt.Agent 0 3 ∷ stmt.Agent 1 33 ∷ stmt.Agent 2 3 ∷ [])
       ∷ []));
   turns = 100000;
-  trace = codes "t0: agent 3\nt0 = t1\nt0: agent 32\nt0 ! LE_INVALIDARG\nt0: agent 3\nt0 ! LE_INUSE\nt0: agent 4\nt0 ! LE_NOROOM\nt0: return\nt0 dies\npod ends 0\n";
+  trace = codes "t0: agent 3\nt0 = t1\nt0: agent 33\nt0 ! LE_INVALIDARG\nt0: agent 3\nt0 ! LE_NOROOM\nt0: return\nt0 dies\npod ends 0\n";
   halt = Ended 0;
-  calls = 5;
+  calls = 4;
   takes = [];
 }
 
@@ -366,4 +366,62 @@ letters_of_threads_and_agents = record {
   halt = Ended 0;
   calls = 11;
   takes = took 4 5 (line 0 0 (codes "ho")) ∷ [];
+}
+
+-- A line is taken where all agents of its event are idle, and becomes a letter of each.
+--   lwp 1 / pod 1
+--   client 0 5
+--   proc main / create a w 1 - / yield self / agent g 5 / yield self / recv g wait / reply g ok
+--   proc w / agent h 5 / recv h wait / yield self / reply h ok / recv h wait / reply h ok
+--   post 0 one / post 0 two
+abbrev pub several_agents : Row
+several_agents = record {
+  script = posted (5 ∷ []) (line 0 0 (codes "one") ∷ line 0 1 (codes "two") ∷ [])
+      (speaking (codes "ok" ∷ []) (pod 1 (named (codes "main" ∷ codes "w" ∷ []) (codes "a" ∷ codes "g" ∷ codes "h" ∷ []) [] [])
+      (procedure 0 (stmt.Create 0 1 1 plain ∷ stmt.Yield who.Me ∷ stmt.Agent 1 5 ∷ stmt.Yield who.Me ∷ stmt.Recv (Some (who.Named 1)) mode.Block ∷ stmt.Reply (who.Named 1) 0 ∷ [])
+      ∷ procedure 1 (stmt.Agent 2 5 ∷ stmt.Recv (Some (who.Named 2)) mode.Block ∷ stmt.Yield who.Me ∷ stmt.Reply (who.Named 2) 0 ∷ stmt.Recv (Some (who.Named 2)) mode.Block ∷ stmt.Reply (who.Named 2) 0 ∷ [])
+      ∷ [])));
+  turns = 100000;
+  trace = codes "t0: create w 1 -\nt0 = t1\nt0: yield self\nt0 = 0\nt1: agent 5\nt1 = t2\nevent 5 client 0 seq 0 one\nt1: recv t2 wait\nt1 = letter t2 240 one\nt1: yield self\nt1 = 0\nt0: agent 5\nt0 = t3\nt0: yield self\nt0 = 0\nt1: reply t2 ok\nt1 = 0\nevent 5 client 0 seq 1 two\nalso t3\nt1: recv t2 wait\nt1 = letter t2 240 two\nt1: reply t2 ok\nt1 = 0\nt1: return\nt1 dies\nt0: recv t3 wait\nt0 = letter t3 240 two\nt0: reply t3 ok\nt0 = 0\nt0: return\nt0 dies\npod ends 0\n";
+  halt = Ended 0;
+  calls = 14;
+  takes = took 3 5 (line 0 0 (codes "one")) ∷ took 8 5 (line 0 1 (codes "two")) ∷ [];
+}
+
+-- An owner of two agents has a letter of each; the event waits for both replies.
+--   lwp 1 / pod 1
+--   client 0 5
+--   proc main / agent g 5 / agent h 5 / recv any wait / reply g ok / recv any wait / recv any wait / reply h ok / reply g ok
+--   post 0 x / post 0 y
+abbrev pub two_agents_of_one_owner : Row
+two_agents_of_one_owner = record {
+  script = posted (5 ∷ []) (line 0 0 (codes "x") ∷ line 0 1 (codes "y") ∷ [])
+      (speaking (codes "ok" ∷ []) (pod 1 (named (codes "main" ∷ []) (codes "g" ∷ codes "h" ∷ []) [] [])
+      (procedure 0 (stmt.Agent 0 5 ∷ stmt.Agent 1 5 ∷ stmt.Recv None mode.Block ∷ stmt.Reply (who.Named 0) 0 ∷ stmt.Recv None mode.Block ∷ stmt.Recv None mode.Block ∷ stmt.Reply (who.Named 1) 0 ∷ stmt.Reply (who.Named 0) 0 ∷ [])
+      ∷ [])));
+  turns = 100000;
+  trace = codes "t0: agent 5\nt0 = t1\nevent 5 client 0 seq 0 x\nt0: agent 5\nt0 = t2\nt0: recv any wait\nt0 = letter t1 240 x\nt0: reply t1 ok\nt0 = 0\nevent 5 client 0 seq 1 y\nalso t2\nt0: recv any wait\nt0 = letter t1 240 y\nt0: recv any wait\nt0 = letter t2 240 y\nt0: reply t2 ok\nt0 = 0\nt0: reply t1 ok\nt0 = 0\nt0: return\nt0 dies\npod ends 0\n";
+  halt = Ended 0;
+  calls = 9;
+  takes = took 1 5 (line 0 0 (codes "x")) ∷ took 4 5 (line 0 1 (codes "y")) ∷ [];
+}
+
+-- Of two owners one waits: it goes on in the midst of the delivery, behind its own agent's part of it.
+--   lwp 1 / pod 1
+--   client 0 5
+--   proc main / agent g 5 / recv g wait / create a w 1 - / yield self / reply g ok / recv g wait / reply g ok
+--   proc w / agent h 5 / recv h wait / reply h ok
+--   post 0 x / post 0 y
+abbrev pub an_owner_waits_for_the_second : Row
+an_owner_waits_for_the_second = record {
+  script = posted (5 ∷ []) (line 0 0 (codes "x") ∷ line 0 1 (codes "y") ∷ [])
+      (speaking (codes "ok" ∷ []) (pod 1 (named (codes "main" ∷ codes "w" ∷ []) (codes "g" ∷ codes "a" ∷ codes "h" ∷ []) [] [])
+      (procedure 0 (stmt.Agent 0 5 ∷ stmt.Recv (Some (who.Named 0)) mode.Block ∷ stmt.Create 1 1 1 plain ∷ stmt.Yield who.Me ∷ stmt.Reply (who.Named 0) 0 ∷ stmt.Recv (Some (who.Named 0)) mode.Block ∷ stmt.Reply (who.Named 0) 0 ∷ [])
+      ∷ procedure 1 (stmt.Agent 2 5 ∷ stmt.Recv (Some (who.Named 2)) mode.Block ∷ stmt.Reply (who.Named 2) 0 ∷ [])
+      ∷ [])));
+  turns = 100000;
+  trace = codes "t0: agent 5\nt0 = t1\nevent 5 client 0 seq 0 x\nt0: recv t1 wait\nt0 = letter t1 240 x\nt0: create w 1 -\nt0 = t2\nt0: yield self\nt0 = 0\nt2: agent 5\nt2 = t3\nt2: recv t3 wait\nt0: reply t1 ok\nt0 = 0\nevent 5 client 0 seq 1 y\nalso t3\nt2 = letter t3 240 y\nt0: recv t1 wait\nt0 = letter t1 240 y\nt0: reply t1 ok\nt0 = 0\nt0: return\nt0 dies\nt2: reply t3 ok\nt2 = 0\nt2: return\nt2 dies\npod ends 0\n";
+  halt = Ended 0;
+  calls = 12;
+  takes = took 1 5 (line 0 0 (codes "x")) ∷ took 7 5 (line 0 1 (codes "y")) ∷ [];
 }

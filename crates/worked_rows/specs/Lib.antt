@@ -14,3 +14,6 @@ pub mod LineServer
 pub mod Limits
 pub mod NextCalls
 pub mod Played
+pub mod Time
+pub mod Sleepers
+pub mod SharedEvents

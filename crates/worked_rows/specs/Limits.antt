@@ -63,6 +63,20 @@ two_hundred_and_fifty_six_marks = record {
   takes = [];
 }
 
+-- A thread makes agents until 256 live.
+--   lwp 1 / pod 1
+--   proc main / agent g 1 / again
+abbrev pub agents_full : Row
+agents_full = record {
+  script = pod 1 (named (codes "main" ∷ []) (codes "g" ∷ []) [] [])
+      (procedure 0 (stmt.Agent 0 1 ∷ stmt.Again ∷ []) ∷ []);
+  turns = 257;
+  trace = pieces 256 (λ k. codes "t0: agent 1\nt0 = t" ++ (decimal (k + 1) ++ codes "\n")) ++ codes "t0: agent 1\nt0 ! LE_NOROOM\nspent 257\n";
+  halt = Spent;
+  calls = 257;
+  takes = [];
+}
+
 -- The first thread and 1,023 that are created suspended.
 --   lwp 1 / pod 1
 --   proc main / create a w 1 s / again

@@ -1,7 +1,7 @@
 -- The line server: sessions, which serve a client each, and the store.
 use Rattle.trace_text.specs.declared.ends.Halt.TheVariants.{Ended}
 use Rattle.std.specs.Prelude.{None, [], codes, ◌∷◌}
-use Rattle.worked_rows.specs.Words.{Row, built_in, line, named, plain, pod, posted, procedure, serving, speaking, took, with_natives}
+use Rattle.worked_rows.specs.Words.{Row, built_in, limited, line, named, plain, pod, posted, procedure, serving, speaking, took, with_natives}
 use Rattle.script_text.specs.declared.script.Who.TheVariants as who
 use Rattle.script_text.specs.declared.script.Stmt.TheVariants as stmt
 use Rattle.script_text.specs.declared.script.NativeKind.TheVariants as native
@@ -108,24 +108,24 @@ down_at_the_stores_death = record {
   takes = took 5 3 (line 0 0 (codes "get k")) ∷ took 9 3 (line 0 1 (codes "quit")) ∷ [];
 }
 
--- A session whose event has an agent already returns.
---   lwp 1 / pod 1
+-- A session that can have no agent returns.
+--   lwp 1 / pod 1 / limit births 2
 --   client 0 3
 --   native s session 3 db
---   proc main / agent g 3 / create a s 1 - / join a
+--   proc main / create a s 1 - / join a
 --   post 0 quit
 abbrev pub a_session_without_an_agent : Row
 a_session_without_an_agent = record {
   script = posted (3 ∷ []) (line 0 0 (codes "quit") ∷ [])
-      (with_natives (built_in 0 (native.Session 3 0) ∷ [])
-      (pod 1 (named (codes "s" ∷ codes "main" ∷ []) (codes "db" ∷ codes "g" ∷ codes "a" ∷ []) [] [])
-      (procedure 1 (stmt.Agent 1 3 ∷ stmt.Create 2 0 1 plain ∷ stmt.Join (who.Named 2) ∷ [])
-      ∷ [])));
+      (limited 2 (with_natives (built_in 0 (native.Session 3 0) ∷ [])
+      (pod 1 (named (codes "s" ∷ codes "main" ∷ []) (codes "db" ∷ codes "a" ∷ []) [] [])
+      (procedure 1 (stmt.Create 1 0 1 plain ∷ stmt.Join (who.Named 1) ∷ [])
+      ∷ []))));
   turns = 100000;
-  trace = codes "t0: agent 3\nt0 = t1\nevent 3 client 0 seq 0 quit\nt0: create s 1 -\nt0 = t2\nt0: join t2\nt2: agent 3\nt2 ! LE_INUSE\nt2: return\nt0 = 0\nt2 dies\nt0: return\nt0 dies\npod ends 0\n";
+  trace = codes "t0: create s 1 -\nt0 = t1\nt0: join t1\nt1: agent 3\nt1 ! LE_NOROOM\nt1: return\nt0 = 0\nt1 dies\nt0: return\nt0 dies\npod ends 0\nleft client 0 1\n";
   halt = Ended 0;
-  calls = 6;
-  takes = took 1 3 (line 0 0 (codes "quit")) ∷ [];
+  calls = 5;
+  takes = [];
 }
 
 -- Every command; an empty value, a value that begins with a space, and a key that is put again.

@@ -1,5 +1,5 @@
 // Events of the outside, as messages of agents to their owners.
-ghost use Rattle.worked_rows.specs.Agents.{agent_without_reply, agent_without_reply_exact_turns, reply_and_next_event, two_clients_one_event, loop_then_reply_on_plan, loop_then_reply_one_turn_fewer, an_event_waits_for_its_agent, taken_though_nobody_reads, left_of_each_client, events_in_rising_order, lists_of_ids, agent_dies_with_owner, events_at_both_ends, agent_is_refused_in_order, a_reply_before_the_letter, the_longest_reply_to_an_agent, a_destroyed_agent_takes_its_letter, a_destroyed_agent_refuses_who_waits, an_owner_dies_with_a_message, letters_of_threads_and_agents};
+ghost use Rattle.worked_rows.specs.Agents.{agent_without_reply, agent_without_reply_exact_turns, reply_and_next_event, two_clients_one_event, loop_then_reply_on_plan, loop_then_reply_one_turn_fewer, an_event_waits_for_its_agent, taken_though_nobody_reads, left_of_each_client, events_in_rising_order, lists_of_ids, agent_dies_with_owner, events_at_both_ends, agent_is_refused_in_order, a_reply_before_the_letter, the_longest_reply_to_an_agent, a_destroyed_agent_takes_its_letter, a_destroyed_agent_refuses_who_waits, an_owner_dies_with_a_message, letters_of_threads_and_agents, several_agents, two_agents_of_one_owner, an_owner_waits_for_the_second};
 ghost use Rattle.worked_rows.specs.Words.{IsWorked};
 
 /// Lines are taken as soon as their event has an agent that holds nothing.
@@ -28,4 +28,11 @@ pub fn agents_and_calls()
     ensures a_destroyed_agent_refuses_who_waits { IsWorked a_destroyed_agent_refuses_who_waits }
     ensures an_owner_dies_with_a_message { IsWorked an_owner_dies_with_a_message }
     ensures letters_of_threads_and_agents { IsWorked letters_of_threads_and_agents }
+{}
+
+/// A line for several agents of one event.
+pub fn sharing_an_event()
+    ensures several_agents { IsWorked several_agents }
+    ensures two_agents_of_one_owner { IsWorked two_agents_of_one_owner }
+    ensures an_owner_waits_for_the_second { IsWorked an_owner_waits_for_the_second }
 {}

@@ -19,5 +19,8 @@ pub mod next_calls;
 pub mod played;
 pub mod scripts;
 pub mod servers;
+pub mod shared_events;
+pub mod sleepers;
 pub mod threads;
+pub mod time;
 pub mod waits;

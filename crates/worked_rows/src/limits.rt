@@ -5,7 +5,7 @@ ghost use Rattle.lwp_types.specs.declared.call.ExitCall.TheVariants as exit;
 ghost use Rattle.lwp_types.specs.declared.call.Func.TheVariants as func;
 ghost use Rattle.lwp_types.specs.declared.call.LwpErr.TheVariants as error;
 ghost use Rattle.lwp_types.specs.declared.call.Pattern.TheVariants as pattern;
-ghost use Rattle.worked_rows.specs.Limits.{Answers, Refuses, a_thousand_and_twenty_four_threads, entered, sixty_four_frames, sixty_four_frames_exact_turns, sixty_four_frames_one_turn_fewer, two_hundred_and_fifty_six_marks, value, with_births, with_conditions, with_frames, with_marks, with_monitors, with_patterns, with_registrations, with_threads};
+ghost use Rattle.worked_rows.specs.Limits.{Answers, Refuses, a_thousand_and_twenty_four_threads, agents_full, entered, sixty_four_frames, sixty_four_frames_exact_turns, sixty_four_frames_one_turn_fewer, two_hundred_and_fifty_six_marks, value, with_births, with_conditions, with_frames, with_marks, with_monitors, with_patterns, with_registrations, with_threads};
 ghost use Rattle.worked_rows.specs.Words.{IsWorked, plain};
 
 /// Scripts that come to a limit by themselves.
@@ -14,6 +14,7 @@ pub fn reached()
     ensures frames_exact_turns { IsWorked sixty_four_frames_exact_turns }
     ensures frames_one_turn_fewer { IsWorked sixty_four_frames_one_turn_fewer }
     ensures marks { IsWorked two_hundred_and_fifty_six_marks }
+    ensures agents { IsWorked agents_full }
     ensures threads { IsWorked a_thousand_and_twenty_four_threads }
 {}
 

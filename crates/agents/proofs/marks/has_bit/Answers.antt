@@ -3,5 +3,5 @@ use Rattle.agents.proofs.marks.has_bit.Goals as goal
 use Rattle.std.proofs.Common.{sym, ◌∙◌}
 use Rattle.std.proofs.lemmas.Bool.{le-ltb}
 
-pub returns-else-bit-lt32 : goal.returns-else-bit-lt32
-returns-else-bit-lt32 c = le-ltb c.args.bit 32 c.if-bit-lt32.false ∙ sym (unset-above c.args.word c.args.bit c.ranges.word.fits c.if-bit-lt32.false)
+pub returns-else-bit-lt64 : goal.returns-else-bit-lt64
+returns-else-bit-lt64 c = le-ltb c.args.bit 64 c.if-bit-lt64.false ∙ sym (unset-above c.args.word c.args.bit c.ranges.word.fits c.if-bit-lt64.false)

@@ -1,8 +1,18 @@
+use Rattle.agents.proofs.Standing.{absent_kept, agent_there, removed_there}
 use Rattle.agents.proofs.rows.take_out.Goals as goal
-use Rattle.lwp_types.specs.State.{is_agent_row}
-use Rattle.std.proofs.Common.{not, rules}
-use Rattle.std.proofs.lemmas.Fn.{filter_same}
+use Rattle.std.proofs.Common.{◌∙◌}
 
--- the closure answers whether it is another agent
+pub returns-in_err-at-clause-items : goal.returns-in_err-at-clause-items
+returns-in_err-at-clause-items c = absent_kept c.args.agent c.args.rows.now.items (rw c.deref.ensures.value at c.in_err-at.ensures.absent)
+
+pub returns-clause-value : goal.returns-clause-value
+returns-clause-value c =
+    let at = rw c.deref.ensures.value at c.in_ok-at.ensures.found in
+    let row = c.remove.result in
+    rw c.remove.ensures.value (agent_there c.args.agent c.args.rows.now.items c.in_ok-at.at row c.requires at.within (at.number row))
+
 pub returns-clause-items : goal.returns-clause-items
-returns-clause-items c = filter_same _ (λ row. not (is_agent_row c.args.agent row)) _ (λ x b f' k. (search rules, search rules)) _ _ c.retain.ensures.filtered
+returns-clause-items c =
+    let at = rw c.deref.ensures.value at c.in_ok-at.ensures.found in
+    let row = c.remove.result in
+    c.remove.ensures.items ∙ removed_there c.args.agent c.args.rows.now.items c.in_ok-at.at row c.requires at.within (at.number row)

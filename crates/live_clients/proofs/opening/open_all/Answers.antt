@@ -10,8 +10,8 @@ loop-event-init g c =
     let texts : List (List (List ℕ)) = map (λ v. v.items) c.args.texts.now in
     let size = c.in_ok-seats.seats.ok.0 in
     let as_many = c.in_ok-seats.ensures in
-    subst (λ (inlets : List AnyInlet). AreOpen c.args.events.now texts 1 (map any_intake inlets) c.in_ok-seats.seats.items) (sym c.new-inlets.ensures.items)
-    (open_none c.args.events.now texts c.in_ok-seats.seats.items (omega (arith, size, as_many)) c.requires.events)
+    subst (λ (inlets : List AnyInlet). AreOpen c.args.events.now texts 0 (map any_intake inlets) c.in_ok-seats.seats.items) (sym c.new-inlets.ensures.items)
+    (open_none c.args.events.now texts c.in_ok-seats.seats.items (omega (arith, size, as_many)))
 
 pub open_event-requires-clause-before : goal.open_event-requires-clause-before
 open_event-requires-clause-before g c = c.loop-event.invariant

@@ -40,4 +40,4 @@ returns g c =
     (subst (λ (cs : List ℕ). AreSeated texts c.len.result t.place cs c.args.seats.now.items c.open_inlet.new.seats.items) clients c.in_ok-inlet.ensures.seats) in
     subst (λ (inlets : List Intake). AreOpen c.args.events.now texts (c.args.event + 1) inlets c.open_inlet.new.seats.items)
     (sym (ap (map any_intake) c.in_ok-push.ensures.items ∙ map-append any_intake c.args.inlets.now.items (c.in_ok-inlet.inlet ∷ [])))
-    (open_more c.args.events.now texts c.args.event before t c.args.seats.now.items c.open_inlet.new.seats.items c.requires.before c.requires.event.0 is seats)
+    (open_more c.args.events.now texts c.args.event before t c.args.seats.now.items c.open_inlet.new.seats.items c.requires.before is seats)

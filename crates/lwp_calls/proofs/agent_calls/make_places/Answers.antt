@@ -1,5 +1,4 @@
-use Rattle.death_cleanup.specs.View.{state_of}
-use Rattle.lwp_calls.proofs.Places.{came_agents_grown, few_with, nine}
+use Rattle.lwp_calls.proofs.Places.{came_agents_grown}
 use Rattle.lwp_calls.proofs.Results.{either_way, ok_then}
 use Rattle.lwp_calls.proofs.agent_calls.make_places.Goals as goal
 use Rattle.std.proofs.Common.{arith, max, ◌+◌}
@@ -7,18 +6,18 @@ use Rattle.std.proofs.Common.{arith, max, ◌+◌}
 pub returns-clause-as_before : goal.returns-clause-as_before
 returns-clause-as_before c =
     let was = c.args.parts.now in
+    let agents = c.len-agents.result + 1 in
     rw (c.in_ok-reserve.ensures.ok, c.in_ok-reserve-2.ensures.ok)
     (either_way c.reserve-3.result c.reserve-3.ensures.ok c.reserve-3.ensures.err
-    (λ last. rw last (came_agents_grown was c.requires.lawful.step (max was.ids.places c.next_count-living.result) (max was.agents.places 31) (max was.mail.places (c.thread_count-count.result + 31)) (omega arith)))
-    (λ last. rw last (came_agents_grown was c.requires.lawful.step (max was.ids.places c.next_count-living.result) (max was.agents.places 31) was.mail.places (omega arith))))
+    (λ last. rw last (came_agents_grown was c.requires.lawful.step (max was.ids.places c.next_count-living.result) (max was.agents.places agents) (max was.mail.places (c.thread_count-threads.result + agents)) (omega arith)))
+    (λ last. rw last (came_agents_grown was c.requires.lawful.step (max was.ids.places c.next_count-living.result) (max was.agents.places agents) was.mail.places (omega arith))))
 
 pub returns-clause-ok : goal.returns-clause-ok
 returns-clause-ok c =
-    let few = few_with (state_of c.args.parts.now) (nine c.args.parts.now c.requires.lawful c.requires.alone) c.args._event c.requires.least c.requires.most c.requires.free in
     ok_then c.reserve-3.result c.reserve-3.ensures.ok (λ last. rw (c.in_ok-reserve.ensures.ok, c.in_ok-reserve-2.ensures.ok, last) (record {
       living = omega (arith, c.next_count-living.ensures);
-      agents = omega (arith, few);
-      letters = omega (arith, few, c.thread_count-count.ensures.value);
+      agents = omega (arith, c.len-agents.ensures);
+      letters = omega (arith, c.thread_count-threads.ensures.value, c.len-agents.ensures);
     }))
 
 pub returns-in_err-reserve-clause-as_before : goal.returns-in_err-reserve-clause-as_before

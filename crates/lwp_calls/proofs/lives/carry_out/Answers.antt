@@ -1,7 +1,7 @@
 use Rattle.death_cleanup.specs.View.{state_of}
 use Rattle.lwp_calls.proofs.Made.{ComesTo-quiet, ComesTo-said, told-behind, told-most}
 use Rattle.lwp_calls.proofs.lives.carry_out.Goals as goal
-use Rattle.lwp_calls.proofs.lives.carry_out.Goals.{in-Destroy, in-Join, in-Ping}
+use Rattle.lwp_calls.proofs.lives.carry_out.Goals.{in-Destroy, in-Join, in-Ping, in-Sleep}
 use Rattle.lwp_calls.specs.Comes.{ComesTo}
 use Rattle.lwp_types.specs.Case.{answer_by}
 use Rattle.lwp_types.specs.Families.{life_call}
@@ -14,6 +14,7 @@ done_now-requires c =
       | in-Destroy w ↦ rw w.effects-is w.destroy-own.ensures.most
       | in-Ping w ↦ rw w.effects-is (rw c.requires.room (omega arith))
       | in-Join w ↦ rw w.effects-is (rw c.requires.room (omega arith))
+      | in-Sleep w ↦ rw w.effects-is (rw c.requires.room (omega arith))
     ] in
     omega (arith, few)
 
@@ -23,6 +24,7 @@ returns-clause-most c =
       | in-Destroy w ↦ rw w.effects-is w.destroy-own.ensures.most
       | in-Ping w ↦ rw w.effects-is (rw c.requires.room (omega arith))
       | in-Join w ↦ rw w.effects-is (rw c.requires.room (omega arith))
+      | in-Sleep w ↦ rw w.effects-is (rw c.requires.room (omega arith))
     ] in
     told-most c.match-call.effects c.done_now.new.self c.args.tid (option_map answer_by c.match-call.own) 1279 few c.done_now.ensures
 
@@ -32,6 +34,7 @@ returns-clause-ok c =
       | in-Destroy w ↦ rw (w.parts-is, w.own-is, w.effects-is, w.in-Destroy.is) w.destroy-own.ensures.comes
       | in-Ping w ↦ rw (w.parts-is, w.own-is, w.effects-is, w.in-Ping.is) (ComesTo-said w.ping.ensures c.args.effects.now)
       | in-Join w ↦ rw (w.parts-is, w.own-is, w.effects-is, w.in-Join.is) (ComesTo-quiet w.join-own.ensures c.args.effects.now)
+      | in-Sleep w ↦ rw (w.parts-is, w.own-is, w.effects-is, w.in-Sleep.is) (ComesTo-quiet w.sleep-own.ensures c.args.effects.now)
     ] in
     told-behind comes c.args.tid c.done_now.ensures
 

@@ -1,15 +1,13 @@
-use Rattle.death_cleanup.specs.View.{state_of}
-use Rattle.lwp_calls.proofs.Places.{came_grown, few_agents, nine}
+use Rattle.lwp_calls.proofs.Places.{came_grown}
 use Rattle.lwp_calls.proofs.Results.{either_way, ok_then}
 use Rattle.lwp_calls.proofs.lives.make_places.Goals as goal
 use Rattle.std.proofs.Common.{arith, max, ◌+◌}
 
 pub returns-clause-ok : goal.returns-clause-ok
 returns-clause-ok c =
-    let few = few_agents (state_of c.args.parts.now) (nine c.args.parts.now c.requires.lawful c.requires.alone) in
     ok_then c.reserve-5.result c.reserve-5.ensures.ok (λ last. rw (c.in_ok-reserve.ensures.ok, c.in_ok-reserve-2.ensures.ok, c.in_ok-reserve-3.ensures.ok, c.in_ok-reserve-4.ensures.ok, last) (record {
       living = omega (arith, c.next_count-living.ensures);
-      letters = omega (arith, few, c.thread_count-count.ensures.value);
+      letters = omega (arith, c.thread_count-count.ensures.value, c.len-agents.ensures);
       threads = omega (arith, c.thread_count-count.ensures.value);
       known = omega (arith, c.thread_count-count.ensures.known);
       requests = omega (arith, c.thread_count-count.ensures.value);
@@ -22,8 +20,8 @@ returns-clause-as_before c =
     let count = c.thread_count-count.result + 1 in
     rw (c.in_ok-reserve.ensures.ok, c.in_ok-reserve-2.ensures.ok, c.in_ok-reserve-3.ensures.ok, c.in_ok-reserve-4.ensures.ok)
     (either_way c.reserve-5.result c.reserve-5.ensures.ok c.reserve-5.ensures.err
-    (λ last. rw last (came_grown was c.requires.lawful.step (max was.ids.places c.next_count-living.result) (max was.sched.places count) (max was.mail.places (count + 31)) (max was.mons.places count) (max was.conds.places count) (omega arith) (omega arith) (omega arith) (omega arith)))
-    (λ last. rw last (came_grown was c.requires.lawful.step (max was.ids.places c.next_count-living.result) (max was.sched.places count) (max was.mail.places (count + 31)) (max was.mons.places count) was.conds.places (omega arith) (omega arith) (omega arith) (omega arith))))
+    (λ last. rw last (came_grown was c.requires.lawful.step (max was.ids.places c.next_count-living.result) (max was.sched.places count) (max was.mail.places (count + c.len-agents.result)) (max was.mons.places count) (max was.conds.places count) (omega arith) (omega arith) (omega arith) (omega arith)))
+    (λ last. rw last (came_grown was c.requires.lawful.step (max was.ids.places c.next_count-living.result) (max was.sched.places count) (max was.mail.places (count + c.len-agents.result)) (max was.mons.places count) was.conds.places (omega arith) (omega arith) (omega arith) (omega arith))))
 
 pub returns-in_err-reserve-clause-as_before : goal.returns-in_err-reserve-clause-as_before
 returns-in_err-reserve-clause-as_before c =
@@ -49,4 +47,4 @@ returns-in_err-reserve-4-clause-as_before c =
     let was = c.args.parts.now in
     let count = c.thread_count-count.result + 1 in
     rw (c.in_ok-reserve.ensures.ok, c.in_ok-reserve-2.ensures.ok, c.in_ok-reserve-3.ensures.ok, c.in_err-reserve-4.ensures.err)
-    (came_grown was c.requires.lawful.step (max was.ids.places c.next_count-living.result) (max was.sched.places count) (max was.mail.places (count + 31)) was.mons.places was.conds.places (omega arith) (omega arith) (omega arith) (omega arith))
+    (came_grown was c.requires.lawful.step (max was.ids.places c.next_count-living.result) (max was.sched.places count) (max was.mail.places (count + c.len-agents.result)) was.mons.places was.conds.places (omega arith) (omega arith) (omega arith) (omega arith))

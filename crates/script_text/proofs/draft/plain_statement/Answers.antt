@@ -21,6 +21,7 @@ returns-in_default c =
     let other = c.in_default in
     let same = elim c.phrase.inside.op as (λ o. c.phrase.inside.op ≡ o → (p : Phrase) → option_map (λ x. stmt.OnExit x) (exit_statement o c.args.at p) ≡ plain_statement o c.args.at p) [
       | op.Resched ↦ λ e p. absurd (other.not-Resched e)
+      | op.Sleep ↦ λ e p. absurd (other.not-Sleep e)
       | op.SetMaxPri ↦ λ e p. absurd (other.not-SetMaxPri e)
       | op.Me ↦ λ e p. absurd (other.not-Me e)
       | op.SetExit ↦ λ e p. absurd (other.not-SetExit e)
@@ -47,6 +48,9 @@ returns-in_default c =
 
 pub returns-in-Resched : goal.returns-in-Resched
 returns-in-Resched c = by_view op.Resched c.args.at _ c.args.phrase.now c.phrase.view_is c.in-Resched.is
+
+pub returns-in-Sleep : goal.returns-in-Sleep
+returns-in-Sleep c = by_view op.Sleep c.args.at _ c.args.phrase.now c.phrase.view_is c.in-Sleep.is
 
 pub returns-in-SetMaxPri : goal.returns-in-SetMaxPri
 returns-in-SetMaxPri c = by_view op.SetMaxPri c.args.at _ c.args.phrase.now c.phrase.view_is c.in-SetMaxPri.is

@@ -11,6 +11,7 @@ use Rattle.pod_runner.specs.Session.{called, move, taken}
 use Rattle.script_body.specs.ScriptBody.{script_next}
 use Rattle.std.proofs.Common.{refl}
 use Rattle.std.specs.Fmt.{digits}
+use Rattle.worked_rows.proofs.ManyAgents as agents
 use Rattle.worked_rows.proofs.ManyThreads.{its_calls, its_halt, its_takes, its_trace}
 use Rattle.worked_rows.proofs.limits.reached.Goals as goal
 
@@ -29,6 +30,9 @@ returns-clause-frames_one_turn_fewer c = (refl, refl, refl, refl)
 pub returns-clause-marks : goal.returns-clause-marks
 unfolding trace_of halt_of calls_of takes_of plan_whole to_the_end events move called taken script_next session_next store_next step step_by deliver unless and_then in_order for_each digits
 returns-clause-marks c = (refl, refl, refl, refl)
+
+pub returns-clause-agents : goal.returns-clause-agents
+returns-clause-agents c = (agents.its_trace, agents.its_halt, agents.its_calls, agents.its_takes)
 
 pub returns-clause-threads : goal.returns-clause-threads
 returns-clause-threads c = (its_trace, its_halt, its_calls, its_takes)

@@ -1,0 +1,20 @@
+use Rattle.pod_sched.proofs.HeldLemmas.{in_rows, is_slot, known_at, of_thread, prio_low, thread}
+use Rattle.pod_sched.proofs.turns.Turns.row.Goals as goal
+
+pub known_slot-slot-requires : goal.known_slot-slot-requires
+known_slot-slot-requires c = rw c.tid.view_is (known_at c.self.inside.slots c.self.inside.order c.self.inside.rows.items _ _ _ c.self.inside.maxpri c.self.inside.places c.self.invariant c.args.tid (rw (← c.self.view_is) at c.requires))
+
+pub row_at-requires-clause-is_slot : goal.row_at-requires-clause-is_slot
+row_at-requires-clause-is_slot c = is_slot c.self.inside.slots c.self.inside.order c.self.inside.rows.items _ _ _ c.self.inside.maxpri c.self.inside.places c.self.invariant c.args.tid _ (rw c.tid.view_is at c.known_slot-slot.ensures)
+
+pub row_at-requires-clause-in_range : goal.row_at-requires-clause-in_range
+row_at-requires-clause-in_range c = in_rows c.self.inside.slots c.self.inside.order c.self.inside.rows.items _ _ _ c.self.inside.maxpri c.self.inside.places c.self.invariant c.args.tid _ (rw c.tid.view_is at c.known_slot-slot.ensures)
+
+pub returns-clause-value : goal.returns-clause-value
+returns-clause-value c = rw (← c.self.view_is, c.row_at.ensures) (thread c.self.inside.slots c.self.inside.order c.self.inside.rows.items _ _ _ c.self.inside.maxpri c.self.inside.places c.self.invariant c.args.tid _ (rw c.tid.view_is at c.known_slot-slot.ensures))
+
+pub returns-clause-same : goal.returns-clause-same
+returns-clause-same c = rw c.row_at.ensures (of_thread c.self.inside.slots c.self.inside.order c.self.inside.rows.items _ _ _ c.self.inside.maxpri c.self.inside.places c.self.invariant c.args.tid _ (rw c.tid.view_is at c.known_slot-slot.ensures))
+
+pub returns-clause-low : goal.returns-clause-low
+returns-clause-low c = rw c.row_at.ensures (prio_low c.self.inside.slots c.self.inside.order c.self.inside.rows.items _ _ _ c.self.inside.maxpri c.self.inside.places c.self.invariant c.args.tid _ (rw c.tid.view_is at c.known_slot-slot.ensures))

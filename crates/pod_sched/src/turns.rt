@@ -1,0 +1,401 @@
+// Who is known, and whose turn it is: the scheduler but for its clock.
+ghost use Rattle.std.specs.Prelude.{[], ◌≡◌, ◌+◌, ◌<◌, ◌≤◌, ◌==◌, Some, false, length, true, IsTrue, IsOk, IfOk, OnOk, OnErr};
+ghost use Rattle.lwp_types.specs.First.{FindsBest};
+ghost use Rattle.std.specs.List.{find};
+ghost use Rattle.pod_sched.specs.Schedule.{IsOrdered, admitted, blocked, choice, empty_schedule, is_blocked_in, is_eligible, is_eligible_in, knows, left, prio_in, prioritized, priority_in, rescheduled, reserved, resumed, suspended, thread_of, unblocked, with_maxpri, yielded};
+
+use crate::Known;
+use crate::bucket::{self, Bucket, Steps};
+use crate::index::{self, Index};
+use crate::rows::{LEVELS, extend_rows, free_slots, may_run, put_row, row_at};
+use buckets::Buckets;
+use chains::Chains;
+use lwp_types::{NoMemory, Tid};
+use std::alloc::Global;
+use std::marker::Model;
+use std::sync::ledger::Ledger;
+
+/// Who is known, and who may run after whom. It is seen as a schedule in which nobody has a timer.
+pub struct Turns {
+    // Each known thread has a slot. The list 0 is of their slots, the thread that was admitted first at its head, and the
+    // list 1 of those that are free.
+    slots: Chains,
+    // The slots of those that may run.
+    order: Buckets,
+    // The row of each slot.
+    rows: Vec<Known>,
+    // The slot of each known thread.
+    index: Index,
+    maxpri: u32,
+    // There is memory for so many.
+    places: usize,
+}
+
+impl Drop for Turns {
+    fn drop(self) {
+        let Turns {
+            slots: _,
+            order: _,
+            rows: _,
+            index: _,
+            maxpri: _,
+            places: _,
+        } = self;
+    }
+}
+
+impl Model for Turns {
+    ghost use Rattle.std.specs.Prelude.{length};
+    ghost use Rattle.pod_sched.specs.Index.{slot_in};
+    ghost use Rattle.pod_sched.specs.Held.{IsHeld, schedule_of};
+    ghost use Rattle.pod_sched.specs.Schedule.{Schedule};
+
+    ghost Value = { Schedule };
+
+    ghost view = { λ s. schedule_of s.slots s.order s.rows.items s.maxpri s.places };
+
+    ghost invariant = { λ s. IsHeld s.slots s.order s.rows.items (slot_in s.index.entries) (length s.index.entries) s.index.room s.maxpri s.places };
+}
+
+impl Turns {
+    ghost use Rattle.pod_sched.specs.Held.{back_with, out_with};
+
+    /// A scheduler that knows nobody yet, with priorities from 1 to `maxpri`.
+    pub fn new(alloc: Global, maxpri: u32) -> Result<Turns, NoMemory>
+        requires least { 1 ≤ maxpri }
+        requires most { maxpri ≤ 255 }
+        ensures { IfOk result (λ s. s ≡ empty_schedule maxpri) }
+    {
+        Ok(Turns {
+            slots: Chains::new(alloc, LEVELS)?,
+            order: Buckets::new(alloc, LEVELS)?,
+            rows: Vec::new(alloc),
+            index: index::empty(alloc)?,
+            maxpri,
+            places: 0,
+        })
+    }
+
+    /// Makes places for `n` threads in all; what is done to so many then takes no memory.
+    pub fn reserve(&mut self, n: usize) -> Result<(), NoMemory>
+        ensures ok { OnOk result (self.new ≡ reserved self.old n) }
+        ensures err { OnErr result (self.new ≡ self.old) }
+        ensures has_room { n ≤ self.old.places → IsOk result }
+    {
+        if n <= self.places {
+            return Ok(());
+        }
+        if n > usize::MAX - LEVELS {
+            return Err(NoMemory);
+        }
+        self.slots.reserve(LEVELS + n)?;
+        self.order.reserve(n)?;
+        extend_rows(&mut self.rows, n)?;
+        index::reserve(&mut self.index, n)?;
+        free_slots(&mut self.slots, LEVELS + self.places, LEVELS + n);
+        self.places = n;
+        Ok(())
+    }
+
+    /// Knows one thread more, which isn't blocked. It goes last, unless it begins suspended.
+    pub fn admit(&mut self, tid: Tid, prio: u32, suspended: bool)
+        requires new { knows self.old tid ≡ false }
+        requires room { length self.old.threads < self.old.places }
+        requires least { 1 ≤ prio }
+        requires most { prio ≤ self.old.maxpri }
+        ensures { self.new ≡ admitted self.old tid prio suspended }
+    {
+        // As many slots are free as threads can still be known.
+        let Some(slot) = self.slots.first(1) else {
+            unreachable!()
+        };
+        self.slots.move_to_back(0, slot);
+        put_row(
+            &mut self.rows,
+            slot,
+            Known {
+                tid,
+                prio,
+                suspended,
+                blocked: false,
+            },
+        );
+        index::put(&mut self.index, tid.number, slot);
+        if !suspended {
+            self.order.put_last(slot, prio);
+        }
+    }
+
+    /// Forgets a thread, and with it its place in the order.
+    pub fn leave(&mut self, tid: Tid)
+        requires { IsTrue (knows self.old tid) }
+        ensures { self.new ≡ left self.old tid }
+    {
+        let slot = index::known_slot(&self.index, tid.number);
+        index::take(&mut self.index, tid.number);
+        self.slots.move_to_back(1, slot);
+        self.order.take(slot);
+    }
+
+    /// The thread begins to wait for something.
+    pub fn block(&mut self, tid: Tid)
+        requires { IsTrue (knows self.old tid) }
+        ensures { self.new ≡ blocked self.old tid }
+    {
+        let row = self.row(tid);
+        self.put_out(
+            tid,
+            Known {
+                blocked: true,
+                ..row
+            },
+        );
+    }
+
+    /// The thread has what it waited for. It goes last, unless it is suspended.
+    pub fn unblock(&mut self, tid: Tid)
+        requires { IsTrue (is_blocked_in self.old tid) }
+        ensures { self.new ≡ unblocked self.old tid }
+    {
+        let row = self.row(tid);
+        let now = Known {
+            blocked: false,
+            ..row
+        };
+        if row.suspended {
+            self.put_out(tid, now);
+        } else {
+            self.put_back(tid, now);
+        }
+    }
+
+    /// The thread may not run until it is resumed, whether or not it is blocked.
+    pub fn suspend(&mut self, tid: Tid)
+        requires { IsTrue (knows self.old tid) }
+        ensures { self.new ≡ suspended self.old tid }
+    {
+        let row = self.row(tid);
+        self.put_out(
+            tid,
+            Known {
+                suspended: true,
+                ..row
+            },
+        );
+    }
+
+    /// Ends a suspension. The thread goes last, unless it is blocked; one that isn't suspended keeps its place.
+    pub fn resume(&mut self, tid: Tid)
+        requires { IsTrue (knows self.old tid) }
+        ensures { self.new ≡ resumed self.old tid }
+    {
+        let row = self.row(tid);
+        let now = Known {
+            suspended: false,
+            ..row
+        };
+        if row.blocked {
+            self.put_out(tid, now);
+        } else if row.suspended {
+            self.put_back(tid, now);
+        }
+    }
+
+    /// Gives a thread a priority, and answers the one that it had. Where the two differ and it may run, it goes last.
+    pub fn set_prio(&mut self, tid: Tid, prio: u32) -> u32
+        requires known { IsTrue (knows self.old tid) }
+        requires least { 1 ≤ prio }
+        requires most { prio ≤ self.old.maxpri }
+        ensures before { result ≡ priority_in self.old tid }
+        ensures after { self.new ≡ prioritized self.old tid prio }
+    {
+        let row = self.row(tid);
+        let now = Known { prio, ..row };
+        let runs = may_run(&row);
+        if !runs {
+            self.put_out(tid, now);
+        } else if row.prio != prio {
+            self.put_back(tid, now);
+        }
+        row.prio
+    }
+
+    /// `from` lets `to` run right before it, or goes last where the two are one.
+    pub fn yield_to(&mut self, from: Tid, to: Tid)
+        requires from_may_run { IsTrue (is_eligible_in self.old from) }
+        requires to_may_run { IsTrue (is_eligible_in self.old to) }
+        requires same_prio { priority_in self.old from ≡ priority_in self.old to }
+        ensures { self.new ≡ yielded self.old from to }
+    {
+        if from == to {
+            let row = self.row(from);
+            self.put_back(from, row);
+        } else {
+            let slot = index::known_slot(&self.index, from.number);
+            let other = index::known_slot(&self.index, to.number);
+            self.order.put_before(other, slot);
+        }
+    }
+
+    /// The first of this priority goes last. Where there is none, nothing happens.
+    pub fn resched(&mut self, prio: u32)
+        ensures { self.new ≡ rescheduled self.old prio }
+    {
+        if let Some(tid) = self.first_of(prio) {
+            let row = self.row(tid);
+            self.put_back(tid, row);
+        }
+    }
+
+    /// Raises the greatest priority.
+    pub fn set_maxpri(&mut self, maxpri: u32)
+        requires least { self.old.maxpri ≤ maxpri }
+        requires most { maxpri ≤ 255 }
+        ensures { self.new ≡ with_maxpri self.old maxpri }
+    {
+        self.maxpri = maxpri;
+    }
+
+    /// The thread that runs next. It stays in the order.
+    pub fn current(&self) -> Option<Tid>
+        ensures value { result ≡ choice self.now }
+        ensures first_best { FindsBest (prio_in self.now.threads) self.now.order result }
+        ensures ordered { IsOrdered self.now.threads self.now.order }
+    {
+        bucket::peek(&self.best())
+    }
+
+    /// What `current` answers, with its looks at buckets counted: one, however many priorities there are.
+    pub fn current_counted<L: Ledger>(&self, steps: &mut Steps<L>) -> Option<Tid>
+        ensures value { result ≡ choice self.now }
+        ensures cost { steps.new ≤ steps.old + self.now.maxpri }
+        ensures one_look { steps.new ≤ steps.old + 1 }
+    {
+        self.best().first(steps)
+    }
+
+    /// Whether the thread was admitted and hasn't left.
+    pub fn knows(&self, tid: Tid) -> bool
+        ensures { result ≡ knows self.now tid }
+    {
+        self.row_of(tid).is_some()
+    }
+
+    /// How many threads it knows, each once.
+    pub fn len(&self) -> usize
+        ensures value { result ≡ length self.now.threads }
+        ensures ordered { IsOrdered self.now.threads self.now.order }
+        ensures few { length self.now.threads ≤ self.now.places }
+    {
+        index::count(&self.index)
+    }
+
+    /// The greatest priority that a thread may be given.
+    pub fn maxpri(&self) -> u32
+        ensures { result ≡ self.now.maxpri }
+    {
+        self.maxpri
+    }
+
+    /// The thread's priority.
+    pub fn prio_of(&self, tid: Tid) -> u32
+        requires { IsTrue (knows self.now tid) }
+        ensures { result ≡ priority_in self.now tid }
+    {
+        self.row(tid).prio
+    }
+
+    /// Whether the thread may run; an unknown one may not.
+    pub fn eligible(&self, tid: Tid) -> bool
+        ensures { result ≡ is_eligible_in self.now tid }
+    {
+        self.row_of(tid)
+            .is_some_and(|row| !row.suspended && !row.blocked)
+    }
+
+    /// Whether the thread waits for something; an unknown one doesn't.
+    pub fn blocked(&self, tid: Tid) -> bool
+        ensures { result ≡ is_blocked_in self.now tid }
+    {
+        self.row_of(tid).is_some_and(|row| row.blocked)
+    }
+
+    // The bucket of the greatest priority that has somebody.
+    fn best(&self) -> Bucket
+        ensures value { result ≡ choice self.now }
+        ensures first_best { FindsBest (prio_in self.now.threads) self.now.order result }
+        ensures ordered { IsOrdered self.now.threads self.now.order }
+        ensures least { 1 ≤ self.now.maxpri }
+    {
+        bucket::led_by(self.first_best())
+    }
+
+    // The first of that bucket.
+    fn first_best(&self) -> Option<Tid>
+        ensures value { result ≡ choice self.now }
+        ensures first_best { FindsBest (prio_in self.now.threads) self.now.order result }
+        ensures ordered { IsOrdered self.now.threads self.now.order }
+        ensures least { 1 ≤ self.now.maxpri }
+    {
+        let slot = self.order.best()?;
+        Some(row_at(&self.rows, slot).tid)
+    }
+
+    // The thread's row, if it is known.
+    fn row_of(&self, tid: Tid) -> Option<Known>
+        ensures { result ≡ thread_of self.now tid }
+    {
+        let slot = index::slot_of(&self.index, tid.number)?;
+        Some(row_at(&self.rows, slot))
+    }
+
+    // A known thread's row.
+    fn row(&self, tid: Tid) -> Known
+        requires { IsTrue (knows self.now tid) }
+        ensures value { thread_of self.now tid ≡ Some result }
+        ensures same { result.tid ≡ tid }
+        ensures low { result.prio < 256 }
+        ensures most { self.now.maxpri ≤ 255 }
+        ensures ordered { IsOrdered self.now.threads self.now.order }
+        ensures bare { self.now.timers ≡ [] }
+    {
+        let slot = index::known_slot(&self.index, tid.number);
+        row_at(&self.rows, slot)
+    }
+
+    // The first of this priority.
+    fn first_of(&self, prio: u32) -> Option<Tid>
+        ensures value { result ≡ find (λ t. priority_in self.now t == prio) self.now.order }
+        ensures ordered { IsOrdered self.now.threads self.now.order }
+    {
+        let slot = self.order.first_of(prio)?;
+        Some(row_at(&self.rows, slot).tid)
+    }
+
+    // A thread that may not run has this row from now on.
+    fn put_out(&mut self, tid: Tid, row: Known)
+        requires known { IsTrue (knows self.old tid) }
+        requires same { row.tid ≡ tid }
+        requires low { row.prio < 256 }
+        requires out { is_eligible row ≡ false }
+        ensures { self.new ≡ out_with self.old tid row }
+    {
+        let slot = index::known_slot(&self.index, tid.number);
+        put_row(&mut self.rows, slot, row);
+        self.order.take(slot);
+    }
+
+    // A thread that may run has this row from now on, and goes last.
+    fn put_back(&mut self, tid: Tid, row: Known)
+        requires known { IsTrue (knows self.old tid) }
+        requires same { row.tid ≡ tid }
+        requires low { row.prio < 256 }
+        requires in_order { is_eligible row ≡ true }
+        ensures { self.new ≡ back_with self.old tid row }
+    {
+        let slot = index::known_slot(&self.index, tid.number);
+        let prio = row.prio;
+        put_row(&mut self.rows, slot, row);
+        self.order.put_last(slot, prio);
+    }
+}

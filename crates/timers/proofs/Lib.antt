@@ -1,0 +1,5 @@
+pub mod MinimaLemmas
+pub mod LeavesLemmas
+pub mod IndexLemmas
+pub mod KeptLemmas
+pub mod ClockLemmas

@@ -1,0 +1,54 @@
+-- The clock and the timers as plain lists, and what each call makes of them.
+use Rattle.lwp_types.specs.Time.{is_due}
+use Rattle.lwp_types.specs.Unblock.{is_timer_of, without_timer}
+use Rattle.lwp_types.specs.declared.rows.TimerRow.{TimerRow}
+use Rattle.std.specs.List.{find, list_any}
+use Rattle.std.specs.Prelude.{Bool, List, None, Option, Some, [], max, ℕ, ◌++◌, ◌+◌, ◌∷◌}
+
+-- all that is kept of the time
+pub record Clock : Type 0 where
+  -- in the order in which they were set
+  pub timers : List TimerRow
+  -- how often the clock has ticked
+  pub now : ℕ
+  -- how many timers there can be without asking for memory
+  pub places : ℕ
+
+-- of the timers whose tick has come, the first to have been set
+abbrev pub first_due : List TimerRow → ℕ → Option TimerRow
+first_due timers now = find (is_due now) timers
+
+-- the timer that was found is gone
+abbrev pub without_found : Option TimerRow → List TimerRow → List TimerRow
+without_found None timers = timers
+without_found (Some row) timers = without_timer row.tid timers
+
+-- thread t has a timer
+abbrev pub has_timer : Clock → ℕ → Bool
+has_timer c t = list_any (is_timer_of t) c.timers
+
+-- the clock after each call
+
+-- no timers, no places, before the first tick
+abbrev pub first_clock : Clock
+first_clock = record { timers = []; now = 0; places = 0 }
+
+-- places for n timers at least
+abbrev pub reserved : Clock → ℕ → Clock
+reserved c n = record c { places = max c.places n }
+
+-- it has ticked once more
+abbrev pub ticked : Clock → Clock
+ticked c = record c { now = c.now + 1 }
+
+-- one timer more
+abbrev pub set : Clock → ℕ → ℕ → Clock
+set c t due = record c { timers = c.timers ++ record { tid = t; due = due } ∷ [] }
+
+-- the thread's timer is gone, if it has one
+abbrev pub dropped : Clock → ℕ → Clock
+dropped c t = record c { timers = without_timer t c.timers }
+
+-- the first timer that is due is gone
+abbrev pub popped : Clock → Clock
+popped c = record c { timers = without_found (first_due c.timers c.now) c.timers }

@@ -1,0 +1,5 @@
+pub mod Clock
+pub mod Leaves
+pub mod Minima
+pub mod Index
+pub mod Kept
