@@ -1,6 +1,6 @@
 ghost use Rattle.std.specs.Prelude.{◌≡◌, []};
 
-use lwp_types::{Call, Effect, Effects, Line, MemSink, NoMemory, Text, Tid};
+use lwp_types::{Effect, Effects, Line, MemSink, NoMemory, Text, Tid};
 use pod_runner::lines_of;
 use std::alloc::Global;
 use std::test::Fail;
@@ -9,12 +9,12 @@ use whole_streams::write_all;
 fn push_three(effects: &mut Effects)
     requires { effects.old ≡ [] }
 {
-    effects.push(Effect::Called {
-        tid: Tid { number: 0 },
-        call: Call::CallProc { proc: 0 },
-    });
     effects.push(Effect::Delivered {
         agent: Tid { number: 2 },
+        event: 5,
+    });
+    effects.push(Effect::Delivered {
+        agent: Tid { number: 3 },
         event: 5,
     });
     effects.push(Effect::Ended { status: 7 });
@@ -24,7 +24,7 @@ fn text_of(bytes: &[u8]) -> Text {
     Text::new(bytes).unwrap_or(Text::empty())
 }
 
-// The lines of a step in which a line was taken.
+// The lines of a step in which a line was taken, which two agents got.
 fn lines_of_three(alloc: Global) -> Result<Vec<u8>, NoMemory> {
     let mut effects = Effects::new(alloc)?;
     push_three(&mut effects);
@@ -33,14 +33,14 @@ fn lines_of_three(alloc: Global) -> Result<Vec<u8>, NoMemory> {
         seq: 1,
         text: text_of(b"two"),
     };
-    lines_of(alloc, &effects, Some(&line), &[text_of(b"main")])
+    lines_of(alloc, &effects, Some(&line), &[])
 }
 
 // What such lines are in a sink that takes three bytes at most at a time.
 fn is_written(alloc: Global) -> Result<bool, NoMemory> {
     let mut sink = MemSink::new(alloc, 60, 3, Vec::new(alloc))?;
     let is_whole = write_all(&mut sink, &lines_of_three(alloc)?).is_ok();
-    let want = b"t0: call main\nevent 5 client 0 seq 1 two\npod ends 7\n";
+    let want = b"event 5 client 0 seq 1 two\nalso t3\npod ends 7\n";
     Ok(is_whole && sink.bytes() == want.as_slice())
 }
 
