@@ -12,3 +12,4 @@ pub mod Lawfuls
 pub mod Armed
 pub mod Lives
 pub mod Looks
+pub mod Nexts
