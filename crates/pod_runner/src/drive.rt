@@ -1,6 +1,6 @@
 // A run over a gate, from step to step, until its end.
 ghost use Rattle.std.specs.Prelude.{◌≡◌, ◌≤◌, false, IfOk, IsTrue, OnOk, OnErr, IsErrOf};
-ghost use Rattle.lwp_types.specs.Agents.{armed};
+ghost use Rattle.pod_events.specs.Events.{is_takeable};
 ghost use Rattle.lwp_types.specs.Streams.{Rose};
 ghost use Rattle.pod_runner.specs.Does.{Does};
 ghost use Rattle.pod_runner.specs.Due.{IsDefined};
@@ -25,7 +25,7 @@ fn take_line<B: Body, P: Program<B>, G: Gate, K: Sink>(
     requires sound { run.old.failed ≡ false }
     requires made { IsDefined (setting_of B.next P.bodies run.old) run.old.takes run.old.calls }
     requires room { run.old.calls ≤ run.old.turns }
-    requires wanted { IsTrue (armed (session_of B.next P.bodies run.old).live.state event) }
+    requires wanted { IsTrue (is_takeable (session_of B.next P.bodies run.old).live.pod event) }
     ensures { Does B.next P.bodies P.proc_names (record { old = K.written sink.old; new = K.written sink.new; faults_old = K.faults sink.old; faults_new = K.faults sink.new }) (λ planned plan. offered planned event plan) run.old run.new (G.stock gate.old) (G.stock gate.new) result }
 {
     match gate.take(event) {
