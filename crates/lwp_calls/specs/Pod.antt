@@ -1,6 +1,5 @@
 -- What is read off a pod, and what a call keeps.
-use Rattle.lwp_calls.specs.declared.pod.PodEnd.{PodEnd}
-use Rattle.lwp_calls.specs.declared.pod.PodEnd.TheVariants.{Ended, Idle}
+pub use Rattle.pod_events.specs.Machine.{called_by, current_of, ending_of}
 use Rattle.lwp_types.specs.Choice.{choice}
 use Rattle.lwp_types.specs.State.{State, passes}
 use Rattle.lwp_types.specs.Step.{case_of}
@@ -13,24 +12,6 @@ use Rattle.pod_laws.specs.Forgotten.{IsForgotten, is_died}
 use Rattle.pod_laws.specs.Once.{ExitTest, exits_passing, marks_passing, set_now}
 use Rattle.std.specs.List.{count_by}
 use Rattle.std.specs.Prelude.{Bool, List, None, Option, Some, [], false, if◌then◌else◌, true, ℕ, ◌+◌, ◌∷◌, ◌≡◌, ◌≤◌}
-
--- the thread whose turn it is; nobody's in a pod that has ended
-abbrev pub current_of : State → Option ℕ
-current_of s = if s.ended then None else choice s
-
--- the call itself is told first, where it is somebody's turn
-abbrev pub called_by : Option ℕ → Call → List Effect
-called_by None c = []
-called_by (Some t) c = effect.Called t c ∷ []
-
--- with nobody to run, a pod is idle
-abbrev pub idle_if : Option ℕ → Option PodEnd
-idle_if None = Some Idle
-idle_if (Some t) = None
-
--- why it is nobody's turn
-abbrev pub ending_of : State → Option PodEnd
-ending_of s = if s.ended then Some (Ended s.status) else idle_if (choice s)
 
 -- the answer is a refusal
 abbrev pub refuses : Answer → Bool

@@ -41,6 +41,10 @@ pub fn carry_out(
     match call {
         AgentCall::Create(event) => create(parts, tid, event, effects),
         AgentCall::List => list(parts, tid, effects),
+        AgentCall::Trap(_) => {
+            effects.done(tid, Err(LwpErr::InvalidArg));
+            Ok(())
+        }
     }
 }
 

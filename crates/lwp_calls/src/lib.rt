@@ -13,6 +13,7 @@ mod clock;
 mod letters;
 mod lives;
 mod locks;
+mod machine;
 mod marks;
 mod messages;
 mod numbers;
@@ -20,4 +21,4 @@ mod pod;
 mod turns;
 mod waits;
 
-pub use pod::{Pod, PodEnd};
+pub use pod::Pod;

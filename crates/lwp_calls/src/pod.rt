@@ -12,12 +12,14 @@ ghost use Rattle.lwp_types.specs.First.{FindsBest};
 ghost use Rattle.lwp_types.specs.Lawful.{Lawful};
 ghost use Rattle.lwp_types.specs.State.{is_id, opening};
 ghost use Rattle.lwp_types.specs.Step.{case_of, step, end_effects, ends};
-ghost use Rattle.lwp_calls.specs.Asks.{asks_memory};
+ghost use Rattle.pod_events.specs.Events.{has_agent};
+ghost use Rattle.pod_events.specs.Machine.{asks_memory, called_by, current_of, ending_of};
+ghost use Rattle.pod_events.specs.Rites.{flags_of};
 ghost use Rattle.lwp_calls.specs.Comes.{IsAsBefore, Told};
 ghost use Rattle.lwp_calls.specs.Opening.{no_thread};
-ghost use Rattle.lwp_calls.specs.Pod.{ForgetsTheDead, RunsExitsOnce, called_by, current_of, ending_of, is_refusal};
+ghost use Rattle.lwp_calls.specs.Pod.{ForgetsTheDead, RunsExitsOnce, is_refusal};
 
-use crate::asks::all_serve;
+use crate::asks::{all_serve, thread_count};
 use crate::clock::{CLOCK, may_tick, tick};
 use crate::messages::deliver_to_agents;
 use crate::{agent_calls, letters, lives, locks, marks, numbers, turns, waits};
@@ -25,7 +27,7 @@ use agents::Agents;
 use conditions::Conds;
 use death_cleanup::{Kind, Named, Parts, ThreadRec, is_id};
 use exc_stack::ExcStack;
-use lwp_types::{Block, Call, Effect, Effects, Family, Flags, NoMemory, PodParams, Text, Tid};
+use lwp_types::{Block, Call, Effect, Effects, Family, Flags, NoMemory, PodEnd, PodParams, Text, Tid};
 use monitors::Monitors;
 use pod_sched::Sched;
 use rendezvous::Mail;
@@ -35,13 +37,6 @@ use std::marker::Model;
 
 // The first event that an agent can have.
 const FIRST_EVENT: u8 = 1;
-
-/// Why it is nobody's turn: the pod has ended, with a status; or nobody may run as it stands.
-#[derive(Clone, Copy, Debug, PartialEq, Eq)]
-pub enum PodEnd {
-    Ended(u8),
-    Idle,
-}
 
 /// The threads of a pod, and all that they have.
 pub struct Pod {
@@ -173,6 +168,7 @@ impl Pod {
     pub fn current(&self) -> Option<Tid>
         ensures value { result ≡ current_of self.now }
         ensures may_run { IfSome result (λ t. IsTrue (is_eligible_in self.now t)) }
+        ensures lawful { Lawful self.now None }
     {
         if self.parts.ended {
             return None;
@@ -221,6 +217,31 @@ impl Pod {
         self.parts.agents.armed(event)
     }
 
+    /// How a live thread was created.
+    pub fn flags(&self, tid: Tid) -> Option<Flags>
+        ensures { result ≡ flags_of self.now tid }
+    {
+        match self.parts.ids.get(tid.number) {
+            Some(Kind::Thread(rec)) => Some(rec.flags),
+            _ => None,
+        }
+    }
+
+    /// Whether the event has a live agent.
+    pub fn has_agent(&self, event: u8) -> bool
+        ensures { result ≡ has_agent self.now event }
+    {
+        self.parts.agents.nth_of(event, 0).is_some()
+    }
+
+    /// How many threads live.
+    pub fn threads(&self) -> usize
+        ensures value { result ≡ length self.now.threads }
+        ensures most { result ≤ 1024 }
+    {
+        thread_count(&self.parts)
+    }
+
     /// The first event from `from` on that can be delivered, if there is one below 32.
     pub fn next_armed(&self, from: u8) -> Option<u8>
         ensures none { IfNone result (HoldsNowhere (armed self.now) from 32) }
@@ -247,6 +268,7 @@ impl Pod {
         ensures effects { OnOk result (called_by (current_of self.old) call.now ++ effects.new ≡ (step self.old call.now).effects) }
         ensures err { OnErr result (self.new ≡ self.old) }
         ensures err_effects { OnErr result (effects.new ≡ []) }
+        ensures most { length effects.new ≤ 1281 }
         ensures memory { IsErr result → IsTrue (asks_memory call.now) }
         ensures lawful { Lawful self.new None }
         ensures refused { OnOk result (IsTrue (is_refusal self.old call.now) → self.new ≡ self.old) }

@@ -325,6 +325,9 @@ pub enum Call {
         event: u32,
     },
     Agents,
+    Trap {
+        event: u32,
+    },
     Say {
         text: Text,
     },
@@ -360,6 +363,21 @@ pub enum Effect {
     Ended {
         status: u8,
     },
+    Trapped {
+        tid: Tid,
+        event: u8,
+    },
+    Rites {
+        agent: Tid,
+        dead: Tid,
+    },
+}
+
+/// Why it is nobody's turn: the pod has ended, with a status; or nobody may run as it stands.
+#[derive(Clone, Copy, Debug, PartialEq, Eq)]
+pub enum PodEnd {
+    Ended(u8),
+    Idle,
 }
 
 /// What a pod is made with: the greatest priority (1 to 255), the limit on births of each kind (1 to 4,294,967,295), and

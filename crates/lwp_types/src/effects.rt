@@ -1,5 +1,5 @@
 // The effects of one step.
-ghost use Rattle.std.specs.Prelude.{◌≡◌, ◌<◌, [], ◌∷◌, ◌++◌, length, option_map, IfOk, MatchOption, slice_index_or};
+ghost use Rattle.std.specs.Prelude.{◌≡◌, ◌<◌, ◌≤◌, ◌+◌, [], ◌∷◌, ◌++◌, length, option_map, IfOk, MatchOption, slice_index_or, slice_set};
 ghost use Rattle.lwp_types.specs.Case.{answer_by};
 ghost use Rattle.lwp_types.specs.Step.{own_effects};
 ghost use Rattle.lwp_types.specs.declared.call.Effect.TheVariants as effect;
@@ -164,6 +164,27 @@ impl Effects {
             self.places.push_reserved(e);
         }
         self.used += 1;
+    }
+
+    /// Another effect stands in the place of the one at `i`, counted from 0.
+    pub fn set(&mut self, i: usize, e: Effect)
+        requires { i < length self.old }
+        ensures { self.new ≡ slice_set self.old i e }
+    {
+        self.places[i] = e;
+    }
+
+    /// All effects of another list go behind these, in one piece, and none is left there. It takes no memory.
+    pub fn append(&mut self, from: &mut Effects)
+        requires { length self.old + length from.old ≤ 2048 }
+        ensures after { self.new ≡ self.old ++ from.old }
+        ensures rest { from.new ≡ [] }
+    {
+        self.places.truncate(self.used);
+        from.places.truncate(from.used);
+        let _ = self.places.append(&mut from.places);
+        self.used += from.used;
+        from.used = 0;
     }
 
     // An answer more, behind all places so far.

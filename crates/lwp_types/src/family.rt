@@ -91,6 +91,7 @@ pub enum MarkCall<'c> {
 pub enum AgentCall {
     Create(u32),
     List,
+    Trap(u32),
 }
 
 /// A call, by its family. Each crate that tells calls apart has one module a family.
@@ -166,6 +167,7 @@ impl Call {
             Call::UniqPatt => Family::Marks(MarkCall::UniqPatt),
             Call::Agent { event } => Family::Agents(AgentCall::Create(*event)),
             Call::Agents => Family::Agents(AgentCall::List),
+            Call::Trap { event } => Family::Agents(AgentCall::Trap(*event)),
         }
     }
 }

@@ -90,6 +90,7 @@ module _ (s : State) (t n : ℕ) (absent : is_id s n ≡ false) where
   absent_refused call.UniqPatt asks = absurd (cc)
   absent_refused (call.Agent e) asks = absurd (cc)
   absent_refused call.Agents asks = absurd (cc)
+  absent_refused (call.Trap e) asks = absurd (cc)
   absent_refused (call.Say text) asks = absurd (cc)
 
   -- of every exit procedure that asks for it

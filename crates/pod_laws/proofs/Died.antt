@@ -188,6 +188,7 @@ module _ (n : ℕ) where
   case_died s was t x known call.UniqPatt = absent (unless_deathless n s _ _ (deathless_nil n))
   case_died s was t x known (call.Agent e) = absent (unless_deathless n s _ _ (deathless_nil n))
   case_died s was t x known call.Agents = absent (deathless_nil n)
+  case_died s was t x known (call.Trap e) = absent (deathless_nil n)
   case_died s was t x known (call.Say text) = absent (deathless_nil n)
 
   -- neither the call nor its answer nor the end tells of a death

@@ -310,6 +310,7 @@ module _ (n : ℕ) where
   case_fades s t call.UniqPatt = unless_fades s _ _ (fades_plain s _ refl refl refl)
   case_fades s t (call.Agent e) = unless_fades s _ _ (fades_agent_born s t e)
   case_fades s t call.Agents = fades_still s
+  case_fades s t (call.Trap e) = fades_still s
   case_fades s t (call.Say text) = fades_still s
 
   pub step_fades : (s : State) (c : Call) → Fades n s (step s c).after

@@ -266,6 +266,7 @@ module _ (p : TimerRow → Bool) where
   case_quiet s t call.UniqPatt = none_asked s _ (unless_quiet s s.timers _ _ (omega arith) (quiet_same s _ refl))
   case_quiet s t (call.Agent e) = none_asked s _ (unless_quiet s s.timers _ _ (omega arith) (quiet_same s _ refl))
   case_quiet s t call.Agents = none_asked s _ (quiet_still s)
+  case_quiet s t (call.Trap e) = none_asked s _ (quiet_still s)
   case_quiet s t (call.Say text) = none_asked s _ (quiet_still s)
 
   step_among : (s : State) (c : Call) → Among p (s.timers ++ timers_asked s (choice s) c) (step s c).after

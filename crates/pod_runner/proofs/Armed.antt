@@ -1,7 +1,8 @@
 -- A delivery makes no event wait that didn't.
 use Rattle.std.proofs.Common.{◌≡◌, ◌≤◌, ℕ, List, [], ◌∷◌, ◌++◌, Bool, true, false, ap, arith, cond, eqb, ◌∙◌, refl, sym}
 use Rattle.std.proofs.lemmas.Bool.{and_from, and_parts, lt-ltb, ltb-true}
-use Rattle.std.specs.Prelude.{not, ◌&&◌}
+use Rattle.std.specs.Prelude.{is_none, nat_lt, not, ◌&&◌}
+use Rattle.pod_events.specs.Events.{EventState, has_turn, is_takeable, is_trapped, may_trap, passed_on, rites_event, take_event, trap_taken}
 use Rattle.std.specs.List.{list_all}
 use Rattle.lwp_types.specs.Agents.{armed, deliver, deliver_to, event_agents, is_armed, is_for, message}
 use Rattle.lwp_types.specs.Letters.{as_answer, as_received, holding_set, post, takes_from, with_holding}
@@ -100,3 +101,20 @@ deliver-fewer s x text e h = by_clock (eqb x 0) h
     by_clock : (b : Bool) → armed (cond b (tick s) (for_each (deliver_to text) (event_agents s.agents x) s)).after e ≡ true → armed s e ≡ true
     by_clock true h = fewer-armed s _ (tick-fewer s) e h
     by_clock false h = fewer-armed s _ (fewer-each (deliver_to text) (deliver_to-fewer text) (event_agents s.agents x) s) e h
+
+-- of a pod with its own events: while somebody may run, a take makes no event takeable that wasn't
+pub take-fewer : (es : EventState) (x : ℕ) (text : List ℕ) (e : ℕ) → has_turn es.state ≡ true → is_takeable (take_event es x text).after e ≡ true → is_takeable es e ≡ true
+unfolding take_event
+take-fewer es x text e runs h = by_taken (is_trapped es.trapped x) h
+  where
+    by_event : (c : Bool) → cond c (may_trap (passed_on es (deliver es.state x text)).after) (nat_lt e rites_event && armed (deliver es.state x text).after e) ≡ true → cond c (may_trap es) (nat_lt e rites_event && armed es.state e) ≡ true
+    by_event true h = and_from _ _ (and_parts (is_none es.pending) (has_turn (deliver es.state x text).after) h).0 runs
+    by_event false h = and_from _ _ (and_parts (nat_lt e rites_event) (armed (deliver es.state x text).after e) h).0 (deliver-fewer es.state x text e (and_parts (nat_lt e rites_event) (armed (deliver es.state x text).after e) h).1)
+
+    by_trap : (c : Bool) → cond c (may_trap (trap_taken es x).after) (nat_lt e rites_event && armed es.state e) ≡ true → cond c (may_trap es) (nat_lt e rites_event && armed es.state e) ≡ true
+    by_trap true h = absurd (cc)
+    by_trap false h = h
+
+    by_taken : (b : Bool) → is_takeable (cond b (trap_taken es x) (passed_on es (deliver es.state x text))).after e ≡ true → is_takeable es e ≡ true
+    by_taken true h = by_trap (is_trapped es.trapped e) h
+    by_taken false h = by_event (is_trapped es.trapped e) h

@@ -6,12 +6,12 @@ use Rattle.std.specs.Slice.Scan.{HoldsNowhere}
 use Rattle.std.proofs.lemmas.Bool.Decides.{nat_tests}
 use Rattle.std.proofs.lemmas.List.Sums.{sum_by-set}
 use Rattle.event_gate.specs.Shelves.{Shelf, Shelves, bare, first_left, left_in_all, moved, shelf_of, taken_from}
-use Rattle.lwp_types.specs.Agents.{armed}
+use Rattle.pod_events.specs.Events.{is_takeable}
 use Rattle.lwp_types.specs.Choice.{choice}
 use Rattle.lwp_types.specs.declared.call.Line.{Line}
 use Rattle.trace_text.specs.declared.ends.Halt.{Halt}
 use Rattle.trace_text.specs.declared.ends.Halt.TheVariants as halts
-use Rattle.pod_runner.specs.Eager.{IsFirstPart, Plan, Planned, advanced, boundary, finished, has_choice, offered, offered_by, one_call, plan_over, round, state_of, taken_line, to_the_end, took_of}
+use Rattle.pod_runner.specs.Eager.{IsFirstPart, Plan, Planned, advanced, boundary, finished, has_choice, offered, offered_by, one_call, plan_over, round, pod_of, taken_line, to_the_end, took_of}
 use Rattle.pod_runner.specs.Over.{can_take, events, halt_if, is_wanted}
 use Rattle.pod_runner.specs.Session.{move, taken}
 
@@ -84,25 +84,25 @@ module _ {B : Type 0} (planned : Planned B) where
   by_armed e plan false = first-same plan
 
   pub offered-grows : (e : ℕ) (plan : Plan B) → IsFirstPart plan (offered planned e plan)
-  offered-grows e plan = by_armed e plan (armed (state_of plan) e)
+  offered-grows e plan = by_armed e plan (is_takeable (pod_of plan) e)
 
   pub offered-unable : (e : ℕ) (plan : Plan B) → first_left plan.left e ≡ None → offered planned e plan ≡ plan
-  offered-unable e plan f = by (armed (state_of plan) e)
+  offered-unable e plan f = by (is_takeable (pod_of plan) e)
     where
       by : (b : Bool) → elim b as (λ _. Plan B) [ true ↦ offered_by planned e plan (first_left plan.left e) | false ↦ plan ] ≡ plan
       by true = ap (offered_by planned e plan) f
       by false = refl
 
   -- where no line can be taken, nothing happens; else one is taken
-  pub offered-none : (e : ℕ) (plan : Plan B) → can_take (state_of plan) plan.left e ≡ false → offered planned e plan ≡ plan
-  offered-none e plan h = by (armed (state_of plan) e) (first_left plan.left e) h
+  pub offered-none : (e : ℕ) (plan : Plan B) → can_take (pod_of plan) plan.left e ≡ false → offered planned e plan ≡ plan
+  offered-none e plan h = by (is_takeable (pod_of plan) e) (first_left plan.left e) h
     where
       by : (b : Bool) (o : Option Line) → (b && is_some o) ≡ false → elim b as (λ _. Plan B) [ true ↦ offered_by planned e plan o | false ↦ plan ] ≡ plan
       by false o h = refl
       by true None h = refl
       by true (Some line) h = absurd (cc)
 
-  pub offered-some : (e : ℕ) (plan : Plan B) (line : Line) → armed (state_of plan) e ≡ true → first_left plan.left e ≡ Some line → offered planned e plan ≡ taken_line planned e line plan
+  pub offered-some : (e : ℕ) (plan : Plan B) (line : Line) → is_takeable (pod_of plan) e ≡ true → first_left plan.left e ≡ Some line → offered planned e plan ≡ taken_line planned e line plan
   offered-some e plan line a f = ap (λ (b : Bool). elim b as (λ _. Plan B) [ true ↦ offered_by planned e plan (first_left plan.left e) | false ↦ plan ]) a ∙ ap (offered_by planned e plan) f
 
   -- ---- what is kept: lines are taken or left, and calls are made or aren't
@@ -137,7 +137,7 @@ module _ {B : Type 0} (planned : Planned B) where
   same_by_armed e plan false = same-same plan
 
   offered-same : (e : ℕ) (plan : Plan B) → Same plan (offered planned e plan)
-  offered-same e plan = same_by_armed e plan (armed (state_of plan) e)
+  offered-same e plan = same_by_armed e plan (is_takeable (pod_of plan) e)
 
   -- ---- several events
 
@@ -153,7 +153,7 @@ module _ {B : Type 0} (planned : Planned B) where
   serves-same (e ∷ es) plan = same-then plan (offered planned e plan) (serves (offered planned e plan) es) (offered-same e plan) (serves-same es (offered planned e plan))
 
   -- where none of these events has a line that can be delivered, nothing is taken
-  pub serves-none : (plan : Plan B) (a n : ℕ) → HoldsNowhere (can_take (state_of plan) plan.left) a (a + n) → serves plan (range_with_len a n) ≡ plan
+  pub serves-none : (plan : Plan B) (a n : ℕ) → HoldsNowhere (can_take (pod_of plan) plan.left) a (a + n) → serves plan (range_with_len a n) ≡ plan
   serves-none plan a zero none = refl
   serves-none plan a (suc n) none =
       ap (λ p. serves p (range_with_len (a + 1) n)) (offered-none a plan (none a (omega arith) (omega arith)))
@@ -161,10 +161,10 @@ module _ {B : Type 0} (planned : Planned B) where
 
   -- nothing can be taken, and nothing is; or something can be, and is
   abbrev Serves : List ℕ → Plan B → Type 0
-  Serves es plan = ((serves plan es ≡ plan) × (list_any (λ e. can_take (state_of plan) plan.left e) es ≡ false))
-      ⊎ ((length plan.takes + 1 ≤ length (serves plan es).takes) × (list_any (λ e. can_take (state_of plan) plan.left e) es ≡ true))
+  Serves es plan = ((serves plan es ≡ plan) × (list_any (λ e. can_take (pod_of plan) plan.left e) es ≡ false))
+      ⊎ ((length plan.takes + 1 ≤ length (serves plan es).takes) × (list_any (λ e. can_take (pod_of plan) plan.left e) es ≡ true))
 
-  takes_one : (e : ℕ) (es : List ℕ) (plan : Plan B) (b : Bool) (o : Option Line) → armed (state_of plan) e ≡ b → first_left plan.left e ≡ o → (b && is_some o) ≡ true
+  takes_one : (e : ℕ) (es : List ℕ) (plan : Plan B) (b : Bool) (o : Option Line) → is_takeable (pod_of plan) e ≡ b → first_left plan.left e ≡ o → (b && is_some o) ≡ true
       → length plan.takes + 1 ≤ length (serves (offered planned e plan) es).takes
   takes_one e es plan false o a f h = absurd (cc)
   takes_one e es plan true None a f h = absurd (cc)
@@ -175,19 +175,19 @@ module _ {B : Type 0} (planned : Planned B) where
 
   serves-or : (es : List ℕ) (plan : Plan B) → Serves es plan
   serves-or [] plan = inl (refl, refl)
-  serves-or (e ∷ es) plan = by_can (can_take (state_of plan) plan.left e) refl (serves-or es plan)
+  serves-or (e ∷ es) plan = by_can (can_take (pod_of plan) plan.left e) refl (serves-or es plan)
     where
-      by_rest : can_take (state_of plan) plan.left e ≡ false → Serves es plan → Serves (e ∷ es) plan
-      by_rest h (inl w) = inl (ap (λ p. serves p es) (offered-none e plan h) ∙ w.0, ap (λ b. b || list_any (λ e. can_take (state_of plan) plan.left e) es) h ∙ w.1)
+      by_rest : can_take (pod_of plan) plan.left e ≡ false → Serves es plan → Serves (e ∷ es) plan
+      by_rest h (inl w) = inl (ap (λ p. serves p es) (offered-none e plan h) ∙ w.0, ap (λ b. b || list_any (λ e. can_take (pod_of plan) plan.left e) es) h ∙ w.1)
       by_rest h (inr w) = inr (
         subst (λ (p : Plan B). length plan.takes + 1 ≤ length (serves p es).takes) (sym (offered-none e plan h)) w.0,
-        ap (λ b. b || list_any (λ e. can_take (state_of plan) plan.left e) es) h ∙ w.1,
+        ap (λ b. b || list_any (λ e. can_take (pod_of plan) plan.left e) es) h ∙ w.1,
       )
 
-      by_can : (b : Bool) → can_take (state_of plan) plan.left e ≡ b → Serves es plan → Serves (e ∷ es) plan
+      by_can : (b : Bool) → can_take (pod_of plan) plan.left e ≡ b → Serves es plan → Serves (e ∷ es) plan
       by_can true h rest = inr (
-        takes_one e es plan (armed (state_of plan) e) (first_left plan.left e) refl refl h,
-        ap (λ b. b || list_any (λ e. can_take (state_of plan) plan.left e) es) h,
+        takes_one e es plan (is_takeable (pod_of plan) e) (first_left plan.left e) refl refl h,
+        ap (λ b. b || list_any (λ e. can_take (pod_of plan) plan.left e) es) h,
       )
       by_can false h rest = by_rest h rest
 
@@ -219,7 +219,7 @@ module _ {B : Type 0} (planned : Planned B) where
   abbrev pub to_do : Plan B → ℕ
   to_do plan = (planned.turns - plan.calls) + left_in_all plan.left
 
-  falls-choice : (plan : Plan B) (b : Bool) → (b ≡ true → plan.calls + 1 ≤ planned.turns) → (b ≡ false → is_wanted (state_of plan) plan.left ≡ true)
+  falls-choice : (plan : Plan B) (b : Bool) → (b ≡ true → plan.calls + 1 ≤ planned.turns) → (b ≡ false → is_wanted (pod_of plan) plan.left ≡ true)
       → to_do (elim b as (λ _. Plan B) [ true ↦ one_call planned (boundary planned plan) | false ↦ boundary planned plan ]) + 1 ≤ to_do plan
   falls-choice plan true room wanted =
       let s = serves-same events plan in
@@ -232,7 +232,7 @@ module _ {B : Type 0} (planned : Planned B) where
       by_takes (inr w) = let s = serves-same events plan in omega (arith, s.all, s.calls, w.0)
 
   -- what a session that isn't over has still to do
-  goes_on : (plan : Plan B) (ended : Bool) (o : Option ℕ) (wanted : Bool) → cond ended (Some (halts.Ended (state_of plan).status)) (halt_if planned.turns plan.calls wanted o) ≡ None
+  goes_on : (plan : Plan B) (ended : Bool) (o : Option ℕ) (wanted : Bool) → cond ended (Some (halts.Ended (pod_of plan).state.status)) (halt_if planned.turns plan.calls wanted o) ≡ None
       → (is_some o ≡ true → plan.calls + 1 ≤ planned.turns) × (is_some o ≡ false → wanted ≡ true)
   goes_on plan true o wanted h = absurd (cc)
   goes_on plan false None true h = (λ no. absurd (cc), λ _. refl)
@@ -245,7 +245,7 @@ module _ {B : Type 0} (planned : Planned B) where
 
   pub falls : (plan : Plan B) → plan_over planned plan ≡ None → to_do (advanced planned plan) + 1 ≤ to_do plan
   falls plan h =
-      let g = goes_on plan (state_of plan).ended (choice (state_of plan)) (is_wanted (state_of plan) plan.left) h in
+      let g = goes_on plan (pod_of plan).state.ended (choice (pod_of plan).state) (is_wanted (pod_of plan) plan.left) h in
       falls-choice plan (has_choice plan) g.0 g.1
 
   -- ---- to the end

@@ -4,8 +4,8 @@ use Rattle.std.specs.Prelude.{Option, is_some, nat_le, nat_lt, ◌⊎◌}
 use Rattle.std.proofs.lemmas.Bool.Decides.{nat_tests}
 use Rattle.event_gate.specs.Shelves.{Shelves}
 use Rattle.lwp_types.specs.Choice.{choice}
-use Rattle.lwp_types.specs.State.{State}
-use Rattle.pod_runner.specs.Eager.{Plan, Planned, advanced, boundary, one_call, plan_over, round, state_of}
+use Rattle.pod_events.specs.Events.{EventState}
+use Rattle.pod_runner.specs.Eager.{Plan, Planned, advanced, boundary, one_call, plan_over, round, pod_of}
 use Rattle.pod_runner.specs.Over.{halt_if, is_wanted, over}
 use Rattle.pod_runner.specs.Phase.{phase_by, phase_of}
 use Rattle.pod_runner.specs.declared.phase.Phase.TheVariants as phase
@@ -14,34 +14,34 @@ use Rattle.trace_text.specs.declared.ends.Halt.TheVariants as halts
 use Rattle.pod_runner.proofs.Eagers.{boundary-or}
 
 -- in phase Turn a session isn't over, and somebody may run
-turn-both : (s : State) (turns calls : ℕ) (left : Shelves) → phase_of s turns calls ≡ phase.Turn → (over turns s calls left ≡ None) × (is_some (choice s) ≡ true)
-turn-both s turns calls left h = by_end s.ended (choice s) h
+turn-both : (s : EventState) (turns calls : ℕ) (left : Shelves) → phase_of s.state turns calls ≡ phase.Turn → (over turns s calls left ≡ None) × (is_some (choice s.state) ≡ true)
+turn-both s turns calls left h = by_end s.state.ended (choice s.state) h
   where
     by_count : (a b : Bool) → nat_lt calls turns ≡ a → nat_le turns calls ≡ b → cond a phase.Turn phase.Spent ≡ phase.Turn → cond b (Some halts.Spent) None ≡ None
     by_count false b isa isb h = absurd (cc)
     by_count true false isa isb h = refl
     by_count true true isa isb h = absurd (grind (arith, nat_tests))
 
-    by_end : (b : Bool) (o : Option ℕ) → cond b (phase.Ended s.status) (phase_by turns calls o) ≡ phase.Turn
-        → (cond b (Some (halts.Ended s.status)) (halt_if turns calls (is_wanted s left) o) ≡ None) × (is_some o ≡ true)
+    by_end : (b : Bool) (o : Option ℕ) → cond b (phase.Ended s.state.status) (phase_by turns calls o) ≡ phase.Turn
+        → (cond b (Some (halts.Ended s.state.status)) (halt_if turns calls (is_wanted s left) o) ≡ None) × (is_some o ≡ true)
     by_end true o h = absurd (cc)
     by_end false None h = absurd (cc)
     by_end false (Some t) h = (by_count (nat_lt calls turns) (nat_le turns calls) refl refl h, refl)
 
-pub over-turn : (s : State) (turns calls : ℕ) (left : Shelves) → phase_of s turns calls ≡ phase.Turn → over turns s calls left ≡ None
+pub over-turn : (s : EventState) (turns calls : ℕ) (left : Shelves) → phase_of s.state turns calls ≡ phase.Turn → over turns s calls left ≡ None
 over-turn s turns calls left h = (turn-both s turns calls left h).0
 
 -- in phase Idle nobody may run, and it is over unless a line can be taken
-idle-both : (s : State) (turns calls : ℕ) (left : Shelves) → phase_of s turns calls ≡ phase.Idle
-    → (over turns s calls left ≡ cond (is_wanted s left) None (Some halts.Stuck)) × (is_some (choice s) ≡ false)
-idle-both s turns calls left h = by_end s.ended (choice s) h
+idle-both : (s : EventState) (turns calls : ℕ) (left : Shelves) → phase_of s.state turns calls ≡ phase.Idle
+    → (over turns s calls left ≡ cond (is_wanted s left) None (Some halts.Stuck)) × (is_some (choice s.state) ≡ false)
+idle-both s turns calls left h = by_end s.state.ended (choice s.state) h
   where
     by_count : (a : Bool) → cond a phase.Turn phase.Spent ≡ phase.Idle → ⊥
     by_count true h = cc
     by_count false h = cc
 
-    by_end : (b : Bool) (o : Option ℕ) → cond b (phase.Ended s.status) (phase_by turns calls o) ≡ phase.Idle
-        → (cond b (Some (halts.Ended s.status)) (halt_if turns calls (is_wanted s left) o) ≡ cond (is_wanted s left) None (Some halts.Stuck)) × (is_some o ≡ false)
+    by_end : (b : Bool) (o : Option ℕ) → cond b (phase.Ended s.state.status) (phase_by turns calls o) ≡ phase.Idle
+        → (cond b (Some (halts.Ended s.state.status)) (halt_if turns calls (is_wanted s left) o) ≡ cond (is_wanted s left) None (Some halts.Stuck)) × (is_some o ≡ false)
     by_end true o h = absurd (cc)
     by_end false None h = (refl, refl)
     by_end false (Some t) h = absurd (by_count (nat_lt calls turns) h)
@@ -53,19 +53,19 @@ module _ {B : Type 0} (planned : Planned B) (plan : Plan B) where
   abbrev advanced_by : Bool → Plan B
   advanced_by b = elim b as (λ _. Plan B) [ true ↦ one_call planned (boundary planned plan) | false ↦ boundary planned plan ]
 
-  pub turn-round : phase_of (state_of plan) planned.turns plan.calls ≡ phase.Turn → round planned plan ≡ one_call planned (boundary planned plan)
-  turn-round h = let t = turn-both (state_of plan) planned.turns plan.calls plan.left h in ap round_by t.0 ∙ ap advanced_by t.1
+  pub turn-round : phase_of (pod_of plan).state planned.turns plan.calls ≡ phase.Turn → round planned plan ≡ one_call planned (boundary planned plan)
+  turn-round h = let t = turn-both (pod_of plan) planned.turns plan.calls plan.left h in ap round_by t.0 ∙ ap advanced_by t.1
 
-  module _ (idle : phase_of (state_of plan) planned.turns plan.calls ≡ phase.Idle) where
+  module _ (idle : phase_of (pod_of plan).state planned.turns plan.calls ≡ phase.Idle) where
     pub idle-advanced : advanced planned plan ≡ boundary planned plan
-    idle-advanced = ap advanced_by (idle-both (state_of plan) planned.turns plan.calls plan.left idle).1
+    idle-advanced = ap advanced_by (idle-both (pod_of plan) planned.turns plan.calls plan.left idle).1
 
-    idle-over : (b : Bool) → is_wanted (state_of plan) plan.left ≡ b → plan_over planned plan ≡ cond b None (Some halts.Stuck)
-    idle-over b is = (idle-both (state_of plan) planned.turns plan.calls plan.left idle).0 ∙ ap (λ (b : Bool). cond b None (Some halts.Stuck)) is
+    idle-over : (b : Bool) → is_wanted (pod_of plan) plan.left ≡ b → plan_over planned plan ≡ cond b None (Some halts.Stuck)
+    idle-over b is = (idle-both (pod_of plan) planned.turns plan.calls plan.left idle).0 ∙ ap (λ (b : Bool). cond b None (Some halts.Stuck)) is
 
     abbrev Serves : Type 0
-    Serves = ((boundary planned plan ≡ plan) × (is_wanted (state_of plan) plan.left ≡ false))
-        ⊎ ((length plan.takes + 1 ≤ length (boundary planned plan).takes) × (is_wanted (state_of plan) plan.left ≡ true))
+    Serves = ((boundary planned plan ≡ plan) × (is_wanted (pod_of plan) plan.left ≡ false))
+        ⊎ ((length plan.takes + 1 ≤ length (boundary planned plan).takes) × (is_wanted (pod_of plan) plan.left ≡ true))
 
     pub idle-round : round planned plan ≡ boundary planned plan
     idle-round = by (boundary-or planned plan)

@@ -1,9 +1,10 @@
 -- A delivery leaves whoever may run in the order, and ends no pod.
 use Rattle.std.proofs.Common.{◌≡◌, ℕ, List, [], ◌∷◌, ◌++◌, Bool, true, false, cond, eqb, None, Some, ◌∙◌, refl}
-use Rattle.std.specs.Prelude.{Option, is_some, nat_le}
+use Rattle.std.specs.Prelude.{Option, is_some, nat_le, not, ◌&&◌}
 use Rattle.std.specs.List.{fold}
 use Rattle.event_gate.specs.Shelves.{first_left}
-use Rattle.lwp_types.specs.Agents.{armed, deliver, deliver_to, event_agents, message}
+use Rattle.pod_events.specs.Events.{EventState, has_turn, is_takeable, is_trapped, passed_on, take_event, trap_taken}
+use Rattle.lwp_types.specs.Agents.{deliver, deliver_to, event_agents, message}
 use Rattle.lwp_types.specs.Choice.{best_by, better_by, choice}
 use Rattle.lwp_types.specs.Letters.{as_answer, as_received, post, takes_from}
 use Rattle.lwp_types.specs.State.{Outcome, State, and_then, for_each, is_suspended_in, passes, priority_in, still, thread_of}
@@ -12,7 +13,7 @@ use Rattle.lwp_types.specs.Unblock.{unblock}
 use Rattle.lwp_types.specs.declared.call.Line.{Line}
 use Rattle.lwp_types.specs.declared.rows.AgentRow.{AgentRow}
 use Rattle.lwp_types.specs.declared.rows.Letter.{Letter}
-use Rattle.pod_runner.specs.Eager.{Plan, Planned, boundary, offered, offered_by, state_of, taken_line}
+use Rattle.pod_runner.specs.Eager.{Plan, Planned, boundary, offered, offered_by, pod_of, taken_line}
 use Rattle.pod_runner.specs.Over.{events}
 use Rattle.pod_runner.specs.Phase.{phase_by, phase_of}
 use Rattle.pod_runner.specs.Session.{taken}
@@ -78,6 +79,14 @@ deliver-kept s e text = by_clock (eqb e 0)
     by_clock true = tick-kept s
     by_clock false = kept-each (deliver_to text) (deliver_to-kept text) (event_agents s.agents e) s
 
+pub take-kept : (es : EventState) (e : ℕ) (text : List ℕ) → Kept es.state (take_event es e text).after.state
+unfolding take_event
+take-kept es e text = by_trapped (is_trapped es.trapped e)
+  where
+    by_trapped : (b : Bool) → Kept es.state (cond b (trap_taken es e) (passed_on es (deliver es.state e text))).after.state
+    by_trapped true = record { ended = refl; chosen = λ h. h }
+    by_trapped false = deliver-kept es.state e text
+
 pub phase-kept : (s u : State) (turns calls : ℕ) → Kept s u → phase_of s turns calls ≡ phase.Turn → phase_of u turns calls ≡ phase.Turn
 phase-kept s u turns calls k h = by_end s.ended (choice s) u.ended (choice u) k.ended k.chosen h
   where
@@ -89,14 +98,23 @@ phase-kept s u turns calls k h = by_end s.ended (choice s) u.ended (choice u) k.
     by_end false (Some t) false None e c h = let no = c refl in absurd (cc)
     by_end false (Some t) false (Some u) e c h = h
 
+-- in phase Turn somebody may run, and the pod goes on
+pub phase-runs : (s : State) (turns calls : ℕ) → phase_of s turns calls ≡ phase.Turn → has_turn s ≡ true
+phase-runs s turns calls h = by_end s.ended (choice s) h
+  where
+    by_end : (a : Bool) (o : Option ℕ) → cond a (phase.Ended s.status) (phase_by turns calls o) ≡ phase.Turn → (not a && is_some o) ≡ true
+    by_end true o h = absurd (cc)
+    by_end false None h = absurd (cc)
+    by_end false (Some t) h = refl
+
 module _ {B : Type 0} (planned : Planned B) where
-  taken-turn : (e : ℕ) (line : Line) (plan : Plan B) → phase_of (state_of plan) planned.turns plan.calls ≡ phase.Turn
-      → phase_of (state_of (taken_line planned e line plan)) planned.turns (taken_line planned e line plan).calls ≡ phase.Turn
+  taken-turn : (e : ℕ) (line : Line) (plan : Plan B) → phase_of (pod_of plan).state planned.turns plan.calls ≡ phase.Turn
+      → phase_of (pod_of (taken_line planned e line plan)).state planned.turns (taken_line planned e line plan).calls ≡ phase.Turn
   unfolding taken
-  taken-turn e line plan h = phase-kept (state_of plan) (deliver (state_of plan) e line.text).after planned.turns plan.calls (deliver-kept (state_of plan) e line.text) h
+  taken-turn e line plan h = phase-kept (pod_of plan).state (take_event (pod_of plan) e line.text).after.state planned.turns plan.calls (take-kept (pod_of plan) e line.text) h
 
   abbrev IsTurn : Plan B → Type 0
-  IsTurn plan = phase_of (state_of plan) planned.turns plan.calls ≡ phase.Turn
+  IsTurn plan = phase_of (pod_of plan).state planned.turns plan.calls ≡ phase.Turn
 
   by_line : (e : ℕ) (plan : Plan B) (o : Option Line) → IsTurn plan → IsTurn (offered_by planned e plan o)
   by_line e plan None h = h
@@ -108,7 +126,7 @@ module _ {B : Type 0} (planned : Planned B) where
 
   serves-turn : (es : List ℕ) (plan : Plan B) → IsTurn plan → IsTurn (fold (λ (now : Plan B) e. offered planned e now) plan es)
   serves-turn [] plan h = h
-  serves-turn (e ∷ es) plan h = serves-turn es (offered planned e plan) (by_armed e plan (armed (state_of plan) e) h)
+  serves-turn (e ∷ es) plan h = serves-turn es (offered planned e plan) (by_armed e plan (is_takeable (pod_of plan) e) h)
 
   pub boundary-turn : (plan : Plan B) → IsTurn plan → IsTurn (boundary planned plan)
   boundary-turn plan h = serves-turn events plan h

@@ -9,6 +9,7 @@ pub mod Kept
 pub mod Ends
 pub mod Rounds
 pub mod Lawfuls
+pub mod Moving
 pub mod Armed
 pub mod Lives
 pub mod Looks

@@ -6,11 +6,11 @@ use Rattle.std.proofs.lemmas.Bool.{cases_lt, eq-eqb, eqb-true, ne_eqb}
 use Rattle.std.proofs.lemmas.List.{get_or-map, get_or-set_other, get_or-set_same, length-map, length-set, map-append}
 use Rattle.std.proofs.lemmas.List.Elements.{All-append, filter-append}
 use Rattle.event_gate.specs.Inlet.{Intake, InletFindsNothing, InletTakes, IsInletTaken, IsInletTold}
-use Rattle.lwp_types.specs.Agents.{armed, deliver}
+use Rattle.pod_events.specs.Events.{EventState, has_turn, is_takeable, take_event}
 use Rattle.lwp_types.specs.Poll.{Next}
 use Rattle.lwp_types.specs.declared.call.Line.{Line}
 use Rattle.pod_runner.specs.Due.{IsDefined}
-use Rattle.pod_runner.specs.Inlets.{IsSeen, Serves, ServesAt, Takes}
+use Rattle.pod_runner.specs.Inlets.{IsCalm, IsSeen, Serves, ServesAt, Takes}
 use Rattle.pod_runner.specs.Live.{AllTold, Answers, Draws, EachInlet, EventsRise, Extends, Gives, Halts, HasEvent, IsQuiet, IsWanted, LivesOn, NoneComes, drawn_from, is_take_of, lines_taken, looks, may_lose}
 use Rattle.pod_runner.specs.Over.{can_take, events, halt_if, is_wanted, over}
 use Rattle.pod_runner.specs.Phase.{phase_by, phase_of}
@@ -19,7 +19,6 @@ use Rattle.pod_runner.specs.declared.phase.Phase.{Phase}
 use Rattle.trace_text.specs.declared.ends.Halt.{Halt}
 use Rattle.trace_text.specs.declared.ends.Halt.TheVariants as halts
 use Rattle.lwp_types.specs.Choice.{choice}
-use Rattle.lwp_types.specs.State.{State}
 use Rattle.std.proofs.lemmas.Bool.Decides.{nat_tests}
 use Rattle.pod_runner.specs.Run.{Broke, EndsAt, GoesOn, Played, Tells, Wrote, but_last, session_of, phase_now, setting_of, stepped, took_now, trace_before, trace_of, with_call, with_took}
 use Rattle.whole_streams.specs.Streams.{Stream}
@@ -31,8 +30,8 @@ use Rattle.pod_runner.specs.declared.phase.Phase.TheVariants as phase
 use Rattle.pod_runner.specs.declared.phase.RunErr.{RunErr}
 use Rattle.pod_runner.specs.declared.phase.RunErr.TheVariants as fails
 use Rattle.pod_runner.specs.declared.session.Took.{Took}
-use Rattle.pod_runner.proofs.Armed.{deliver-fewer}
-use Rattle.pod_runner.proofs.Kept.{deliver-kept, phase-kept}
+use Rattle.pod_runner.proofs.Armed.{take-fewer}
+use Rattle.pod_runner.proofs.Kept.{phase-kept, phase-runs, take-kept}
 use Rattle.pod_runner.proofs.Plays.{LastBy-of, play-call, play-take}
 use Rattle.pod_runner.proofs.Rounds.{but_last-extended, goes-same, goes-then, stream, tells-then}
 
@@ -406,21 +405,33 @@ module _ {B P : Type 0} (next : Next B) (bodies : P → List B) (procs : P → L
   -- ---- one inlet is served
 
   takes-none : (run : Played P) → Takes next bodies run run
-  takes-none run = record { still = refl; turn = λ h. h; fewer = λ e h. h }
+  takes-none run = record { still = refl; more = omega arith; turn = λ h. h; fewer = λ calm e h. h }
 
   takes-then : (a b c : Played P) → Takes next bodies a b → Takes next bodies b c → Takes next bodies a c
-  takes-then a b c p q = record { still = q.still ∙ p.still; turn = λ h. q.turn (p.turn h); fewer = λ e h. p.fewer e (q.fewer e h) }
+  takes-then a b c p q = record { still = q.still ∙ p.still; more = omega (arith, p.more, q.more); turn = λ h. q.turn (p.turn h); fewer = fewer }
+    where
+      fewer : IsCalm next bodies a c → (e : ℕ) → is_takeable (session_of next bodies c).live.pod e ≡ true → is_takeable (session_of next bodies a).live.pod e ≡ true
+      fewer (inl turn) e h = p.fewer (inl turn) e (q.fewer (inl (p.turn turn)) e h)
+      fewer (inr same) e h = p.fewer (inr (omega (arith, same, p.more, q.more))) e (q.fewer (inr (omega (arith, same, p.more, q.more))) e h)
 
   takes-line : (run : Played P) (e : ℕ) (line : Line) → Takes next bodies run (with_took run e line)
   unfolding taken
   takes-line run e line =
-      let s = (session_of next bodies run).live.state in
-      let now = ap (λ (u : Session B). u.live.state) (take-last run e line) in
+      let s = (session_of next bodies run).live.pod in
+      let now = ap (λ (u : Session B). u.live.pod) (take-last run e line) in
       record {
         still = refl;
-        turn = λ h. ap (λ state. phase_of state run.turns run.calls) now ∙ phase-kept s (deliver s e line.text).after run.turns run.calls (deliver-kept s e line.text) h;
-        fewer = λ x h. deliver-fewer s e line.text x (ap (λ state. armed state x) (sym now) ∙ h);
+        more = omega (arith, longer);
+        turn = λ h. ap (λ (pod : EventState). phase_of pod.state run.turns run.calls) now ∙ phase-kept s.state (take_event s e line.text).after.state run.turns run.calls (take-kept s e line.text) h;
+        fewer = λ calm x h. take-fewer s e line.text x (runs calm) (ap (λ pod. is_takeable pod x) (sym now) ∙ h);
       }
+    where
+      longer : length (run.takes ++ took_now run e line ∷ []) ≡ length run.takes + 1
+      longer = omega (arith, length-append run.takes (took_now run e line ∷ []))
+
+      runs : IsCalm next bodies run (with_took run e line) → has_turn (session_of next bodies run).live.pod.state ≡ true
+      runs (inl turn) = phase-runs (session_of next bodies run).live.pod.state run.turns run.calls turn
+      runs (inr same) = absurd (omega (arith, same, longer))
 
   serves-at : (i : ℕ) (old new : Played P) (t u : Intake) (before after : List Intake) → i < length before → ((d : Intake) → slice_index_or before i d ≡ t) → after ≡ slice_set before i u
       → Takes next bodies old new → IsSeen next bodies old new t u → ServesAt next bodies i old new before after
@@ -432,20 +443,20 @@ module _ {B P : Type 0} (next : Next B) (bodies : P → List B) (procs : P → L
   }
 
   pub served-unarmed : (i : ℕ) (run : Played P) (t u : Intake) (before after : List Intake) → i < length before → ((d : Intake) → slice_index_or before i d ≡ t) → after ≡ slice_set before i u → u ≡ t
-      → armed (session_of next bodies run).live.state t.event ≡ false → ServesAt next bodies i run run before after
+      → is_takeable (session_of next bodies run).live.pod t.event ≡ false → ServesAt next bodies i run run before after
   served-unarmed i run t u before after within at set same unarmed = serves-at i run run t u before after within at set (takes-none run) (record {
-    looked = λ h. absurd (never h);
+    looked = λ turn h. absurd (never h);
     found = λ e h. absurd (never h);
   })
     where
       never : IsWanted next bodies run u → ⊥
-      never h = let e : armed (session_of next bodies run).live.state u.event ≡ armed (session_of next bodies run).live.state t.event = ap (λ (w : Intake). armed (session_of next bodies run).live.state w.event) same in
+      never h = let e : is_takeable (session_of next bodies run).live.pod u.event ≡ is_takeable (session_of next bodies run).live.pod t.event = ap (λ (w : Intake). is_takeable (session_of next bodies run).live.pod w.event) same in
           absurd (cc)
 
   pub served-none : (i : ℕ) (run : Played P) (t u : Intake) (before after : List Intake) → i < length before → ((d : Intake) → slice_index_or before i d ≡ t) → after ≡ slice_set before i u
       → InletFindsNothing t u → (IsInletTold t → IsInletTaken t) → ServesAt next bodies i run run before after
   served-none i run t u before after within at set none taken = serves-at i run run t u before after within at set (takes-none run) (record {
-    looked = λ h. omega (arith, many);
+    looked = λ turn h. omega (arith, many);
     found = λ e h. (omega (arith, finds), subst (λ w. IsInletTold w → IsInletTaken w) (sym none.after) taken);
   })
     where
@@ -460,7 +471,7 @@ module _ {B P : Type 0} (next : Next B) (bodies : P → List B) (procs : P → L
   served-line i line old new t u before after (Err e) within at set takes is = tt
   served-line i line old new t u before after (Ok x) within at set takes is = serves-at i old new t u before after within at set
       (subst (λ n. Takes next bodies old n) (sym is) (takes-line old t.event line)) (record {
-        looked = λ h. omega (arith, many, length-append t.taken (line ∷ []));
+        looked = λ turn h. omega (arith, many, length-append t.taken (line ∷ []));
         found = λ same h. absurd (omega (arith, same, longer, length-append old.takes (took_now old t.event line ∷ [])));
       })
     where
@@ -520,12 +531,12 @@ module _ {B P : Type 0} (next : Next B) (bodies : P → List B) (procs : P → L
 
       earlier : (v w : Intake) → IsSeen next bodies old mid v w → IsSeen next bodies old new v w
       earlier v w seen = record {
-        looked = λ wanted. seen.looked (at.takes.fewer w.event wanted);
-        found = λ same wanted. seen.found (omega (arith, same, first, second)) (at.takes.fewer w.event wanted);
+        looked = λ turn wanted. seen.looked turn (at.takes.fewer (inl (h.takes.turn turn)) w.event wanted);
+        found = λ same wanted. seen.found (omega (arith, same, first, second)) (at.takes.fewer (inr (omega (arith, same, first, second))) w.event wanted);
       }
 
       now : (v w : Intake) → IsSeen next bodies mid new v w → IsSeen next bodies old new v w
-      now v w seen = record { looked = seen.looked; found = λ same wanted. seen.found (omega (arith, same, first, second)) wanted }
+      now v w seen = record { looked = λ turn. seen.looked (h.takes.turn turn); found = λ same wanted. seen.found (omega (arith, same, first, second)) wanted }
 
       by : (k : ℕ) (d : Intake) → k < n + 1 → k < length before → (k < n) ⊎ (n ≤ k) → IsSeen next bodies old new (slice_index_or before k d) (slice_index_or after k d)
       by k d below low (inl under) = subst (IsSeen next bodies old new (slice_index_or before k d)) (sym (at.others k d (λ e. absurd (omega (arith, e, under)))))
@@ -542,7 +553,7 @@ module _ {B P : Type 0} (next : Next B) (bodies : P → List B) (procs : P → L
       let e : length new.takes ≡ length (old.takes ++ h.draws.later) = ap length h.draws.extends.takes in
       let none = none-of h.draws.later (omega (arith, e, same, length-append old.takes h.draws.later)) in
       let still : new.takes ≡ old.takes = h.draws.extends.takes ∙ ap (λ l. old.takes ++ l) none ∙ append-nil old.takes in
-      (λ i. phase_of (play (record { next = next; bodies = bodies (h.same.program i); params = h.same.params i; names = h.same.names i }) (still i) (takes.still i)).live.state (h.same.turns i) (takes.still i))
+      (λ i. phase_of (play (record { next = next; bodies = bodies (h.same.program i); params = h.same.params i; names = h.same.names i }) (still i) (takes.still i)).live.pod.state (h.same.turns i) (takes.still i))
 
   pub none-comes : {T : Type 0} (s : Stream) (old new : Played P) (before after : List Intake) (r : Result T RunErr) → Lived s old new before after r → Serves next bodies (length before) old new before after
       → length new.takes ≡ length old.takes → AllTold after → NoneComes next bodies new after
@@ -587,16 +598,16 @@ halt_of phase.Spent = halts.Spent
 halt_of phase.Turn = halts.Stuck
 halt_of phase.Idle = halts.Stuck
 
-none-wanted : (s : State) (es : List ℕ) → list_any (λ e. can_take s [] e) es ≡ false
+none-wanted : (s : EventState) (es : List ℕ) → list_any (λ e. can_take s [] e) es ≡ false
 none-wanted s [] = refl
-none-wanted s (e ∷ es) = by (armed s e) (none-wanted s es)
+none-wanted s (e ∷ es) = by (is_takeable s e) (none-wanted s es)
   where
     by : (b : Bool) → list_any (λ e. can_take s [] e) es ≡ false → ((b && false) || list_any (λ e. can_take s [] e) es) ≡ false
     by true h = h
     by false h = h
 
-over-phase : (s : State) (turns calls : ℕ) → phase_of s turns calls ≢ phase.Turn → over turns s calls [] ≡ Some (halt_of (phase_of s turns calls))
-over-phase s turns calls h = by_end s.ended (choice s) h
+over-phase : (s : EventState) (turns calls : ℕ) → phase_of s.state turns calls ≢ phase.Turn → over turns s calls [] ≡ Some (halt_of (phase_of s.state turns calls))
+over-phase s turns calls h = by_end s.state.ended (choice s.state) h
   where
     by_count : (a b : Bool) → nat_lt calls turns ≡ a → nat_le turns calls ≡ b → cond a phase.Turn phase.Spent ≢ phase.Turn
         → cond b (Some halts.Spent) None ≡ Some (halt_of (cond a phase.Turn phase.Spent))
@@ -604,15 +615,15 @@ over-phase s turns calls h = by_end s.ended (choice s) h
     by_count false true isa isb h = refl
     by_count false false isa isb h = absurd (grind (arith, nat_tests))
 
-    by_end : (b : Bool) (o : Option ℕ) → cond b (phase.Ended s.status) (phase_by turns calls o) ≢ phase.Turn
-        → cond b (Some (halts.Ended s.status)) (halt_if turns calls (is_wanted s []) o) ≡ Some (halt_of (cond b (phase.Ended s.status) (phase_by turns calls o)))
+    by_end : (b : Bool) (o : Option ℕ) → cond b (phase.Ended s.state.status) (phase_by turns calls o) ≢ phase.Turn
+        → cond b (Some (halts.Ended s.state.status)) (halt_if turns calls (is_wanted s []) o) ≡ Some (halt_of (cond b (phase.Ended s.state.status) (phase_by turns calls o)))
     by_end true o h = refl
     by_end false None h = ap (λ b. cond b None (Some halts.Stuck)) (none-wanted s events)
     by_end false (Some t) h = by_count (nat_lt calls turns) (nat_le turns calls) refl refl h
 
 module _ {B P : Type 0} (next : Next B) (bodies : P → List B) (procs : P → List (List ℕ)) (run : Played P) where
   ends-by : (now : Phase) → phase_now next bodies run ≡ now → now ≢ phase.Turn → EndsAt next bodies run [] (halt_of now)
-  ends-by now is other = over-phase (session_of next bodies run).live.state run.turns run.calls (λ e. other (sym is ∙ e)) ∙ ap (λ now. Some (halt_of now)) is
+  ends-by now is other = over-phase (session_of next bodies run).live.pod run.turns run.calls (λ e. other (sym is ∙ e)) ∙ ap (λ now. Some (halt_of now)) is
 
   pub halts-stuck : (inlets : List Intake) → phase_now next bodies run ≡ phase.Idle → NoneComes next bodies run inlets → Halts next bodies run inlets halts.Stuck
   halts-stuck inlets is none = (ends-by phase.Idle is (λ e. absurd (cc)), λ e. none)

@@ -7,16 +7,17 @@ use Rattle.std.proofs.lemmas.Bool.Decides.{nat_tests}
 use Rattle.std.proofs.lemmas.List.{reverse-append, reverse-reverse}
 use Rattle.std.proofs.lemmas.List.Elements.{filter-append}
 use Rattle.event_gate.specs.Inlet.{Intake}
-use Rattle.lwp_types.specs.Agents.{armed}
+use Rattle.pod_events.specs.Events.{is_takeable}
 use Rattle.lwp_types.specs.Poll.{Next}
 use Rattle.pod_runner.specs.Due.{AllDue, IsDefined, TakeDue, armed_calls, counted_to, is_armed_at, is_call_due, is_take_due, takes_by}
 use Rattle.pod_runner.specs.Inlets.{Serves, Takes}
 use Rattle.pod_runner.specs.Live.{Draws, Gives, LivesOn, LooksAt, LooksAtAll, armed_count, lines_taken, looks}
 use Rattle.pod_runner.specs.Play.{play, played, with_take}
-use Rattle.pod_runner.specs.Run.{GoesOn, Played, session_of, setting_of, stepped, with_call}
+use Rattle.pod_runner.specs.Run.{GoesOn, Played, phase_now, session_of, setting_of, stepped, with_call}
 use Rattle.whole_streams.specs.Streams.{Stream}
 use Rattle.pod_runner.specs.Session.{Session, Setting}
 use Rattle.pod_runner.specs.declared.phase.RunErr.{RunErr}
+use Rattle.pod_runner.specs.declared.phase.Phase.TheVariants as phase
 use Rattle.pod_runner.specs.declared.session.Took.{Took}
 use Rattle.pod_runner.proofs.Lives.{gives-event}
 
@@ -84,18 +85,18 @@ armed-same setting takes later e (suc m) h =
     let late : All (λ took. m < took.turn) later = λ k d low. let l = h k d low in omega (arith, l) in
     let same : takes_by m (takes ++ later) ≡ takes_by m takes
     = filter-append (λ (t : Took). nat_le t.turn m) takes later ∙ ap (λ xs. takes_by m takes ++ xs) (late-all m later late) ∙ append-nil (takes_by m takes) in
-    let now : is_armed_at setting (takes ++ later) e m ≡ is_armed_at setting takes e m = ap (λ xs. armed (play setting xs m).live.state e) same in
+    let now : is_armed_at setting (takes ++ later) e m ≡ is_armed_at setting takes e m = ap (λ xs. is_takeable (play setting xs m).live.pod e) same in
     filter-append (is_armed_at setting (takes ++ later) e) (counted_to m) (m ∷ [])
     ∙ (λ i. armed-same setting takes later e m (λ k d low. let l = h k d low in omega (arith, l)) i ++ cond (now i) (m ∷ []) [])
     ∙ sym (filter-append (is_armed_at setting takes e) (counted_to m) (m ∷ []))
 
 -- a call more counts where the event waits before it
 armed-call : {B : Type 0} (setting : Setting B) (takes : List Took) (e n : ℕ) → IsDefined setting takes n
-    → armed_calls setting takes (n + 1) e ≡ armed_calls setting takes n e ++ cond (armed (play setting takes n).live.state e) (n ∷ []) []
+    → armed_calls setting takes (n + 1) e ≡ armed_calls setting takes n e ++ cond (is_takeable (play setting takes n).live.pod e) (n ∷ []) []
 armed-call setting takes e n h =
     ap (λ m. armed_calls setting takes m e) (add-one n)
     ∙ filter-append (is_armed_at setting takes e) (counted_to n) (n ∷ [])
-    ∙ ap (λ xs. armed_calls setting takes n e ++ cond (armed (play setting xs n).live.state e) (n ∷ []) []) (by-now setting takes n h)
+    ∙ ap (λ xs. armed_calls setting takes n e ++ cond (is_takeable (play setting xs n).live.pod e) (n ∷ []) []) (by-now setting takes n h)
 
 gives-looks : (takes : List Took) (t u : Intake) → Gives takes t u → looks t ≤ looks u
 gives-looks takes t u h =
@@ -139,11 +140,12 @@ module _ {B P : Type 0} (next : Next B) (bodies : P → List B) (procs : P → L
 
   -- a call behind all inlets
   pub looks-call : {T U : Type 0} (s : Stream) (old mid new : Played P) (before after : List Intake) (x : T) (y : U)
+      → phase_now next bodies old ≡ phase.Turn
       → LivesOn next bodies procs s old mid before after (Ok x) → Serves next bodies (length before) old mid before after → new ≡ stepped {T = U} mid (with_call mid) (Ok y)
       → LooksAtAll next bodies old new before after
-  looks-call s old mid new before after x y h serves is = (h.draws.given.0, λ k d low. one k d low (armed (session_of next bodies mid).live.state (slice_index_or before k d).event) refl)
+  looks-call s old mid new before after x y turn h serves is = (h.draws.given.0, λ k d low. one k d low (is_takeable (session_of next bodies mid).live.pod (slice_index_or before k d).event) refl)
     where
-      one : (k : ℕ) (d : Intake) → k < length before → (b : Bool) → armed (session_of next bodies mid).live.state (slice_index_or before k d).event ≡ b
+      one : (k : ℕ) (d : Intake) → k < length before → (b : Bool) → is_takeable (session_of next bodies mid).live.pod (slice_index_or before k d).event ≡ b
           → LooksAt next bodies old new (slice_index_or before k d) (slice_index_or after k d)
       one k d low b waits =
           let t = slice_index_or before k d in
@@ -156,7 +158,7 @@ module _ {B P : Type 0} (next : Next B) (bodies : P → List B) (procs : P → L
           = ap (λ n. armed_count next bodies n t.event) is
           ∙ ap length (armed-call (setting_of next bodies mid) mid.takes t.event mid.calls h.made)
           ∙ ap (λ c. length (armed_calls (setting_of next bodies mid) mid.takes mid.calls t.event ++ cond c (mid.calls ∷ []) [])) waits in
-          by b t u more still added (λ yes_b. (serves.seen k d low low).looked (ap (λ e. armed (session_of next bodies mid).live.state e) event ∙ waits ∙ yes_b))
+          by b t u more still added (λ yes_b. (serves.seen k d low low).looked turn (ap (λ e. is_takeable (session_of next bodies mid).live.pod e) event ∙ waits ∙ yes_b))
         where
           by : (b : Bool) (t u : Intake) → looks t ≤ looks u → armed_count next bodies mid t.event ≡ armed_count next bodies old t.event
               → armed_count next bodies new t.event ≡ length (armed_calls (setting_of next bodies mid) mid.takes mid.calls t.event ++ cond b (mid.calls ∷ []) [])

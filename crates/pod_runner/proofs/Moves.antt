@@ -2,13 +2,13 @@
 use Rattle.std.proofs.Common.{◌≡◌, ℕ, ◌<◌, ◌≤◌, List, [], length, None, Some, sym, ap, ◌∙◌, refl, arith, inl, inr, true, false, Bool}
 use Rattle.std.specs.Prelude.{Option, slice_get, if◌then◌else◌}
 use Rattle.std.proofs.lemmas.Option.{slice_get_past, slice_get_cases}
-use Rattle.lwp_calls.specs.Pod.{current_of}
-use Rattle.lwp_types.specs.Agents.{deliver}
+use Rattle.pod_events.specs.Machine.{current_of}
+use Rattle.pod_events.specs.Events.{EventState, take_event}
 use Rattle.lwp_types.specs.Choice.{choice}
 use Rattle.lwp_types.specs.Names.{Names, polled_as}
 use Rattle.lwp_types.specs.Poll.{Next}
 use Rattle.lwp_types.specs.State.{State}
-use Rattle.lwp_types.specs.Step.{step}
+use Rattle.pod_events.specs.Step.{event_step}
 use Rattle.lwp_types.specs.declared.call.Call.{Call}
 use Rattle.lwp_types.specs.declared.call.Effect.{Effect}
 use Rattle.pod_runner.specs.Parts.{Moves}
@@ -30,22 +30,22 @@ chosen_from s t h = by_end s.ended h
 pub slice_get_present : {X : Type 0} (xs : List X) (i : ℕ) → i < length xs → (x : X) × (slice_get xs i ≡ Some x)
 slice_get_present xs i there = elim (slice_get_cases xs i).1 [ inl w ↦ (w.0, w.2) | inr w ↦ absurd (omega arith) ]
 
-pub move_no_row : {B : Type 0} (next : Next B) (bodies : List B) (live : Live B) (t : ℕ) → choice live.state ≡ Some t → length live.rows ≤ place_of t live.rows → move next bodies live ≡ unmoved live
+pub move_no_row : {B : Type 0} (next : Next B) (bodies : List B) (live : Live B) (t : ℕ) → choice live.pod.state ≡ Some t → length live.rows ≤ place_of t live.rows → move next bodies live ≡ unmoved live
 unfolding move
 move_no_row next bodies live t h past = rw (h, row_of-place t live.rows, slice_get_past live.rows (place_of t live.rows) past) refl
 
-move_some : {B : Type 0} (next : Next B) (bodies : List B) (live : Live B) (t : ℕ) (row : Row B) → choice live.state ≡ Some t → row_of t live.rows ≡ Some row
+move_some : {B : Type 0} (next : Next B) (bodies : List B) (live : Live B) (t : ℕ) (row : Row B) → choice live.pod.state ≡ Some t → row_of t live.rows ≡ Some row
     → move next bodies live ≡ called bodies live t (next row.body (polled_as t live.names) row.answer)
 unfolding move
 move_some next bodies live t row h there = rw (h, there) refl
 
 -- a call that was carried out
-pub moved : {B : Type 0} (next : Next B) (bodies : List B) (live : Live B) (t : ℕ) (row : Row B) (call : Call) (after : State) (effects : List Effect) (mid rows : List (Row B)) (names : Names)
-    → choice live.state ≡ Some t → slice_get live.rows (place_of t live.rows) ≡ Some row
+pub moved : {B : Type 0} (next : Next B) (bodies : List B) (live : Live B) (t : ℕ) (row : Row B) (call : Call) (after : EventState) (effects : List Effect) (mid rows : List (Row B)) (names : Names)
+    → choice live.pod.state ≡ Some t → slice_get live.rows (place_of t live.rows) ≡ Some row
     → Polls next row (polled_as t live.names) call (place_of t live.rows) live.rows mid names
-    → after ≡ (step live.state call).after → effects ≡ (step live.state call).effects
+    → after ≡ (event_step live.pod call).after → effects ≡ (event_step live.pod call).effects
     → rows ≡ settled bodies (proc_of call) effects mid
-    → move next bodies live ≡ record { live = record { state = after; rows = rows; names = names }; effects = effects }
+    → move next bodies live ≡ record { live = record { pod = after; rows = rows; names = names }; effects = effects }
 unfolding called
 moved next bodies live t row call after effects mid rows names h there polls a e r =
     let found : row_of t live.rows ≡ Some row = row_of-place t live.rows ∙ there in
@@ -54,12 +54,12 @@ moved next bodies live t row call after effects mid rows names h there polls a e
     move_some next bodies live t row h found ∙ rw (r, e, a, left, polls.names, polls.gives) refl
 
 -- the same, by the place of the row, with its lines
-pub moves_at : {B : Type 0} (next : Next B) (bodies : List B) (procs : List (List ℕ)) (live : Live B) (t i : ℕ) (known : Names) (call : Call) (after : State) (effects : List Effect) (mid rows : List (Row B)) (names : Names) (out : List ℕ) (born : Option ℕ)
-    → choice live.state ≡ Some t → i ≡ place_of t live.rows → i < length live.rows → known ≡ polled_as t live.names
+pub moves_at : {B : Type 0} (next : Next B) (bodies : List B) (procs : List (List ℕ)) (live : Live B) (t i : ℕ) (known : Names) (call : Call) (after : EventState) (effects : List Effect) (mid rows : List (Row B)) (names : Names) (out : List ℕ) (born : Option ℕ)
+    → choice live.pod.state ≡ Some t → i ≡ place_of t live.rows → i < length live.rows → known ≡ polled_as t live.names
     → ((row : Row B) → slice_get live.rows i ≡ Some row → Polls next row known call i live.rows mid names)
-    → after ≡ (step live.state call).after → effects ≡ (step live.state call).effects
+    → after ≡ (event_step live.pod call).after → effects ≡ (event_step live.pod call).effects
     → born ≡ proc_of call → rows ≡ settled bodies born effects mid → out ≡ step_lines procs None effects
-    → Moves procs None (move next bodies live) (record { state = after; rows = rows; names = names }) out
+    → Moves procs None (move next bodies live) (record { pod = after; rows = rows; names = names }) out
 moves_at next bodies procs live t i known call after effects mid rows names out born h at there k polls a e b r o =
     let found = slice_get_present live.rows i there in
     let is : slice_get live.rows (place_of t live.rows) ≡ Some found.0 = ap (slice_get live.rows) (sym at) ∙ found.1 in
@@ -68,16 +68,16 @@ moves_at next bodies procs live t i known call after effects mid rows names out 
     record { live = rw m refl; lines = o ∙ rw m refl }
 
 -- with no row, nothing happens
-pub moves_none : {B : Type 0} (next : Next B) (bodies : List B) (procs : List (List ℕ)) (live : Live B) (t : ℕ) (out : List ℕ) → choice live.state ≡ Some t → length live.rows ≤ place_of t live.rows → out ≡ [] → Moves procs None (move next bodies live) live out
+pub moves_none : {B : Type 0} (next : Next B) (bodies : List B) (procs : List (List ℕ)) (live : Live B) (t : ℕ) (out : List ℕ) → choice live.pod.state ≡ Some t → length live.rows ≤ place_of t live.rows → out ≡ [] → Moves procs None (move next bodies live) live out
 moves_none next bodies procs live t out h past none = let m = move_no_row next bodies live t h past in record { live = rw m refl; lines = none ∙ rw m refl }
 
 -- a line was taken
-pub taken_moves : {B : Type 0} (bodies : List B) (procs : List (List ℕ)) (live : Live B) (took : Took) (after : State) (effects : List Effect) (rows : List (Row B)) (out : List ℕ)
-    → after ≡ (deliver live.state took.event took.line.text).after → effects ≡ (deliver live.state took.event took.line.text).effects
+pub taken_moves : {B : Type 0} (bodies : List B) (procs : List (List ℕ)) (live : Live B) (took : Took) (after : EventState) (effects : List Effect) (rows : List (Row B)) (out : List ℕ)
+    → after ≡ (take_event live.pod took.event took.line.text).after → effects ≡ (take_event live.pod took.event took.line.text).effects
     → rows ≡ settled bodies None effects live.rows → out ≡ step_lines procs (Some took.line) effects
-    → Moves procs (Some took.line) (taken bodies took live) (record { state = after; rows = rows; names = live.names }) out
+    → Moves procs (Some took.line) (taken bodies took live) (record { pod = after; rows = rows; names = live.names }) out
 unfolding taken
 taken_moves bodies procs live took after effects rows out a e r o = record {
-  live = (λ t. record { state = a t; rows = (r ∙ ap (λ effects. settled bodies None effects live.rows) e) t; names = live.names });
+  live = (λ t. record { pod = a t; rows = (r ∙ ap (λ effects. settled bodies None effects live.rows) e) t; names = live.names });
   lines = o ∙ ap (step_lines procs (Some took.line)) e;
 }

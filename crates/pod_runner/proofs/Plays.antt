@@ -1,14 +1,14 @@
 -- A session one step on.
-use Rattle.std.proofs.Common.{◌≡◌, ◌≤◌, ℕ, zero, suc, Bool, true, false, subst, ◌+◌, List, [], ◌∷◌, ◌++◌, ap, ◌∙◌, sym, refl, append_assoc, append-nil, add-one, arith}
-use Rattle.std.specs.Prelude.{Option, reverse, option_map, IsTrue, MatchBool, ◌==◌}
+use Rattle.std.proofs.Common.{◌≡◌, ◌≤◌, ℕ, zero, suc, Bool, true, false, subst, ◌+◌, List, [], ◌∷◌, ◌++◌, ap, ◌∙◌, sym, refl, add-one, append-nil, append_assoc, arith}
+use Rattle.std.specs.Prelude.{Option, option_map, reverse, IsTrue, MatchBool, ◌==◌}
 use Rattle.std.proofs.lemmas.List.{reverse-append}
 use Rattle.std.proofs.lemmas.Bool.{eq-eqb, eqb-true, ne_eqb}
-use Rattle.lwp_types.specs.declared.call.Effect.{Effect}
-use Rattle.trace_text.specs.Lines.{step_lines}
 use Rattle.pod_runner.specs.Due.{AllDue, IsDefined, TakeDue, is_call_due, is_take_due}
 use Rattle.pod_runner.specs.Play.{LastBy, play, played, with_take}
-use Rattle.pod_runner.specs.Session.{Made, Session, Setting, call_step, opening_session, take_step}
+use Rattle.trace_text.specs.Lines.{step_lines}
 use Rattle.pod_runner.specs.Trace.{lines, made_lines}
+use Rattle.lwp_types.specs.declared.call.Effect.{Effect}
+use Rattle.pod_runner.specs.Session.{Made, Session, Setting, call_step, opening_session, take_step}
 use Rattle.pod_runner.specs.declared.session.Took.{Took}
 
 -- with the newest take before it, a call is the last step

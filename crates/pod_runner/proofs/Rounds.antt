@@ -6,12 +6,12 @@ use Rattle.std.specs.List.{fold, range_with_len}
 use Rattle.std.specs.Slice.Scan.{HoldsNowhere}
 use Rattle.std.proofs.lemmas.List.Sums.{fold-append}
 use Rattle.event_gate.specs.Shelves.{Shelves, first_left, left_in_all, taken_from}
-use Rattle.lwp_types.specs.Agents.{armed}
+use Rattle.pod_events.specs.Events.{is_takeable}
 use Rattle.lwp_types.specs.Poll.{Next}
 use Rattle.lwp_types.specs.declared.call.Line.{Line}
 use Rattle.pod_runner.specs.Does.{Does}
 use Rattle.pod_runner.specs.Due.{IsDefined}
-use Rattle.pod_runner.specs.Eager.{IsFirstPart, Plan, Planned, advanced, boundary, finished, offered, one_call, opening_plan, plan_over, plan_whole, round, state_of}
+use Rattle.pod_runner.specs.Eager.{IsFirstPart, Plan, Planned, advanced, boundary, finished, offered, one_call, opening_plan, plan_over, plan_whole, round, pod_of}
 use Rattle.pod_runner.specs.Phase.{phase_of}
 use Rattle.pod_runner.specs.Run.{Broke, GoesOn, IsNew, Played, Tells, WritesPart, Wrote, but_last, plan_now, planned_of, session_of, phase_now, setting_of, stepped, took_now, trace_before, trace_of, with_call, with_took}
 use Rattle.whole_streams.specs.Streams.{Stream}
@@ -27,7 +27,7 @@ use Rattle.pod_runner.specs.declared.session.Took.{Took}
 use Rattle.pod_runner.specs.Over.{can_take, events}
 use Rattle.pod_runner.proofs.Kept.{boundary-turn}
 use Rattle.pod_runner.proofs.Plays.{LastBy-of, play-call, play-take, play-zero}
-use Rattle.pod_runner.proofs.Ends.{idle-on, idle-round, idle-stuck, turn-round}
+use Rattle.pod_runner.proofs.Endings.{idle-on, idle-round, idle-stuck, turn-round}
 use Rattle.pod_runner.proofs.Eagers.{call-grows, falls, finished-grows, finished-over, finished-round, first-same, first-then, offered-grows, to_do, offered-some, offered-unable, serves-grow, serves-none, taken_from-none}
 
 -- ---- what is told
@@ -177,7 +177,7 @@ module _ {B P : Type 0} (next : Next B) (bodies : P → List B) (procs : P → L
 
   -- events that can't be delivered are passed over
   pub events-skip : {T : Type 0} (s : Stream) (old new : Played P) (stock left : Shelves) (a b : ℕ) (x : T) → a ≤ b
-      → HoldsNowhere (can_take (session_of next bodies new).live.state left) a b
+      → HoldsNowhere (can_take (session_of next bodies new).live.pod left) a b
       → Came s (λ planned plan. first_events a planned plan) old new stock left (Ok x) → Came s (λ planned plan. first_events b planned plan) old new stock left (Ok x)
   events-skip s old new stock left a b x up none p =
       let planned = planned_of next bodies old in
@@ -185,7 +185,7 @@ module _ {B P : Type 0} (next : Next B) (bodies : P → List B) (procs : P → L
       let now = plan_now next bodies new left in
       let n = b - a in
       let reach : b ≡ a + n = omega (arith, up) in
-      let still : fold (λ (now : Plan B) e. offered planned e now) now (range_with_len a n) ≡ now = serves-none planned now a n (subst (λ e. HoldsNowhere (can_take (session_of next bodies new).live.state left) a e) reach none) in
+      let still : fold (λ (now : Plan B) e. offered planned e now) now (range_with_len a n) ≡ now = serves-none planned now a n (subst (λ e. HoldsNowhere (can_take (session_of next bodies new).live.pod left) a e) reach none) in
       does-by s (λ planned plan. first_events a planned plan) (λ planned plan. first_events b planned plan) old new stock left (Ok x)
       (sym p.comes ∙ sym still ∙ ap (λ q. fold (λ (now : Plan B) e. offered planned e now) q (range_with_len a n)) p.comes ∙ joined planned plan a n b (sym reach)) p
 
@@ -285,7 +285,7 @@ module _ {B P : Type 0} (next : Next B) (bodies : P → List B) (procs : P → L
   -- ---- a take
 
   pub does-take : {T : Type 0} (s : Stream) (e : ℕ) (line : Line) (old new : Played P) (stock left : Shelves) (r : Result T RunErr)
-      → old.failed ≡ false → armed (session_of next bodies old).live.state e ≡ true → first_left stock e ≡ Some line → left ≡ taken_from stock e
+      → old.failed ≡ false → is_takeable (session_of next bodies old).live.pod e ≡ true → first_left stock e ≡ Some line → left ≡ taken_from stock e
       → new ≡ stepped old (with_took old e line) r
       → Tells s (trace_of next bodies procs old) (trace_of next bodies procs old) (trace_of next bodies procs new) r
       → IsDefined (setting_of next bodies new) new.takes new.calls → new.calls ≤ new.turns
@@ -371,7 +371,7 @@ module _ {B P : Type 0} (next : Next B) (bodies : P → List B) (procs : P → L
   pub due-still : (s : Stream) (old new : Played P) (stock left : Shelves) (x : Unit {0}) → phase_now next bodies old ≡ phase.Turn
       → Came s (λ planned plan. boundary planned plan) old new stock left (Ok x) → phase_now next bodies new ≡ phase.Turn
   due-still s old new stock left x due p =
-      (λ t. phase_of (state_of (p.comes t)) (p.same.turns t) (p.comes t).calls) ∙ boundary-turn (planned_of next bodies old) (plan_now next bodies old stock) due
+      (λ t. phase_of (pod_of (p.comes t)).state (p.same.turns t) (p.comes t).calls) ∙ boundary-turn (planned_of next bodies old) (plan_now next bodies old stock) due
 
   -- ---- round after round
 

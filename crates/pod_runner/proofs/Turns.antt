@@ -12,8 +12,8 @@ use Rattle.pod_runner.specs.Session.{Live, Move, Session, Setting, extended, mov
 use Rattle.pod_runner.specs.Keeps.{Keeps}
 use Rattle.pod_runner.specs.Run.{Broke, Tells}
 use Rattle.pod_runner.specs.Trace.{lines}
-use Rattle.whole_streams.specs.Writing.{AppendsPart}
-use Rattle.lwp_types.specs.Agents.{armed}
+use Rattle.pod_runner.specs.Writing.{AppendsPart}
+use Rattle.pod_events.specs.Events.{is_takeable}
 use Rattle.lwp_types.specs.Streams.{Rose, appended}
 use Rattle.trace_text.specs.Lines.{step_lines}
 use Rattle.pod_runner.proofs.Appends.{cut_on, writes_on}
@@ -66,8 +66,8 @@ due-turn s turns calls h = by_end s.ended (choice s) h
     by_end false None h = absurd (cc)
     by_end false (Some t) h = refl
 
-pub is_call_due-turn : {B : Type 0} (s : Session B) (turns calls : ℕ) → phase_of s.live.state turns calls ≡ phase.Turn → IsTrue (is_call_due s)
-is_call_due-turn s turns calls h = due-turn s.live.state turns calls h
+pub is_call_due-turn : {B : Type 0} (s : Session B) (turns calls : ℕ) → phase_of s.live.pod.state turns calls ≡ phase.Turn → IsTrue (is_call_due s)
+is_call_due-turn s turns calls h = due-turn s.live.pod.state turns calls h
 
 -- and fewer calls were made than are allowed
 pub room-turn : (s : State) (turns calls : ℕ) → phase_of s turns calls ≡ phase.Turn → calls + 1 ≤ turns
@@ -84,21 +84,21 @@ room-turn s turns calls h = by_end s.ended (choice s) h
 
 -- ---- what is kept
 
-pub made-call : {B : Type 0} (setting : Setting B) (takes : List Took) (n turns : ℕ) → IsDefined setting takes n → phase_of (play setting takes n).live.state turns n ≡ phase.Turn → IsDefined setting takes (n + 1)
+pub made-call : {B : Type 0} (setting : Setting B) (takes : List Took) (n turns : ℕ) → IsDefined setting takes n → phase_of (play setting takes n).live.pod.state turns n ≡ phase.Turn → IsDefined setting takes (n + 1)
 made-call setting takes n turns made due = IsDefined-call setting takes n (LastBy-of setting takes n made) made (is_call_due-turn (play setting takes n) turns n due)
 
 pub keeps-call : {B : Type 0} (setting : Setting B) (names procs : List (List ℕ)) (takes : List Took) (n turns : ℕ) (live : Live B) (failed : Bool) (out : List ℕ)
-    → procs ≡ names → IsDefined setting takes n → phase_of (play setting takes n).live.state turns n ≡ phase.Turn
+    → procs ≡ names → IsDefined setting takes n → phase_of (play setting takes n).live.pod.state turns n ≡ phase.Turn
     → Stepped names (play setting takes n) (play setting takes (n + 1)) live out → Keeps setting names procs live takes (n + 1) turns failed
 keeps-call setting names procs takes n turns live failed out named made due step = record {
   named = named;
   made = made-call setting takes n turns made due;
-  room = room-turn (play setting takes n).live.state turns n due;
+  room = room-turn (play setting takes n).live.pod.state turns n due;
   now = λ _. step.now;
 }
 
 pub keeps-take : {B : Type 0} (setting : Setting B) (names procs : List (List ℕ)) (takes : List Took) (n turns : ℕ) (live : Live B) (failed : Bool) (out : List ℕ) (took : Took)
-    → procs ≡ names → IsDefined setting takes n → n ≤ turns → took.turn ≡ n → IsTrue (armed (play setting takes n).live.state took.event)
+    → procs ≡ names → IsDefined setting takes n → n ≤ turns → took.turn ≡ n → IsTrue (is_takeable (play setting takes n).live.pod took.event)
     → Stepped names (play setting takes n) (play setting (takes ++ took ∷ []) n) live out → Keeps setting names procs live (takes ++ took ∷ []) n turns failed
 keeps-take setting names procs takes n turns live failed out took named made room h may step = record {
   named = named;

@@ -1,19 +1,18 @@
 -- Which sessions there are: at each call somebody's turn had come, at each take the event could be delivered.
-use Rattle.lwp_types.specs.Agents.{armed}
-use Rattle.lwp_types.specs.Choice.{choice}
+use Rattle.pod_events.specs.Events.{has_turn, is_takeable}
 use Rattle.pod_runner.specs.Play.{calls_made, play, played, with_take}
 use Rattle.pod_runner.specs.Session.{Session, Setting}
 use Rattle.pod_runner.specs.declared.session.Took.{Took}
 use Rattle.std.specs.List.{filter}
-use Rattle.std.specs.Prelude.{Bool, IsTrue, List, MatchBool, [], is_some, nat_le, not, reverse, suc, zero, ℕ, ◌&&◌, ◌++◌, ◌==◌, ◌∷◌, ◌≡◌}
+use Rattle.std.specs.Prelude.{Bool, IsTrue, List, MatchBool, [], nat_le, reverse, suc, zero, ℕ, ◌++◌, ◌==◌, ◌∷◌, ◌≡◌}
 
 -- a call may be made: somebody may run, and the pod goes on
 abbrev pub is_call_due : {B : Type 0} → Session B → Bool
-is_call_due s = not s.live.state.ended && is_some (choice s.live.state)
+is_call_due s = has_turn s.live.pod.state
 
 -- a line of this event may be taken
 abbrev pub is_take_due : {B : Type 0} → Took → Session B → Bool
-is_take_due took s = armed s.live.state took.event
+is_take_due took s = is_takeable s.live.pod took.event
 
 -- so many calls could be made one after the other, with no take
 abbrev pub CallsDue : {B : Type 0} → Setting B → ℕ → Type 0
@@ -42,7 +41,7 @@ takes_by n takes = filter (λ took. nat_le took.turn n) takes
 
 -- right before call number k a line of the event could be taken
 abbrev pub is_armed_at : {B : Type 0} → Setting B → List Took → ℕ → ℕ → Bool
-is_armed_at setting takes e k = armed (play setting (takes_by k takes) k).live.state e
+is_armed_at setting takes e k = is_takeable (play setting (takes_by k takes) k).live.pod e
 
 -- the numbers from 0 up to n
 abbrev pub counted_to : ℕ → List ℕ

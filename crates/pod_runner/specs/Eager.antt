@@ -1,8 +1,7 @@
 -- Sessions in which all lines are there from the start, and each is taken as soon as it can be.
 use Rattle.event_gate.specs.Shelves.{Shelves, first_left, left_in_all, taken_from}
-use Rattle.lwp_types.specs.Agents.{armed}
 use Rattle.lwp_types.specs.Choice.{choice}
-use Rattle.lwp_types.specs.State.{State}
+use Rattle.pod_events.specs.Events.{EventState, is_takeable}
 use Rattle.lwp_types.specs.declared.call.Line.{Line}
 use Rattle.pod_runner.specs.Over.{events, over}
 use Rattle.trace_text.specs.declared.ends.Halt.{Halt}
@@ -26,8 +25,8 @@ pub record Planned (B : Type 0) : Type 0 where
   pub turns : ℕ
 
 -- the pod of the session
-abbrev pub state_of : {B : Type 0} → Plan B → State
-state_of plan = plan.session.live.state
+abbrev pub pod_of : {B : Type 0} → Plan B → EventState
+pod_of plan = plan.session.live.pod
 
 -- a line, as it is taken now
 abbrev pub took_of : {B : Type 0} → ℕ → Line → Plan B → Took
@@ -49,7 +48,7 @@ offered_by planned e plan (Some line) = taken_line planned e line plan
 
 -- the same, if it can be delivered
 abbrev pub offered : {B : Type 0} → Planned B → ℕ → Plan B → Plan B
-offered planned e plan = elim (armed (state_of plan) e) [ true ↦ offered_by planned e plan (first_left plan.left e) | false ↦ plan ]
+offered planned e plan = elim (is_takeable (pod_of plan) e) [ true ↦ offered_by planned e plan (first_left plan.left e) | false ↦ plan ]
 
 -- between two calls, each event in turn may have one line taken
 abbrev pub boundary : {B : Type 0} → Planned B → Plan B → Plan B
@@ -61,11 +60,11 @@ one_call planned plan = record plan { session = call_step planned.setting plan.s
 
 -- somebody may run
 abbrev pub has_choice : {B : Type 0} → Plan B → Bool
-has_choice plan = is_some (choice (state_of plan))
+has_choice plan = is_some (choice (pod_of plan).state)
 
 -- how it has ended, if it has
 abbrev pub plan_over : {B : Type 0} → Planned B → Plan B → Option Halt
-plan_over planned plan = over planned.turns (state_of plan) plan.calls plan.left
+plan_over planned plan = over planned.turns (pod_of plan) plan.calls plan.left
 
 -- lines are taken, and then, if somebody may run, a call is made
 abbrev pub advanced : {B : Type 0} → Planned B → Plan B → Plan B

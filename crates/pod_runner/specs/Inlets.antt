@@ -1,24 +1,29 @@
 -- How inlets are served between two calls. Callers see the session alone.
 use Rattle.event_gate.specs.Inlet.{Intake, IsInletTaken, IsInletTold}
-use Rattle.lwp_types.specs.Agents.{armed}
+use Rattle.pod_events.specs.Events.{is_takeable}
 use Rattle.lwp_types.specs.Poll.{Next}
 use Rattle.pod_runner.specs.Live.{IsWanted, looks}
 use Rattle.pod_runner.specs.Run.{Played, phase_now, session_of}
 use Rattle.pod_runner.specs.declared.phase.Phase.TheVariants as phase
 use Rattle.std.specs.List.{slice_index_or}
-use Rattle.std.specs.Prelude.{List, length, true, ℕ, ◌<◌, ◌≡◌, ◌≢◌, ◌≤◌}
+use Rattle.std.specs.Prelude.{List, length, true, ℕ, ◌<◌, ◌≡◌, ◌≢◌, ◌≤◌, ◌⊎◌}
+
+-- somebody may run, or no line was taken
+abbrev pub IsCalm : {B P : Type 0} → Next B → (P → List B) → Played P → Played P → Type 0
+IsCalm next bodies old new = (phase_now next bodies old ≡ phase.Turn) ⊎ (length new.takes ≡ length old.takes)
 
 -- lines were taken, and no call was made
 pub record Takes {B P : Type 0} (next : Next B) (bodies : P → List B) (old new : Played P) : Type 0 where
   pub still : new.calls ≡ old.calls
+  pub more : length old.takes ≤ length new.takes
   -- somebody may run still
   pub turn : phase_now next bodies old ≡ phase.Turn → phase_now next bodies new ≡ phase.Turn
-  -- no event waits that didn't
-  pub fewer : (e : ℕ) → armed (session_of next bodies new).live.state e ≡ true → armed (session_of next bodies old).live.state e ≡ true
+  -- as long as somebody may run, no event waits that didn't; a line that wakes the first one may make trapped events wait
+  pub fewer : IsCalm next bodies old new → (e : ℕ) → is_takeable (session_of next bodies new).live.pod e ≡ true → is_takeable (session_of next bodies old).live.pod e ≡ true
 
 -- an inlet whose event waits still was looked at; and if no line was taken at all, it was found empty
 pub record IsSeen {B P : Type 0} (next : Next B) (bodies : P → List B) (old new : Played P) (t u : Intake) : Type 0 where
-  pub looked : IsWanted next bodies new u → looks t < looks u
+  pub looked : phase_now next bodies old ≡ phase.Turn → IsWanted next bodies new u → looks t < looks u
   pub found : length new.takes ≡ length old.takes → IsWanted next bodies new u → (t.finds < u.finds) × (IsInletTold u → IsInletTaken u)
 
 -- the inlet at this place was served, and no other

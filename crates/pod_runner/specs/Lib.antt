@@ -13,3 +13,4 @@ pub mod Parts
 pub mod Live
 pub mod Inlets
 pub mod Laws
+pub mod SessionMoves

@@ -1,6 +1,6 @@
 -- A run over inlets, into which others post while it goes on.
 use Rattle.event_gate.specs.Inlet.{Intake, IsInletTaken, IsInletTold}
-use Rattle.lwp_types.specs.Agents.{armed}
+use Rattle.pod_events.specs.Events.{is_takeable}
 use Rattle.lwp_types.specs.Poll.{Next}
 use Rattle.lwp_types.specs.declared.call.Line.{Line}
 use Rattle.pod_runner.specs.Due.{IsDefined, armed_calls}
@@ -107,7 +107,7 @@ LooksAtAll next bodies old new before after = EachInlet (LooksAt next bodies old
 
 -- a line of the inlet's event can be delivered
 abbrev pub IsWanted : {B P : Type 0} → Next B → (P → List B) → Played P → Intake → Type 0
-IsWanted next bodies run t = armed (session_of next bodies run).live.state t.event ≡ true
+IsWanted next bodies run t = is_takeable (session_of next bodies run).live.pod t.event ≡ true
 
 -- all passes came back to each
 abbrev pub AllTold : List Intake → Type 0

@@ -7,7 +7,7 @@ use Rattle.std.specs.Prelude.{List, Option, ℕ, ◌≡◌}
 
 -- how the session stands that these are
 abbrev pub live_of : {B : Type 0} → Parts B → Live B
-live_of parts = record { state = parts.pod; rows = parts.rows; names = parts.env }
+live_of parts = record { pod = parts.pod; rows = parts.rows; names = parts.env }
 
 -- a step was made, in which this line was taken, if any, and these are its lines; the procedures are named so
 pub record Moves {B : Type 0} (procs : List (List ℕ)) (line : Option Line) (move : Move B) (new : Live B) (out : List ℕ) : Type 0 where

@@ -55,7 +55,7 @@ trace_before next bodies proc_names run = lines (proc_names run.program) (but_la
 
 -- where it stands
 abbrev pub phase_now : {B P : Type 0} → Next B → (P → List B) → Played P → Phase
-phase_now next bodies run = phase_of (session_of next bodies run).live.state run.turns run.calls
+phase_now next bodies run = phase_of (session_of next bodies run).live.pod.state run.turns run.calls
 
 -- the session whose lines all are there from the start, of the same program and as many calls
 abbrev pub planned_of : {B P : Type 0} → Next B → (P → List B) → Played P → Planned B
@@ -67,7 +67,7 @@ plan_now next bodies run stock = record { session = session_of next bodies run; 
 
 -- with these lines left, the run has ended so
 abbrev pub EndsAt : {B P : Type 0} → Next B → (P → List B) → Played P → Shelves → Halt → Type 0
-EndsAt next bodies run stock halt = over run.turns (session_of next bodies run).live.state run.calls stock ≡ Some halt
+EndsAt next bodies run stock halt = over run.turns (session_of next bodies run).live.pod run.calls stock ≡ Some halt
 
 -- a run before its first step
 abbrev pub IsNew : {P : Type 0} → Played P → Type 0

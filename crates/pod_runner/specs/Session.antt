@@ -1,10 +1,10 @@
 -- A session: what bodies and the machine do together, step by step.
-use Rattle.lwp_types.specs.Agents.{deliver}
 use Rattle.lwp_types.specs.Choice.{choice}
 use Rattle.lwp_types.specs.Names.{Names, polled_as}
 use Rattle.lwp_types.specs.Poll.{Next, Polled}
-use Rattle.lwp_types.specs.State.{State, opening}
-use Rattle.lwp_types.specs.Step.{step}
+use Rattle.lwp_types.specs.State.{opening}
+use Rattle.pod_events.specs.Events.{EventState, quiet_events, take_event}
+use Rattle.pod_events.specs.Step.{event_step}
 use Rattle.lwp_types.specs.Unblock.{zero_answer}
 use Rattle.lwp_types.specs.declared.call.Answer.{Answer}
 use Rattle.lwp_types.specs.declared.call.Call.{Call}
@@ -27,9 +27,9 @@ pub record Setting (B : Type 0) : Type 0 where
   -- the names at the start
   pub names : Names
 
--- how a session stands: the pod, each live thread's body and what it was answered last, and the names
+-- how a session stands: the pod with its own events, each live thread's body and what it was answered last, and the names
 pub record Live (B : Type 0) : Type 0 where
-  pub state : State
+  pub pod : EventState
   pub rows : List (Row B)
   pub names : Names
 
@@ -113,9 +113,9 @@ unmoved live = record { live = live; effects = [] }
 
 -- the call that a thread's body gave is made
 unfoldable pub called : {B : Type 0} → List B → Live B → ℕ → Polled B → Move B
-called bodies live t reply = let out = step live.state reply.0 in record {
+called bodies live t reply = let out = event_step live.pod reply.0 in record {
   live = record {
-    state = out.after;
+    pod = out.after;
     rows = settled bodies (proc_of reply.0) out.effects (polled t reply.1 live.rows);
     names = reply.2;
   };
@@ -134,12 +134,12 @@ move_by next bodies live (Some t) = move_row next bodies live t (row_of t live.r
 
 -- a call: the thread whose turn it is is polled, and its call is made
 unfoldable pub move : {B : Type 0} → Next B → List B → Live B → Move B
-move next bodies live = move_by next bodies live (choice live.state)
+move next bodies live = move_by next bodies live (choice live.pod.state)
 
 -- a take: its text is delivered to its event
 unfoldable pub taken : {B : Type 0} → List B → Took → Live B → Move B
-taken bodies took live = let out = deliver live.state took.event took.line.text in record {
-  live = record live { state = out.after; rows = settled bodies None out.effects live.rows };
+taken bodies took live = let out = take_event live.pod took.event took.line.text in record {
+  live = record live { pod = out.after; rows = settled bodies None out.effects live.rows };
   effects = out.effects;
 }
 
@@ -148,7 +148,7 @@ taken bodies took live = let out = deliver live.state took.event took.line.text 
 -- the first thread alone, before its first call
 abbrev pub opening_session : {B : Type 0} → Setting B → Session B
 opening_session setting = record {
-  live = record { state = opening setting.params; rows = row_opened 0 (slice_get setting.bodies 0); names = setting.names };
+  live = record { pod = quiet_events (opening setting.params); rows = row_opened 0 (slice_get setting.bodies 0); names = setting.names };
   steps = [];
 }
 

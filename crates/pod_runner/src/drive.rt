@@ -1,7 +1,7 @@
 // A run over a gate, from step to step, until its end.
 ghost use Rattle.std.specs.Prelude.{◌≡◌, ◌<◌, ◌≤◌, false, IfNone, IfOk, IfSome, IsTrue, OnOk, OnErr, IsErrOf};
 ghost use Rattle.std.specs.Slice.Scan.{HoldsNowhere, IsFirstPlace};
-ghost use Rattle.lwp_types.specs.Agents.{armed};
+ghost use Rattle.pod_events.specs.Events.{is_takeable};
 ghost use Rattle.lwp_types.specs.Streams.{Rose};
 ghost use Rattle.pod_runner.specs.Does.{Does};
 ghost use Rattle.pod_runner.specs.Due.{IsDefined};
@@ -27,7 +27,7 @@ fn take_line<B: Body, P: Program<B>, G: Gate, K: Sink>(
     requires sound { run.old.failed ≡ false }
     requires made { IsDefined (setting_of B.next P.bodies run.old) run.old.takes run.old.calls }
     requires room { run.old.calls ≤ run.old.turns }
-    requires wanted { IsTrue (armed (session_of B.next P.bodies run.old).live.state event) }
+    requires wanted { IsTrue (is_takeable (session_of B.next P.bodies run.old).live.pod event) }
     ensures { Does B.next P.bodies P.proc_names (record { old = K.written sink.old; new = K.written sink.new; faults_old = K.faults sink.old; faults_new = K.faults sink.new }) (λ planned plan. offered planned event plan) run.old run.new (G.stock gate.old) (G.stock gate.new) result }
 {
     match gate.take(event) {
@@ -39,9 +39,9 @@ fn take_line<B: Body, P: Program<B>, G: Gate, K: Sink>(
 // The first event from `from` on that has a line left and can be delivered, if there is one below 32.
 fn next_due<B: Body, P: Program<B>, G: Gate>(run: &Run<B, P>, gate: &G, from: u8) -> Option<u8>
     requires { run.now.failed ≡ false }
-    ensures none { IfNone result (HoldsNowhere (can_take (session_of B.next P.bodies run.now).live.state (G.stock gate.now)) from 32) }
+    ensures none { IfNone result (HoldsNowhere (can_take (session_of B.next P.bodies run.now).live.pod (G.stock gate.now)) from 32) }
     ensures below { IfSome result (λ event. event < 32) }
-    ensures first { IfSome result (λ event. IsFirstPlace (can_take (session_of B.next P.bodies run.now).live.state (G.stock gate.now)) from 32 event) }
+    ensures first { IfSome result (λ event. IsFirstPlace (can_take (session_of B.next P.bodies run.now).live.pod (G.stock gate.now)) from 32 event) }
 {
     let mut from = from;
     while let Some(left) = gate.next_left(from) {

@@ -1,24 +1,25 @@
-// What a run moves: the pod, each live thread's body, and the names.
+// What a run moves: the pod with its own events, each live thread's body, and the names.
 ghost use Rattle.std.specs.Prelude.{◌≡◌, ◌<◌, ◌≤◌, ◌^◌, IfNone, IfOk, IfSome, OnOk, IsSome, IsTrue, None, Some, slice_get, length};
 ghost use Rattle.std.specs.Slice.Scan.{HoldsNowhere, IsFirstPlace};
-ghost use Rattle.lwp_types.specs.Agents.{armed};
 ghost use Rattle.lwp_types.specs.State.{opening};
-ghost use Rattle.lwp_calls.specs.Pod.{current_of};
+ghost use Rattle.pod_events.specs.Events.{is_takeable, quiet_events};
+ghost use Rattle.pod_events.specs.Machine.{current_of};
 ghost use Rattle.pod_runner.specs.Phase.{phase_of};
 ghost use Rattle.pod_runner.specs.Polls.{place_of};
 ghost use Rattle.pod_runner.specs.Session.{move, row_opened, taken};
 
 use crate::row_list::RowList;
 use crate::rows::{proc_of, settle};
-use crate::written::{set_call_lines, set_lines};
+use crate::written::{set_lines, set_turn_lines};
 use crate::{Phase, Took};
-use lwp_calls::{Pod, PodEnd};
-use lwp_types::{Body, Call, Effects, Env, NoMemory, PodParams, Program, Text, Tid};
+use lwp_calls::Pod;
+use lwp_types::{Body, Call, Effects, Env, NoMemory, PodEnd, PodParams, Program, Text, Tid};
+use pod_events::EventPod;
 use std::alloc::Global;
 
 /// A pod with its threads' bodies.
 pub(crate) struct Parts<B> {
-    pub(crate) pod: Pod,
+    pub(crate) pod: EventPod<Pod>,
     pub(crate) rows: RowList<B>,
     pub(crate) env: Env,
     pub(crate) effects: Effects,
@@ -54,12 +55,12 @@ impl<B: Body> Parts<B> {
         requires births { 1 ≤ params.births }
         requires few_births { params.births < 2 ^ 32 }
         requires procs { 1 ≤ params.procs }
-        ensures { IfOk result (λ parts. live_of parts ≡ record { state = opening params; rows = row_opened 0 (slice_get (P.bodies program.now) 0); names = env }) }
+        ensures { IfOk result (λ parts. live_of parts ≡ record { pod = quiet_events (opening params); rows = row_opened 0 (slice_get (P.bodies program.now) 0); names = env }) }
     {
         let mut rows = RowList::new(alloc);
         rows.open(program, 0, Tid { number: 0 })?;
         let effects = Effects::new(alloc)?;
-        let pod = Pod::new(alloc, params)?;
+        let pod = EventPod::new(alloc, Pod::new(alloc, params)?)?;
         Ok(Parts {
             pod,
             rows,
@@ -71,7 +72,7 @@ impl<B: Body> Parts<B> {
 
     /// Where a run of so many calls, out of so many, stands.
     pub(crate) fn phase(&self, turns: u64, calls: u64) -> Phase
-        ensures { result ≡ phase_of self.now.pod turns calls }
+        ensures { result ≡ phase_of self.now.pod.state turns calls }
     {
         match self.pod.ending() {
             Some(PodEnd::Ended(status)) => Phase::Ended(status),
@@ -86,23 +87,23 @@ impl<B: Body> Parts<B> {
         }
     }
 
-    /// Whether a line of the event can be delivered.
+    /// Whether a line of the event can be taken.
     pub(crate) fn wants(&self, event: u8) -> bool
-        ensures { result ≡ armed self.now.pod event }
+        ensures { result ≡ is_takeable self.now.pod event }
     {
         self.pod.armed(event)
     }
 
-    /// The first event from `from` on of which a line can be delivered, if there is one below 32.
+    /// The first event from `from` on of which a line can be taken, if there is one below 32.
     pub(crate) fn next_wanted(&self, from: u8) -> Option<u8>
-        ensures none { IfNone result (HoldsNowhere (armed self.now.pod) from 32) }
+        ensures none { IfNone result (HoldsNowhere (is_takeable self.now.pod) from 32) }
         ensures below { IfSome result (λ event. event < 32) }
-        ensures first { IfSome result (λ event. IsFirstPlace (armed self.now.pod) from 32 event) }
+        ensures first { IfSome result (λ event. IsFirstPlace (is_takeable self.now.pod) from 32 event) }
     {
         self.pod.next_armed(from)
     }
 
-    /// Delivers a line. `out` then has the lines of what that did, and nothing else.
+    /// Takes a line. `out` then has the lines of what that did, and nothing else.
     pub(crate) fn deliver<P: Program<B>>(
         &mut self,
         program: &P,
@@ -110,7 +111,7 @@ impl<B: Body> Parts<B> {
         took: &Took,
         out: &mut Vec<u8>,
     ) -> Result<(), NoMemory>
-        requires { IsTrue (armed self.old.pod took.now.event) }
+        requires { IsTrue (is_takeable self.old.pod took.now.event) }
         ensures { OnOk result (Moves names.now (Some took.now.line) (taken (P.bodies program.now) took.now (live_of self.old)) (live_of self.new) out.new.items) }
     {
         self.pod
@@ -128,7 +129,7 @@ impl<B: Body> Parts<B> {
         names: &[Text],
         out: &mut Vec<u8>,
     ) -> Result<(), NoMemory>
-        requires current { IsSome (current_of self.old.pod) }
+        requires current { IsSome (current_of self.old.pod.state) }
         ensures { OnOk result (Moves names.now None (move B.next (P.bodies program.now) (live_of self.old)) (live_of self.new) out.new.items) }
     {
         out.clear();
@@ -153,7 +154,7 @@ impl<B: Body> Parts<B> {
         i: usize,
         out: &mut Vec<u8>,
     ) -> Result<(), NoMemory>
-        requires current { current_of self.old.pod ≡ Some tid }
+        requires current { current_of self.old.pod.state ≡ Some tid }
         requires place { i ≡ place_of tid self.old.rows }
         requires within { i < length self.old.rows }
         ensures { OnOk result (Moves names.now None (move B.next (P.bodies program.now) (live_of self.old)) (live_of self.new) out.new.items) }
@@ -161,8 +162,9 @@ impl<B: Body> Parts<B> {
         self.env.set_me(tid);
         self.rows.poll_at(i, &mut self.env, &mut self.call)?;
         let born = proc_of(&self.call);
+        let trap = self.pod.pending();
         self.pod.call(&self.call, &mut self.effects)?;
-        set_call_lines(out, tid, &self.call, &self.effects, names)?;
+        set_turn_lines(out, trap, tid, &self.call, &self.effects, names)?;
         settle(&mut self.rows, program, born, &self.effects)?;
         Ok(())
     }

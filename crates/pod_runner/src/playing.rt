@@ -1,7 +1,7 @@
 // A run: what it plays, how far it is, and its parts as they stand.
 ghost use Rattle.std.specs.Prelude.{◌≡◌, ◌≤◌, ◌<◌, ◌^◌, [], false, length, IfNone, IfOk, IfSome, IsTrue, slice_index_or};
 ghost use Rattle.std.specs.Slice.Scan.{HoldsNowhere, IsFirstPlace};
-ghost use Rattle.lwp_types.specs.Agents.{armed};
+ghost use Rattle.pod_events.specs.Events.{is_takeable};
 ghost use Rattle.pod_runner.specs.Due.{IsDefined};
 ghost use Rattle.pod_runner.specs.Run.{setting_of, session_of, phase_now, trace_of, names_like, stepped, with_call, with_took, Tells};
 ghost use Rattle.pod_runner.specs.declared.phase.Phase.TheVariants as phase;
@@ -170,7 +170,7 @@ impl<B: Body, P: Program<B>> Run<B, P> {
     /// Whether a line of the event can be delivered.
     pub fn wants(&self, event: u8) -> bool
         requires { self.now.failed ≡ false }
-        ensures armed { result ≡ armed (session_of B.next P.bodies self.now).live.state event }
+        ensures armed { result ≡ is_takeable (session_of B.next P.bodies self.now).live.pod event }
         ensures made { IsDefined (setting_of B.next P.bodies self.now) self.now.takes self.now.calls }
         ensures room { self.now.calls ≤ self.now.turns }
     {
@@ -180,9 +180,9 @@ impl<B: Body, P: Program<B>> Run<B, P> {
     /// The first event from `from` on of which a line can be delivered, if there is one below 32.
     pub fn next_wanted(&self, from: u8) -> Option<u8>
         requires { self.now.failed ≡ false }
-        ensures none { IfNone result (HoldsNowhere (armed (session_of B.next P.bodies self.now).live.state) from 32) }
+        ensures none { IfNone result (HoldsNowhere (is_takeable (session_of B.next P.bodies self.now).live.pod) from 32) }
         ensures below { IfSome result (λ event. event < 32) }
-        ensures first { IfSome result (λ event. IsFirstPlace (armed (session_of B.next P.bodies self.now).live.state) from 32 event) }
+        ensures first { IfSome result (λ event. IsFirstPlace (is_takeable (session_of B.next P.bodies self.now).live.pod) from 32 event) }
         ensures made { IsDefined (setting_of B.next P.bodies self.now) self.now.takes self.now.calls }
         ensures room { self.now.calls ≤ self.now.turns }
     {
@@ -193,7 +193,7 @@ impl<B: Body, P: Program<B>> Run<B, P> {
     /// written counts, one for which memory was wanting doesn't, and none of its lines is written.
     pub fn offer<K: Sink>(&mut self, event: u8, line: Line, sink: &mut K) -> Result<(), RunErr>
         requires sound { self.old.failed ≡ false }
-        requires wants { IsTrue (armed (session_of B.next P.bodies self.old).live.state event) }
+        requires wants { IsTrue (is_takeable (session_of B.next P.bodies self.old).live.pod event) }
         ensures after { self.new ≡ stepped self.old (with_took self.old event line) result }
         ensures told { Tells (record { old = K.written sink.old; new = K.written sink.new; faults_old = K.faults sink.old; faults_new = K.faults sink.new }) (trace_of B.next P.bodies P.proc_names self.old) (trace_of B.next P.bodies P.proc_names self.old) (trace_of B.next P.bodies P.proc_names self.new) result }
         ensures made { IsDefined (setting_of B.next P.bodies self.new) self.new.takes self.new.calls }

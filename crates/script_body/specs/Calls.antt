@@ -56,6 +56,7 @@ plain_call texts (stmt.Bound p) = call.Bound p
 plain_call texts stmt.UniqPatt = call.UniqPatt
 plain_call texts (stmt.Agent name e) = call.Agent e
 plain_call texts stmt.Agents = call.Agents
+plain_call texts (stmt.Trap e) = call.Trap e
 plain_call texts (stmt.Say n) = call.Say (text_at texts n)
 plain_call texts stmt.Return = call.Return
 plain_call texts _ = call.Return

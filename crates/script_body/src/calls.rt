@@ -124,6 +124,7 @@ fn set_plain_call(texts: &Texts, stmt: &Stmt, call: &mut Call)
         Stmt::UniqPatt => *call = Call::UniqPatt,
         Stmt::Agent { event, .. } => *call = Call::Agent { event: *event },
         Stmt::Agents => *call = Call::Agents,
+        Stmt::Trap { event } => *call = Call::Trap { event: *event },
         Stmt::Say { text } => set_say(texts, *text, call),
         // A return; and what makes no call, for which nobody asks.
         _ => *call = Call::Return,

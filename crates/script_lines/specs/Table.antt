@@ -91,6 +91,7 @@ rows =
     row op.Senders (codes "senders") role.Statement [] ∷
     row op.Sleep (codes "sleep") role.Statement (kind.Number ∷ []) ∷
     row op.Threads (codes "threads") role.Statement [] ∷
+    row op.Trap (codes "trap") role.Statement (kind.Number ∷ []) ∷
     row op.Unhandle (codes "unhandle") role.Statement [] ∷
     row op.UniqPatt (codes "uniqpatt") role.Statement [] ∷
     row op.Wait (codes "wait") role.Statement (kind.Condition ∷ []) ∷

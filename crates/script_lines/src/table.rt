@@ -106,6 +106,7 @@ pub enum Op {
     Senders,
     Sleep,
     Threads,
+    Trap,
     Unhandle,
     UniqPatt,
     Wait,
@@ -132,7 +133,7 @@ type Row = (Op, &'static [u8], Role, &'static [Kind]);
 
 // The table. Its rows stand in the order of the operations, which is that of the first letters of their keys; among those of one
 // letter the most frequent stand first.
-static ROWS: [Row; 65] = [
+static ROWS: [Row; 66] = [
     (
         Op::Agent,
         b"agent",
@@ -329,6 +330,7 @@ static ROWS: [Row; 65] = [
     (Op::Senders, b"senders", Role::Statement, &[]),
     (Op::Sleep, b"sleep", Role::Statement, &[Kind::Number]),
     (Op::Threads, b"threads", Role::Statement, &[]),
+    (Op::Trap, b"trap", Role::Statement, &[Kind::Number]),
     (Op::Unhandle, b"unhandle", Role::Statement, &[]),
     (Op::UniqPatt, b"uniqpatt", Role::Statement, &[]),
     (Op::Wait, b"wait", Role::Statement, &[Kind::Condition]),

@@ -246,6 +246,7 @@ said_by N T at p op.ExitSetExit b f e = (stmt.OnExit (exit.SetExit p.number), re
 said_by N T at p op.ExitNote b f e = (stmt.OnExit (exit.Note at.text), refl, (λ i. record (blank op.ExitNote) { text = b.text refl i }) ∙ e)
 said_by N T at p op.Agent b f e = (stmt.Agent at.thread p.number, refl, (λ i. record (blank op.Agent) { thread = b.thread f.0 i; number = p.number }) ∙ e)
 said_by N T at p op.Agents b f e = (stmt.Agents, refl, e)
+said_by N T at p op.Trap b f e = (stmt.Trap p.number, refl, e)
 said_by N T at p op.Say b f e = (stmt.Say at.text, refl, (λ i. record (blank op.Say) { text = b.text refl i }) ∙ e)
 said_by N T at p op.Skip b f e = (stmt.Skip p.test, refl, e)
 said_by N T at p op.Again b f e = (stmt.Again, refl, e)

@@ -72,6 +72,7 @@ plain_line names texts (stmt.Bound pattern) = number_line op.Bound pattern
 plain_line names texts stmt.UniqPatt = blank op.UniqPatt
 plain_line names texts (stmt.OnExit x) = exit_line names texts x
 plain_line names texts stmt.Agents = blank op.Agents
+plain_line names texts (stmt.Trap event) = number_line op.Trap event
 plain_line names texts (stmt.Say t) = text_line op.Say (text_at texts t)
 plain_line names texts (stmt.Skip test) = record (blank op.Skip) { test = test }
 plain_line names texts _ = blank op.Again

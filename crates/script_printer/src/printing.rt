@@ -100,6 +100,7 @@ fn plain_line<'s>(names: &'s Names, texts: &'s Texts, stmt: Stmt) -> Phrase<'s>
         Stmt::UniqPatt => blank(Op::UniqPatt),
         Stmt::OnExit { exit } => exit_line(names, texts, exit),
         Stmt::Agents => blank(Op::Agents),
+        Stmt::Trap { event } => number_line(Op::Trap, event),
         Stmt::Say { text } => text_line(Op::Say, texts.bytes(text as usize)),
         Stmt::Skip { test } => skip_line(test),
         _ => blank(Op::Again),

@@ -122,6 +122,7 @@ plain_statement op.ExcNotify at p = Some (stmt.ExcNotify p.number)
 plain_statement op.Bound at p = Some (stmt.Bound p.number)
 plain_statement op.UniqPatt at p = Some stmt.UniqPatt
 plain_statement op.Agents at p = Some stmt.Agents
+plain_statement op.Trap at p = Some (stmt.Trap p.number)
 plain_statement op.Skip at p = Some (stmt.Skip p.test)
 plain_statement op.Again at p = Some stmt.Again
 plain_statement o at p = option_map (λ x. stmt.OnExit x) (exit_statement o at p)

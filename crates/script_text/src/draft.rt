@@ -166,6 +166,7 @@ fn plain_statement(at: Places, phrase: &Phrase<'_>) -> Option<Stmt>
         Op::Bound => Some(Stmt::Bound { pattern: number }),
         Op::UniqPatt => Some(Stmt::UniqPatt),
         Op::Agents => Some(Stmt::Agents),
+        Op::Trap => Some(Stmt::Trap { event: number }),
         Op::Skip => Some(Stmt::Skip { test: phrase.test }),
         Op::Again => Some(Stmt::Again),
         _ => on_exit(at, phrase),

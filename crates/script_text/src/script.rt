@@ -165,6 +165,9 @@ pub enum Stmt {
         event: u32,
     },
     Agents,
+    Trap {
+        event: u32,
+    },
     Say {
         text: u32,
     },

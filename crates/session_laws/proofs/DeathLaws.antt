@@ -15,6 +15,7 @@ use Rattle.pod_laws.proofs.Gone.{unnamed}
 use Rattle.pod_laws.proofs.Opening.{Lawful-opening}
 use Rattle.pod_laws.specs.Forgotten.{IsGone, is_died}
 use Rattle.pod_runner.specs.Session.{Made}
+use Rattle.session_laws.proofs.Pods.{Dies}
 use Rattle.session_laws.proofs.Steps.{Lasts, play_lasts}
 use Rattle.session_laws.specs.Deaths.{EachDiesOnce, TheDeadStayForgotten, deaths}
 use Rattle.session_laws.specs.Sessions.{InEverySession}
@@ -29,30 +30,6 @@ pub record Buried (s : State) (steps : List Made) : Type 0 where
   pub lawful : Lawful s None
   pub gone : (n : ℕ) → 1 ≤ deaths n steps → IsGone s n
   pub once : (n : ℕ) → deaths n steps ≤ 1
-
--- whoever dies in a step was there before it, and dies once
-record Dies (s : State) (n told : ℕ) : Type 0 where
-  few : told ≤ 1
-  lived : 1 ≤ told → is_thread s n ≡ true
-
-dies_in_step : (s : State) → Lawful s None → (c : Call) (n : ℕ) → Dies s n (count_by (is_died n) (step s c).effects)
-unfolding step step_by
-dies_in_step s was c n = by_choice (choice s) refl
-  where
-    by_choice : (o : Option ℕ) → choice s ≡ o → Dies s n (count_by (is_died n) (step_if s c o).effects)
-    by_choice None e = record { few = omega arith; lived = λ some. absurd (omega (arith, some)) }
-    by_choice (Some t) e =
-        let run = chosen s was.nine t e in
-        let tells = finished_died n t c (case_of s t c) in
-        let buries = case_died n s was.nine t run.row run.known c in
-        record {
-          few = few (count_by (is_died n) (case_of s t c).others) tells (λ some. ap (count_by (is_died n)) (buries.tells some) ∙ death_died n n s);
-          lived = λ some. buries.lived (omega (arith, some, tells));
-        }
-      where
-        few : {told : ℕ} (m : ℕ) → told ≡ m → (1 ≤ m → m ≡ one (eqb n n)) → told ≤ 1
-        few zero tells death = omega (arith, tells)
-        few (suc m) tells death = omega (arith, tells, death (omega arith), one-le (eqb n n))
 
 -- where so many deaths of n were told before, and so many in this step
 module _ (s after : State) (n before now all : ℕ) (sum : all ≡ before + now) (was : 1 ≤ before → IsGone s n) (few : before ≤ 1) where
@@ -82,35 +59,20 @@ died_push n steps made = sum_by_push (λ (made : Made). count_by (is_died n) mad
 
 pub buried_lasts : Lasts Buried
 buried_lasts = record {
-  idle = λ s steps was.
-      let made : Made = record { take = None; effects = [] } in
+  lawful = λ s steps was. was.lawful;
+  push = λ s after steps made was moved.
+      let does = moved.does in
       record {
-        lawful = was.lawful;
-        gone = λ n some. was.gone n (omega (arith, some, died_push n steps made));
-        once = λ n. omega (arith, was.once n, died_push n steps made);
-      };
-  call = λ s steps c was.
-      let made : Made = record { take = None; effects = (step s c).effects } in
-      record {
-        lawful = Lawful-step s was.lawful c;
-        gone = λ n. gone_then s (step s c).after n (deaths n steps) (count_by (is_died n) (step s c).effects) _ (died_push n steps made) (was.gone n) (was.once n)
-            (gone_stays n s (step s c).after (step_fades n s c)) (λ some. (the_dead_are_forgotten s was.lawful c n some).gone);
-        once = λ n. once_then s (step s c).after n (deaths n steps) (count_by (is_died n) (step s c).effects) _ (died_push n steps made) (was.gone n) (was.once n) (dies_in_step s was.lawful c n);
-      };
-  take = λ s steps took may was.
-      let made : Made = record { take = Some took; effects = (deliver s took.event took.line.text).effects } in
-      let quiet = deliveries_are_quiet s took.event took.line.text in
-      record {
-        lawful = Lawful-deliver s was.lawful took.event may took.line.text;
-        gone = λ n some. gone_stays n s (deliver s took.event took.line.text).after (deliver_fades n s took.event took.line.text) (was.gone n (omega (arith, some, died_push n steps made, quiet.deaths n)));
-        once = λ n. omega (arith, was.once n, died_push n steps made, quiet.deaths n);
+        lawful = moved.lawful;
+        gone = λ n. gone_then s after n (deaths n steps) (count_by (is_died n) made.effects) _ (died_push n steps made) (was.gone n) (was.once n) (does.stays n) (does.gone n);
+        once = λ n. once_then s after n (deaths n steps) (count_by (is_died n) made.effects) _ (died_push n steps made) (was.gone n) (was.once n) (does.dies n);
       };
 }
 
 pub buried_opening : (params : PodParams) → 1 ≤ params.maxpri → params.maxpri ≤ 255 → Buried (opening params) []
 buried_opening params low high = record { lawful = Lawful-opening params low high; gone = λ n some. absurd (omega (arith, some)); once = λ n. omega arith }
 
-buried_always : (B : Type 0) → InEverySession B (λ session. Buried session.live.state session.steps)
+buried_always : (B : Type 0) → InEverySession B (λ session. Buried session.live.pod.state session.steps)
 buried_always B setting low high takes n h = play_lasts Buried buried_lasts setting (buried_opening setting.params low high) takes n h
 
 pub the_dead_stay_forgotten : (B : Type 0) → InEverySession B (TheDeadStayForgotten {B = B})

@@ -1,5 +1,6 @@
 pub mod Numbering
 pub mod Told
+pub mod Pods
 pub mod Steps
 pub mod ExitLaws
 pub mod DeathLaws

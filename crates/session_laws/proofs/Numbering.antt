@@ -232,6 +232,7 @@ case_numbers s t (call.Bound q) = plain s t _ _ refl (none_unless s _ _ (none_ma
 case_numbers s t call.UniqPatt = plain s t _ _ refl (none_unless s _ _ refl)
 case_numbers s t (call.Agent e) = plain s t _ _ refl (none_unless s _ _ refl)
 case_numbers s t call.Agents = plain s t _ _ refl refl
+case_numbers s t (call.Trap e) = plain s t _ _ refl refl
 case_numbers s t (call.Say text) = plain s t _ _ refl refl
 
 pub steps_number_exits : StepsNumberExits

@@ -13,7 +13,7 @@ use Rattle.pod_laws.specs.Forgotten.{is_died}
 use Rattle.pod_laws.specs.Once.{ExitTest, exits_passing, set_by, set_now}
 use Rattle.pod_runner.specs.Session.{Made}
 use Rattle.session_laws.proofs.DeathLaws.{Buried, buried_lasts, buried_opening}
-use Rattle.session_laws.proofs.ExitLaws.{none_left, run_push}
+use Rattle.session_laws.proofs.ExitLaws.{run_push}
 use Rattle.session_laws.proofs.Steps.{Lasts, play_lasts}
 use Rattle.session_laws.proofs.Told.{Sets, Sets.Exit, Sets.Nothing, what_it_sets}
 use Rattle.session_laws.specs.Deaths.{TheDeadRunNothing, deaths}
@@ -24,36 +24,6 @@ use Rattle.std.proofs.lemmas.Bool.{eqb-true, leb-false, leb-true, or_parts}
 use Rattle.std.proofs.lemmas.List.{drop-append-le, drop_all, length_push, take-append-le}
 use Rattle.std.proofs.lemmas.List.Sums.{sum_by-take-le}
 use Rattle.std.specs.Prelude.{is_some, nat_le}
-
-module _ (u : ℕ) (p : ExitTest) where
-  -- who isn't live doesn't call, and so sets nothing
-  others_set : (s : State) (t : ℕ) (c : Call) → eqb t u ≡ false → Sets c → set_by (set_by_thread u p) s t c ≡ 0
-  others_set s t c other (Nothing none untold) = none (set_by_thread u p) s t
-  others_set s t c other (Exit x e) = rw (e, other) (by_room (nat_le 256 (length (marks_in s t)) || nat_le 4294967295 s.next_registration))
-    where
-      by_room : (b : Bool) → ◌≡◌ {A = ℕ} (cond b 0 0) 0
-      by_room true = refl
-      by_room false = refl
-
-  dead_set : (s : State) → Lawful s None → is_thread s u ≡ false → (c : Call) → set_now (set_by_thread u p) s (choice s) c ≡ 0
-  dead_set s was gone c = by_choice (choice s) refl
-    where
-      other : (t : ℕ) (row : ThreadRow) → thread_of s t ≡ Some row → (b : Bool) → eqb t u ≡ b → eqb t u ≡ false
-      other t row known true e =
-          let lives : is_thread s t ≡ true = ap is_some known in
-          let same : t ≡ u = eqb-true t u e in
-          absurd (cc (lives, gone, same))
-      other t row known false e = e
-
-      by_choice : (o : Option ℕ) → choice s ≡ o → set_now (set_by_thread u p) s o c ≡ 0
-      by_choice None e = refl
-      by_choice (Some t) e =
-          let run = chosen s was.nine t e in
-          others_set s t c (other t run.row run.known (eqb t u) refl) (what_it_sets c)
-
-  -- so none of its exit procedures runs in a call
-  dead_run : (s : State) → Lawful s None → is_thread s u ≡ false → (c : Call) → exits_passing (set_by_thread u p) (step s c).effects ≡ 0
-  dead_run s was gone c = omega (arith, exits_run_once s was c (set_by_thread u p), none_left u p s.threads gone, dead_set s was gone c)
 
 -- whoever died in the first of these steps has run nothing in the others
 record Silent (s : State) (steps : List Made) : Type 0 where
@@ -85,17 +55,10 @@ silent_push s steps made was none u m died p = by_length (nat_le m (length steps
 
 silent_lasts : Lasts Silent
 silent_lasts = record {
-  idle = λ s steps was. record {
-    buried = buried_lasts.idle s steps was.buried;
-    silent = silent_push s steps (record { take = None; effects = [] }) was (λ u gone p. refl);
-  };
-  call = λ s steps c was. record {
-    buried = buried_lasts.call s steps c was.buried;
-    silent = silent_push s steps (record { take = None; effects = (step s c).effects }) was (λ u gone p. dead_run u p s was.buried.lawful gone c);
-  };
-  take = λ s steps took may was. record {
-    buried = buried_lasts.take s steps took may was.buried;
-    silent = silent_push s steps (record { take = Some took; effects = (deliver s took.event took.line.text).effects }) was (λ u gone p. (deliveries_are_quiet s took.event took.line.text).exits (set_by_thread u p));
+  lawful = λ s steps was. was.buried.lawful;
+  push = λ s after steps made was moved. record {
+    buried = buried_lasts.push s after steps made was.buried moved;
+    silent = silent_push s steps made was (λ u gone p. moved.does.mute u gone p);
   };
 }
 

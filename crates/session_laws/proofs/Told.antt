@@ -9,7 +9,7 @@ use Rattle.lwp_types.specs.declared.call.Effect.{Effect}
 use Rattle.lwp_types.specs.declared.call.ExitCall.{ExitCall}
 use Rattle.pod_laws.specs.Once.{ExitTest, set_by, set_now}
 use Rattle.session_laws.specs.Exits.{exits_set_in, set_if, set_by_call}
-use Rattle.std.proofs.Common.{Bool, List, None, Option, Some, [], cond, eq-eqb, eqb, false, length, refl, sym, true, ℕ, ◌++◌, ◌+◌, ◌∙◌, ◌∷◌, ◌≡◌, ◌||◌}
+use Rattle.std.proofs.Common.{Bool, List, None, Option, Some, [], ap, append_assoc, cond, eq-eqb, eqb, false, length, refl, sym, true, ℕ, ◌++◌, ◌+◌, ◌∙◌, ◌∷◌, ◌≡◌, ◌||◌}
 use Rattle.std.specs.Prelude.{nat_le}
 use Rattle.lwp_types.specs.declared.call.Call.TheVariants as call
 use Rattle.lwp_types.specs.declared.call.LwpErr.TheVariants as error
@@ -69,6 +69,7 @@ what_it_sets (call.Bound q) = Nothing (λ p s t. refl) (λ p t es. refl)
 what_it_sets call.UniqPatt = Nothing (λ p s t. refl) (λ p t es. refl)
 what_it_sets (call.Agent e) = Nothing (λ p s t. refl) (λ p t es. refl)
 what_it_sets call.Agents = Nothing (λ p s t. refl) (λ p t es. refl)
+what_it_sets (call.Trap e) = Nothing (λ p s t. refl) (λ p t es. refl)
 what_it_sets (call.Say text) = Nothing (λ p s t. refl) (λ p t es. refl)
 
 module _ (p : ExitTest) where
@@ -106,3 +107,15 @@ module _ (p : ExitTest) where
       by_choice : (o : Option ℕ) → exits_set_in p (step_if s c o).effects ≡ set_now p s o c
       by_choice None = refl
       by_choice (Some t) = case_told s t c (end_effects (case_of s t c).after) (what_it_sets c)
+
+  -- whatever is told behind the step
+  pub step_told_before : (s : State) (t : ℕ) (c : Call) (rest : List Effect) → choice s ≡ Some t → exits_set_in p ((step s c).effects ++ rest) ≡ set_now p s (choice s) c
+  unfolding step step_by
+  step_told_before s t c rest turn = by_choice (choice s) turn
+    where
+      by_choice : (o : Option ℕ) → o ≡ Some t → exits_set_in p ((step_if s c o).effects ++ rest) ≡ set_now p s o c
+      by_choice None e = absurd (cc)
+      by_choice (Some u) e =
+          let made = case_of s u c in
+          ap (set_by_call p u c) (append_assoc made.others (own_effects u made.own ++ end_effects made.after) rest ∙ ap (λ es. made.others ++ es) (append_assoc (own_effects u made.own) (end_effects made.after) rest))
+          ∙ case_told s u c (end_effects made.after ++ rest) (what_it_sets c)

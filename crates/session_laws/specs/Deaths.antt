@@ -12,7 +12,7 @@ deaths n steps = sum_by (λ made. count_by (is_died n) made.effects) steps
 
 -- whoever died in any step so far isn't there, and no list names it
 abbrev pub TheDeadStayForgotten : {B : Type 0} → Session B → Type 0
-TheDeadStayForgotten session = (n : ℕ) → 1 ≤ deaths n session.steps → IsForgotten session.live.state n
+TheDeadStayForgotten session = (n : ℕ) → 1 ≤ deaths n session.steps → IsForgotten session.live.pod.state n
 
 -- and nobody dies twice
 abbrev pub EachDiesOnce : {B : Type 0} → Session B → Type 0

@@ -30,9 +30,10 @@ abbrev pub set_by_call : ExitTest → ℕ → Call → List Effect → ℕ
 set_by_call p t (call.OnExit x) es = set_if p t x es
 set_by_call p t _ es = 0
 
--- how many exit procedures that pass are set in a step with these effects; the first of them is the call
+-- how many exit procedures that pass are set in a step with these effects; the first of them is the call, or a trap and then the call
 abbrev pub exits_set_in : ExitTest → List Effect → ℕ
 exits_set_in p (effect.Called t c ∷ es) = set_by_call p t c es
+exits_set_in p (effect.Trapped t e ∷ es) = exits_set_in p es
 exits_set_in p _ = 0
 
 -- ---- over steps
@@ -49,7 +50,7 @@ exits_run p steps = sum_by (λ made. exits_passing p made.effects) steps
 
 -- of each test: what is set still, on the stacks of live threads, and what has run, is what was set
 abbrev pub EachSetExitOnce : {B : Type 0} → Session B → Type 0
-EachSetExitOnce session = (p : ExitTest) → marks_passing p session.live.state + exits_run p session.steps ≡ exits_set p session.steps
+EachSetExitOnce session = (p : ExitTest) → marks_passing p session.live.pod.state + exits_run p session.steps ≡ exits_set p session.steps
 
 -- the exit procedure has this number
 abbrev pub has_number : ℕ → ExitTest
@@ -57,17 +58,17 @@ has_number k t n x = n == k
 
 -- of each number that was given one exit procedure is set still or has run, and of any other number none
 abbrev pub EachExitOnce : {B : Type 0} → Session B → Type 0
-EachExitOnce session = (k : ℕ) → marks_passing (has_number k) session.live.state + exits_run (has_number k) session.steps ≡ cond (nat_lt k session.live.state.next_registration) 1 0
+EachExitOnce session = (k : ℕ) → marks_passing (has_number k) session.live.pod.state + exits_run (has_number k) session.steps ≡ cond (nat_lt k session.live.pod.state.next_registration) 1 0
 
 -- and each of these numbers was given to one
 abbrev pub EachNumberIsGivenOnce : {B : Type 0} → Session B → Type 0
-EachNumberIsGivenOnce session = (k : ℕ) → exits_set (has_number k) session.steps ≡ cond (nat_lt k session.live.state.next_registration) 1 0
+EachNumberIsGivenOnce session = (k : ℕ) → exits_set (has_number k) session.steps ≡ cond (nat_lt k session.live.pod.state.next_registration) 1 0
 
 -- in words, of the number k: its exit procedure is set still, or has run, or the number isn't given yet
 pub data Fate {B : Type 0} (session : Session B) (k : ℕ) : Type 0 where
-  IsWaiting : k < session.live.state.next_registration → marks_passing (has_number k) session.live.state ≡ 1 → exits_run (has_number k) session.steps ≡ 0 → Fate session k
-  HasRun : k < session.live.state.next_registration → marks_passing (has_number k) session.live.state ≡ 0 → exits_run (has_number k) session.steps ≡ 1 → Fate session k
-  IsNotGiven : session.live.state.next_registration ≤ k → marks_passing (has_number k) session.live.state ≡ 0 → exits_run (has_number k) session.steps ≡ 0 → Fate session k
+  IsWaiting : k < session.live.pod.state.next_registration → marks_passing (has_number k) session.live.pod.state ≡ 1 → exits_run (has_number k) session.steps ≡ 0 → Fate session k
+  HasRun : k < session.live.pod.state.next_registration → marks_passing (has_number k) session.live.pod.state ≡ 0 → exits_run (has_number k) session.steps ≡ 1 → Fate session k
+  IsNotGiven : session.live.pod.state.next_registration ≤ k → marks_passing (has_number k) session.live.pod.state ≡ 0 → exits_run (has_number k) session.steps ≡ 0 → Fate session k
 
 -- of every number
 abbrev pub EachExitHasItsFate : {B : Type 0} → Session B → Type 0
@@ -79,4 +80,4 @@ set_by_thread u p t n x = (t == u) && p t n x
 
 -- whoever isn't live has nothing set still: all that it has set has run
 abbrev pub TheDeadHaveRunTheirExits : {B : Type 0} → Session B → Type 0
-TheDeadHaveRunTheirExits session = (u : ℕ) → is_thread session.live.state u ≡ false → (p : ExitTest) → exits_run (set_by_thread u p) session.steps ≡ exits_set (set_by_thread u p) session.steps
+TheDeadHaveRunTheirExits session = (u : ℕ) → is_thread session.live.pod.state u ≡ false → (p : ExitTest) → exits_run (set_by_thread u p) session.steps ≡ exits_set (set_by_thread u p) session.steps

@@ -14,8 +14,8 @@ use Rattle.std.proofs.lemmas.Bool.{eqb-false, eqb-true}
 use Rattle.std.specs.Fmt.{decimal}
 use Rattle.std.specs.Prelude.{negsuc, pos}
 use Rattle.trace_lines.proofs.WordLaws.{EndsDigits, behind_again, id_again, id_alone, id_is_word, not_number, not_number_on, number_again, number_alone, number_is_word, rest_again, who_again, who_alone, whole_alone}
-use Rattle.trace_lines.specs.Entries.{also_told, call_entry, entry_of, event_told, exit_entry, gain_of, id_of, is_suspended, posted, shows, thread_entry, tick_told, who_of}
-use Rattle.trace_lines.specs.Told.{AlsoIsRead, AnswersAreRead, CallsAreRead, DeathsAreRead, EndsAreRead, EventsAreRead, ExitsAreRead, IsAnswer, IsPrinted, TicksAreRead, exit_target, exit_verb, gain_told, is_refused, suspended_told, target_told, verb_told}
+use Rattle.trace_lines.specs.Entries.{also_told, call_entry, entry_of, event_told, exit_entry, gain_of, id_of, is_suspended, posted, rites_told, shows, thread_entry, tick_told, trap_told, who_of}
+use Rattle.trace_lines.specs.Told.{AlsoIsRead, AnswersAreRead, CallsAreRead, DeathsAreRead, EndsAreRead, EventsAreRead, ExitsAreRead, IsAnswer, IsPrinted, RitesAreRead, TicksAreRead, TrapsAreRead, exit_target, exit_verb, gain_told, is_refused, suspended_told, target_told, verb_told}
 use Rattle.trace_lines.specs.Words.{reach, rest, starts}
 use Rattle.trace_lines.specs.declared.entry.Entry.TheVariants as entry
 use Rattle.trace_lines.specs.declared.entry.Gain.TheVariants as gain
@@ -107,6 +107,7 @@ asked procs t (call.Bound p) h = refl
 asked procs t call.UniqPatt h = refl
 asked procs t (call.Agent e) h = rw (number_alone e (omega (arith, h))) refl
 asked procs t call.Agents h = refl
+asked procs t (call.Trap e) h = refl
 asked procs t (call.Say text) h = said t text
 
 pub called_again : (procs : List (List ℕ)) (took : Option Line) (t : ℕ) (c : Call) → CallsAreRead procs took t c
@@ -205,6 +206,25 @@ also_again procs agent e lt = by_null (eqb agent null_id) refl
 pub ticked_again : (procs : List (List ℕ)) (line : Line) (now : ℕ) → TicksAreRead procs line now
 ticked_again procs line now fits hc hs =
     rw (number_again now (posted_text line) fits refl, behind_again now (posted_text line) fits refl) (ap (tick_told now) (posted_again line hc hs))
+
+-- ---- traps
+
+pub trapped_again : (procs : List (List ℕ)) (took : Option Line) (t e : ℕ) → TrapsAreRead procs took t e
+trapped_again procs took t e lt fits = thread_line t (codes " trap " ++ decimal e) lt refl ∙ ap (trap_told t) (whole_alone e (omega (arith, fits)))
+
+-- ---- reports
+
+pub reported_again : (procs : List (List ℕ)) (took : Option Line) (agent dead : ℕ) → RitesAreRead procs took agent dead
+reported_again procs took agent dead la ld = by_null (eqb dead null_id) (eqb agent null_id) refl refl
+  where
+    by_null : (v w : Bool) → eqb dead null_id ≡ v → eqb agent null_id ≡ w
+        → entry_of (codes "rites " ++ (cond v (codes "none") (116 ∷ decimal dead) ++ (codes " to " ++ cond w (codes "none") (116 ∷ decimal agent)))) ≡ Some (entry.Rites agent dead)
+    by_null true w h g = absurd (omega (arith, eqb-true dead null_id h))
+    by_null false true h g = absurd (omega (arith, eqb-true agent null_id g))
+    by_null false false h g =
+        let fits : dead < 2 ^ 64 = omega (arith, ld) in
+        let more = codes " to t" ++ decimal agent in
+        rw (number_again dead more fits refl, behind_again dead more fits refl) (ap (rites_told dead) (whole_alone agent (omega (arith, la))))
 
 -- ---- ends
 

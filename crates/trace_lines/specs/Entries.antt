@@ -38,7 +38,7 @@ monitor_verb w =
 abbrev pub is_quiet : List ℕ → Bool
 is_quiet w = bytes_eq w (codes "ping") || bytes_eq w (codes "yield") || bytes_eq w (codes "resched") || bytes_eq w (codes "setpri")
     || bytes_eq w (codes "self") || bytes_eq w (codes "setmaxpri") || bytes_eq w (codes "setexit") || bytes_eq w (codes "getexit")
-    || bytes_eq w (codes "podexit") || bytes_eq w (codes "threads") || bytes_eq w (codes "reply")
+    || bytes_eq w (codes "podexit") || bytes_eq w (codes "threads") || bytes_eq w (codes "reply") || bytes_eq w (codes "trap")
 
 abbrev pub is_list : List ℕ → Bool
 is_list w = bytes_eq w (codes "senders") || bytes_eq w (codes "receivers") || bytes_eq w (codes "monitors") || bytes_eq w (codes "monwaiters")
@@ -115,13 +115,22 @@ gain_of text =
     else if starts (codes "t") text then gain.Thread (id_of text)
     else value_gain (number text)
 
--- the line of an answer or a death, behind the thread
+abbrev pub trap_told : ℕ → Option ℕ → Option Entry
+trap_told tid None = None
+trap_told tid (Some event) = Some (entry.Trapped tid event)
+
+-- the line of a trap that is raised, behind its word: a number, and nothing else
+abbrev pub trap_entry : ℕ → List ℕ → Option Entry
+trap_entry tid text = trap_told tid (whole_number text)
+
+-- the line of an answer or a death, or of a trap, behind the thread
 abbrev pub answer_entry : ℕ → List ℕ → Option Entry
 answer_entry tid text =
     if starts (codes " = ") text then Some (entry.Answered tid (gain_of (drop 3 text)))
     else if starts (codes " ! ") text then Some (entry.Answered tid gain.Refused)
     else if starts (codes " caught ") text then Some (entry.Answered tid gain.Other)
     else if bytes_eq text (codes " dies") then Some (entry.Died tid)
+    else if starts (codes " trap ") text then trap_entry tid (drop 6 text)
     else None
 
 -- what stands behind the number of a thread
@@ -174,6 +183,15 @@ also_told (Some agent) = Some (entry.Also agent)
 abbrev pub also_entry : List ℕ → Option Entry
 also_entry text = also_told (whole_number text)
 
+abbrev pub rites_told : ℕ → Option ℕ → Option Entry
+rites_told dead None = None
+rites_told dead (Some agent) = Some (entry.Rites agent dead)
+
+-- the line of a report, behind the letter of the dead: its number, and the agent that hears of it
+abbrev pub rites_entry : Option ℕ → List ℕ → Option Entry
+rites_entry None text = None
+rites_entry (Some dead) text = if starts (codes " to t") text then rites_told dead (whole_number (drop 5 text)) else None
+
 abbrev pub tick_told : ℕ → Option (ℕ × ℕ) → Option Entry
 tick_told now None = None
 tick_told now (Some line) = Some (entry.Tick now line.0 line.1)
@@ -195,5 +213,6 @@ entry_of line =
     else if starts (codes "exit x") line then exit_entry (number (drop 6 line)) (behind (drop 6 line))
     else if starts (codes "event ") line then event_entry (number (drop 6 line)) (behind (drop 6 line))
     else if starts (codes "also t") line then also_entry (drop 6 line)
+    else if starts (codes "rites t") line then rites_entry (number (drop 7 line)) (behind (drop 7 line))
     else if is_closing line then Some entry.Closing
     else None

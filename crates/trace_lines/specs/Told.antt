@@ -141,6 +141,14 @@ abbrev pub TicksAreRead : List (List ℕ) → Line → ℕ → Type 0
 TicksAreRead procs line now = now < 2 ^ 64 → line.client < 2 ^ 8 → line.seq < 2 ^ 32
     → entry_of (line_text procs (Some line) (effect.Ticked now)) ≡ Some (entry.Tick now line.client line.seq)
 
+-- a trap that is raised is read back
+abbrev pub TrapsAreRead : List (List ℕ) → Option Line → ℕ → ℕ → Type 0
+TrapsAreRead procs took t e = t < null_id → e < 2 ^ 8 → entry_of (line_text procs took (effect.Trapped t e)) ≡ Some (entry.Trapped t e)
+
+-- a report is read back as its agent and the dead
+abbrev pub RitesAreRead : List (List ℕ) → Option Line → ℕ → ℕ → Type 0
+RitesAreRead procs took agent dead = agent < null_id → dead < null_id → entry_of (line_text procs took (effect.Rites agent dead)) ≡ Some (entry.Rites agent dead)
+
 -- the lines behind the last step are read back; each is what `end_text` prints, without its newline
 pub record EndsAreRead : Type 0 where
   pub pod : (procs : List (List ℕ)) (took : Option Line) (status : ℕ) → entry_of (line_text procs took (effect.Ended status)) ≡ Some entry.Closing

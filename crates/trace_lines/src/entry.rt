@@ -80,6 +80,16 @@ pub enum Entry {
         client: u64,
         seq: u64,
     },
+    /// A trap is raised in a thread.
+    Trapped {
+        tid: u64,
+        event: u64,
+    },
+    /// An agent hears of a death.
+    Rites {
+        agent: u64,
+        dead: u64,
+    },
     /// A line behind the last step.
     Closing,
 }

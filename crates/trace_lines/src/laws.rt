@@ -5,7 +5,7 @@ ghost use Rattle.lwp_types.specs.declared.call.Call.{Call};
 ghost use Rattle.lwp_types.specs.declared.call.ExitCall.{ExitCall};
 ghost use Rattle.lwp_types.specs.declared.call.Line.{Line};
 ghost use Rattle.trace_lines.specs.Entries.{entry_of};
-ghost use Rattle.trace_lines.specs.Told.{AlsoIsRead, AnswersAreRead, CallsAreRead, DeathsAreRead, EndsAreRead, EventsAreRead, ExitsAreRead, TicksAreRead};
+ghost use Rattle.trace_lines.specs.Told.{AlsoIsRead, AnswersAreRead, CallsAreRead, DeathsAreRead, EndsAreRead, EventsAreRead, ExitsAreRead, RitesAreRead, TicksAreRead, TrapsAreRead};
 
 /// A call's line is read back as the call.
 pub fn called_again()
@@ -48,6 +48,25 @@ pub fn only_also()
 /// The line of a tick is read back.
 pub fn ticked_again()
     ensures { (procs : List (List ℕ)) (line : Line) (now : ℕ) → TicksAreRead procs line now }
+{}
+
+/// The line of a trap that is raised is read back.
+pub fn trapped_again()
+    ensures { (procs : List (List ℕ)) (took : Option Line) (t e : ℕ) → TrapsAreRead procs took t e }
+{}
+
+/// The line of a report is read back.
+pub fn reported_again()
+    ensures { (procs : List (List ℕ)) (took : Option Line) (agent dead : ℕ) → RitesAreRead procs took agent dead }
+{}
+
+/// Less than that, or more, is no line of a trace.
+pub fn only_reports()
+    ensures bare { entry_of (codes "rites t1") ≡ None }
+    ensures unnumbered { entry_of (codes "rites t1 to t") ≡ None }
+    ensures followed { entry_of (codes "rites t1 to t2 x") ≡ None }
+    ensures trapless { entry_of (codes "t1 trap ") ≡ None }
+    ensures trap_followed { entry_of (codes "t1 trap 5 x") ≡ None }
 {}
 
 /// The lines behind the last step are read back.

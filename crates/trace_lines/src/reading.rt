@@ -1,6 +1,6 @@
 // What a line tells.
 ghost use Rattle.std.specs.Prelude.{◌≡◌, ◌&&◌, bytes_eq};
-ghost use Rattle.trace_lines.specs.Entries.{also_entry, answer_entry, call_entry, entry_of, event_entry, exit_entry, exited, gain_of, id_of, is_closing, is_list, is_mark, is_quiet, is_suspended, monitor_verb, plain_verb, posted, posted_by, shows, target_of, thread_entry, thread_verb, tick_entry, verb_of, who_of};
+ghost use Rattle.trace_lines.specs.Entries.{also_entry, answer_entry, call_entry, entry_of, event_entry, exit_entry, exited, gain_of, id_of, is_closing, is_list, is_mark, is_quiet, is_suspended, monitor_verb, plain_verb, posted, posted_by, rites_entry, shows, target_of, thread_entry, thread_verb, tick_entry, trap_entry, verb_of, who_of};
 ghost use Rattle.trace_lines.specs.Words.{behind, number, rest, word};
 
 use crate::entry::{Entry, Gain, NOBODY, Verb};
@@ -74,6 +74,7 @@ fn is_quiet(word: &[u8]) -> bool
         || is(word, b"podexit")
         || is(word, b"threads")
         || is(word, b"reply")
+        || is(word, b"trap")
 }
 
 fn is_list(word: &[u8]) -> bool
@@ -213,6 +214,14 @@ fn gain_of(text: &[u8]) -> Gain
     }
 }
 
+// The line of a trap that is raised, behind its word: nothing stands behind the number.
+fn trap_entry(tid: u64, text: &[u8]) -> Option<Entry>
+    ensures { result ≡ trap_entry tid text.now }
+{
+    let event = whole_number(text)?;
+    Some(Entry::Trapped { tid, event })
+}
+
 fn answer_entry(tid: u64, text: &[u8]) -> Option<Entry>
     ensures { result ≡ answer_entry tid text.now }
 {
@@ -230,6 +239,9 @@ fn answer_entry(tid: u64, text: &[u8]) -> Option<Entry>
     }
     if text == b" dies".as_slice() {
         return Some(Entry::Died { tid });
+    }
+    if starts(b" trap ", text) {
+        return trap_entry(tid, skip(6, text));
     }
     None
 }
@@ -333,6 +345,19 @@ fn also_entry(text: &[u8]) -> Option<Entry>
     Some(Entry::Also { agent })
 }
 
+// The line of a report, behind the letter of the dead: nothing stands behind the agent.
+fn rites_entry(text: &[u8]) -> Option<Entry>
+    ensures { result ≡ rites_entry (number text.now) (behind text.now) }
+{
+    let dead = number(text)?;
+    let behind = behind(text);
+    if !starts(b" to t", behind) {
+        return None;
+    }
+    let agent = whole_number(skip(5, behind))?;
+    Some(Entry::Rites { agent, dead })
+}
+
 // The line of a tick, behind its word.
 fn tick_entry(text: &[u8]) -> Option<Entry>
     ensures { result ≡ tick_entry (number text.now) (behind text.now) }
@@ -369,6 +394,9 @@ pub fn entry_of(line: &[u8]) -> Option<Entry>
     }
     if starts(b"also t", line) {
         return also_entry(skip(6, line));
+    }
+    if starts(b"rites t", line) {
+        return rites_entry(skip(7, line));
     }
     if is_closing(line) {
         return Some(Entry::Closing);

@@ -11,7 +11,7 @@ use Rattle.trace_page.specs.Frame as frame
 use Rattle.trace_page.specs.Nesting.{Outside, Quoted, at, is_closed, is_nested, read, read_on}
 use Rattle.trace_page.specs.Page.{groups, page, shown, told_all, told_line}
 use Rattle.trace_page.specs.Scene.{Seen, need_of, opening}
-use Rattle.trace_page.specs.Shapes.{arrow_text, band_text, bar_text, class_text, clock_text, closed, closing_text, due_text, escaped, event_text, group_closed, group_open, group_text, held_text, label_closed, label_text, letter_text, line_text, move_text, named_text, number_text, path_text, posted_text, rect_text, shape_text, shapes_text, sign_open, tag_text, tick_text, title_text, use_open, use_text, value_text, wait_class, wait_text, waits_text, wanted_text, way_class, x_of, y_of}
+use Rattle.trace_page.specs.Shapes.{arrow_text, band_text, bar_text, class_text, clock_text, closed, closing_text, due_text, escaped, event_text, group_closed, group_open, group_text, held_text, label_closed, label_text, letter_text, line_text, move_text, named_text, number_text, path_text, posted_text, rect_text, shape_text, shapes_text, sign_open, tag_text, tick_text, title_text, trap_text, use_open, use_text, value_text, wait_class, wait_text, waits_text, wanted_text, way_class, x_of, y_of}
 use Rattle.trace_page.specs.Steps.{finished, is_shown}
 use Rattle.trace_page.specs.Titles.{is_plain}
 use Rattle.trace_page.specs.declared.scene.Kind.{Kind}
@@ -217,6 +217,10 @@ clock_keeps s now nth at = record {
       on (label_opens (record { plain = refl }) _ _ names) (on ((number_keeps now).keeps _) (on (label_closes names) ((use_keeps (record { plain = refl }) _ _).keeps names)));
 }
 
+trap_keeps : (s : Seen) (tid : ℕ) (at : Moment) → Keeps (trap_text s tid at)
+unfolding trap_text
+trap_keeps s tid at = path_keeps (record { plain = refl }) _ _ _ _
+
 closing_keeps : (s : Seen) (line : List ℕ) (nth : ℕ) (at : Moment) → Keeps (closing_text s line nth at)
 unfolding closing_text
 closing_keeps s line nth at = label_keeps (record { plain = refl }) _ _ (line_keeps line)
@@ -263,6 +267,7 @@ shape_keeps s line (shape.Exit tid at) = use_keeps (record { plain = refl }) _ _
 shape_keeps s line (shape.Death tid at) = use_keeps (record { plain = refl }) _ _
 shape_keeps s line (shape.Event client seq nth agent at) = event_keeps s client seq nth agent at
 shape_keeps s line (shape.Clock now nth at) = clock_keeps s now nth at
+shape_keeps s line (shape.Trap tid at) = trap_keeps s tid at
 shape_keeps s line (shape.Closing nth at) = closing_keeps s line nth at
 shape_keeps s line (shape.Due lane at) = due_keeps s lane at
 

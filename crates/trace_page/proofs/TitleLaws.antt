@@ -128,6 +128,8 @@ base_done (entry.Died tid) s = base_met tid 0 _ s
 base_done (entry.Event event client seq) s = refl
 base_done (entry.Also agent) s = refl
 base_done (entry.Tick now client seq) s = refl
+base_done (entry.Trapped tid event) s = base_met tid 0 _ _
+base_done (entry.Rites agent dead) s = refl
 base_done entry.Closing s = refl
 
 base_told : (e : Entry) (s : Seen) → (told e s).base ≡ s.base

@@ -146,6 +146,10 @@ unfoldable pub event_text : Seen → ℕ → ℕ → ℕ → ℕ → Moment → 
 event_text s client seq nth agent at =
     label_text (codes "event") (x_of s at) (24 + 11 * (nth % 3)) ++ (posted_text client seq ++ (label_closed ++ path_text (codes "event") (x_of s at) 48 (x_of s at) (y_of s agent + 10)))
 
+-- a trap comes from above
+unfoldable pub trap_text : Seen → ℕ → Moment → List ℕ
+trap_text s tid at = path_text (codes "woken") (x_of s at) 48 (x_of s at) (y_of s tid + 10)
+
 -- a tick has its number above, and a rule from there down through all lanes
 unfoldable pub clock_text : Seen → ℕ → ℕ → Moment → List ℕ
 clock_text s now nth at = label_text (codes "clock") (x_of s at) (24 + 11 * (nth % 3)) ++ (decimal now ++ (label_closed ++ use_text (codes "#clock") (x_of s at) 52))
@@ -193,6 +197,7 @@ shape_text s line (shape.Exit tid at) = use_text (codes "#exit") (x_of s at) (y_
 shape_text s line (shape.Death tid at) = use_text (codes "#death") (x_of s at) (y_of s tid)
 shape_text s line (shape.Event client seq nth agent at) = event_text s client seq nth agent at
 shape_text s line (shape.Clock now nth at) = clock_text s now nth at
+shape_text s line (shape.Trap tid at) = trap_text s tid at
 shape_text s line (shape.Closing nth at) = closing_text s line nth at
 shape_text s line (shape.Due lane at) = due_text s lane at
 

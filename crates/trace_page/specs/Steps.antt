@@ -223,6 +223,16 @@ ticked now s =
     let late = record s { time = record s.time { late = true }; caller = null_id; events = one_more s.events } in
     drawn (shape.Clock now s.events late.time) late
 
+-- a trap is raised in a thread, before its next call: what follows is its doing
+abbrev pub trapped : ℕ → Seen → Seen
+trapped tid s =
+    let begins = met_thread tid (record s { time = record s.time { late = true }; caller = tid }) in
+    drawn (shape.Trap tid begins.time) (asking tid verb.Other null_id false begins)
+
+-- a death is told to an agent, which has a letter of it
+abbrev pub reported : ℕ → ℕ → Seen → Seen
+reported agent dead s = sent agent (drawn (shape.Arrow way.Also dead s.time agent s.time) s)
+
 abbrev pub closed : Seen → Seen
 closed s = drawn (shape.Closing s.closings s.time) (record s { closings = one_more s.closings })
 
@@ -236,6 +246,8 @@ done (entry.Died tid) s = died tid s
 done (entry.Event event client seq) s = event_taken event client seq s
 done (entry.Also agent) s = also_sent agent s
 done (entry.Tick now client seq) s = ticked now s
+done (entry.Trapped tid event) s = trapped tid s
+done (entry.Rites agent dead) s = reported agent dead s
 done entry.Closing s = closed s
 
 abbrev pub is_call : Entry → Bool
@@ -246,6 +258,8 @@ is_call (entry.Died tid) = false
 is_call (entry.Event event client seq) = false
 is_call (entry.Also agent) = false
 is_call (entry.Tick now client seq) = false
+is_call (entry.Trapped tid event) = false
+is_call (entry.Rites agent dead) = false
 is_call entry.Closing = false
 
 -- the line stands behind the last call that is drawn

@@ -72,7 +72,7 @@ pub enum Way {
     Letter,
     Reply,
     Wake,
-    /// A line that was taken goes on, from an agent to the next of its event.
+    /// A line that was taken goes on, from an agent to the next of its event; or a death is told, by the dead to an agent.
     Also,
 }
 
@@ -110,7 +110,7 @@ pub enum Shape {
         tid: u64,
         at: Moment,
     },
-    /// A line that was taken, how many were taken before, and the first agent of its event.
+    /// A line that was taken, how many were taken before, and the first agent of its event; nobody, where it is a trap.
     Event {
         client: u64,
         seq: u64,
@@ -122,6 +122,11 @@ pub enum Shape {
     Clock {
         now: u64,
         nth: u64,
+        at: Moment,
+    },
+    /// A trap is raised in the thread.
+    Trap {
+        tid: u64,
         at: Moment,
     },
     /// A line behind the last step, and how many such lines came before.

@@ -1,7 +1,7 @@
 // The text of what is drawn. Each function but those that answer a number or a word puts its part at the end of the bytes so far.
 ghost use Rattle.std.specs.Prelude.{◌≡◌, ◌≤◌, ◌+◌, ◌++◌, OnOk, codes};
 ghost use Rattle.std.specs.Fmt.{decimal};
-ghost use Rattle.trace_page.specs.Shapes.{class_text, closed, group_closed, group_open, label_closed, posted_text, sign_open, tag_text, title_text, use_open, value_text, waits_text, arrow_text, band_text, bar_text, clock_text, closing_text, deep, due_text, escaped, escaped_byte, event_text, group_text, half, held_text, label_text, letter_text, named_text, number_text, path_text, rect_text, shape_text, shapes_text, tick_text, use_text, wait_class, wait_text, wanted_text, way_class, x_of, y_of};
+ghost use Rattle.trace_page.specs.Shapes.{class_text, closed, group_closed, group_open, label_closed, posted_text, sign_open, tag_text, title_text, use_open, value_text, waits_text, arrow_text, band_text, bar_text, clock_text, closing_text, deep, due_text, escaped, escaped_byte, event_text, group_text, half, held_text, label_text, letter_text, named_text, number_text, path_text, rect_text, shape_text, shapes_text, tick_text, trap_text, use_text, wait_class, wait_text, wanted_text, way_class, x_of, y_of};
 
 use crate::scene::{Kind, Lane, Moment, Need, Scene, Shape, Span, Way};
 use crate::steps::{need_of, place};
@@ -448,6 +448,15 @@ impl Scene {
         add_use(out, b"#clock", x, 52)
     }
 
+    #[tactic(auto, unfolding(crate::specs::Shapes::trap_text))]
+    fn add_trap(&self, out: &mut Vec<u8>, tid: u64, at: Moment) -> Result<(), NoMemory>
+        ensures { OnOk result (out.new.items ≡ out.old.items ++ trap_text self.now tid at) }
+    {
+        let x = self.x_of(at);
+        let y = self.y_of(tid) + 10;
+        add_path(out, b"woken", x, 48, x, y)
+    }
+
     #[tactic(auto, unfolding(crate::specs::Shapes::closing_text))]
     fn add_closing(
         &self,
@@ -501,6 +510,7 @@ impl Scene {
                 at,
             } => self.add_event(out, client, seq, nth, agent, at),
             Shape::Clock { now, nth, at } => self.add_clock(out, now, nth, at),
+            Shape::Trap { tid, at } => self.add_trap(out, tid, at),
             Shape::Closing { nth, at } => self.add_closing(out, line, nth, at),
             Shape::Due { lane, at } => self.add_due(out, lane, at),
         }

@@ -2,7 +2,7 @@
 ghost use Rattle.std.specs.Prelude.{◌≡◌, ◌++◌, ◌&&◌, OnOk};
 ghost use Rattle.trace_page.specs.Scene.{begun, blank, drawn, lane_of, need_of, one_more, opened, opening, place, put, same_bool, together};
 ghost use Rattle.trace_page.specs.Spans.{changed, held_more};
-ghost use Rattle.trace_page.specs.Steps.{all_due, also_sent, answered, asking, called, came, carried, closed, counted, created, died, done, due, event_taken, exited, finished, given_up, granted, has_waited, is_call, is_past, is_shown, left, may_wait, met, met_thread, owner_of, parked, sent, set, settled, shown_answer, ticked, told, waited, with_agent, woken};
+ghost use Rattle.trace_page.specs.Steps.{all_due, also_sent, answered, asking, called, came, carried, closed, counted, created, died, done, due, event_taken, exited, finished, given_up, granted, has_waited, is_call, is_past, is_shown, left, may_wait, met, met_thread, owner_of, parked, reported, sent, set, settled, shown_answer, ticked, told, trapped, waited, with_agent, woken};
 
 use crate::scene::{Kind, Lane, Moment, Need, Scene, Setting, Shape, Span, Way};
 use crate::spans::{Change, add_bars, add_kept, agent_of, level_of, monitor_at, top_level};
@@ -581,6 +581,37 @@ impl Scene {
         self.draw(Shape::Clock { now, nth, at })
     }
 
+    // A trap is raised in a thread.
+    fn trap(&mut self, tid: u64) -> Result<(), NoMemory>
+        ensures { OnOk result (self.new ≡ trapped tid self.old) }
+    {
+        self.time = Moment {
+            late: true,
+            ..self.time
+        };
+        self.caller = tid;
+        self.meet(tid, 0, NOBODY)?;
+        let at = self.time;
+        self.ask(tid, Verb::Other, NOBODY, false);
+        self.draw(Shape::Trap { tid, at })
+    }
+
+    // A death is told to an agent.
+    fn report(&mut self, agent: u64, dead: u64) -> Result<(), NoMemory>
+        ensures { OnOk result (self.new ≡ reported agent dead self.old) }
+    {
+        let at = self.time;
+        self.draw(Shape::Arrow {
+            way: Way::Also,
+            from: dead,
+            left: at,
+            to: agent,
+            at,
+        })?;
+        self.send(agent);
+        Ok(())
+    }
+
     fn close(&mut self) -> Result<(), NoMemory>
         ensures { OnOk result (self.new ≡ closed self.old) }
     {
@@ -616,6 +647,8 @@ impl Scene {
                 client: _,
                 seq: _,
             } => self.tick(now),
+            Entry::Trapped { tid, event: _ } => self.trap(tid),
+            Entry::Rites { agent, dead } => self.report(agent, dead),
             Entry::Closing => self.close(),
         }
     }

@@ -149,6 +149,7 @@ call_text procs me (call.Bound p) = codes "bound " ++ decimal p
 call_text procs me call.UniqPatt = codes "uniqpatt"
 call_text procs me (call.Agent e) = codes "agent " ++ decimal e
 call_text procs me call.Agents = codes "agents"
+call_text procs me (call.Trap e) = codes "trap " ++ decimal e
 call_text procs me (call.Say text) = codes "say" ++ spaced text
 
 -- an error by its name
@@ -204,6 +205,14 @@ abbrev pub tick_text : ℕ → Option Line → List ℕ
 tick_text now None = []
 tick_text now (Some line) = ticked_text now line
 
+-- a trap is raised in a thread
+abbrev pub trapped_text : ℕ → ℕ → List ℕ
+trapped_text t e = thread_text t ++ (codes " trap " ++ decimal e)
+
+-- an agent hears of a death
+abbrev pub rites_text : ℕ → ℕ → List ℕ
+rites_text agent dead = codes "rites " ++ (thread_text dead ++ (codes " to " ++ thread_text agent))
+
 -- the line of an effect, without its newline
 abbrev pub line_text : List (List ℕ) → Option Line → Effect → List ℕ
 line_text procs took (effect.Called t c) = thread_text t ++ (codes ": " ++ call_text procs (Some t) c)
@@ -213,6 +222,8 @@ line_text procs took (effect.Died t) = thread_text t ++ codes " dies"
 line_text procs took (effect.Delivered agent e) = delivered_text agent e took
 line_text procs took (effect.Ticked now) = tick_text now took
 line_text procs took (effect.Ended status) = codes "pod ends " ++ decimal status
+line_text procs took (effect.Trapped t e) = trapped_text t e
+line_text procs took (effect.Rites agent dead) = rites_text agent dead
 
 -- a text with a newline at its end
 abbrev pub ended_line : List ℕ → List ℕ

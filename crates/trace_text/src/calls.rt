@@ -234,6 +234,7 @@ fn add_agent_call(out: &mut Vec<u8>, call: AgentCall) -> Result<(), NoMemory>
     match call {
         AgentCall::Create(event) => add_word_number(out, b"agent ", event),
         AgentCall::List => add_word(out, b"agents"),
+        AgentCall::Trap(event) => add_word_number(out, b"trap ", event),
     }
 }
 

@@ -1,6 +1,6 @@
 // The line of each effect.
 ghost use Rattle.std.specs.Prelude.{◌≡◌, ◌++◌, [], OnOk, IfOk, None, option_copied};
-ghost use Rattle.trace_text.specs.Lines.{posted_text, taken_text, ticked_text, delivered_text, tick_text, line_text, ended_line, step_lines};
+ghost use Rattle.trace_text.specs.Lines.{posted_text, taken_text, ticked_text, delivered_text, tick_text, trapped_text, rites_text, line_text, ended_line, step_lines};
 
 use crate::answers::add_answer;
 use crate::calls::{add_call, add_exit};
@@ -100,6 +100,24 @@ fn add_ticked(out: &mut Vec<u8>, now: u64, took: Option<&Line>) -> Result<(), No
     }
 }
 
+#[inline(never)]
+fn add_trapped(out: &mut Vec<u8>, tid: Tid, event: u8) -> Result<(), NoMemory>
+    ensures { OnOk result (out.new.items ≡ out.old.items ++ trapped_text tid event) }
+{
+    add_id(out, b't', tid.number)?;
+    add_word_number(out, b" trap ", u32::from(event))
+}
+
+#[inline(never)]
+fn add_rites(out: &mut Vec<u8>, agent: Tid, dead: Tid) -> Result<(), NoMemory>
+    ensures { OnOk result (out.new.items ≡ out.old.items ++ rites_text agent dead) }
+{
+    add_word(out, b"rites ")?;
+    add_id(out, b't', dead.number)?;
+    add_word(out, b" to ")?;
+    add_id(out, b't', agent.number)
+}
+
 #[inline(always)]
 fn add_line(
     out: &mut Vec<u8>,
@@ -122,6 +140,8 @@ fn add_line(
         Effect::Delivered { agent, event } => add_delivered(out, *agent, *event, took),
         Effect::Ticked { now } => add_ticked(out, *now, took),
         Effect::Ended { status } => add_word_number(out, b"pod ends ", u32::from(*status)),
+        Effect::Trapped { tid, event } => add_trapped(out, *tid, *event),
+        Effect::Rites { agent, dead } => add_rites(out, *agent, *dead),
     }
 }
 

@@ -5,12 +5,14 @@ use Rattle.line_server.specs.Stores.{store_next}
 use Rattle.script_program.specs.declared.body.ThreadBody.{ThreadBody}
 use Rattle.script_gate.specs.Stocked.{stock_of}
 use Rattle.script_plan.specs.Planned.{calls_of, halt_of, plan_of, planned_of, takes_of, trace_of}
-use Rattle.lwp_types.specs.Agents.{armed, deliver}
+use Rattle.lwp_types.specs.Agents.{deliver}
 use Rattle.lwp_types.specs.Case.{unless}
 use Rattle.lwp_types.specs.State.{and_then, for_each, in_order}
 use Rattle.lwp_types.specs.Step.{step, step_by}
 use Rattle.lwp_types.specs.declared.call.Line.{Line}
-use Rattle.pod_runner.specs.Eager.{Plan, Planned, advanced, has_choice, offered, offered_by, one_call, opening_plan, plan_over, plan_whole, state_of, to_the_end}
+use Rattle.pod_events.specs.Events.{is_takeable, take_event}
+use Rattle.pod_events.specs.Step.{event_step, event_step_by}
+use Rattle.pod_runner.specs.Eager.{Plan, Planned, advanced, has_choice, offered, offered_by, one_call, opening_plan, plan_over, plan_whole, pod_of, to_the_end}
 use Rattle.pod_runner.specs.Over.{events}
 use Rattle.pod_runner.specs.Session.{called, move, taken}
 use Rattle.pod_runner.specs.Trace.{trace}
@@ -37,7 +39,7 @@ abbrev IsBare : Plan ThreadBody → Type 0
 IsBare plan = (e : ℕ) → first_left plan.left e ≡ None
 
 nothing-offered : (planned : Planned ThreadBody) (e : ℕ) (plan : Plan ThreadBody) → IsBare plan → offered planned e plan ≡ plan
-nothing-offered planned e plan bare = by (armed (state_of plan) e) (first_left plan.left e) (bare e)
+nothing-offered planned e plan bare = by (is_takeable (pod_of plan) e) (first_left plan.left e) (bare e)
   where
     by : (b : Bool) (o : Option Line) → o ≡ None → elim b [ true ↦ offered_by planned e plan o | false ↦ plan ] ≡ plan
     by true None h = refl
@@ -91,7 +93,7 @@ unfolding plan_whole
 its_calls_alone = calls-are its_planned 1024 (opening_plan its_planned (stock_of many.script)) (none-left [] 0 256)
 
 its_text : trace (proc_names many.script) [] its_planned its_plan ≡ many.trace
-unfolding only_calls move called taken script_next session_next store_next step step_by deliver unless and_then in_order for_each digits
+unfolding only_calls move called taken script_next session_next store_next event_step event_step_by take_event step step_by deliver unless and_then in_order for_each digits
 its_text = refl
 
 pub its_trace : trace_of many.script many.turns ≡ many.trace
@@ -99,7 +101,7 @@ unfolding trace_of
 its_trace = ap (trace (proc_names many.script) [] its_planned) its_calls_alone ∙ its_text
 
 its_end : plan_over its_planned its_plan ≡ Some many.halt
-unfolding only_calls move called taken script_next session_next store_next step step_by deliver unless and_then in_order for_each digits
+unfolding only_calls move called taken script_next session_next store_next event_step event_step_by take_event step step_by deliver unless and_then in_order for_each digits
 its_end = refl
 
 pub its_halt : halt_of many.script many.turns ≡ Some many.halt
@@ -107,7 +109,7 @@ unfolding halt_of
 its_halt = ap (plan_over its_planned) its_calls_alone ∙ its_end
 
 its_number : its_plan.calls ≡ many.calls
-unfolding only_calls move called taken script_next session_next store_next step step_by deliver unless and_then in_order for_each digits
+unfolding only_calls move called taken script_next session_next store_next event_step event_step_by take_event step step_by deliver unless and_then in_order for_each digits
 its_number = refl
 
 pub its_calls : calls_of many.script many.turns ≡ many.calls
@@ -115,7 +117,7 @@ unfolding calls_of
 its_calls = ap (λ (p : Plan ThreadBody). p.calls) its_calls_alone ∙ its_number
 
 its_lines : its_plan.takes ≡ many.takes
-unfolding only_calls move called taken script_next session_next store_next step step_by deliver unless and_then in_order for_each digits
+unfolding only_calls move called taken script_next session_next store_next event_step event_step_by take_event step step_by deliver unless and_then in_order for_each digits
 its_lines = refl
 
 pub its_takes : takes_of many.script many.turns ≡ many.takes

@@ -17,3 +17,5 @@ pub mod Played
 pub mod Time
 pub mod Sleepers
 pub mod SharedEvents
+pub mod Traps
+pub mod LastRites

@@ -79,6 +79,10 @@ posted clients lines script = record script { clients = clients; posts = posts_f
 abbrev pub plain : Flags
 plain = record { suspended = false; nolastrites = false; server = false }
 
+-- created to die unreported
+abbrev pub marked : Flags
+marked = record { suspended = false; nolastrites = true; server = false }
+
 -- created suspended
 abbrev pub asleep : Flags
 asleep = record { suspended = true; nolastrites = false; server = false }

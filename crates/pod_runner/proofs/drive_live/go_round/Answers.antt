@@ -51,7 +51,7 @@ returns-in-Spent-clause-looked g c = looks-same g.B.Body.next g.P.Program.bodies
 
 pub returns-in_ok-turn-in-Turn-clause-looked : goal.returns-in_ok-turn-in-Turn-clause-looked
 returns-in_ok-turn-in-Turn-clause-looked g c = looks-call g.B.Body.next g.P.Program.bodies g.P.Program.proc_names (stream (g.K.Sink.written c.args.sink.now) (g.K.Sink.written c.serve_all.new.sink) (g.K.Sink.faults c.args.sink.now) (g.K.Sink.faults c.serve_all.new.sink)) c.args.run.now c.serve_all.new.run c.turn.new.self (map g.I.Inlet.intake c.args.inlets.now.items) (map g.I.Inlet.intake c.serve_all.new.inlets.items) c.in_ok-serve_all-in-Turn.field-0 c.in_ok-turn-in-Turn.field-0
-    c.in_ok-serve_all-in-Turn.ensures.lives c.in_ok-serve_all-in-Turn.ensures.served c.in_ok-turn-in-Turn.ensures.after
+    (sym c.phase.ensures.phase ∙ c.in-Turn.is) c.in_ok-serve_all-in-Turn.ensures.lives c.in_ok-serve_all-in-Turn.ensures.served c.in_ok-turn-in-Turn.ensures.after
 
 pub returns-then-takes-taken-clause-looked : goal.returns-then-takes-taken-clause-looked
 returns-then-takes-taken-clause-looked g c = looks-still g.B.Body.next g.P.Program.bodies g.P.Program.proc_names (stream (g.K.Sink.written c.args.sink.now) (g.K.Sink.written c.serve_all-in-Idle.new.sink) (g.K.Sink.faults c.args.sink.now) (g.K.Sink.faults c.serve_all-in-Idle.new.sink)) c.args.run.now c.serve_all-in-Idle.new.run (map g.I.Inlet.intake c.args.inlets.now.items) (map g.I.Inlet.intake c.serve_all-in-Idle.new.inlets.items) (Ok c.in_ok-serve_all-in-Idle.field-0) c.in_ok-serve_all-in-Idle.ensures.lives c.in_ok-serve_all-in-Idle.ensures.served.takes

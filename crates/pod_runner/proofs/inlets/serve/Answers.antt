@@ -1,6 +1,6 @@
 use Rattle.std.proofs.Common.{◌≡◌, ◌∙◌, ap, false, map, rules, slice_index_or, slice_set, sym, refl}
 use Rattle.std.proofs.lemmas.List.{map-set}
-use Rattle.lwp_types.specs.Agents.{armed}
+use Rattle.pod_events.specs.Events.{is_takeable}
 use Rattle.pod_runner.specs.Run.{session_of, stepped, with_took}
 use Rattle.pod_runner.proofs.Lives.{gives-nothing, gives-still, inlet-at, inlet-within, lives-none, lives-take, served-line, served-none, served-unarmed}
 use Rattle.pod_runner.proofs.Rounds.{stream}
@@ -18,10 +18,10 @@ pub returns-then-not-wants-clause-served : goal.returns-then-not-wants-clause-se
 returns-then-not-wants-clause-served g c =
     let inlet = c.index_mut-inlet.result.now in
     let is : slice_index_or c.args.inlets.now.items c.args.i inlet ≡ inlet = search rules in
-    let no : armed (session_of g.B.Body.next g.P.Program.bodies c.args.run.now).live.state c.event-event.result ≡ false = search rules in
+    let no : is_takeable (session_of g.B.Body.next g.P.Program.bodies c.args.run.now).live.pod c.event-event.result ≡ false = search rules in
     served-unarmed g.B.Body.next g.P.Program.bodies g.P.Program.proc_names c.args.i c.args.run.now (g.I.Inlet.intake inlet) (g.I.Inlet.intake inlet) (map g.I.Inlet.intake c.args.inlets.now.items) (map g.I.Inlet.intake (slice_set c.args.inlets.now.items c.args.i inlet))
     (inlet-within g.I.Inlet.intake c.args.inlets.now.items c.args.i c.requires.within) (inlet-at g.I.Inlet.intake c.args.inlets.now.items c.args.i inlet c.requires.within is) (map-set g.I.Inlet.intake c.args.inlets.now.items c.args.i inlet) refl
-    (ap (λ e. armed (session_of g.B.Body.next g.P.Program.bodies c.args.run.now).live.state e) (sym c.event-event.ensures) ∙ no)
+    (ap (λ e. is_takeable (session_of g.B.Body.next g.P.Program.bodies c.args.run.now).live.pod e) (sym c.event-event.ensures) ∙ no)
 
 pub returns-in-Some-clause-lives : goal.returns-in-Some-clause-lives
 returns-in-Some-clause-lives g c =

@@ -40,6 +40,7 @@ returns-in_default c =
       | op.Bound ↦ λ e p. absurd (other.not-Bound e)
       | op.UniqPatt ↦ λ e p. absurd (other.not-UniqPatt e)
       | op.Agents ↦ λ e p. absurd (other.not-Agents e)
+      | op.Trap ↦ λ e p. absurd (other.not-Trap e)
       | op.Skip ↦ λ e p. absurd (other.not-Skip e)
       | op.Again ↦ λ e p. absurd (other.not-Again e)
       | _ ↦ λ e p. refl
@@ -105,6 +106,9 @@ returns-in-UniqPatt c = by_view op.UniqPatt c.args.at _ c.args.phrase.now c.phra
 
 pub returns-in-Agents : goal.returns-in-Agents
 returns-in-Agents c = by_view op.Agents c.args.at _ c.args.phrase.now c.phrase.view_is c.in-Agents.is
+
+pub returns-in-Trap : goal.returns-in-Trap
+returns-in-Trap c = by_view op.Trap c.args.at _ c.args.phrase.now c.phrase.view_is c.in-Trap.is
 
 pub returns-in-Skip : goal.returns-in-Skip
 returns-in-Skip c = by_view op.Skip c.args.at _ c.args.phrase.now c.phrase.view_is c.in-Skip.is

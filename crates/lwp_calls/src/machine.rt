@@ -1,0 +1,53 @@
+// The pod as a machine under events of its own.
+ghost use Rattle.std.specs.Prelude.{◌≡◌};
+
+use crate::Pod;
+use death_cleanup::Kind;
+use lwp_types::{Call, Effects, Flags, NoMemory, PodEnd, Text, Tid};
+use pod_events::Machine;
+
+impl Machine for Pod {
+    ghost use Rattle.lwp_types.specs.State.{State};
+
+    ghost state = { λ (s : State). s };
+
+    fn current(&self) -> Option<Tid> {
+        Pod::current(self)
+    }
+
+    fn ending(&self) -> Option<PodEnd> {
+        Pod::ending(self)
+    }
+
+    fn is_live(&self, tid: Tid) -> bool {
+        Pod::is_live(self, tid)
+    }
+
+    fn armed(&self, event: u8) -> bool {
+        Pod::armed(self, event)
+    }
+
+    fn next_armed(&self, from: u8) -> Option<u8> {
+        Pod::next_armed(self, from)
+    }
+
+    fn flags(&self, tid: Tid) -> Option<Flags> {
+        Pod::flags(self, tid)
+    }
+
+    fn has_agent(&self, event: u8) -> bool {
+        Pod::has_agent(self, event)
+    }
+
+    fn threads(&self) -> usize {
+        Pod::threads(self)
+    }
+
+    fn call(&mut self, call: &Call, effects: &mut Effects) -> Result<(), NoMemory> {
+        Pod::call(self, call, effects)
+    }
+
+    fn deliver(&mut self, event: u8, text: Text, effects: &mut Effects) {
+        Pod::deliver(self, event, text, effects)
+    }
+}

@@ -1,0 +1,77 @@
+// A machine of threads that knows no events of its own.
+ghost use Rattle.std.specs.Prelude.{◌≡◌, ◌≤◌, ◌++◌, [], ◌<◌, length, None, IfNone, IfSome, OnOk, OnErr, IsErr, IsSome, IsTrue};
+ghost use Rattle.std.specs.Slice.Scan.{HoldsNowhere, IsFirstPlace};
+ghost use Rattle.lwp_types.specs.Agents.{armed, deliver};
+ghost use Rattle.lwp_types.specs.Choice.{is_eligible_in};
+ghost use Rattle.lwp_types.specs.Lawful.{Lawful};
+ghost use Rattle.lwp_types.specs.State.{State, is_id};
+ghost use Rattle.lwp_types.specs.Step.{step};
+ghost use Rattle.pod_events.specs.Events.{has_agent};
+ghost use Rattle.pod_events.specs.Machine.{asks_memory, called_by, current_of, ending_of};
+ghost use Rattle.pod_events.specs.Rites.{flags_of};
+ghost use Rattle.pod_events.specs.Traps.{trap_of};
+
+use lwp_types::{Call, Effects, Flags, NoMemory, PodEnd, Text, Tid};
+
+/// The threads of a pod, seen as the machine's state, which is lawful at every moment.
+pub trait Machine: Drop {
+    ghost state: { Self → State };
+
+    /// The thread whose turn it is.
+    fn current(&self) -> Option<Tid>
+        ensures value { result ≡ current_of (state self.now) }
+        ensures may_run { IfSome result (λ t. IsTrue (is_eligible_in (state self.now) t)) }
+        ensures lawful { Lawful (state self.now) None };
+
+    /// Why it is nobody's turn, if so.
+    fn ending(&self) -> Option<PodEnd>
+        ensures { result ≡ ending_of (state self.now) };
+
+    /// Whether a thread or an agent lives under the number.
+    fn is_live(&self, tid: Tid) -> bool
+        ensures { result ≡ is_id (state self.now) tid };
+
+    /// Whether an event can be delivered to its agents.
+    fn armed(&self, event: u8) -> bool
+        ensures { result ≡ armed (state self.now) event };
+
+    /// The first event from `from` on that can be delivered, if there is one below 32.
+    fn next_armed(&self, from: u8) -> Option<u8>
+        ensures none { IfNone result (HoldsNowhere (armed (state self.now)) from 32) }
+        ensures below { IfSome result (λ event. event < 32) }
+        ensures first { IfSome result (λ event. IsFirstPlace (armed (state self.now)) from 32 event) };
+
+    /// How a live thread was created.
+    fn flags(&self, tid: Tid) -> Option<Flags>
+        ensures { result ≡ flags_of (state self.now) tid };
+
+    /// Whether the event has a live agent.
+    fn has_agent(&self, event: u8) -> bool
+        ensures { result ≡ has_agent (state self.now) event };
+
+    /// How many threads live.
+    fn threads(&self) -> usize
+        ensures value { result ≡ length (state self.now).threads }
+        ensures most { result ≤ 1024 };
+
+    /// One call, that isn't Trap, of the thread whose turn it is. `effects` is emptied first, and then has what the step did besides
+    /// the call itself.
+    fn call(&mut self, call: &Call, effects: &mut Effects) -> Result<(), NoMemory>
+        requires turn { IsSome (current_of (state self.old)) }
+        requires no_trap { trap_of call.now ≡ None }
+        ensures after { OnOk result (state self.new ≡ (step (state self.old) call.now).after) }
+        ensures effects { OnOk result (called_by (current_of (state self.old)) call.now ++ effects.new ≡ (step (state self.old) call.now).effects) }
+        ensures most { length effects.new ≤ 1281 }
+        ensures err { OnErr result (state self.new ≡ state self.old) }
+        ensures err_effects { OnErr result (effects.new ≡ []) }
+        ensures memory { IsErr result → IsTrue (asks_memory call.now) }
+        ensures lawful { Lawful (state self.new) None };
+
+    /// An event's text becomes a letter of each of its agents; the clock ticks. `effects` is emptied first, and then has what that did.
+    fn deliver(&mut self, event: u8, text: Text, effects: &mut Effects)
+        requires { IsTrue (armed (state self.old) event) }
+        ensures after { state self.new ≡ (deliver (state self.old) event text).after }
+        ensures effects { effects.new ≡ (deliver (state self.old) event text).effects }
+        ensures most { 1 ≤ event → length effects.new ≤ 512 }
+        ensures lawful { Lawful (state self.new) None };
+}
