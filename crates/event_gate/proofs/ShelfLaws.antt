@@ -1,5 +1,5 @@
 -- What a take and a line more make of the lines left and of their counts.
-use Rattle.std.proofs.Common.{◌≡◌, ◌≢◌, ℕ, zero, suc, ◌+◌, ◌-◌, ◌<◌, ◌≤◌, Bool, eqb, List, true, false, is_some, [], ◌∷◌, ◌++◌, length, map, set, replicate, drop, slice_get, slice_index, get_or, Some, sym, refl, ap, ◌∙◌, ⊎_elim, get_or-set_same, get_or-set_other, length-append, take, subst, eq-eqb, ne_eqb, arith}
+use Rattle.std.proofs.Common.{◌≡◌, ◌≢◌, ℕ, zero, suc, ◌+◌, ◌-◌, ◌<◌, ◌≤◌, Bool, eqb, List, true, false, is_some, [], ◌∷◌, ◌++◌, length, map, set, replicate, drop, slice_get, slice_index, get_or, None, Some, sym, refl, ap, ◌∙◌, ⊎_elim, get_or-set_same, get_or-set_other, length-append, take, subst, eq-eqb, ne_eqb, arith}
 use Rattle.std.specs.List.{count_by, range_with_len}
 use Rattle.std.proofs.lemmas.List.{append-nil, get_or_default, take_more}
 use Rattle.std.proofs.lemmas.List.FromFn.{length-map-range_with_len}
@@ -8,7 +8,9 @@ use Rattle.std.proofs.lemmas.List.Sums.{count_by-le-length, sum_by-set, sum_by-l
 use Rattle.lwp_types.specs.declared.call.Line.{Line}
 use Rattle.lwp_types.specs.CountLaws.{one, count-cons, count-push}
 use Rattle.event_marks.specs.Marks.{is_marked}
-use Rattle.event_gate.specs.Shelves.{Shelf, Shelves, bare, has_left, moved, with_one_more, shelf_of, taken_from, added_to, left_of_client, left_in_all, event_of, lines_for, full, stocked}
+use Rattle.std.specs.Slice.Scan.{HoldsNowhere, IsFirstPlace}
+use Rattle.std.specs.Prelude.{Err, IfNone, IfSome, Ok, OnErr, Option, Result}
+use Rattle.event_gate.specs.Shelves.{Shelf, Shelves, bare, bare_rack, first_left, has_left, moved, with_one_more, shelf_of, taken_from, added_to, left_of_client, left_in_all, event_of, lines_for, full, stocked}
 use Rattle.event_gate.proofs.Lines.{same_or, cond_same, cond_other}
 
 abbrev is_of : ℕ → Line → Bool
@@ -44,7 +46,7 @@ one_left shelves e x there first =
     let n : one (eqb x.client x.client) ≡ 1 = ap one (eq-eqb x.client x.client refl) in
     omega (arith, s, n)
 
-abbrev Counts : List ℕ → Shelves → Type 0
+abbrev pub Counts : List ℕ → Shelves → Type 0
 Counts left shelves = (c : ℕ) → slice_index left c ≡ left_of_client c shelves
 
 -- the counts where one client's is another
@@ -124,32 +126,34 @@ no_counts c = all_zero 256 c ∙ sym (none_left 256 c)
     none_left zero c = refl
     none_left (suc n) c = none_left n c
 
--- the shelf that was found there
-pub found_shelf : (shelves : Shelves) (e : ℕ) (s : Shelf Line) → e < length shelves → s ≡ get_or shelves e s → s ≡ shelf_of shelves e
-found_shelf [] e s there is = absurd (omega arith)
-found_shelf (x ∷ xs) zero s there is = is
-found_shelf (x ∷ xs) (suc e) s there is = found_shelf xs e s (omega arith) is
-
-pub take_at : (left : List ℕ) (shelves : Shelves) (e i n : ℕ) (s w : Shelf Line) (x : Line) → Counts left shelves → e < length shelves → i < length left → s ≡ get_or shelves e s → w ≡ moved s → slice_get s.left 0 ≡ Some x → i ≡ x.client → n ≡ get_or left i n
-    → (1 ≤ n) × Counts (set left i (n - 1)) (set shelves e w)
-take_at left shelves e i n s w x h there known s_is w_is first i_is n_is =
-    let same : s ≡ shelf_of shelves e = found_shelf shelves e s there s_is in
-    let count : n ≡ slice_index left x.client = n_is ∙ get_or_default left i n 0 known ∙ ap (λ k. get_or left k 0) i_is in
-    let next : slice_get (shelf_of shelves e).left 0 ≡ Some x = ap (λ (t : Shelf Line). slice_get t.left 0) (sym same) ∙ first in (
-      let a = one_left shelves e x there next in let b = h x.client in omega (arith, a, b, count),
-      subst (λ (y : Shelf Line × ℕ × ℕ). Counts (set left y.1 (y.2 - 1)) (set shelves e y.0)) (λ k. (sym (w_is ∙ ap moved same) k, sym i_is k, sym count k))
-          (counts_taken left shelves e x h there (let b = i_is in omega (arith, b)) next),
+pub take_of : (left : List ℕ) (shelves : Shelves) (e i n : ℕ) (x : Line) → Counts left shelves → e < length shelves → i < length left → first_left shelves e ≡ Some x → i ≡ x.client → n ≡ get_or left i n
+    → (1 ≤ n) × Counts (set left i (n - 1)) (taken_from shelves e)
+take_of left shelves e i n x h there known first i_is n_is =
+    let count : n ≡ slice_index left x.client = n_is ∙ get_or_default left i n 0 known ∙ ap (λ k. get_or left k 0) i_is in (
+      let a = one_left shelves e x there first in let b = h x.client in omega (arith, a, b, count),
+      subst (λ (y : ℕ × ℕ). Counts (set left y.0 (y.1 - 1)) (taken_from shelves e)) (λ k. (sym i_is k, sym count k)) (counts_taken left shelves e x h there (let b = i_is in omega (arith, b)) first),
     )
 
-pub add_at : (left : List ℕ) (shelves : Shelves) (e i n : ℕ) (s w : Shelf Line) (x : Line) → Counts left shelves → e < length shelves → i < length left → s ≡ get_or shelves e s → w ≡ with_one_more s x → i ≡ x.client → n ≡ get_or left i n
-    → (n ≤ left_in_all shelves) × Counts (set left i (n + 1)) (set shelves e w)
-add_at left shelves e i n s w x h there known s_is w_is i_is n_is =
-    let same : s ≡ shelf_of shelves e = found_shelf shelves e s there s_is in
+pub add_of : (left : List ℕ) (shelves : Shelves) (e i n : ℕ) (x : Line) → Counts left shelves → e < length shelves → i < length left → i ≡ x.client → n ≡ get_or left i n
+    → (n ≤ left_in_all shelves) × Counts (set left i (n + 1)) (added_to shelves e x)
+add_of left shelves e i n x h there known i_is n_is =
     let count : n ≡ slice_index left x.client = n_is ∙ get_or_default left i n 0 known ∙ ap (λ k. get_or left k 0) i_is in (
       let a = within_all x.client shelves in let b = h x.client in omega (arith, a, b, count),
-      subst (λ (y : Shelf Line × ℕ × ℕ). Counts (set left y.1 (y.2 + 1)) (set shelves e y.0)) (λ k. (sym (w_is ∙ ap (λ (t : Shelf Line). with_one_more t x) same) k, sym i_is k, sym count k))
-          (counts_added left shelves e x h there (let b = i_is in omega (arith, b))),
+      subst (λ (y : ℕ × ℕ). Counts (set left y.0 (y.1 + 1)) (added_to shelves e x)) (λ k. (sym i_is k, sym count k)) (counts_added left shelves e x h there (let b = i_is in omega (arith, b))),
     )
+
+-- where no item is left, none is taken
+pub taken_none : {X : Type 0} (shelves : List (Shelf X)) (e : ℕ) → first_left shelves e ≡ None → taken_from shelves e ≡ shelves
+taken_none [] e h = refl
+taken_none (s ∷ shelves) zero h = ap (λ t. t ∷ shelves) (moved_none s h)
+  where
+    moved_none : {X : Type 0} (s : Shelf X) → slice_get s.left 0 ≡ None → moved s ≡ s
+    moved_none {X} s h = by_left s.left h
+      where
+        by_left : (left : List X) → slice_get left 0 ≡ None → moved (record { taken = s.taken; left = left }) ≡ record { taken = s.taken; left = left }
+        by_left [] h = ap (λ (t : List X). record { taken = t; left = [] }) (append-nil s.taken)
+        by_left (y ∷ ys) h = absurd (cc h)
+taken_none (s ∷ shelves) (suc e) h = ap (λ t. s ∷ t) (taken_none shelves e h)
 
 pub add_next : (events : List ℕ) (posts : List Line) (i e : ℕ) (x : Line) (gate w : Shelves) → i < length posts → x ≡ get_or posts i x → gate ≡ stocked events (take i posts) → left_in_all gate ≡ i → e ≡ slice_index events x.client → e < 256 → w ≡ added_to gate e x
     → (w ≡ stocked events (take (i + 1) posts)) × (left_in_all w ≡ i + 1)
@@ -184,30 +188,61 @@ put_last zero xs x le = refl
 put_last (suc n) [] x le = absurd (omega arith)
 put_last {X} (suc n) (y ∷ ys) x le = ap (λ (s : Shelf X). record { taken = y ∷ s.taken; left = s.left }) (put_last n ys x (omega arith))
 
--- ---- the events of which a line is left
+-- ---- the events of which an item is left
 
-abbrev Marks : ℕ → Shelves → Type 0
+abbrev Marks : {X : Type 0} → ℕ → List (Shelf X) → Type 0
 Marks word shelves = (e : ℕ) → e < 64 → is_marked word e ≡ has_left shelves e
 
 -- where another shelf stands at one event, the marks are others there alone
-pub marks_put : (was now : ℕ) (shelves : Shelves) (e : ℕ) (s : Shelf Line) → Marks was shelves → e < length shelves → (e < 64 → is_marked now e ≡ is_some (slice_get s.left 0)) → ((i : ℕ) → i ≢ e → is_marked now i ≡ is_marked was i) → Marks now (set shelves e s)
-marks_put was now shelves e s h there here others i low = ⊎_elim
-    (λ (same : e ≡ i). ap (is_marked now) (sym same) ∙ here (subst (λ k. k < 64) (sym same) low) ∙ sym (ap (λ (t : Shelf Line). is_some (slice_get t.left 0)) (ap (λ k. get_or (set shelves e s) k bare) (sym same) ∙ get_or-set_same shelves e s bare there)))
-    (λ (other : e ≢ i). others i (λ is. other (sym is)) ∙ h i low ∙ sym (ap (λ (t : Shelf Line). is_some (slice_get t.left 0)) (get_or-set_other shelves e i s bare (λ is. other (sym is)))))
+pub marks_put : {X : Type 0} (was now : ℕ) (shelves : List (Shelf X)) (e : ℕ) (s : Shelf X) → Marks was shelves → e < length shelves → (e < 64 → is_marked now e ≡ is_some (slice_get s.left 0)) → ((i : ℕ) → i ≢ e → is_marked now i ≡ is_marked was i) → Marks now (set shelves e s)
+marks_put {X} was now shelves e s h there here others i low = ⊎_elim
+    (λ (same : e ≡ i). ap (is_marked now) (sym same) ∙ here (subst (λ k. k < 64) (sym same) low) ∙ sym (ap (λ (t : Shelf X). is_some (slice_get t.left 0)) (ap (λ k. get_or (set shelves e s) k bare) (sym same) ∙ get_or-set_same shelves e s bare there)))
+    (λ (other : e ≢ i). others i (λ is. other (sym is)) ∙ h i low ∙ sym (ap (λ (t : Shelf X). is_some (slice_get t.left 0)) (get_or-set_other shelves e i s bare (λ is. other (sym is)))))
     (same_or e i)
 
+-- the shelf that was found there
+pub found_shelf : {X : Type 0} (shelves : List (Shelf X)) (e : ℕ) (s : Shelf X) → e < length shelves → s ≡ get_or shelves e s → s ≡ shelf_of shelves e
+found_shelf [] e s there is = absurd (omega arith)
+found_shelf (x ∷ xs) zero s there is = is
+found_shelf (x ∷ xs) (suc e) s there is = found_shelf xs e s (omega arith) is
+
+-- where there was an error, this holds
+pub on_err : {T E P : Type 0} (r : Result T E) → P → OnErr r P
+on_err (Ok x) p = tt
+on_err (Err e) p = p
+
+-- the same shelf is put back
+pub set_same : {X : Type 0} (shelves : List (Shelf X)) (e : ℕ) → set shelves e (shelf_of shelves e) ≡ shelves
+set_same [] e = refl
+set_same (x ∷ xs) zero = refl
+set_same (x ∷ xs) (suc e) = ap (λ l. x ∷ l) (set_same xs e)
+
 -- a shelf with one item more has one left
-pub one_more_left : (s : Shelf Line) (x : Line) → is_some (slice_get (with_one_more s x).left 0) ≡ true
-one_more_left s x = by_left s.left
+pub one_more_left : {X : Type 0} (s : Shelf X) (x : X) → is_some (slice_get (with_one_more s x).left 0) ≡ true
+one_more_left {X} s x = by_left s.left
   where
-    by_left : (xs : List Line) → is_some (slice_get (xs ++ x ∷ []) 0) ≡ true
+    by_left : (xs : List X) → is_some (slice_get (xs ++ x ∷ []) 0) ≡ true
     by_left [] = refl
     by_left (y ∷ ys) = refl
 
-pub no_marks : (word : ℕ) → ((e : ℕ) → is_marked word e ≡ false) → Marks word (replicate 256 bare)
-no_marks word none e low = none e ∙ sym (bare_at 256 e)
+pub bare_marks : (X : Type 0) (word : ℕ) → ((e : ℕ) → is_marked word e ≡ false) → Marks {X = X} word bare_rack
+bare_marks X word none e low = none e ∙ sym (bare_at 256 e)
   where
-    bare_at : (n e : ℕ) → has_left (replicate n bare) e ≡ false
+    bare_at : (n e : ℕ) → has_left {X = X} (replicate n bare) e ≡ false
     bare_at zero e = refl
     bare_at (suc n) zero = refl
     bare_at (suc n) (suc e) = bare_at n e
+
+-- what holds of the marks holds of the shelves
+pub none_of : {X : Type 0} (word : ℕ) (shelves : List (Shelf X)) (from : ℕ) (o : Option ℕ) → Marks word shelves → IfNone o (HoldsNowhere (is_marked word) from 32) → IfNone o (HoldsNowhere (has_left shelves) from 32)
+none_of word shelves from None h none = λ k low high. sym (h k (omega (arith, high))) ∙ none k low high
+none_of word shelves from (Some e) h none = tt
+
+pub first_of : {X : Type 0} (word : ℕ) (shelves : List (Shelf X)) (from : ℕ) (o : Option ℕ) → Marks word shelves → IfSome o (λ e. e < 32) → IfSome o (λ e. IsFirstPlace (is_marked word) from 32 e) → IfSome o (λ e. IsFirstPlace (has_left shelves) from 32 e)
+first_of word shelves from None h within is = tt
+first_of word shelves from (Some e) h within is = record {
+  low = is.low;
+  high = is.high;
+  before = λ k low under. sym (h k (omega (arith, under, within))) ∙ is.before k low under;
+  hit = λ below. sym (h e (omega (arith, within))) ∙ is.hit below;
+}

@@ -2,15 +2,15 @@
 //! threads post while the pod runs.
 //!
 //! A gate is two lists of each event, the lines taken and the lines left (`specs/Shelves.antt`). A take gives the first line
-//! left of its event, so of each client the lines taken and then those left are what it posts (`specs/History.antt`). A `Shelf`
-//! is the two lists of one event, of lines or of whatever else a gate makes its lines of.
+//! left of its event, so of each client the lines taken and then those left are what it posts (`specs/History.antt`). A `Rack`
+//! is the two lists of each event, of lines or of whatever else a gate makes its lines of.
 //!
 //! A port is one queue and the two kinds of ends that it has. Each client has a `Poster`, and the runner has the one `Taker`.
 //! What holds at each step of any of them is the rule of the port (`specs/Port.antt`): what was pushed is what was popped and
 //! then what the queue holds, and each client's part of it is what its poster knows that it has posted. So for every schedule,
 //! once a poster's pass is taken in, its lines taken and then its lines queued are what it posted, in order (`TakesIn`), and a
-//! take answers `None` only where nothing was queued (`FindsNothing`). The crate stands on the words of `lwp_types`, on the
-//! kit's `crossbeam_queue` for the queue and on its `atomic_table` for a gauge beside it.
+//! take answers `None` only where nothing was queued (`FindsNothing`). The crate stands on the words of `lwp_types`, on
+//! `event_marks`, on the kit's `crossbeam_queue` for the queue and on its `atomic_table` for a gauge beside it.
 #![tactic(auto)]
 
 mod bell;
@@ -24,6 +24,7 @@ mod open;
 mod port;
 mod poster;
 mod posts;
+mod rack;
 mod rule;
 mod shelf;
 mod taker;
@@ -37,6 +38,6 @@ pub use list_gate::ListGate;
 pub use open::open_port;
 pub use poster::{PostPass, PostRefused, Poster};
 pub use posts::{NoGate, PostEnd, PostGate, post_all};
-pub use shelf::Shelf;
+pub use rack::Rack;
 pub use taker::Taker;
 pub use view::{Told, View};

@@ -1,5 +1,5 @@
 // The items of one event.
-ghost use Rattle.std.specs.Prelude.{◌≡◌, OnOk, is_some};
+ghost use Rattle.std.specs.Prelude.{◌≡◌, OnErr, OnOk, is_some};
 ghost use Rattle.std.specs.List.{slice_get};
 ghost use Rattle.event_gate.specs.Shelves.{bare, moved, with_one_more};
 
@@ -41,7 +41,8 @@ impl<T> Shelf<T> {
     pub fn add(&mut self, item: T) -> Result<(), NoMemory>
     where
         T: Drop,
-        ensures { OnOk result (self.new ≡ with_one_more self.old item) }
+        ensures ok { OnOk result (self.new ≡ with_one_more self.old item) }
+        ensures err { OnErr result (self.new ≡ self.old) }
     {
         self.items.push(item)?;
         Ok(())

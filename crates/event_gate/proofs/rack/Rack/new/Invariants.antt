@@ -1,6 +1,6 @@
 use Rattle.std.proofs.Common.{◌≡◌, replicate}
 use Rattle.event_gate.specs.Shelves.{bare}
-use Rattle.event_gate.proofs.list_gate.bare_shelves.Given as goal
+use Rattle.event_gate.proofs.rack.Rack.new.Given as goal
 
 abbrev pub invariant-loop : goal.invariant-loop
-invariant-loop l = l.shelves.items ≡ replicate l.counter bare
+invariant-loop g l = l.shelves.items ≡ replicate l.counter bare
