@@ -1,6 +1,6 @@
 -- What a take and a post more make of the lines by their places, and of the counts.
-use Rattle.event_gate.proofs.ShelfLaws.{add_at, add_next, begins, found_shelf, no_counts, take_at}
-use Rattle.event_gate.specs.Shelves.{Shelf, Shelves, added_to, bare, left_in_all, left_of_client, moved, shelf_of, stocked, taken_from, with_one_more}
+use Rattle.event_gate.proofs.ShelfLaws.{Counts, add_next, add_of, begins, no_counts, take_of, taken_none}
+use Rattle.event_gate.specs.Shelves.{Shelf, Shelves, added_to, bare, bare_rack, first_left, has_left, left_in_all, left_of_client, moved, shelf_of, stocked, taken_from, with_one_more}
 use Rattle.lwp_types.specs.declared.call.Line.{Line}
 use Rattle.script_gate.specs.Posted.{IsPosted}
 use Rattle.script_gate.specs.Stocked.{stock_of}
@@ -8,16 +8,13 @@ use Rattle.script_text.specs.Script.{line_of, lines_posted}
 use Rattle.script_text.specs.declared.script.Post.{Post}
 use Rattle.script_text.specs.declared.script.Script.{Script}
 use Rattle.script_gate.specs.Places.{line_at, no_line, shelf_by, shelves_by}
-use Rattle.std.specs.Prelude.{option_map, replicate}
+use Rattle.std.specs.Prelude.{IfNone, IfSome, is_some, option_map, replicate}
+use Rattle.std.specs.Slice.Scan.{HoldsNowhere, IsFirstPlace}
 use Rattle.std.proofs.Common.{List, None, Option, Some, [], ap, arith, drop, get_or, length, length-set, map, refl, set, slice_get, slice_index, subst, suc, sym, take, zero, ℕ, ◌++◌, ◌+◌, ◌-◌, ◌<◌, ◌∙◌, ◌∷◌, ◌≡◌, ◌≤◌}
 use Rattle.std.proofs.lemmas.List.{drop-map, get_or-map, get_or_default, length-map, length-replicate, map-append, map-set, take-map, take_all}
 use Rattle.std.proofs.lemmas.List.Elements.{All-get_or}
 use Rattle.std.proofs.Math.ListN.{get_or-eq_default}
 use Rattle.std.proofs.lemmas.Option.{get_or_from_slice_get, slice_get-map, slice_get_within}
-
--- so many lines are left of each client
-abbrev pub Counts : List ℕ → Shelves → Type 0
-Counts left shelves = (c : ℕ) → slice_index left c ≡ left_of_client c shelves
 
 -- ---- one shelf of places, as a shelf of lines
 
@@ -30,28 +27,49 @@ moved-is lines p =
 more-is : (lines : List Line) (p : Shelf ℕ) (place : ℕ) → shelf_by lines (with_one_more p place) ≡ with_one_more (shelf_by lines p) (line_at lines place)
 more-is lines p place = ap (λ (xs : List Line). record { taken = map (line_at lines) p.taken; left = xs }) (map-append (line_at lines) p.left (place ∷ []))
 
-found-is : (lines : List Line) (places : List (Shelf ℕ)) (e : ℕ) (p : Shelf ℕ) → e < length places → p ≡ get_or places e p → shelf_by lines p ≡ get_or (shelves_by lines places) e (shelf_by lines p)
-found-is lines places e p there is = ap (shelf_by lines) is ∙ sym (get_or-map (shelf_by lines) places e p (shelf_by lines p) there)
+-- the lines of an event are those of its places
+shelf-is : (lines : List Line) (places : List (Shelf ℕ)) (e : ℕ) → e < length places → shelf_by lines (shelf_of places e) ≡ shelf_of (shelves_by lines places) e
+shelf-is lines places e there = sym (get_or-map (shelf_by lines) places e bare bare there)
 
 -- ---- a take
 
-pub first-is : (lines : List Line) (places : List (Shelf ℕ)) (e : ℕ) (p : Shelf ℕ) (o : Option ℕ) → e < length places → p ≡ get_or places e p → o ≡ slice_get p.left 0 → option_map (line_at lines) o ≡ slice_get (shelf_of (shelves_by lines places) e).left 0
-first-is lines places e p o there is o_is =
-    ap (option_map (line_at lines)) o_is ∙ sym (slice_get-map (line_at lines) p.left 0)
-    ∙ ap (λ (s : Shelf Line). slice_get s.left 0) (found_shelf (shelves_by lines places) e (shelf_by lines p) (omega (arith, there, length-map places (shelf_by lines))) (found-is lines places e p there is))
+pub first-is : (lines : List Line) (places : List (Shelf ℕ)) (e : ℕ) → e < length places → option_map (line_at lines) (first_left places e) ≡ first_left (shelves_by lines places) e
+first-is lines places e there = sym (slice_get-map (line_at lines) (shelf_of places e).left 0) ∙ ap (λ (s : Shelf Line). slice_get s.left 0) (shelf-is lines places e there)
 
-pub after-is : (lines : List Line) (places : List (Shelf ℕ)) (e : ℕ) (p w : Shelf ℕ) → e < length places → p ≡ get_or places e p → w ≡ moved p → shelves_by lines (set places e w) ≡ taken_from (shelves_by lines places) e
-after-is lines places e p w there is w_is =
-    map-set (shelf_by lines) places e w
-    ∙ ap (set (shelves_by lines places) e) (ap (shelf_by lines) w_is ∙ moved-is lines p ∙ ap moved (found_shelf (shelves_by lines places) e (shelf_by lines p) (omega (arith, there, length-map places (shelf_by lines))) (found-is lines places e p there is)))
+pub after-is : (lines : List Line) (places : List (Shelf ℕ)) (e : ℕ) → e < length places → shelves_by lines (taken_from places e) ≡ taken_from (shelves_by lines places) e
+after-is lines places e there =
+    map-set (shelf_by lines) places e (moved (shelf_of places e)) ∙ ap (set (shelves_by lines places) e) (moved-is lines (shelf_of places e) ∙ ap moved (shelf-is lines places e there))
 
-pub line_taken : (lines : List Line) (left : List ℕ) (places : List (Shelf ℕ)) (e i n place : ℕ) (p w : Shelf ℕ) → Counts left (shelves_by lines places) → e < length places → i < length left → p ≡ get_or places e p → w ≡ moved p
-    → slice_get p.left 0 ≡ Some place → i ≡ (line_at lines place).client → n ≡ get_or left i n
-    → (1 ≤ n) × Counts (set left i (n - 1)) (shelves_by lines (set places e w))
-line_taken lines left places e i n place p w h there known p_is w_is first i_is n_is =
-    let took = take_at left (shelves_by lines places) e i n (shelf_by lines p) (shelf_by lines w) (line_at lines place) h (omega (arith, there, length-map places (shelf_by lines))) known
-    (found-is lines places e p there p_is) (ap (shelf_by lines) w_is ∙ moved-is lines p) (slice_get-map (line_at lines) p.left 0 ∙ ap (option_map (line_at lines)) first) i_is n_is in
-    (took.0, subst (Counts (set left i (n - 1))) (sym (map-set (shelf_by lines) places e w)) took.1)
+-- of an event a place is left where a line is
+pub left-is : (lines : List Line) (places : List (Shelf ℕ)) (e : ℕ) → e < length places → has_left places e ≡ has_left (shelves_by lines places) e
+left-is lines places e there = some-is (first_left places e) ∙ ap is_some (first-is lines places e there)
+  where
+    some-is : (o : Option ℕ) → is_some o ≡ is_some (option_map (line_at lines) o)
+    some-is None = refl
+    some-is (Some place) = refl
+
+pub none-is : (lines : List Line) (places : List (Shelf ℕ)) (from : ℕ) (o : Option ℕ) → length places ≡ 256 → IfNone o (HoldsNowhere (has_left places) from 32) → IfNone o (HoldsNowhere (has_left (shelves_by lines places)) from 32)
+none-is lines places from None long none = λ k low high. sym (left-is lines places k (omega (arith, high, long))) ∙ none k low high
+none-is lines places from (Some e) long none = tt
+
+pub next-is : (lines : List Line) (places : List (Shelf ℕ)) (from : ℕ) (o : Option ℕ) → length places ≡ 256 → IfSome o (λ e. e < 32) → IfSome o (λ e. IsFirstPlace (has_left places) from 32 e) → IfSome o (λ e. IsFirstPlace (has_left (shelves_by lines places)) from 32 e)
+next-is lines places from None long within is = tt
+next-is lines places from (Some e) long within is = record {
+  low = is.low;
+  high = is.high;
+  before = λ k low under. sym (left-is lines places k (omega (arith, under, within, long))) ∙ is.before k low under;
+  hit = λ below. sym (left-is lines places e (omega (arith, within, long))) ∙ is.hit below;
+}
+
+pub line_taken : (lines : List Line) (left : List ℕ) (places : List (Shelf ℕ)) (e i n place : ℕ) → Counts left (shelves_by lines places) → e < length places → i < length left → first_left places e ≡ Some place → i ≡ (line_at lines place).client → n ≡ get_or left i n
+    → (1 ≤ n) × Counts (set left i (n - 1)) (shelves_by lines (taken_from places e))
+line_taken lines left places e i n place h there known first i_is n_is =
+    let took = take_of left (shelves_by lines places) e i n (line_at lines place) h (omega (arith, there, length-map places (shelf_by lines))) known (sym (first-is lines places e there) ∙ ap (option_map (line_at lines)) first) i_is n_is in
+    (took.0, subst (Counts (set left i (n - 1))) (sym (after-is lines places e there)) took.1)
+
+-- where no place is left, none is taken
+pub none_taken : (places : List (Shelf ℕ)) (e : ℕ) → first_left places e ≡ None → taken_from places e ≡ places
+none_taken places e none = taken_none places e none
 
 -- ---- the line that a place stands for
 
@@ -77,7 +95,7 @@ pub record Shelved (script : Script) (i : ℕ) (places : List (Shelf ℕ)) (left
   pub all : left_in_all (shelves_by (lines_posted script) places) ≡ i
   pub counts : Counts left (shelves_by (lines_posted script) places)
 
-pub shelved-none : (script : Script) (places : List (Shelf ℕ)) (left : List ℕ) → places ≡ replicate 256 bare → left ≡ replicate 256 0 → Shelved script 0 places left
+pub shelved-none : (script : Script) (places : List (Shelf ℕ)) (left : List ℕ) → places ≡ bare_rack → left ≡ replicate 256 0 → Shelved script 0 places left
 shelved-none script places left p_is l_is =
     let lines = lines_posted script in
     let bares : shelves_by lines places ≡ replicate 256 bare = ap (shelves_by lines) p_is ∙ none 256 in
@@ -102,10 +120,10 @@ client-known script posts i c d posted same there c_is =
     let known = All-get_or (λ (l : Line). l.client < length script.clients) (lines_posted script) i (line_of script.texts d) (omega (arith, within, length-map script.posts (line_of script.texts))) posted.clients in
     omega (arith, known, ap (λ (l : Line). l.client) line, c_is, ap (λ (ps : List Post). (get_or ps i d).client) same)
 
-pub shelved-more : (script : Script) (clients : List ℕ) (posts : List Post) (i c e n : ℕ) (d : Post) (z : ℕ) (places : List (Shelf ℕ)) (left : List ℕ) (p w : Shelf ℕ) → Shelved script i places left → clients ≡ script.clients → posts ≡ script.posts
-    → i < length posts → c ≡ (get_or posts i d).client → c < length clients → c < 256 → e ≡ get_or clients c z → e < 256 → p ≡ get_or places e p → w ≡ with_one_more p i → n ≡ get_or left c n
-    → (n ≤ i) × Shelved script (i + 1) (set places e w) (set left c (n + 1))
-shelved-more script clients posts i c e n d z places left p w h clients_are posts_are there c_is c_known c_low e_is e_low p_is w_is n_is =
+pub shelved-more : (script : Script) (clients : List ℕ) (posts : List Post) (i c e n : ℕ) (d : Post) (z : ℕ) (places : List (Shelf ℕ)) (left : List ℕ) → Shelved script i places left → clients ≡ script.clients → posts ≡ script.posts
+    → i < length posts → c ≡ (get_or posts i d).client → c < length clients → c < 256 → e ≡ get_or clients c z → e < 256 → n ≡ get_or left c n
+    → (n ≤ i) × Shelved script (i + 1) (added_to places e i) (set left c (n + 1))
+shelved-more script clients posts i c e n d z places left h clients_are posts_are there c_is c_known c_low e_is e_low n_is =
     let lines = lines_posted script in
     let line = line_at lines i in
     let within : i < length script.posts = omega (arith, there, ap length posts_are) in
@@ -115,19 +133,17 @@ shelved-more script clients posts i c e n d z places left p w h clients_are post
     let event_is : e ≡ slice_index script.clients line.client = e_is ∙ get_or_default clients c z 0 c_known ∙ ap (λ (es : List ℕ). get_or es c 0) clients_are ∙ ap (λ k. get_or script.clients k 0) client_is in
     let shelves = shelves_by lines places in
     let long : length shelves ≡ 256 = length-map places (shelf_by lines) ∙ h.places_are in
-    let p_at = found-is lines places e p (omega (arith, e_low, h.places_are)) p_is in
-    let w_at : shelf_by lines w ≡ with_one_more (shelf_by lines p) line = ap (shelf_by lines) w_is ∙ more-is lines p i in
-    let added = add_at left shelves e c n (shelf_by lines p) (shelf_by lines w) line h.counts (omega (arith, e_low, long)) (omega (arith, c_low, h.left_are)) p_at w_at client_is n_is in
-    let now : shelves_by lines (set places e w) ≡ added_to shelves e line
-    = map-set (shelf_by lines) places e w ∙ ap (set shelves e) (w_at ∙ ap (λ s. with_one_more s line) (found_shelf shelves e (shelf_by lines p) (omega (arith, e_low, long)) p_at)) in
-    let next = add_next script.clients lines i e line shelves (shelves_by lines (set places e w)) under (get_or_default lines i no_line line under) h.stocked_are h.all event_is e_low now in (
+    let added = add_of left shelves e c n line h.counts (omega (arith, e_low, long)) (omega (arith, c_low, h.left_are)) client_is n_is in
+    let now : shelves_by lines (added_to places e i) ≡ added_to shelves e line
+    = map-set (shelf_by lines) places e (with_one_more (shelf_of places e) i) ∙ ap (set shelves e) (more-is lines (shelf_of places e) i ∙ ap (λ s. with_one_more s line) (shelf-is lines places e (omega (arith, e_low, h.places_are)))) in
+    let next = add_next script.clients lines i e line shelves (shelves_by lines (added_to places e i)) under (get_or_default lines i no_line line under) h.stocked_are h.all event_is e_low now in (
       omega (arith, added.0, h.all),
       record {
-        places_are = length-set places e w ∙ h.places_are;
+        places_are = length-set places e (with_one_more (shelf_of places e) i) ∙ h.places_are;
         left_are = length-set left c (n + 1) ∙ h.left_are;
         stocked_are = next.0;
         all = next.1;
-        counts = subst (Counts (set left c (n + 1))) (sym (map-set (shelf_by lines) places e w)) added.1;
+        counts = subst (Counts (set left c (n + 1))) (sym now) added.1;
       },
     )
 

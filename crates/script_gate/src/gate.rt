@@ -1,25 +1,25 @@
 // A gate that borrows the script whose lines it has.
-ghost use Rattle.std.specs.Prelude.{◌≡◌, IfOk, replicate};
-ghost use Rattle.event_gate.specs.Shelves.{bare, first_left, left_of_client, taken_from};
+ghost use Rattle.std.specs.Prelude.{◌≡◌, IfOk};
+ghost use Rattle.event_gate.specs.Shelves.{first_left, left_of_client, taken_from};
 ghost use Rattle.script_gate.specs.Posted.{IsPosted};
 ghost use Rattle.script_gate.specs.Places.{line_at};
 ghost use Rattle.script_gate.specs.Stocked.{stock_of};
 ghost use Rattle.script_text.specs.Script.{lines_posted};
 
-use event_gate::{Gate, Shelf};
+use event_gate::{Gate, Rack};
 use lwp_types::{Line, NoMemory, Text};
 use script_text::Script;
 use std::alloc::Global;
 use std::marker::Model;
 
-// How many numbers an event can have, and a client.
-const EVENTS: usize = 256;
+// How many numbers a client can have.
+const CLIENTS: usize = 256;
 
 /// The lines of a script's clients, which are all there from the start, seen as those taken and those left of each event.
 pub struct ScriptGate<'s> {
     script: &'s Script,
-    // By the number of the event, the places of its posts in the script.
-    shelves: Vec<Shelf<u32>>,
+    // Of each event, the places of its posts in the script.
+    places: Rack<u32>,
     // By the number of the client, how many of its lines are left.
     left: Vec<u32>,
 }
@@ -29,7 +29,7 @@ impl<'s> Drop for ScriptGate<'s> {
     fn drop(self) {
         let ScriptGate {
             script: _,
-            shelves: _,
+            places: _,
             left: _,
         } = self;
     }
@@ -43,19 +43,9 @@ impl<'s> Model for ScriptGate<'s> {
 
     ghost Value = { Shelves };
 
-    ghost view = { λ s. shelves_by (lines_posted s.script.now) s.shelves.items };
+    ghost view = { λ s. shelves_by (lines_posted s.script.now) s.places };
 
-    ghost invariant = { λ s. (length s.shelves.items ≡ 256) × (length s.left.items ≡ 256) × ((c : ℕ) → slice_index s.left.items c ≡ left_of_client c (shelves_by (lines_posted s.script.now) s.shelves.items)) };
-}
-
-fn bare_shelves(alloc: Global) -> Result<Vec<Shelf<u32>>, NoMemory>
-    ensures { IfOk result (λ v. v.items ≡ replicate 256 bare) }
-{
-    let mut shelves = Vec::new(alloc);
-    for _ in 0..EVENTS {
-        shelves.push(Shelf::new(alloc))?;
-    }
-    Ok(shelves)
+    ghost invariant = { λ s. (length s.places ≡ 256) × (length s.left.items ≡ 256) × ((c : ℕ) → slice_index s.left.items c ≡ left_of_client c (shelves_by (lines_posted s.script.now) s.places)) };
 }
 
 // The line of the post at this place.
@@ -83,17 +73,16 @@ pub fn stock<'s>(alloc: Global, script: &'s Script) -> Result<ScriptGate<'s>, No
 {
     let clients = script.clients.as_slice();
     let posts = script.posts.as_slice();
-    let mut shelves = bare_shelves(alloc)?;
-    let mut left = Vec::from_elem(alloc, 0, EVENTS)?;
+    let mut places = Rack::new(alloc)?;
+    let mut left = Vec::from_elem(alloc, 0, CLIENTS)?;
     for place in 0..posts.len() {
         let client = usize::from(posts[place].client);
-        let event = usize::from(clients[client]);
-        shelves[event].add(place as u32)?;
+        places.add(clients[client], place as u32)?;
         left[client] += 1;
     }
     Ok(ScriptGate {
         script,
-        shelves,
+        places,
         left,
     })
 }
@@ -104,13 +93,17 @@ impl<'s> Gate for ScriptGate<'s> {
     fn take(&mut self, event: u8) -> Option<Line> {
         let ScriptGate {
             script,
-            shelves,
+            places,
             left,
         } = self;
-        let place = shelves[usize::from(event)].next()?;
+        let place = places.next(event)?;
         let line = line_at(script, place);
         left[usize::from(line.client)] -= 1;
         Some(line)
+    }
+
+    fn next_left(&self, from: u8) -> Option<u8> {
+        self.places.next_left(from)
     }
 
     fn left(&self, client: u8) -> u32 {

@@ -1,22 +1,32 @@
-use Rattle.std.proofs.Common.{ap, arith, length-set, sym, ◌∙◌}
-use Rattle.script_gate.proofs.PlaceLaws.{after-is, line_taken}
-use Rattle.event_gate.specs.Shelves.{taken_from}
+use Rattle.std.proofs.Common.{Some, ap, arith, length, length-set, sym, ◌∙◌}
+use Rattle.script_gate.proofs.PlaceLaws.{after-is, first-is, line_taken, none_taken}
+use Rattle.event_gate.specs.Shelves.{first_left, taken_from}
+use Rattle.script_gate.specs.Places.{line_at, shelves_by}
 use Rattle.script_text.specs.Script.{lines_posted}
+use Rattle.std.specs.Prelude.{option_map}
 use Rattle.script_gate.proofs.gate.ScriptGateGate.take.Goals as goal
 
 pub overflow_sub-index_mut : goal.overflow_sub-index_mut
 overflow_sub-index_mut c =
-    (line_taken (lines_posted c.self.inside.script.now) c.self.inside.left.items c.self.inside.shelves.items c.from.result c.from-2.result c.index_mut-2.result.now c.in_ok-place.place c.index_mut.result.now c.next.new.self c.self.invariant.2 (omega arith) (omega arith)
-    c.index_mut.ensures.value c.next.ensures.after (sym c.next.ensures.item ∙ c.in_ok-place.was) (c.from-2.ensures ∙ ap (λ l. l.client) c.line_at-line.ensures) c.index_mut-2.ensures.value).0
+    (line_taken (lines_posted c.self.inside.script.now) c.self.inside.left.items c.self.inside.places c.args.event c.from.result c.index_mut.result.now c.in_ok-place.place c.self.invariant.2 (omega (arith, c.self.invariant.0)) (omega (arith, c.self.invariant.1))
+    (sym c.next.ensures.item ∙ c.in_ok-place.was) (c.from.ensures ∙ ap (λ l. l.client) c.line_at-line.ensures) c.index_mut.ensures.value).0
+
+pub invariant_of-self : goal.invariant_of-self
+invariant_of-self c = rw (c.next.ensures.after ∙ none_taken c.self.inside.places c.args.event (sym c.next.ensures.item ∙ c.in_err-place.was)) c.self.invariant
 
 pub invariant_of-self-2 : goal.invariant_of-self-2
 invariant_of-self-2 c = (
-  length-set _ _ _ ∙ c.self.invariant.0,
+  ap length c.next.ensures.after ∙ length-set _ _ _ ∙ c.self.invariant.0,
   length-set _ _ _ ∙ c.self.invariant.1,
-  (line_taken (lines_posted c.self.inside.script.now) c.self.inside.left.items c.self.inside.shelves.items c.from.result c.from-2.result c.index_mut-2.result.now c.in_ok-place.place c.index_mut.result.now c.next.new.self c.self.invariant.2 (omega arith) (omega arith)
-      c.index_mut.ensures.value c.next.ensures.after (sym c.next.ensures.item ∙ c.in_ok-place.was) (c.from-2.ensures ∙ ap (λ l. l.client) c.line_at-line.ensures) c.index_mut-2.ensures.value).1,
+  rw c.next.ensures.after (line_taken (lines_posted c.self.inside.script.now) c.self.inside.left.items c.self.inside.places c.args.event c.from.result c.index_mut.result.now c.in_ok-place.place c.self.invariant.2 (omega (arith, c.self.invariant.0)) (omega (arith, c.self.invariant.1))
+      (sym c.next.ensures.item ∙ c.in_ok-place.was) (c.from.ensures ∙ ap (λ l. l.client) c.line_at-line.ensures) c.index_mut.ensures.value).1,
 )
 
 pub returns-clause-after : goal.returns-clause-after
 returns-clause-after c =
-    after-is (lines_posted c.self.inside.script.now) c.self.inside.shelves.items c.from.result c.index_mut.result.now c.next.new.self (omega arith) c.index_mut.ensures.value c.next.ensures.after ∙ (λ k. taken_from (c.self.view_is k) (c.from.ensures k))
+    ap (shelves_by (lines_posted c.self.inside.script.now)) c.next.ensures.after ∙ after-is (lines_posted c.self.inside.script.now) c.self.inside.places c.args.event (omega (arith, c.self.invariant.0)) ∙ ap (λ s. taken_from s c.args.event) c.self.view_is
+
+pub returns-clause-line : goal.returns-clause-line
+returns-clause-line c =
+    let lines = lines_posted c.self.inside.script.now in
+    ap Some c.line_at-line.ensures ∙ ap (option_map (line_at lines)) (sym c.in_ok-place.was ∙ c.next.ensures.item) ∙ first-is lines c.self.inside.places c.args.event (omega (arith, c.self.invariant.0)) ∙ ap (λ s. first_left s c.args.event) c.self.view_is
