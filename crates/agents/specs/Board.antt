@@ -1,6 +1,6 @@
 -- A board: how many agents each event has, and how many of them hold a message. No public clause cites this module.
 use Rattle.agents.specs.declared.board.Tally.{Tally}
-use Rattle.std.specs.Int.{bit_at}
+use Rattle.event_marks.specs.Marks.{is_marked}
 use Rattle.std.specs.Prelude.{Bool, List, length, not, slice_index_or, ℕ, ◌&&◌, ◌==◌, ◌≡◌}
 
 -- no agents
@@ -15,11 +15,7 @@ tally_at board e = slice_index_or board e no_tally
 abbrev pub is_ready : Tally → Bool
 is_ready tally = not (tally.agents == 0) && tally.holding == 0
 
--- the bit of the word is set
-abbrev pub is_set : ℕ → ℕ → Bool
-is_set word e = bit_at word e == 1
-
--- there is a tally for each event, and the bit of each event in the word says whether the event can be delivered
+-- there is a tally for each event, and the word marks the events that can be delivered
 pub record IsMarked (board : List Tally) (word : ℕ) : Type 0 where
   pub wide : length board ≡ 33
-  pub marked : (e : ℕ) → is_set word e ≡ is_ready (tally_at board e)
+  pub marked : (e : ℕ) → is_marked word e ≡ is_ready (tally_at board e)

@@ -3,7 +3,7 @@ ghost use Rattle.std.specs.Prelude.{◌≡◌, ◌<◌, if◌then◌else◌, IfN
 ghost use Rattle.std.specs.Slice.Scan.{HoldsNowhere, IsFirstPlace};
 ghost use Rattle.agents.specs.Board.{is_ready, no_tally, tally_at};
 
-use crate::marks::{has_bit, next_bit, with_bit};
+use event_marks::{first_marked, is_marked, no_marks, with_mark};
 use std::marker::Model;
 
 /// How many agents an event has, and how many of them hold a message.
@@ -36,7 +36,7 @@ const EVENTS: usize = 33;
 #[derive(Drop)]
 pub struct Board {
     tallies: [Tally; EVENTS],
-    // The bit of each event says whether the event can be delivered.
+    // An event is marked where it can be delivered.
     armed: u64,
 }
 
@@ -63,7 +63,7 @@ impl Board {
         };
         Board {
             tallies: [none; EVENTS],
-            armed: 0,
+            armed: no_marks(),
         }
     }
 
@@ -81,14 +81,14 @@ impl Board {
         ensures { self.new ≡ slice_set self.old event tally }
     {
         self.tallies[event as usize] = tally;
-        self.armed = with_bit(self.armed, event, tally.is_ready());
+        self.armed = with_mark(self.armed, event, tally.is_ready());
     }
 
     /// Whether the event can be delivered.
     pub fn is_ready(&self, event: u8) -> bool
         ensures { result ≡ is_ready (tally_at self.now event) }
     {
-        has_bit(self.armed, event)
+        is_marked(self.armed, event)
     }
 
     /// The first event from `from` on that can be delivered, if there is one below 32.
@@ -97,6 +97,6 @@ impl Board {
         ensures below { IfSome result (λ event. event < 32) }
         ensures first { IfSome result (λ event. IsFirstPlace (λ e. is_ready (tally_at self.now e)) from 32 event) }
     {
-        next_bit(self.armed, from)
+        first_marked(self.armed, from)
     }
 }

@@ -1,5 +1,5 @@
 -- What a take and a line more make of the lines left and of their counts.
-use Rattle.std.proofs.Common.{◌≡◌, ◌≢◌, ℕ, zero, suc, ◌+◌, ◌-◌, ◌<◌, ◌≤◌, Bool, eqb, List, [], ◌∷◌, ◌++◌, length, map, set, replicate, drop, slice_get, slice_index, get_or, Some, sym, refl, ap, ◌∙◌, ⊎_elim, get_or-set_same, get_or-set_other, length-append, take, subst, eq-eqb, ne_eqb, arith}
+use Rattle.std.proofs.Common.{◌≡◌, ◌≢◌, ℕ, zero, suc, ◌+◌, ◌-◌, ◌<◌, ◌≤◌, Bool, eqb, List, true, false, is_some, [], ◌∷◌, ◌++◌, length, map, set, replicate, drop, slice_get, slice_index, get_or, Some, sym, refl, ap, ◌∙◌, ⊎_elim, get_or-set_same, get_or-set_other, length-append, take, subst, eq-eqb, ne_eqb, arith}
 use Rattle.std.specs.List.{count_by, range_with_len}
 use Rattle.std.proofs.lemmas.List.{append-nil, get_or_default, take_more}
 use Rattle.std.proofs.lemmas.List.FromFn.{length-map-range_with_len}
@@ -7,7 +7,8 @@ use Rattle.std.proofs.lemmas.List.Elements.{filter-append}
 use Rattle.std.proofs.lemmas.List.Sums.{count_by-le-length, sum_by-set, sum_by-le-sum_by}
 use Rattle.lwp_types.specs.declared.call.Line.{Line}
 use Rattle.lwp_types.specs.CountLaws.{one, count-cons, count-push}
-use Rattle.event_gate.specs.Shelves.{Shelf, Shelves, bare, moved, with_one_more, shelf_of, taken_from, added_to, left_of_client, left_in_all, event_of, lines_for, full, stocked}
+use Rattle.event_marks.specs.Marks.{is_marked}
+use Rattle.event_gate.specs.Shelves.{Shelf, Shelves, bare, has_left, moved, with_one_more, shelf_of, taken_from, added_to, left_of_client, left_in_all, event_of, lines_for, full, stocked}
 use Rattle.event_gate.proofs.Lines.{same_or, cond_same, cond_other}
 
 abbrev is_of : ℕ → Line → Bool
@@ -182,3 +183,31 @@ pub put_last : {X : Type 0} (n : ℕ) (xs : List X) (x : X) → n ≤ length xs 
 put_last zero xs x le = refl
 put_last (suc n) [] x le = absurd (omega arith)
 put_last {X} (suc n) (y ∷ ys) x le = ap (λ (s : Shelf X). record { taken = y ∷ s.taken; left = s.left }) (put_last n ys x (omega arith))
+
+-- ---- the events of which a line is left
+
+abbrev Marks : ℕ → Shelves → Type 0
+Marks word shelves = (e : ℕ) → e < 64 → is_marked word e ≡ has_left shelves e
+
+-- where another shelf stands at one event, the marks are others there alone
+pub marks_put : (was now : ℕ) (shelves : Shelves) (e : ℕ) (s : Shelf Line) → Marks was shelves → e < length shelves → (e < 64 → is_marked now e ≡ is_some (slice_get s.left 0)) → ((i : ℕ) → i ≢ e → is_marked now i ≡ is_marked was i) → Marks now (set shelves e s)
+marks_put was now shelves e s h there here others i low = ⊎_elim
+    (λ (same : e ≡ i). ap (is_marked now) (sym same) ∙ here (subst (λ k. k < 64) (sym same) low) ∙ sym (ap (λ (t : Shelf Line). is_some (slice_get t.left 0)) (ap (λ k. get_or (set shelves e s) k bare) (sym same) ∙ get_or-set_same shelves e s bare there)))
+    (λ (other : e ≢ i). others i (λ is. other (sym is)) ∙ h i low ∙ sym (ap (λ (t : Shelf Line). is_some (slice_get t.left 0)) (get_or-set_other shelves e i s bare (λ is. other (sym is)))))
+    (same_or e i)
+
+-- a shelf with one item more has one left
+pub one_more_left : (s : Shelf Line) (x : Line) → is_some (slice_get (with_one_more s x).left 0) ≡ true
+one_more_left s x = by_left s.left
+  where
+    by_left : (xs : List Line) → is_some (slice_get (xs ++ x ∷ []) 0) ≡ true
+    by_left [] = refl
+    by_left (y ∷ ys) = refl
+
+pub no_marks : (word : ℕ) → ((e : ℕ) → is_marked word e ≡ false) → Marks word (replicate 256 bare)
+no_marks word none e low = none e ∙ sym (bare_at 256 e)
+  where
+    bare_at : (n e : ℕ) → has_left (replicate n bare) e ≡ false
+    bare_at zero e = refl
+    bare_at (suc n) zero = refl
+    bare_at (suc n) (suc e) = bare_at n e

@@ -1,6 +1,7 @@
 // The outside of a pod, as whoever runs the pod sees it.
-ghost use Rattle.std.specs.Prelude.{◌≡◌};
-ghost use Rattle.event_gate.specs.Shelves.{Shelves, first_left, left_of_client, taken_from};
+ghost use Rattle.std.specs.Prelude.{◌≡◌, ◌<◌, IfNone, IfSome};
+ghost use Rattle.std.specs.Slice.Scan.{HoldsNowhere, IsFirstPlace};
+ghost use Rattle.event_gate.specs.Shelves.{Shelves, first_left, has_left, left_of_client, taken_from};
 
 use lwp_types::Line;
 
@@ -12,6 +13,12 @@ pub trait Gate {
     fn take(&mut self, event: u8) -> Option<Line>
         ensures line { result ≡ first_left (stock self.old) event }
         ensures after { stock self.new ≡ taken_from (stock self.old) event };
+
+    /// The first event from `from` on of which a line is left, if there is one below 32.
+    fn next_left(&self, from: u8) -> Option<u8>
+        ensures none { IfNone result (HoldsNowhere (has_left (stock self.now)) from 32) }
+        ensures below { IfSome result (λ event. event < 32) }
+        ensures first { IfSome result (λ event. IsFirstPlace (has_left (stock self.now)) from 32 event) };
 
     /// How many lines of the client are left.
     fn left(&self, client: u8) -> u32

@@ -1,5 +1,5 @@
 // The items of one event.
-ghost use Rattle.std.specs.Prelude.{◌≡◌, OnOk};
+ghost use Rattle.std.specs.Prelude.{◌≡◌, OnOk, is_some};
 ghost use Rattle.std.specs.List.{slice_get};
 ghost use Rattle.event_gate.specs.Shelves.{bare, moved, with_one_more};
 
@@ -45,6 +45,13 @@ impl<T> Shelf<T> {
     {
         self.items.push(item)?;
         Ok(())
+    }
+
+    /// Whether an item is left.
+    pub fn has_next(&self) -> bool
+        ensures { result ≡ is_some (slice_get self.now.left 0) }
+    {
+        self.taken < self.items.len()
     }
 
     /// The first item left, which is then taken.

@@ -86,9 +86,6 @@ module _ {B : Type 0} (planned : Planned B) where
   pub offered-grows : (e : ℕ) (plan : Plan B) → IsFirstPart plan (offered planned e plan)
   offered-grows e plan = by_armed e plan (is_takeable (pod_of plan) e)
 
-  pub offered-unarmed : (e : ℕ) (plan : Plan B) → is_takeable (pod_of plan) e ≡ false → offered planned e plan ≡ plan
-  offered-unarmed e plan a = ap (λ (b : Bool). elim b as (λ _. Plan B) [ true ↦ offered_by planned e plan (first_left plan.left e) | false ↦ plan ]) a
-
   pub offered-unable : (e : ℕ) (plan : Plan B) → first_left plan.left e ≡ None → offered planned e plan ≡ plan
   offered-unable e plan f = by (is_takeable (pod_of plan) e)
     where
@@ -155,12 +152,12 @@ module _ {B : Type 0} (planned : Planned B) where
   serves-same [] plan = same-same plan
   serves-same (e ∷ es) plan = same-then plan (offered planned e plan) (serves (offered planned e plan) es) (offered-same e plan) (serves-same es (offered planned e plan))
 
-  -- where none of these events can be delivered, nothing is taken
-  pub serves-unarmed : (plan : Plan B) (a n : ℕ) → HoldsNowhere (is_takeable (pod_of plan)) a (a + n) → serves plan (range_with_len a n) ≡ plan
-  serves-unarmed plan a zero none = refl
-  serves-unarmed plan a (suc n) none =
-      ap (λ p. serves p (range_with_len (a + 1) n)) (offered-unarmed a plan (none a (omega arith) (omega arith)))
-      ∙ serves-unarmed plan (a + 1) n (λ k low high. none k (omega (arith, low)) (omega (arith, high)))
+  -- where none of these events has a line that can be delivered, nothing is taken
+  pub serves-none : (plan : Plan B) (a n : ℕ) → HoldsNowhere (can_take (pod_of plan) plan.left) a (a + n) → serves plan (range_with_len a n) ≡ plan
+  serves-none plan a zero none = refl
+  serves-none plan a (suc n) none =
+      ap (λ p. serves p (range_with_len (a + 1) n)) (offered-none a plan (none a (omega arith) (omega arith)))
+      ∙ serves-none plan (a + 1) n (λ k low high. none k (omega (arith, low)) (omega (arith, high)))
 
   -- nothing can be taken, and nothing is; or something can be, and is
   abbrev Serves : List ℕ → Plan B → Type 0

@@ -13,3 +13,4 @@ pub mod Moving
 pub mod Armed
 pub mod Lives
 pub mod Looks
+pub mod Nexts

@@ -24,11 +24,11 @@ use Rattle.trace_text.specs.declared.ends.Halt.TheVariants as halts
 use Rattle.pod_runner.specs.declared.phase.RunErr.{RunErr}
 use Rattle.pod_runner.specs.declared.phase.RunErr.TheVariants as fails
 use Rattle.pod_runner.specs.declared.session.Took.{Took}
-use Rattle.pod_runner.specs.Over.{events}
+use Rattle.pod_runner.specs.Over.{can_take, events}
 use Rattle.pod_runner.proofs.Kept.{boundary-turn}
 use Rattle.pod_runner.proofs.Plays.{LastBy-of, play-call, play-take, play-zero}
 use Rattle.pod_runner.proofs.Ends.{idle-on, idle-round, idle-stuck, turn-round}
-use Rattle.pod_runner.proofs.Eagers.{call-grows, falls, finished-grows, finished-over, finished-round, first-same, first-then, offered-grows, to_do, offered-some, offered-unable, offered-unarmed, serves-grow, serves-unarmed, taken_from-none}
+use Rattle.pod_runner.proofs.Eagers.{call-grows, falls, finished-grows, finished-over, finished-round, first-same, first-then, offered-grows, to_do, offered-some, offered-unable, serves-grow, serves-none, taken_from-none}
 
 -- ---- what is told
 
@@ -177,7 +177,7 @@ module _ {B P : Type 0} (next : Next B) (bodies : P → List B) (procs : P → L
 
   -- events that can't be delivered are passed over
   pub events-skip : {T : Type 0} (s : Stream) (old new : Played P) (stock left : Shelves) (a b : ℕ) (x : T) → a ≤ b
-      → HoldsNowhere (is_takeable (session_of next bodies new).live.pod) a b
+      → HoldsNowhere (can_take (session_of next bodies new).live.pod left) a b
       → Came s (λ planned plan. first_events a planned plan) old new stock left (Ok x) → Came s (λ planned plan. first_events b planned plan) old new stock left (Ok x)
   events-skip s old new stock left a b x up none p =
       let planned = planned_of next bodies old in
@@ -185,7 +185,7 @@ module _ {B P : Type 0} (next : Next B) (bodies : P → List B) (procs : P → L
       let now = plan_now next bodies new left in
       let n = b - a in
       let reach : b ≡ a + n = omega (arith, up) in
-      let still : fold (λ (now : Plan B) e. offered planned e now) now (range_with_len a n) ≡ now = serves-unarmed planned now a n (subst (λ e. HoldsNowhere (is_takeable (session_of next bodies new).live.pod) a e) reach none) in
+      let still : fold (λ (now : Plan B) e. offered planned e now) now (range_with_len a n) ≡ now = serves-none planned now a n (subst (λ e. HoldsNowhere (can_take (session_of next bodies new).live.pod left) a e) reach none) in
       does-by s (λ planned plan. first_events a planned plan) (λ planned plan. first_events b planned plan) old new stock left (Ok x)
       (sym p.comes ∙ sym still ∙ ap (λ q. fold (λ (now : Plan B) e. offered planned e now) q (range_with_len a n)) p.comes ∙ joined planned plan a n b (sym reach)) p
 
@@ -310,15 +310,6 @@ module _ {B P : Type 0} (next : Next B) (bodies : P → List B) (procs : P → L
       (does-by (stream w w f f) (λ planned plan. plan) (λ planned plan. offered planned e plan) run run stock stock (Ok x)
       (sym (offered-unable (planned_of next bodies run) e (plan_now next bodies run stock) first))
       (does-nothing w f run stock x sound made room))
-
-  pub does-unarmed : {T : Type 0} (w : Option (List ℕ)) (f e : ℕ) (run : Played P) (stock : Shelves) (x : T)
-      → run.failed ≡ false → is_takeable (session_of next bodies run).live.pod e ≡ false
-      → IsDefined (setting_of next bodies run) run.takes run.calls → run.calls ≤ run.turns
-      → Came (stream w w f f) (λ planned plan. offered planned e plan) run run stock stock (Ok x)
-  does-unarmed w f e run stock x sound may made room =
-      does-by (stream w w f f) (λ planned plan. plan) (λ planned plan. offered planned e plan) run run stock stock (Ok x)
-      (sym (offered-unarmed (planned_of next bodies run) e (plan_now next bodies run stock) may))
-      (does-nothing w f run stock x sound made room)
 
   -- ---- a round
 

@@ -1,10 +1,12 @@
 // A run over a gate, from step to step, until its end.
-ghost use Rattle.std.specs.Prelude.{◌≡◌, ◌≤◌, false, IfOk, IsTrue, OnOk, OnErr, IsErrOf};
+ghost use Rattle.std.specs.Prelude.{◌≡◌, ◌<◌, ◌≤◌, false, IfNone, IfOk, IfSome, IsTrue, OnOk, OnErr, IsErrOf};
+ghost use Rattle.std.specs.Slice.Scan.{HoldsNowhere, IsFirstPlace};
 ghost use Rattle.pod_events.specs.Events.{is_takeable};
 ghost use Rattle.lwp_types.specs.Streams.{Rose};
 ghost use Rattle.pod_runner.specs.Does.{Does};
 ghost use Rattle.pod_runner.specs.Due.{IsDefined};
 ghost use Rattle.pod_runner.specs.Eager.{IsFirstPart, boundary, finished, offered, plan_over, plan_whole, round};
+ghost use Rattle.pod_runner.specs.Over.{can_take};
 ghost use Rattle.pod_runner.specs.Run.{setting_of, session_of, plan_now, planned_of, trace_before, trace_of, EndsAt, IsNew, Writes, WritesCut, WritesPart, GoesOn};
 
 use crate::playing::Run;
@@ -34,6 +36,24 @@ fn take_line<B: Body, P: Program<B>, G: Gate, K: Sink>(
     }
 }
 
+// The first event from `from` on that has a line left and can be delivered, if there is one below 32.
+fn next_due<B: Body, P: Program<B>, G: Gate>(run: &Run<B, P>, gate: &G, from: u8) -> Option<u8>
+    requires { run.now.failed ≡ false }
+    ensures none { IfNone result (HoldsNowhere (can_take (session_of B.next P.bodies run.now).live.pod (G.stock gate.now)) from 32) }
+    ensures below { IfSome result (λ event. event < 32) }
+    ensures first { IfSome result (λ event. IsFirstPlace (can_take (session_of B.next P.bodies run.now).live.pod (G.stock gate.now)) from 32 event) }
+{
+    let mut from = from;
+    while let Some(left) = gate.next_left(from) {
+        let wanted = run.next_wanted(left)?;
+        if wanted == left {
+            return Some(left);
+        }
+        from = wanted;
+    }
+    None
+}
+
 // Each event in turn may have one line taken.
 fn serve_all<B: Body, P: Program<B>, G: Gate, K: Sink>(
     run: &mut Run<B, P>,
@@ -46,7 +66,7 @@ fn serve_all<B: Body, P: Program<B>, G: Gate, K: Sink>(
     ensures { Does B.next P.bodies P.proc_names (record { old = K.written sink.old; new = K.written sink.new; faults_old = K.faults sink.old; faults_new = K.faults sink.new }) (λ planned plan. boundary planned plan) run.old run.new (G.stock gate.old) (G.stock gate.new) result }
 {
     let mut from = 0;
-    while let Some(event) = run.next_wanted(from) {
+    while let Some(event) = next_due(run, gate, from) {
         take_line(run, gate, event, sink)?;
         from = event + 1;
     }

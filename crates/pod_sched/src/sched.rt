@@ -65,8 +65,9 @@ impl Sched {
         requires { IsTrue (knows self.old tid) }
         ensures { self.new ≡ left self.old tid }
     {
-        self.timers.drop_of(tid);
-        self.turns.leave(tid);
+        let Sched { timers, turns } = self;
+        timers.drop_of(tid);
+        turns.leave(tid);
     }
 
     /// The thread has what it waited for, or waits no longer: its timer goes. It goes last, unless it is suspended.

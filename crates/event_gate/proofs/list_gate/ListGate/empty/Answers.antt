@@ -1,9 +1,9 @@
 use Rattle.std.proofs.Common.{◌≡◌, ℕ, replicate, ap, sym, ◌∙◌, length}
 use Rattle.lwp_types.specs.declared.call.Line.{Line}
-use Rattle.event_gate.specs.Shelves.{Shelf, bare, left_of_client}
+use Rattle.event_gate.specs.Shelves.{Shelf, bare, has_left, left_of_client}
 use Rattle.std.specs.List.{slice_index}
 use Rattle.std.proofs.lemmas.List.{length-replicate}
-use Rattle.event_gate.proofs.ShelfLaws.{no_counts}
+use Rattle.event_gate.proofs.ShelfLaws.{no_counts, no_marks}
 use Rattle.event_gate.proofs.list_gate.ListGate.empty.Goals as goal
 
 pub invariant_of-result : goal.invariant_of-result
@@ -13,4 +13,5 @@ invariant_of-result c =
       ap length bares ∙ length-replicate {A = Shelf Line} 256 bare,
       ap length zeros ∙ length-replicate {A = ℕ} 256 0,
       λ k. ap (λ l. slice_index l k) zeros ∙ no_counts k ∙ ap (left_of_client k) (sym bares),
+      λ k low. no_marks _ c.no_marks.ensures k low ∙ ap (λ l. has_left l k) (sym bares),
     )
