@@ -27,7 +27,7 @@ use Rattle.pod_runner.specs.declared.session.Took.{Took}
 use Rattle.pod_runner.specs.Over.{can_take, events}
 use Rattle.pod_runner.proofs.Kept.{boundary-turn}
 use Rattle.pod_runner.proofs.Plays.{LastBy-of, play-call, play-take, play-zero}
-use Rattle.pod_runner.proofs.Endings.{idle-on, idle-round, idle-stuck, turn-round}
+use Rattle.pod_runner.proofs.Ends.{idle-on, idle-round, idle-stuck, turn-round}
 use Rattle.pod_runner.proofs.Eagers.{call-grows, falls, finished-grows, finished-over, finished-round, first-same, first-then, offered-grows, to_do, offered-some, offered-unable, serves-grow, serves-none, taken_from-none}
 
 -- ---- what is told

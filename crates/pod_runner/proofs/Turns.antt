@@ -12,7 +12,7 @@ use Rattle.pod_runner.specs.Session.{Live, Move, Session, Setting, extended, mov
 use Rattle.pod_runner.specs.Keeps.{Keeps}
 use Rattle.pod_runner.specs.Run.{Broke, Tells}
 use Rattle.pod_runner.specs.Trace.{lines}
-use Rattle.pod_runner.specs.Writing.{AppendsPart}
+use Rattle.whole_streams.specs.Writing.{AppendsPart}
 use Rattle.pod_events.specs.Events.{is_takeable}
 use Rattle.lwp_types.specs.Streams.{Rose, appended}
 use Rattle.trace_text.specs.Lines.{step_lines}

@@ -10,11 +10,11 @@ use Rattle.script_gate.specs.Posted.{IsPosted}
 use Rattle.script_program.specs.declared.body.ThreadBody.{ThreadBody}
 use Rattle.lwp_types.specs.ListLaws.{All-push}
 use Rattle.lwp_types.specs.declared.call.Line.{Line}
-use Rattle.pod_runner.specs.Eager.{Plan, Planned, advanced, boundary, has_choice, offered, offered_by, one_call, opening_plan, plan_over, plan_whole, state_of, taken_line, took_of, to_the_end}
+use Rattle.pod_runner.specs.Eager.{Plan, Planned, advanced, boundary, has_choice, offered, offered_by, one_call, opening_plan, plan_over, plan_whole, pod_of, taken_line, took_of, to_the_end}
 use Rattle.pod_runner.specs.Over.{events}
 use Rattle.pod_runner.specs.Trace.{left_from}
 use Rattle.pod_runner.specs.declared.session.Took.{Took}
-use Rattle.lwp_types.specs.Agents.{armed}
+use Rattle.pod_events.specs.Events.{is_takeable}
 use Rattle.script_text.specs.Script.{lines_posted}
 use Rattle.trace_text.specs.declared.ends.Halt.{Halt}
 use Rattle.script_text.specs.declared.script.Script.{Script}
@@ -131,7 +131,7 @@ module _ (clients : List ℕ) (posts : List Line) (planned : Planned ThreadBody)
       }
 
   keeps_offered : (e : ℕ) (plan : Plan ThreadBody) → e < 256 → Keeps clients posts plan → Keeps clients posts (offered planned e plan)
-  keeps_offered e plan low h = by (armed (state_of plan) e) (first_left plan.left e) refl
+  keeps_offered e plan low h = by (is_takeable (pod_of plan) e) (first_left plan.left e) refl
     where
       by : (b : Bool) (o : Option Line) → first_left plan.left e ≡ o → Keeps clients posts (elim b [ true ↦ offered_by planned e plan o | false ↦ plan ])
       by false o is = h

@@ -18,7 +18,7 @@ use Rattle.script_plan.specs.Planned.{calls_of, halt_of, plan_of, planned_of, ta
 use Rattle.script_session.specs.declared.session.Session.{Session}
 use Rattle.script_session.specs.declared.session.SessionEnd.{SessionEnd}
 use Rattle.script_session.specs.declared.session.SessionEnd.TheVariants as end
-use Rattle.lwp_types.specs.State.{State}
+use Rattle.pod_events.specs.Events.{EventState}
 use Rattle.lwp_types.specs.Choice.{choice}
 use Rattle.lwp_types.specs.Streams.{AppendsPrefix, appended}
 use Rattle.pod_runner.specs.Due.{IsDefined}
@@ -134,10 +134,10 @@ not-spent true h = cc h
 not-spent false h = cc h
 
 -- a session is stuck only where no line can be taken
-stuck-wants : (turns : ℕ) (s : State) (calls : ℕ) (left : Shelves) → over turns s calls left ≡ Some halts.Stuck → is_wanted s left ≡ false
-stuck-wants turns s calls left = by s.ended (is_wanted s left) (choice s)
+stuck-wants : (turns : ℕ) (s : EventState) (calls : ℕ) (left : Shelves) → over turns s calls left ≡ Some halts.Stuck → is_wanted s left ≡ false
+stuck-wants turns s calls left = by s.state.ended (is_wanted s left) (choice s.state)
   where
-    by : (b wanted : Bool) (c : Option ℕ) → (if b then Some (halts.Ended s.status) else halt_if turns calls wanted c) ≡ Some halts.Stuck → wanted ≡ false
+    by : (b wanted : Bool) (c : Option ℕ) → (if b then Some (halts.Ended s.state.status) else halt_if turns calls wanted c) ≡ Some halts.Stuck → wanted ≡ false
     by true wanted c h = absurd (cc h)
     by false false None h = refl
     by false true None h = absurd (cc h)
@@ -155,7 +155,7 @@ finished script turns o r s stock halt h opening stocked eager ends =
     record { came_so = h; whole = sym (eager (is-new script turns o opening) ∙ whole-is script turns o s opening stocked); ends = ends }
 
 over-is : (script : Script) (turns : ℕ) (r : Played Script) (stock : Shelves) (halt : Halt) → Finished script turns r stock halt → plan_over (planned_of script turns) (run.plan_now body_next bodies_of r stock) ≡ Some halt
-over-is script turns r stock halt h = ap (λ t. over t (run.session_of body_next bodies_of r).live.state r.calls stock) (sym h.came_so.plays_it.turns_same) ∙ h.ends
+over-is script turns r stock halt h = ap (λ t. over t (run.session_of body_next bodies_of r).live.pod r.calls stock) (sym h.came_so.plays_it.turns_same) ∙ h.ends
 
 end-trace : (script : Script) (turns : ℕ) (r : Played Script) (stock : Shelves) (halt : Halt) → Finished script turns r stock halt
     → trace_of script turns ≡ run.trace_of body_next bodies_of proc_names r ++ end_text turns (left_from 0 script.clients stock) halt
@@ -184,7 +184,7 @@ whole-of script turns r stock halt old mid new last h posted g e n =
       printed = end-trace script turns r stock halt h
           ∙ ap (λ ls. ls ++ end_text turns (left_from 0 script.clients stock) halt) (lines-is script turns r h.came_so.plays_it)
           ∙ ap (λ ns. lines_after script r.takes r.calls ++ end_text turns ns halt) (counts_left 0 script.clients stock);
-      stuck = λ is. let plan = plan_of script turns in stuck-wants turns plan.session.live.state plan.calls plan.left (halted ∙ ap Some is);
+      stuck = λ is. let plan = plan_of script turns in stuck-wants turns plan.session.live.pod plan.calls plan.left (halted ∙ ap Some is);
     }
 
 -- the last write failed

@@ -21,7 +21,7 @@ use Rattle.std.specs.Prelude.{List, Option, Some, false, ℕ, ◌++◌, ◌≡�
 
 -- no event that can be delivered has a line left
 abbrev pub WantsNothing : Script → ℕ → Type 0
-WantsNothing script turns = let plan = plan_of script turns in is_wanted plan.session.live.state plan.left ≡ false
+WantsNothing script turns = let plan = plan_of script turns in is_wanted plan.session.live.pod plan.left ≡ false
 
 -- What was told before and is told now: the session of a script, to its end. Its whole trace was written; so many calls were made,
 -- and these lines were taken, as soon as they could be, each when it was due. The trace is that of a session with these takes and

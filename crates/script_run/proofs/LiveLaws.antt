@@ -25,7 +25,7 @@ use Rattle.script_program.specs.declared.body.ThreadBody.{ThreadBody}
 use Rattle.script_session.specs.declared.session.Session.{Session}
 use Rattle.script_session.specs.declared.session.SessionEnd.{SessionEnd}
 use Rattle.script_session.specs.declared.session.SessionEnd.TheVariants as end
-use Rattle.lwp_types.specs.Agents.{armed}
+use Rattle.pod_events.specs.Events.{is_takeable}
 use Rattle.lwp_types.specs.Streams.{appended}
 use Rattle.lwp_types.specs.declared.call.Line.{Line}
 use Rattle.lwp_types.specs.declared.text.Text.{Text}
@@ -194,7 +194,7 @@ live-broken script turns r inlets old new posted h p = record {
 pub record Over (script : Script) (turns : ℕ) (r : Played Script) (inlets : List Intake) (halt : Halt) : Type 0 where
   pub ran : Ran script turns r inlets
   pub halted : Halts body_next bodies_of r inlets halt
-  pub none_lost : (c : ℕ) → c < length script.clients → armed (run.session_of body_next bodies_of r).live.state (event_of script.clients c) ≡ true → NoneComes body_next bodies_of r inlets
+  pub none_lost : (c : ℕ) → c < length script.clients → is_takeable (run.session_of body_next bodies_of r).live.pod (event_of script.clients c) ≡ true → NoneComes body_next bodies_of r inlets
       → of c (lines_taken (event_of script.clients c) r.takes) ≡ of c (lines_posted script)
 
 pub over-of : (script : Script) (turns : ℕ) (s : Stream) (o r : Played Script) (before after : List Intake) (texts : List (List (List ℕ))) (halt : Halt) → GoesBeside s o r before after (Ok halt)
@@ -210,7 +210,7 @@ over-of script turns s o r before after texts halt h opening new is posted back 
       let at : t.event ≡ event_of clients c = has.2 blank in
       let served : IsServed clients texts back.0 t = back.1.served has.0 blank has.1 in
       let l : HasLines c (texts_of texts c) back.0 t = served.lines c low (sym at) in
-      let taken : IsInletTaken t = none.1 has.0 blank has.1 (ap (armed (run.session_of body_next bodies_of r).live.state) at ∙ wanted) in
+      let taken : IsInletTaken t = none.1 has.0 blank has.1 (ap (is_takeable (run.session_of body_next bodies_of r).live.pod) at ∙ wanted) in
       let fed = h.fed (subst (λ (takes : List Took). IsFed takes before 0) (sym (ap (λ (x : Played Script). x.takes) opening)) (fed-fresh before new)) in
       ap (λ k. of c (lines_taken k r.takes)) (sym at)
       ∙ ap (λ xs. of c (lines_taken t.event xs)) (sym (append-nil r.takes) ∙ ap (λ xs. r.takes ++ xs) (sym (none-of fed.lost fed.few)))
@@ -228,19 +228,19 @@ over-of script turns s o r before after texts halt h opening new is posted back 
     none-of (x ∷ xs) e = absurd (omega (arith, e))
 
 stuck-wants : (script : Script) (turns : ℕ) (r : Played Script) (inlets : List Intake) (halt : Halt) → IsPosted script → Over script turns r inlets halt → halt ≡ halts.Stuck
-    → is_wanted (session_at script r.takes r.calls).live.state (stocked script.clients (left_by script r)) ≡ false
+    → is_wanted (session_at script r.takes r.calls).live.pod (stocked script.clients (left_by script r)) ≡ false
 stuck-wants script turns r inlets halt posted h stuck =
-    wants-none (session_at script r.takes r.calls).live.state script.clients (left_by script r) (λ e c wanted at. by e c wanted at (cases_lt c (length script.clients)))
+    wants-none (session_at script r.takes r.calls).live.pod script.clients (left_by script r) (λ e c wanted at. by e c wanted at (cases_lt c (length script.clients)))
   where
-    by : (e c : ℕ) → armed (session_at script r.takes r.calls).live.state e ≡ true → event_of script.clients c ≡ e → (c < length script.clients) ⊎ (length script.clients ≤ c) → of c (left_by script r) ≡ []
+    by : (e c : ℕ) → is_takeable (session_at script r.takes r.calls).live.pod e ≡ true → event_of script.clients c ≡ e → (c < length script.clients) ⊎ (length script.clients ≤ c) → of c (left_by script r) ≡ []
     by e c wanted at (inl low) = none-left-of (HasEvent inlets) script.clients (lines_posted script) r.takes h.ran.lost h.ran.given (are-posts script posted) c
-        (h.none_lost c low (ap (λ (x : Sessions.Session ThreadBody). armed x.live.state (event_of script.clients c)) (session-is script turns r h.ran.plays_it) ∙ ap (armed (session_at script r.takes r.calls).live.state) at ∙ wanted) (h.halted.1 stuck))
+        (h.none_lost c low (ap (λ (x : Sessions.Session ThreadBody). is_takeable x.live.pod (event_of script.clients c)) (session-is script turns r h.ran.plays_it) ∙ ap (is_takeable (session_at script r.takes r.calls).live.pod) at ∙ wanted) (h.halted.1 stuck))
     by e c wanted at (inr past) = left-past (lines_posted script) r.takes c 0 script.clients (omega (arith, past))
 
 ends-so : (script : Script) (turns : ℕ) (r : Played Script) (inlets : List Intake) (halt : Halt) → IsPosted script → Over script turns r inlets halt → EndsSo turns script r.takes r.calls (left_by script r) halt
-ends-so script turns r inlets halt posted h = over-with turns (session_at script r.takes r.calls).live.state r.calls (left_by script r) script.clients halt
-    (ap (λ (x : Sessions.Session ThreadBody). over turns x.live.state r.calls []) (sym (session-is script turns r h.ran.plays_it))
-    ∙ ap (λ n. over n (run.session_of body_next bodies_of r).live.state r.calls []) (sym h.ran.plays_it.turns_same) ∙ h.halted.0)
+ends-so script turns r inlets halt posted h = over-with turns (session_at script r.takes r.calls).live.pod r.calls (left_by script r) script.clients halt
+    (ap (λ (x : Sessions.Session ThreadBody). over turns x.live.pod r.calls []) (sym (session-is script turns r h.ran.plays_it))
+    ∙ ap (λ n. over n (run.session_of body_next bodies_of r).live.pod r.calls []) (sym h.ran.plays_it.turns_same) ∙ h.halted.0)
     (stuck-wants script turns r inlets halt posted h)
 
 -- how many lines of each client are left

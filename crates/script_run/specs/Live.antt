@@ -30,11 +30,11 @@ pub record IsSoFar (turns : ℕ) (script : Script) (takes : List Took) (calls : 
 
 -- with these lines left it is over, and has ended so
 abbrev pub EndsSo : ℕ → Script → List Took → ℕ → List Line → Halt → Type 0
-EndsSo turns script takes calls left halt = over turns (session_at script takes calls).live.state calls (stocked script.clients left) ≡ Some halt
+EndsSo turns script takes calls left halt = over turns (session_at script takes calls).live.pod calls (stocked script.clients left) ≡ Some halt
 
 -- no event that can be delivered has one of these lines
 abbrev pub WantsNoneOf : Script → List Took → ℕ → List Line → Type 0
-WantsNoneOf script takes calls left = is_wanted (session_at script takes calls).live.state (stocked script.clients left) ≡ false
+WantsNoneOf script takes calls left = is_wanted (session_at script takes calls).live.pod (stocked script.clients left) ≡ false
 
 -- the lines of its takes and calls, and then its end, with how many lines of each client are left
 abbrev pub bytes_to_end : ℕ → Script → List Took → ℕ → List Line → Halt → List ℕ

@@ -5,3 +5,4 @@ pub mod Steps
 pub mod ExitLaws
 pub mod DeathLaws
 pub mod Silence
+pub mod EventLaws

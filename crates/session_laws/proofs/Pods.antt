@@ -6,6 +6,7 @@ use Rattle.lwp_types.specs.Choice.{choice}
 use Rattle.lwp_types.specs.CountLaws.{count-append, count-cons, count_never, one, one-le}
 use Rattle.lwp_types.specs.Death.{death}
 use Rattle.lwp_types.specs.Lawful.{Lawful}
+use Rattle.lwp_types.specs.Names.{null_id}
 use Rattle.lwp_types.specs.State.{State, ThreadRow, is_number, is_thread, marks_in, passes, thread_of}
 use Rattle.lwp_types.specs.Step.{case_of, end_effects, ends, finished, own_effects, step, step_by, step_if}
 use Rattle.lwp_types.specs.declared.call.Answer.{Answer}
@@ -33,7 +34,7 @@ use Rattle.session_laws.proofs.Numbering.{deliveries_number_none, steps_number_e
 use Rattle.session_laws.proofs.Told.{Sets, Sets.Exit, Sets.Nothing, step_told_before, what_it_sets}
 use Rattle.session_laws.specs.Exits.{exits_set_in, has_number, set_by_call, set_by_thread}
 use Rattle.session_laws.specs.Numbers.{any_exit}
-use Rattle.std.proofs.Common.{Bool, List, None, Option, Some, [], ap, append-nil, arith, cond, count_by, drop, eqb, false, length, map, refl, subst, suc, sum_by, sym, true, zero, ℕ, ⊥, ◌++◌, ◌+◌, ◌∙◌, ◌∷◌, ◌≡◌, ◌≤◌, ◌||◌}
+use Rattle.std.proofs.Common.{Bool, List, None, Option, Some, [], ap, append-nil, arith, cond, count_by, drop, eqb, false, length, map, refl, subst, suc, sum_by, sym, true, zero, ℕ, ◌++◌, ◌+◌, ◌∙◌, ◌∷◌, ◌≡◌, ◌≤◌, ◌||◌}
 use Rattle.std.proofs.lemmas.Bool.{and_from, and_parts, eqb-true}
 use Rattle.std.proofs.lemmas.Bool.Decides.{nat_tests}
 use Rattle.std.proofs.lemmas.List.Sums.{sum_by-cons}
@@ -138,7 +139,7 @@ module _ (u : ℕ) (p : ExitTest) where
 
   -- so none of its exit procedures runs in a call
   dead_run : (s : State) → Lawful s None → is_thread s u ≡ false → (c : Call) → exits_passing (set_by_thread u p) (step s c).effects ≡ 0
-  dead_run s was gone c = omega (arith, exits_run_once s was c (set_by_thread u p), none_left u p s.threads gone, dead_set s was gone c)
+  dead_run s was gone c = omega (arith, exits_run_once s was c (set_by_thread u p), none_left s.threads gone, dead_set s was gone c)
 
 -- ---- what is told behind a call
 
@@ -339,22 +340,23 @@ calls_made s was trapped t c turn = by_trap (trap_of c) refl
     by_trap None is = by_agent (passes (is_trapped trapped) (agent_event_of c)) refl
     by_trap (Some e) is = by_refusal e is (trap_refusal s trapped e)
 
+-- without its call a step tells of the same
+but_call-same : (s : State) (c : Call) (q : Effect → Bool) → AsksForFates q → count_by q (drop 1 (step s c).effects) ≡ count_by q (step s c).effects
+unfolding step step_by
+but_call-same s c q asks = by_choice (choice s)
+  where
+    by_choice : (o : Option ℕ) → count_by q (drop 1 (step_if s c o).effects) ≡ count_by q (step_if s c o).effects
+    by_choice None = refl
+    by_choice (Some u) = omega (arith, count-cons q (effect.Called u c) (drop 1 (step_by s u c).effects), ap one (asks.no_call u c))
+
 -- a step that no thread asked for
 calls_unasked : (s : State) → Lawful s None → (t : ℕ) (c : Call) → choice s ≡ Some t → ((p : ExitTest) → set_by p s t c ≡ 0) → Calls s (but_call (step s c)).after (but_call (step s c)).effects
 calls_unasked s was t c turn none = record {
   sets = λ p. set_now p s (choice s) c;
-  does = does_as s (step s c).after (step s c).effects (λ p. set_now p s (choice s) c) (does_step s was c) (drop 1 (step s c).effects) same;
+  does = does_as s (step s c).after (step s c).effects (λ p. set_now p s (choice s) c) (does_step s was c) (drop 1 (step s c).effects) (but_call-same s c);
   told = λ p rest later. later-none p (drop 1 (step s c).effects ++ rest) (later-append (drop 1 (step s c).effects) rest (later-step s t c turn) later) ∙ sym (ap (λ o. set_now p s o c) turn ∙ none p);
   lawful = Lawful-step s was c;
 }
-  where
-    same : (q : Effect → Bool) → AsksForFates q → count_by q (drop 1 (step s c).effects) ≡ count_by q (step s c).effects
-    unfolding step step_by
-    same q asks = by_choice (choice s)
-      where
-        by_choice : (o : Option ℕ) → count_by q (drop 1 (step_if s c o).effects) ≡ count_by q (step_if s c o).effects
-        by_choice None = refl
-        by_choice (Some u) = omega (arith, count-cons q (effect.Called u c) (drop 1 (step_by s u c).effects), ap one (asks.no_call u c))
 
 -- behind a trap
 calls_trapped : (s after : State) (es : List Effect) (t e : ℕ) → Calls s after es → Calls s after (effect.Trapped t e ∷ es)
@@ -439,7 +441,7 @@ take_moved es was e text may = by_trapped (is_trapped es.trapped e) may
     by_trapped : (b : Bool) → cond b (may_trap es) (nat_lt e rites_event && armed es.state e) ≡ true → Moved es.state (cond b (trap_taken es e) (passed_on es (deliver es.state e text))).after.state (cond b (trap_taken es e) (passed_on es (deliver es.state e text))).effects
     by_trapped true h = record {
       sets = λ p. 0;
-      does = does_none es.state _ (λ q asks. omega (arith, count-cons q (effect.Delivered _ e) [], ap one (asks.no_delivery _ e)));
+      does = does_none es.state _ (λ q asks. omega (arith, count-cons q (effect.Delivered null_id e) [], ap one (asks.no_delivery null_id e)));
       told = λ p. refl;
       lawful = was;
     }

@@ -2,3 +2,4 @@ pub mod Numbers
 pub mod Sessions
 pub mod Exits
 pub mod Deaths
+pub mod Events

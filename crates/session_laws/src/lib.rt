@@ -7,14 +7,19 @@
 //! | the dead have run all that they had set, and run nothing more | `TheDeadHaveRunTheirExits` (`specs/Exits.antt`), `TheDeadRunNothing` (`specs/Deaths.antt`) |
 //! | the dead are forgotten, and nobody dies twice | `TheDeadStayForgotten`, `EachDiesOnce` (`specs/Deaths.antt`) |
 //! | each number is given to one of them, in order | `EachNumberIsGivenOnce` (`specs/Exits.antt`), `StepsNumberExits`, `DeliveriesNumberNone` (`specs/Numbers.antt`) |
+//! | each death of an unmarked thread is reported once, in order, or waits; each line taken as a trap is raised once, or is to be | `PodEventsAreExact` (`specs/Events.antt`) |
 //!
 //! `InEverySession` (`specs/Sessions.antt`) is said of all sessions that there are: whatever bodies do and whenever lines are
 //! taken, after each call and each take.
 //!
-//! It stands on `pod_runner`, whose sessions it speaks of, and on `pod_laws`, whose laws of one step it carries on.
+//! It stands on `pod_runner`, whose sessions it speaks of, and on `pod_laws` and `pod_events`, whose laws of one step and of moves it
+//! carries on. Where no agent of event 32 is left after a call, no report waits (`every_silence` of `pod_events`), and each report goes
+//! to every agent that the event has then (`every_agent`); a trap is raised in the thread that is chosen at the next call
+//! (`every_trap_raised`). These are said of every state, and so of those of sessions.
 #![tactic(auto)]
 
 ghost use Rattle.session_laws.specs.Deaths.{EachDiesOnce, TheDeadRunNothing, TheDeadStayForgotten};
+ghost use Rattle.session_laws.specs.Events.{PodEventsAreExact};
 ghost use Rattle.session_laws.specs.Exits.{EachExitHasItsFate, EachExitOnce, EachNumberIsGivenOnce, EachSetExitOnce, TheDeadHaveRunTheirExits};
 ghost use Rattle.session_laws.specs.Numbers.{DeliveriesNumberNone, StepsNumberExits};
 ghost use Rattle.session_laws.specs.Sessions.{InEverySession};
@@ -69,4 +74,10 @@ pub fn every_number()
 /// Nor does a delivery.
 pub fn every_number_of_a_delivery()
     ensures { DeliveriesNumberNone }
+{}
+
+/// Each death of an unmarked thread is reported once, in order, or waits, as long as event 32 has an agent; each line that is taken as
+/// a trap is raised once, or is to be.
+pub fn every_pod_event<B: Body>()
+    ensures { PodEventsAreExact B }
 {}

@@ -1,4 +1,4 @@
-use Rattle.std.proofs.Common.{◌-◌, ◌≤◌, ◌×◌}
+use Rattle.std.proofs.Common.{◌-◌, ◌≤◌}
 use Rattle.std.specs.Slice.Scan.{HoldsNowhere}
 use Rattle.pod_runner.specs.Over.{can_take}
 use Rattle.pod_runner.specs.Run.{session_of}
