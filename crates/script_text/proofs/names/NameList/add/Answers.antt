@@ -1,4 +1,4 @@
-use Rattle.std.proofs.Common.{Some, [], ap, false, length, subst, sym, ◌++◌, ◌∙◌, ◌∷◌, ◌≡◌}
+use Rattle.std.proofs.Common.{Some, [], ap, false, subst, sym, ◌++◌, ◌∙◌, ◌∷◌, ◌≡◌}
 use Rattle.script_text.specs.Meaning.{contains_name}
 use Rattle.script_text.specs.Parts.{IsIndexed}
 use Rattle.script_text.proofs.NameLaws.{back_indexed, put_indexed}

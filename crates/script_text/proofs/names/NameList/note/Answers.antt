@@ -1,4 +1,4 @@
-use Rattle.std.proofs.Common.{None, Option, Some, ap, false, is_some, length, refl, subst, sym, true, ◌∙◌, ◌≡◌}
+use Rattle.std.proofs.Common.{Some, ap, false, is_some, subst, sym, true, ◌∙◌, ◌≡◌}
 use Rattle.std.specs.Prelude.{IfOk}
 use Rattle.script_text.specs.Meaning.{contains_name, place}
 use Rattle.script_text.specs.Parts.{place_in}
