@@ -8,12 +8,17 @@ use std::alloc::Global;
 use std::collections::BTreeMap;
 use std::marker::Model;
 
+// The greatest number that is small.
+const SHORT: u128 = 0xffff_ffff_ffff_ffff;
+
 /// Words with a number each, which `number_of` finds.
 pub struct WordIndex {
     alloc: Global,
-    // By the number of the word's digits.
-    short: BTreeMap<u128, u32>,
-    // The words that have none.
+    // By the number that the word's bytes are the digits of, if it is so small.
+    short: BTreeMap<u64, u32>,
+    // By the others of these numbers, which take longer to compare.
+    wide: BTreeMap<u128, u32>,
+    // The words that have no number.
     long: BTreeMap<Vec<u8>, u32>,
 }
 
@@ -23,6 +28,7 @@ impl Drop for WordIndex {
         let WordIndex {
             alloc: _,
             short: _,
+            wide: _,
             long: _,
         } = self;
     }
@@ -33,7 +39,7 @@ impl Model for WordIndex {
 
     ghost Value = { Numbered };
 
-    ghost view = { λ i. record { short = i.short.entries; long = keyed i.long.entries } };
+    ghost view = { λ i. record { short = i.short.entries; wide = i.wide.entries; long = keyed i.long.entries } };
 }
 
 impl WordIndex {
@@ -44,6 +50,7 @@ impl WordIndex {
         WordIndex {
             alloc,
             short: BTreeMap::new(alloc),
+            wide: BTreeMap::new(alloc),
             long: BTreeMap::new(alloc),
         }
     }
@@ -53,7 +60,8 @@ impl WordIndex {
         ensures { result ≡ number_of self.now word.now }
     {
         let found = match packed(word) {
-            Some(digits) => self.short.get(&digits),
+            Some(digits) if digits <= SHORT => self.short.get(&(digits as u64)),
+            Some(digits) => self.wide.get(&digits),
             None => self.long.get(word),
         };
         found.copied()
@@ -65,8 +73,11 @@ impl WordIndex {
         ensures err { OnErr result (self.new ≡ self.old) }
     {
         match packed(word) {
+            Some(digits) if digits <= SHORT => {
+                self.short.insert(digits as u64, number)?;
+            }
             Some(digits) => {
-                self.short.insert(digits, number)?;
+                self.wide.insert(digits, number)?;
             }
             None => {
                 let mut bytes = Vec::new(self.alloc);
@@ -82,8 +93,11 @@ impl WordIndex {
         ensures { Puts self.old self.new word.now None }
     {
         match packed(word) {
+            Some(digits) if digits <= SHORT => {
+                self.short.remove(&(digits as u64));
+            }
             Some(digits) => {
-                self.short.remove(&digits);
+                self.wide.remove(&digits);
             }
             None => {
                 self.long.remove(word);
