@@ -1,37 +1,45 @@
 -- A store's letter from one sender changes no other's table.
-use Rattle.indexmap.specs.IndexMap.{insert_entry}
 use Rattle.line_server.specs.Stores.{Letters, Tables, table_of, tables_after, texts_of, told_among, told_sender}
 use Rattle.line_server.specs.Tables.{Table, replies, told}
 use Rattle.std.proofs.Common.{Bool, List, None, Some, [], ap, cond, false, refl, subst, sym, true, ℕ, ◌≡◌, ◌∙◌, ◌∷◌}
 use Rattle.std.proofs.lemmas.Bool.{eq-eqb, eqb-true}
+use Rattle.std.specs.BTreeMap.{insert_entry, is_at}
+use Rattle.std.specs.Cmp.{unsigned_tied}
 use Rattle.std.specs.Map.{lookup}
+use Rattle.std.specs.declared.cmp.Ordering.{Ordering}
+use Rattle.std.specs.Ordering.{is_eq, match_ordering, nat_cmp}
+use Rattle.std.specs.declared.cmp.Ordering.TheVariants.{Equal, Greater, Less}
 use Rattle.std.specs.Option.{unwrap_or}
 use Rattle.std.specs.Prelude.{filter, map, nat_eq}
 
+-- a number is at its own place
+same : (x : ℕ) → is_eq (nat_cmp x x) ≡ true
+same x = unsigned_tied x x ∙ eq-eqb x x refl
+
 -- what was put is found
-found-own : (x : ℕ) (t : Table) (es : Tables) → lookup (nat_eq x) (insert_entry nat_eq es x t) ≡ Some t
-found-own x t [] = λ i. cond (eq-eqb x x refl i) (Some t) None
-found-own x t (e ∷ es) = by (nat_eq x e.0) refl (found-own x t es)
+found-own : (x : ℕ) (t : Table) (es : Tables) → lookup (is_at (nat_cmp x)) (insert_entry nat_cmp es x t) ≡ Some t
+found-own x t [] = λ i. cond (same x i) (Some t) None
+found-own x t (e ∷ es) = by (nat_cmp x e.0) refl (found-own x t es)
   where
-    by : (b : Bool) → nat_eq x e.0 ≡ b → lookup (nat_eq x) (insert_entry nat_eq es x t) ≡ Some t
-        → lookup (nat_eq x) (insert_entry nat_eq (e ∷ es) x t) ≡ Some t
-    by true h later = (λ i. lookup (nat_eq x) (cond (h i) ((e.0, t) ∷ es) (e ∷ insert_entry nat_eq es x t))) ∙ (λ i. cond (h i) (Some t) (lookup (nat_eq x) es))
-    by false h later = (λ i. lookup (nat_eq x) (cond (h i) ((e.0, t) ∷ es) (e ∷ insert_entry nat_eq es x t)))
-        ∙ (λ i. cond (h i) (Some e.1) (lookup (nat_eq x) (insert_entry nat_eq es x t))) ∙ later
+    by : (r : Ordering) → nat_cmp x e.0 ≡ r → lookup (is_at (nat_cmp x)) (insert_entry nat_cmp es x t) ≡ Some t
+        → lookup (is_at (nat_cmp x)) (match_ordering r ((x, t) ∷ e ∷ es) ((e.0, t) ∷ es) (e ∷ insert_entry nat_cmp es x t)) ≡ Some t
+    by Less h later = λ i. cond (same x i) (Some t) (lookup (is_at (nat_cmp x)) (e ∷ es))
+    by Equal h later = λ i. cond (is_eq (h i)) (Some t) (lookup (is_at (nat_cmp x)) es)
+    by Greater h later = (λ i. cond (is_eq (h i)) (Some e.1) (lookup (is_at (nat_cmp x)) (insert_entry nat_cmp es x t))) ∙ later
 
 -- another is found as before
-found-other : (x y : ℕ) (t : Table) → nat_eq x y ≡ false → (es : Tables) → lookup (nat_eq x) (insert_entry nat_eq es y t) ≡ lookup (nat_eq x) es
-found-other x y t apart [] = λ i. cond (apart i) (Some t) None
-found-other x y t apart (e ∷ es) = by (nat_eq y e.0) refl (found-other x y t apart es)
+found-other : (x y : ℕ) (t : Table) → nat_eq x y ≡ false → (es : Tables) → lookup (is_at (nat_cmp x)) (insert_entry nat_cmp es y t) ≡ lookup (is_at (nat_cmp x)) es
+found-other x y t apart [] = λ i. cond ((unsigned_tied x y ∙ apart) i) (Some t) None
+found-other x y t apart (e ∷ es) = by (nat_cmp y e.0) refl (found-other x y t apart es)
   where
-    by : (b : Bool) → nat_eq y e.0 ≡ b → lookup (nat_eq x) (insert_entry nat_eq es y t) ≡ lookup (nat_eq x) es
-        → lookup (nat_eq x) (insert_entry nat_eq (e ∷ es) y t) ≡ lookup (nat_eq x) (e ∷ es)
-    by true h later =
-        let off = subst (λ n. nat_eq x n ≡ false) (eqb-true y e.0 h) apart in
-        (λ i. lookup (nat_eq x) (cond (h i) ((e.0, t) ∷ es) (e ∷ insert_entry nat_eq es y t)))
-        ∙ (λ i. cond (off i) (Some t) (lookup (nat_eq x) es)) ∙ sym (λ i. cond (off i) (Some e.1) (lookup (nat_eq x) es))
-    by false h later = (λ i. lookup (nat_eq x) (cond (h i) ((e.0, t) ∷ es) (e ∷ insert_entry nat_eq es y t)))
-        ∙ ap (λ rest. cond (nat_eq x e.0) (Some e.1) rest) later
+    by : (r : Ordering) → nat_cmp y e.0 ≡ r → lookup (is_at (nat_cmp x)) (insert_entry nat_cmp es y t) ≡ lookup (is_at (nat_cmp x)) es
+        → lookup (is_at (nat_cmp x)) (match_ordering r ((y, t) ∷ e ∷ es) ((e.0, t) ∷ es) (e ∷ insert_entry nat_cmp es y t)) ≡ lookup (is_at (nat_cmp x)) (e ∷ es)
+    by Less h later = λ i. cond ((unsigned_tied x y ∙ apart) i) (Some t) (lookup (is_at (nat_cmp x)) (e ∷ es))
+    by Equal h later =
+        let is : y ≡ e.0 = eqb-true y e.0 (sym (unsigned_tied y e.0) ∙ ap is_eq h) in
+        let off : is_eq (nat_cmp x e.0) ≡ false = unsigned_tied x e.0 ∙ subst (λ n. nat_eq x n ≡ false) is apart in
+        (λ i. cond (off i) (Some t) (lookup (is_at (nat_cmp x)) es)) ∙ sym (λ i. cond (off i) (Some e.1) (lookup (is_at (nat_cmp x)) es))
+    by Greater h later = ap (λ rest. cond (is_eq (nat_cmp x e.0)) (Some e.1) rest) later
 
 -- the table of a sender after its own text, and after another's
 own-table : (x : ℕ) (text : List ℕ) (tables : Tables) → table_of x (tables_after x text tables) ≡ (told text (table_of x tables)).table

@@ -1,5 +1,4 @@
 -- The value of a command is part of its text; a table that was written through is one that was put anew.
-use Rattle.indexmap.specs.IndexMap.{insert_entry}
 use Rattle.line_server.specs.Commands.{Command, Del, Get, Put, alone, asked_by, command_of, is_key_length, key_len, put_of}
 use Rattle.line_server.specs.Read.{read}
 use Rattle.line_server.specs.Stores.{Tables, tables_after}
@@ -13,9 +12,18 @@ use Rattle.std.proofs.lemmas.List.{length-drop}
 use Rattle.std.specs.Borrow.{Bor}
 use Rattle.std.specs.Cmp.{first_so, second_so}
 use Rattle.std.specs.List.{list_all}
-use Rattle.std.specs.Map.{lookup, set_value}
+use Rattle.std.proofs.lemmas.Cmp.{nat_cmp_total}
+use Rattle.std.proofs.lemmas.Map.{lookup-none}
+use Rattle.std.proofs.lemmas.Map.Entries.{none_below_head}
+use Rattle.std.proofs.lemmas.Map.Keys.{sorted_tail}
+use Rattle.std.specs.BTreeMap.{insert_entry, is_at}
+use Rattle.std.specs.List.Sorted.{IsStrictlySortedBy}
+use Rattle.std.specs.Map.{keys_of, lookup, set_value}
+use Rattle.std.specs.declared.cmp.Ordering.{Ordering}
+use Rattle.std.specs.Ordering.{is_eq, match_ordering, nat_cmp}
+use Rattle.std.specs.declared.cmp.Ordering.TheVariants.{Equal, Greater, Less}
 use Rattle.std.specs.Option.{option_map, unwrap_or}
-use Rattle.std.specs.Prelude.{Err, Ok, OnOk, Result, codes, nat_eq, nat_le, ◌==◌}
+use Rattle.std.specs.Prelude.{Err, Ok, OnOk, Result, codes, nat_le, ◌==◌}
 use Rattle.std.specs.Str.{bytes_eq}
 
 -- ---- values
@@ -88,23 +96,25 @@ read-fits text bytes r a key value h same e is put =
 -- ---- tables
 
 -- a value written at a key that is there was put there
-set-is-insert : {V : Type 0} (es : List (ℕ × V)) (x : ℕ) (new : V) → is_some (lookup (nat_eq x) es) ≡ true → set_value (nat_eq x) es new ≡ insert_entry nat_eq es x new
-set-is-insert [] x new there = absurd (true≢false (sym there))
-set-is-insert {V} (e ∷ es) x new there = by (nat_eq x e.0) refl (set-is-insert es x new)
+set-is-insert : {V : Type 0} (es : List (ℕ × V)) (x : ℕ) (new : V) → IsStrictlySortedBy nat_cmp (keys_of es) → is_some (lookup (is_at (nat_cmp x)) es) ≡ true
+    → set_value (is_at (nat_cmp x)) es new ≡ insert_entry nat_cmp es x new
+set-is-insert [] x new sorted there = absurd (true≢false (sym there))
+set-is-insert {V} (e ∷ es) x new sorted there = by (nat_cmp x e.0) refl (set-is-insert es x new (sorted_tail nat_cmp e.0 (keys_of es) sorted)) there
   where
-    by : (b : Bool) → nat_eq x e.0 ≡ b → (is_some (lookup (nat_eq x) es) ≡ true → set_value (nat_eq x) es new ≡ insert_entry nat_eq es x new)
-        → set_value (nat_eq x) (e ∷ es) new ≡ insert_entry nat_eq (e ∷ es) x new
-    by true h later = (λ i. cond (h i) ((e.0, new) ∷ es) (e ∷ set_value (nat_eq x) es new)) ∙ sym (λ i. cond (h i) ((e.0, new) ∷ es) (e ∷ insert_entry nat_eq es x new))
-    by false h later = (λ i. cond (h i) ((e.0, new) ∷ es) (e ∷ set_value (nat_eq x) es new))
-        ∙ ap (λ rest. e ∷ rest) (later (sym (λ i. is_some (cond (h i) (Some e.1) (lookup (nat_eq x) es))) ∙ there))
-        ∙ sym (λ i. cond (h i) ((e.0, new) ∷ es) (e ∷ insert_entry nat_eq es x new))
+    by : (r : Ordering) → nat_cmp x e.0 ≡ r
+        → (is_some (lookup (is_at (nat_cmp x)) es) ≡ true → set_value (is_at (nat_cmp x)) es new ≡ insert_entry nat_cmp es x new)
+        → is_some (cond (is_eq r) (Some e.1) (lookup (is_at (nat_cmp x)) es)) ≡ true
+        → cond (is_eq r) ((e.0, new) ∷ es) (e ∷ set_value (is_at (nat_cmp x)) es new) ≡ match_ordering r ((x, new) ∷ e ∷ es) ((e.0, new) ∷ es) (e ∷ insert_entry nat_cmp es x new)
+    by Less h later found = absurd (true≢false (sym found ∙ ap is_some (lookup-none (is_at (nat_cmp x)) es (none_below_head nat_cmp_total x e es sorted h).1)))
+    by Equal h later found = refl
+    by Greater h later found = ap (λ rest. e ∷ rest) (later found)
 
 -- a table that was there was told through a reference: it was put there
-pub told-after : (es written : Tables) (x : ℕ) (text : List ℕ) (old new : Table) → lookup (nat_eq x) es ≡ Some old → written ≡ set_value (nat_eq x) es new
-    → new ≡ (told text old).table → written ≡ tables_after x text es
-told-after es written x text old new there w n =
-    w ∙ ap (set_value (nat_eq x) es) n ∙ set-is-insert es x (told text old).table (ap is_some there)
-    ∙ ap (λ o. insert_entry nat_eq es x (told text (unwrap_or o [])).table) (sym there)
+pub told-after : (es written : Tables) (x : ℕ) (text : List ℕ) (old new : Table) → IsStrictlySortedBy nat_cmp (keys_of es) → lookup (is_at (nat_cmp x)) es ≡ Some old
+    → written ≡ set_value (is_at (nat_cmp x)) es new → new ≡ (told text old).table → written ≡ tables_after x text es
+told-after es written x text old new sorted there w n =
+    w ∙ ap (set_value (is_at (nat_cmp x)) es) n ∙ set-is-insert es x (told text old).table sorted (ap is_some there)
+    ∙ ap (λ o. insert_entry nat_cmp es x (told text (unwrap_or o [])).table) (sym there)
 
 pub if-done : {A E : Type 0} (r : Result A E) (P Q : Type 0) → (P → Q) → OnOk r P → OnOk r Q
 if-done (Ok x) P Q f h = f h

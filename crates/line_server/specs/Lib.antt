@@ -4,4 +4,3 @@ pub mod Tables
 pub mod Turns
 pub mod Sessions
 pub mod Stores
-pub mod Keys

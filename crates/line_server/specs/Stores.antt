@@ -1,5 +1,4 @@
 -- A store keeps a table for each thread that sends to it.
-use Rattle.indexmap.specs.IndexMap.{insert_entry}
 use Rattle.line_server.specs.Tables.{Table, Told, replies, told}
 use Rattle.line_server.specs.Turns.{Turn, after_reply, kept-lengths, stops, with_names}
 use Rattle.line_server.specs.declared.store.StorePlace.{StorePlace}
@@ -11,11 +10,13 @@ use Rattle.lwp_types.specs.declared.call.Answer.TheVariants as answer
 use Rattle.lwp_types.specs.declared.call.Call.TheVariants as call
 use Rattle.lwp_types.specs.declared.call.LwpErr.TheVariants as error
 use Rattle.lwp_types.specs.declared.call.Mode.TheVariants as mode
+use Rattle.std.specs.BTreeMap.{insert_entry, is_at}
 use Rattle.std.specs.Map.{lookup}
+use Rattle.std.specs.Ordering.{nat_cmp}
 use Rattle.std.specs.Option.{unwrap_or}
 use Rattle.std.specs.Prelude.{Bool, List, None, [], false, filter, if◌then◌else◌, map, nat_eq, true, ℕ, ◌≡◌, ◌∷◌}
 
--- the tables by their senders, in the order in which these came
+-- the tables by their senders, in the order of these
 abbrev pub Tables : Type 0
 Tables = List (ℕ × Table)
 
@@ -32,7 +33,7 @@ store_opening = record { tables = []; client = null_id; place = at.Start }
 
 -- the table of this sender; who never sent has an empty one
 abbrev pub table_of : ℕ → Tables → Table
-table_of x tables = unwrap_or (lookup (nat_eq x) tables) []
+table_of x tables = unwrap_or (lookup (is_at (nat_cmp x)) tables) []
 
 -- what a sender's text is told, and its table then
 abbrev pub told_sender : ℕ → List ℕ → Tables → Told
@@ -40,7 +41,7 @@ told_sender x text tables = told text (table_of x tables)
 
 -- the tables then: no other sender's has changed
 abbrev pub tables_after : ℕ → List ℕ → Tables → Tables
-tables_after x text tables = insert_entry nat_eq tables x (told_sender x text tables).table
+tables_after x text tables = insert_entry nat_cmp tables x (told_sender x text tables).table
 
 -- it waits for anybody
 abbrev pub store_receives : StoreBody → Turn StoreBody

@@ -1,19 +1,26 @@
 -- What one client has put into a store, and what it is told.
-use Rattle.indexmap.specs.IndexMap.{insert_entry, swap_remove_entry}
 use Rattle.line_server.specs.Commands.{Command, Del, Get, Put, command_of}
 use Rattle.lwp_types.specs.State.{is_empty}
+use Rattle.std.specs.BTreeMap.{insert_entry, is_at}
+use Rattle.std.specs.Cmp.Lexicographic.{slice_cmp}
 use Rattle.std.specs.List.{before_first, list_any}
-use Rattle.std.specs.Map.{lookup}
+use Rattle.std.specs.Map.{lookup, remove_entry}
+use Rattle.std.specs.declared.cmp.Ordering.{Ordering}
+use Rattle.std.specs.Ordering.{nat_cmp}
 use Rattle.std.specs.Prelude.{Bool, List, None, Option, Some, [], codes, if◌then◌else◌, is_none, is_some, length, nat_le, ℕ, ◌&&◌, ◌++◌, ◌∷◌}
 use Rattle.std.specs.Str.{bytes_eq}
 
--- a table: each key, and what a get of it is told
+-- keys are in the order of their bytes
+abbrev pub key_cmp : List ℕ → List ℕ → Ordering
+key_cmp a b = slice_cmp nat_cmp a b
+
+-- a table: each key in order, and what a get of it is told
 abbrev pub Table : Type 0
 Table = List (List ℕ × List ℕ)
 
 -- what is kept for a key, if it is there
 abbrev pub at_key : List ℕ → Table → Option (List ℕ)
-at_key key table = lookup (bytes_eq key) table
+at_key key table = lookup (is_at (key_cmp key)) table
 
 -- what a get is told of a value
 abbrev pub shown : List ℕ → List ℕ
@@ -29,17 +36,17 @@ abbrev pub told_value : Option (List ℕ) → List ℕ
 told_value None = codes "none"
 told_value (Some text) = text
 
--- a put of a new key into a table of 100 keys is refused; any other is done, and a new key stands last
+-- a put of a new key into a table of 100 keys is refused; any other is done, and a new key goes to its place in the order
 abbrev pub told_put : List ℕ → List ℕ → Table → Told
 told_put key value table = if nat_le 100 (length table) && is_none (at_key key table)
     then record { reply = codes "full"; table = table }
-    else record { reply = codes "ok"; table = insert_entry bytes_eq table key (shown value) }
+    else record { reply = codes "ok"; table = insert_entry key_cmp table key (shown value) }
 
--- a del takes the key out, so that the last one stands in its place, and tells whether it was there
+-- a del takes the key out, and tells whether it was there
 abbrev pub told_del : List ℕ → Table → Told
 told_del key table = record {
   reply = if is_some (at_key key table) then codes "ok" else codes "none";
-  table = swap_remove_entry (bytes_eq key) table;
+  table = remove_entry (is_at (key_cmp key)) table;
 }
 
 -- a command, done on a table

@@ -1,7 +1,7 @@
 // A key of a table.
 ghost use Rattle.std.specs.Prelude.{◌≡◌, ◌≤◌, length};
 
-use std::hash::{Hash, Hasher};
+use std::cmp::Ordering;
 use std::marker::Model;
 
 /// The greatest length of a key, in bytes.
@@ -63,15 +63,34 @@ impl Eq for Key {
     ghost laws = { nat_list_eq_equiv };
 }
 
-impl Hash for Key {
-    ghost use Rattle.std.specs.Prelude.{[], ◌∷◌};
-    ghost use Rattle.line_server.specs.Keys.{same_writes};
+impl PartialOrd for Key {
+    ghost use Rattle.std.specs.Cmp.Lexicographic.{texts_po};
+    ghost use Rattle.std.specs.Prelude.{Some};
+    ghost use Rattle.line_server.specs.Tables.{key_cmp};
 
-    ghost hash_input = { λ bytes. bytes ∷ [] };
+    ghost partial_cmp = { λ x y. Some (key_cmp x y) };
 
-    ghost respects_eq = { same_writes };
+    ghost laws = { texts_po };
 
-    fn hash<H: Hasher>(&self, state: &mut H) {
-        state.write(self.bytes());
+    fn partial_cmp(&self, other: &Key) -> Option<Ordering> {
+        Some(self.cmp(other))
+    }
+}
+
+impl Ord for Key {
+    ghost use Rattle.std.specs.Cmp.Lexicographic.{nat_list_cmp_total, texts_ties};
+    ghost use Rattle.std.specs.Prelude.{refl};
+    ghost use Rattle.line_server.specs.Tables.{key_cmp};
+
+    ghost cmp = { key_cmp };
+
+    ghost total = { nat_list_cmp_total };
+
+    ghost matches_partial_cmp = { λ x y. refl };
+
+    ghost matches_eq = { λ x y. texts_ties x y };
+
+    fn cmp(&self, other: &Key) -> Ordering {
+        self.bytes().cmp(other.bytes())
     }
 }

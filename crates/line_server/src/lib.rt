@@ -5,11 +5,13 @@
 //! and every answer. A store tells a sender what its own texts are told on its own table, whatever others send
 //! (`senders_are_apart`), so what a client is answered is a function of its lines alone (`line_answers` in `specs/Tables.antt`).
 //!
-//! The crate stands on `lwp_types` and, so that a table and a key in it are found at once, on the kit's `indexmap`.
+//! Tables and keys stand in std's ordered map: whoever chooses the keys can't make a look-up cost more than a walk down a
+//! balanced tree. The crate stands on `lwp_types` alone.
 #![tactic(auto)]
 
 mod calls;
 mod command;
+mod kept;
 mod key;
 mod laws;
 mod session;

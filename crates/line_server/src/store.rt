@@ -5,9 +5,9 @@ ghost use Rattle.std.specs.Prelude.{◌≡◌, OnOk};
 use crate::calls::{set_recv, set_reply, set_return, set_word};
 use crate::table::Table;
 use crate::words::was_replied;
-use indexmap::IndexMap;
 use lwp_types::{Answer, Body, Call, Env, LwpErr, NULL_TID, NoMemory, Text, Tid};
 use std::alloc::Global;
+use std::collections::BTreeMap;
 use std::marker::Model;
 
 /// What a store's last call was.
@@ -20,10 +20,11 @@ pub enum StorePlace {
 }
 
 /// A thread that keeps a table for each thread that sends to it, for its whole life. It takes memory only for a new sender
-/// and for a new key, and finds a table, and a key in it, by their hashes.
+/// and for a put, and finds a table by its sender's number and a key in it by its bytes, each in an ordered map, so that no hash
+/// can be made to collide.
 pub struct StoreBody {
     alloc: Global,
-    tables: IndexMap<u64, Table>,
+    tables: BTreeMap<u64, Table>,
     client: Tid,
     place: StorePlace,
 }
@@ -50,7 +51,7 @@ impl Model for StoreBody {
 // Sets what a sender's text is told, by its own table.
 fn tell(
     alloc: Global,
-    tables: &mut IndexMap<u64, Table>,
+    tables: &mut BTreeMap<u64, Table>,
     from: u64,
     text: &Text,
     reply: &mut Text,
@@ -74,7 +75,7 @@ impl StoreBody {
     {
         StoreBody {
             alloc,
-            tables: IndexMap::new(alloc),
+            tables: BTreeMap::new(alloc),
             client: NULL_TID,
             place: StorePlace::Start,
         }

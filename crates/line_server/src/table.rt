@@ -5,20 +5,22 @@ ghost use Rattle.lwp_types.specs.TextFields.{is_printable, is_text};
 ghost use Rattle.std.specs.Prelude.{◌≡◌, ◌≤◌, [], length, IsTrue, OnOk};
 
 use crate::command::{Asked, command_of};
+use crate::kept::Kept;
 use crate::key::Key;
 use crate::words::{set_text, text_of};
-use indexmap::IndexMap;
 use lwp_types::{NoMemory, TEXT_MAX, Text};
 use std::alloc::Global;
+use std::collections::BTreeMap;
 use std::marker::Model;
 
 /// How many keys a table may have.
 pub const KEYS_MAX: usize = 100;
 
-/// The keys of one client, and what a get of each is told, so that a get makes no text.
+/// The keys of one client in their order, and what a get of each is told, so that a get makes no text.
 #[derive(Drop)]
 pub struct Table {
-    entries: IndexMap<Key, Text>,
+    alloc: Global,
+    entries: BTreeMap<Key, Kept>,
 }
 
 impl Model for Table {
@@ -51,7 +53,8 @@ impl Table {
         ensures { result ≡ [] }
     {
         Table {
-            entries: IndexMap::new(alloc),
+            alloc,
+            entries: BTreeMap::new(alloc),
         }
     }
 
@@ -67,7 +70,8 @@ impl Table {
             set_text(reply, b"full");
             return Ok(());
         }
-        self.entries.insert(key, shown(value))?;
+        let kept = Kept::new(self.alloc, shown(value))?;
+        self.entries.insert(key, kept)?;
         set_text(reply, b"ok");
         Ok(())
     }
@@ -76,11 +80,11 @@ impl Table {
         requires { length key.now ≤ 16 }
         ensures { reply.new ≡ told_value (at_key key.now self.now) }
     {
-        let Some(text) = self.entries.get(&Key::new(key)) else {
+        let Some(kept) = self.entries.get(&Key::new(key)) else {
             set_text(reply, b"none");
             return;
         };
-        *reply = *text;
+        *reply = *kept.text();
     }
 
     fn del(&mut self, key: &[u8], reply: &mut Text)
@@ -88,7 +92,7 @@ impl Table {
         ensures reply { reply.new ≡ (told_del key.now self.old).reply }
         ensures after { self.new ≡ (told_del key.now self.old).table }
     {
-        match self.entries.swap_remove(&Key::new(key)) {
+        match self.entries.remove(&Key::new(key)) {
             Some(_) => set_text(reply, b"ok"),
             None => set_text(reply, b"none"),
         }

@@ -1,12 +1,11 @@
 -- Names that are found by their bytes.
-use Rattle.std.proofs.Common.{◌≡◌, ℕ, suc, ◌+◌, Bool, true, false, not, ◌&&◌, ◌||◌, cond, ltb, List, [], ◌∷◌, ◌++◌, length, Some, None, refl, sym, ap, ◌∙◌, arith}
-use Rattle.std.specs.Prelude.{Vec, vec_items, position, Result, Ok, Err, OnOk}
-use Rattle.indexmap.specs.IndexSet.{insert_key}
-use Rattle.std.specs.List.{list_any, position_or_len}
+use Rattle.std.proofs.Common.{◌≡◌, ℕ, suc, Bool, true, false, ◌&&◌, ◌||◌, cond, List, [], ◌∷◌, ◌++◌, length, Option, Some, None, is_some, option_map, refl, sym, ap, ◌∙◌}
+use Rattle.std.specs.Prelude.{Result, Ok, Err, OnOk}
 use Rattle.std.specs.Str.{bytes_eq}
-use Rattle.std.specs.Cmp.Lexicographic.{nat_list_eq_equiv}
-use Rattle.script_text.specs.Parts.{bytes_of}
+use Rattle.std.specs.Cmp.Lexicographic.{bytes_decides, nat_list_eq_equiv}
+use Rattle.script_text.specs.Parts.{IsIndexed, place_in}
 use Rattle.script_text.specs.Meaning.{contains_name, is_some_text, place, enter}
+use Rattle.word_index.specs.Index.{Numbered, Puts, number_of}
 
 -- ---- A name that is none of these.
 
@@ -39,47 +38,67 @@ entered_again names w h = rw h (by (is_some_text w))
     by true = refl
     by false = refl
 
--- ---- Keys.
+-- ---- Numbers.
 
-turned : (w v : List ℕ) → bytes_eq v w ≡ bytes_eq w v
-turned w v = nat_list_eq_equiv.symm v w
+mapped : (o : Option ℕ) → is_some (option_map suc o) ≡ is_some o
+mapped None = refl
+mapped (Some n) = refl
 
-by_first : (b : Bool) (n : ℕ) → cond b 0 (suc n) ≡ cond (not b) (1 + n) 0
-by_first true n = refl
-by_first false n = omega arith
+pub found : (names : List (List ℕ)) (w : List ℕ) → contains_name names w ≡ is_some (place_in names w)
+found [] w = refl
+found (n ∷ ns) w = by (bytes_eq n w) (found ns w)
+  where
+    by : (b : Bool) → contains_name ns w ≡ is_some (place_in ns w) → (b || contains_name ns w) ≡ is_some (cond b (Some 0) (option_map suc (place_in ns w)))
+    by true h = refl
+    by false h = h ∙ sym (mapped (place_in ns w))
 
-module _ {A : Type 0} (w : List ℕ) where
-  -- the key has the bytes that are looked for
-  abbrev pub is_key : Vec ℕ A → Bool
-  is_key k = bytes_eq w (vec_items k)
+one_more : (b : Bool) (k : ℕ) (o : Option ℕ) → ((i : ℕ) → o ≡ Some i → k ≡ i) → (i : ℕ) → cond b (Some 0) (option_map suc o) ≡ Some i → cond b 0 (suc k) ≡ i
+one_more true k o h i e = cc
+one_more false k None h i e = absurd cc
+one_more false k (Some n) h i e = let up : Some (suc n) ≡ Some i = e in let same : k ≡ n = h n refl in ap suc same ∙ cc
 
-  pub key_contained : (ks : List (Vec ℕ A)) → contains_name (bytes_of ks) w ≡ list_any is_key ks
-  key_contained [] = refl
-  key_contained (k ∷ ks) = rw (turned w (vec_items k), key_contained ks) refl
+pub found_place : (names : List (List ℕ)) (w : List ℕ) (i : ℕ) → place_in names w ≡ Some i → place names w ≡ i
+found_place [] w i e = absurd cc
+found_place (n ∷ ns) w i e = one_more (bytes_eq n w) (place ns w) (place_in ns w) (found_place ns w) i e
 
-  pub key_place : (ks : List (Vec ℕ A)) → place (bytes_of ks) w ≡ position_or_len is_key ks
-  key_place [] = refl
-  key_place (k ∷ ks) = rw (turned w (vec_items k), key_place ks) (by_first (is_key k) (position_or_len is_key ks))
+raised : (b : Bool) (k : ℕ) (o : Option ℕ) → option_map suc (cond b (Some k) o) ≡ cond b (Some (suc k)) (option_map suc o)
+raised true k o = refl
+raised false k o = refl
 
-  pub found_place : (ks : List (Vec ℕ A)) (i : ℕ) → Some i ≡ position is_key ks → place (bytes_of ks) w ≡ i
-  found_place ks i e = key_place ks ∙ sym (at (ltb (position_or_len is_key ks) (length ks)) (position_or_len is_key ks) e)
-    where
-      at : (b : Bool) (n : ℕ) → Some i ≡ cond b (Some n) None → i ≡ n
-      at true n h = cc
-      at false n h = absurd cc
+neither : (a b : Bool) → (a || b) ≡ false → (a ≡ false) × (b ≡ false)
+neither true b h = absurd cc
+neither false b h = (refl, h)
 
-  -- keys are equal by their bytes
-  abbrev pub keys_eq : Vec ℕ A → Vec ℕ A → Bool
-  keys_eq x y = bytes_eq (vec_items x) (vec_items y)
+-- a name that is new has the next number
+pub pushed : (names : List (List ℕ)) (w : List ℕ) → contains_name names w ≡ false → (v : List ℕ)
+    → place_in (names ++ w ∷ []) v ≡ cond (bytes_eq w v) (Some (length names)) (place_in names v)
+pushed [] w new v = refl
+pushed (n ∷ ns) w new v = by (bytes_eq n v) refl (pushed ns w (neither (bytes_eq n w) (contains_name ns w) new).1 v)
+  where
+    apart : bytes_eq n v ≡ true → bytes_eq w v ≡ false
+    apart h = nat_list_eq_equiv.symm w v ∙ sym (nat_list_eq_equiv.congr n v w h) ∙ (neither (bytes_eq n w) (contains_name ns w) new).0
 
-  bytes_pushed : (ks : List (Vec ℕ A)) (k : Vec ℕ A) → vec_items k ≡ w → bytes_of (ks ++ k ∷ []) ≡ bytes_of ks ++ w ∷ []
-  bytes_pushed [] k e = ap (λ v. v ∷ []) e
-  bytes_pushed (x ∷ xs) k e = ap (λ l. vec_items x ∷ l) (bytes_pushed xs k e)
+    by : (b : Bool) → bytes_eq n v ≡ b → place_in (ns ++ w ∷ []) v ≡ cond (bytes_eq w v) (Some (length ns)) (place_in ns v)
+        → cond b (Some 0) (option_map suc (place_in (ns ++ w ∷ []) v)) ≡ cond (bytes_eq w v) (Some (suc (length ns))) (cond b (Some 0) (option_map suc (place_in ns v)))
+    by true h later = sym (λ i. cond (apart h i) (Some (suc (length ns))) (Some 0))
+    by false h later = ap (option_map suc) later ∙ raised (bytes_eq w v) (length ns) (place_in ns v)
 
-  pub keys_pushed : (ks : List (Vec ℕ A)) (k : Vec ℕ A) → vec_items k ≡ w → contains_name (bytes_of ks) w ≡ false → bytes_of (insert_key keys_eq ks k) ≡ bytes_of ks ++ w ∷ []
-  keys_pushed ks k e h =
-      let new : list_any (keys_eq k) ks ≡ false = ap (λ v. list_any (λ y. bytes_eq v (vec_items y)) ks) e ∙ sym (key_contained ks) ∙ h in
-      rw new (bytes_pushed ks k e)
+pub put_indexed : (names : List (List ℕ)) (w : List ℕ) (old new : Numbered) (n : ℕ) → IsIndexed names old → contains_name names w ≡ false → n ≡ length names
+    → Puts old new w (Some n) → IsIndexed (names ++ w ∷ []) new
+put_indexed names w old new n kept h e puts v = puts v ∙ (λ i. cond (bytes_eq w v) (Some (e i)) (kept v i)) ∙ sym (pushed names w h v)
+
+-- what was put and taken back leaves the index as it was
+pub back_indexed : (names : List (List ℕ)) (w : List ℕ) (old mid new : Numbered) (n : Option ℕ) → IsIndexed names old → contains_name names w ≡ false
+    → Puts old mid w n → Puts mid new w None → IsIndexed names new
+back_indexed names w old mid new n kept h puts takes v = takes v ∙ by (bytes_eq w v) refl
+  where
+    none : (o : Option ℕ) → false ≡ is_some o → o ≡ None
+    none None e = refl
+    none (Some k) e = absurd cc
+
+    by : (b : Bool) → bytes_eq w v ≡ b → cond b None (number_of mid v) ≡ place_in names v
+    by true e = sym (none (place_in names v) (sym h ∙ ap (contains_name names) ((bytes_decides w v).0 e) ∙ found names v))
+    by false e = puts v ∙ (λ i. cond (e i) n (number_of old v)) ∙ kept v
 
 -- ---- Results.
 

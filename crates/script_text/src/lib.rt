@@ -5,8 +5,8 @@
 //! with the first reason that fits. The reader answers the verdict, so it reads a script exactly where one is spelt. A text
 //! spells one script at most, and a pod can be made for each.
 //!
-//! The crate stands on the words of `lwp_types`, on `script_lines` for single lines, on the search for a byte of `memchr`, and, so
-//! that a name is found at once, on `indexmap`. `script_printer` writes a script back.
+//! The crate stands on the words of `lwp_types`, on `script_lines` for single lines, on the search for a byte of `memchr`, and on
+//! `word_index`, by which a name is found in the order of names. `script_printer` writes a script back.
 #![tactic(auto)]
 
 mod counts;

@@ -1,38 +1,33 @@
 // Names and their numbers.
 ghost use Rattle.std.specs.Prelude.{◌≡◌, ◌≤◌, IfOk, OnErr};
 
-use indexmap::IndexSet;
 use lwp_types::{NoMemory, Sequence, Text};
 use std::alloc::Global;
 use std::marker::Model;
+use word_index::WordIndex;
 
-/// Names in the order in which they first appear, seen as their list. A name is found by its hash.
+/// Names in the order in which they first appear, seen as their list. A name is found in the order of names, and not by a hash.
 pub struct NameList {
-    alloc: Global,
     names: Sequence<Text>,
-    // The bytes of these names, in the same order.
-    keys: IndexSet<Vec<u8>>,
+    // The number of each.
+    index: WordIndex,
 }
 
 impl Model for NameList {
-    ghost use Rattle.std.specs.Prelude.{◌≡◌, ℕ, List};
-    ghost use Rattle.script_text.specs.Parts.{bytes_of};
+    ghost use Rattle.std.specs.Prelude.{ℕ, List};
+    ghost use Rattle.script_text.specs.Parts.{IsIndexed};
 
     ghost Value = { List (List ℕ) };
 
     ghost view = { λ l. l.names };
 
-    ghost invariant = { λ l. bytes_of l.keys.keys ≡ l.names };
+    ghost invariant = { λ l. IsIndexed l.names l.index };
 }
 
-// By hand, so that whoever drops a list calls this, and isn't proved over all that a set is made of.
+// By hand, so that whoever drops a list calls this.
 impl Drop for NameList {
     fn drop(self) {
-        let NameList {
-            alloc: _,
-            names: _,
-            keys: _,
-        } = self;
+        let NameList { names: _, index: _ } = self;
     }
 }
 
@@ -56,9 +51,8 @@ impl NameList {
         ensures { result ≡ [] }
     {
         NameList {
-            alloc,
             names: Sequence::new(alloc),
-            keys: IndexSet::new(alloc),
+            index: WordIndex::new(alloc),
         }
     }
 
@@ -80,24 +74,26 @@ impl NameList {
     pub fn contains(&self, name: &[u8]) -> bool
         ensures { result ≡ contains_name self.now name.now }
     {
-        self.keys.contains(name)
+        self.index.get(name).is_some()
     }
 
-    // Puts a word at the end that isn't empty and is none of these, if it is a text.
-    fn add(&mut self, name: &[u8]) -> Result<(), NoMemory>
+    // Puts a word at the end that isn't empty and is none of these, if it is a text, and gives the number that it would have there.
+    fn add(&mut self, name: &[u8]) -> Result<u32, NoMemory>
         requires some { 0 < length name.now }
         requires new { contains_name self.old name.now ≡ false }
-        ensures { OnOk result (self.new ≡ enter self.old name.now) }
+        ensures names { OnOk result (self.new ≡ enter self.old name.now) }
+        ensures number { IfOk result (λ n. n ≡ length self.old) }
     {
+        let number = counted(self.names.len())?;
         let Some(text) = Text::new(name) else {
-            return Ok(());
+            return Ok(number);
         };
-        let mut key = Vec::new(self.alloc);
-        key.extend_from_slice(name)?;
-        self.keys.reserve(1)?;
-        self.names.push(text)?;
-        self.keys.insert(key)?;
-        Ok(())
+        self.index.put(name, number)?;
+        let Ok(()) = self.names.push(text) else {
+            self.index.take(name);
+            return Err(NoMemory);
+        };
+        Ok(number)
     }
 
     // Puts a word at the end that isn't empty, if it is new, and gives its number.
@@ -107,13 +103,9 @@ impl NameList {
         ensures names { OnOk result (self.new ≡ enter self.old name.now) }
         ensures number { IfOk result (λ n. n ≡ place (enter self.old name.now) name.now) }
     {
-        match self.keys.get_index_of(name) {
-            Some(place) => counted(place),
-            None => {
-                let last = self.names.len();
-                self.add(name)?;
-                counted(last)
-            }
+        match self.index.get(name) {
+            Some(number) => Ok(number),
+            None => self.add(name),
         }
     }
 

@@ -5,7 +5,7 @@ use Rattle.std.specs.Option.{option_copied_mut}
 
 pub returns-in-Some-clause-after : goal.returns-in-Some-clause-after
 returns-in-Some-clause-after c = if-done c.tell.result _ _
-    (told-after c.args.tables.now.entries _ c.args.from c.args.text.now c.in-Some.table.now c.tell.new.self
+    (told-after c.args.tables.now.entries _ c.args.from c.args.text.now c.in-Some.table.now c.tell.new.self c.get_mut.ensures.ordered
     (sym c.get_mut.ensures.value ∙ ap option_copied_mut c.in-Some.is) (c.get_mut.follows.holds c.tell.new.self).0)
     c.tell.ensures.after
 

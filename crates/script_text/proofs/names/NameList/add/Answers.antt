@@ -1,17 +1,21 @@
-use Rattle.std.proofs.Common.{◌≡◌, ◌++◌, ◌∷◌, [], false, sym, ap, ◌∙◌}
+use Rattle.std.proofs.Common.{Some, [], ap, false, subst, sym, ◌++◌, ◌∙◌, ◌∷◌, ◌≡◌}
 use Rattle.script_text.specs.Meaning.{contains_name}
-use Rattle.script_text.specs.Parts.{bytes_of}
-use Rattle.script_text.proofs.NameLaws.{keys_eq, keys_pushed}
-use Rattle.indexmap.specs.IndexSet.{insert_key}
+use Rattle.script_text.specs.Parts.{IsIndexed}
+use Rattle.script_text.proofs.NameLaws.{back_indexed, put_indexed}
 use Rattle.script_text.proofs.names.NameList.add.Goals as goal
 
-pub invariant_of-self-2 : goal.invariant_of-self-2
-invariant_of-self-2 c =
+pub invariant_of-self-in-Ok : goal.invariant_of-self-in-Ok
+invariant_of-self-in-Ok c =
     let w = c.args.name.now in
-    let ks = c.self.inside.keys.keys in
-    let key = c.extend_from_slice.new.self in
-    let new : contains_name (bytes_of ks) w ≡ false = ap (λ l. contains_name l w) (c.self.invariant ∙ c.self.view_is) ∙ c.requires.new in
-    ap bytes_of (c.in_ok-insert.ensures.keys ∙ ap (λ l. insert_key (keys_eq w) l key) c.in_ok-reserve.ensures.keys)
-    ∙ keys_pushed w ks key (c.in_ok-extend_from_slice.ensures.items ∙ ap (λ l. l ++ w) c.new-key.ensures.items) new
-    ∙ (λ i. c.self.invariant i ++ sym c.in-Some.ensures.same i ∷ [])
-    ∙ sym c.in_ok-push.ensures.ok
+    let names = c.self.inside.names in
+    let new : contains_name names w ≡ false = ap (λ l. contains_name l w) c.self.view_is ∙ c.requires.new in
+    subst (λ l. IsIndexed l c.put.new.self) ((λ i. names ++ sym c.in-Some.ensures.same i ∷ []) ∙ sym c.in-Ok.ensures.ok)
+    (put_indexed names w c.self.inside.index c.put.new.self c.in_ok-number.number c.self.invariant new (c.in_ok-number.ensures.value ∙ c.len.ensures) c.in_ok-put.ensures.ok)
+
+pub invariant_of-self-in_default-push : goal.invariant_of-self-in_default-push
+invariant_of-self-in_default-push c =
+    let w = c.args.name.now in
+    let names = c.self.inside.names in
+    let new : contains_name names w ≡ false = ap (λ l. contains_name l w) c.self.view_is ∙ c.requires.new in
+    subst (λ l. IsIndexed l c.take.new.self) (sym c.in_default-push.ensures.err)
+    (back_indexed names w c.self.inside.index c.put.new.self c.take.new.self (Some c.in_ok-number.number) c.self.invariant new c.in_ok-put.ensures.ok c.take.ensures)
