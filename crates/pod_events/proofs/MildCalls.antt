@@ -114,12 +114,14 @@ tame-append (x ∷ xs) ys one two =
 pub record Toll (s : State) (t : ℕ) (victim : Option ℕ) (births : ℕ) (after : State) (es : List Effect) : Type 0 where
   pub dead : (deaths es ≡ []) ⊎ ((d : ℕ) × (victim ≡ Some d) × (deaths es ≡ d ∷ []))
   pub live : is_thread s t ≡ true → length after.threads + length (deaths es) ≤ length s.threads + births
+  pub kept : victim ≡ None → length after.threads ≤ length s.threads + births
   pub tame : list_all is_tame es ≡ true
 
 pub mild_toll : {s after : State} {es : List Effect} (t : ℕ) (victim : Option ℕ) (births : ℕ) → Mild s after es → Toll s t victim births after es
 mild_toll {s = s} {after = after} {es = es} t victim births mild = record {
   dead = inl (mild_deathless es mild.tells);
   live = λ lives. omega (arith, ap length (mild_deathless es mild.tells), length-numbers s.threads, length-numbers after.threads, ap length mild.lives);
+  kept = λ nobody. omega (arith, length-numbers s.threads, length-numbers after.threads, ap length mild.lives);
   tame = mild_tame es mild.tells;
 }
 
@@ -167,6 +169,7 @@ death_toll s t u there =
     record {
       dead = inr (u, refl, buried.dead);
       live = λ lives. omega (arith, buried.live, ap length buried.dead, lives_once s u (there lives));
+      kept = λ nobody. absurd (cc);
       tame = buried.tame;
     }
 
@@ -215,6 +218,7 @@ create_toll : (s : State) (t number prio : ℕ) (flags : Flags) (checks : List C
 create_toll s t number prio flags checks own = unless_toll t None 1 s checks _ (λ passed. record {
   dead = inl refl;
   live = λ lives. omega (arith, length-append s.threads (born s.births prio flags ∷ []));
+  kept = λ nobody. omega (arith, length-append s.threads (born s.births prio flags ∷ []));
   tame = refl;
 })
 

@@ -38,6 +38,11 @@ reports_after before now reports es = if has_agent now rites_event then reports 
 abbrev pub report_text : ℕ → List ℕ
 report_text dead = codes "t" ++ decimal dead
 
+-- the agent that this effect delivers to
+abbrev pub delivered_to : Effect → Option ℕ
+delivered_to (effect.Delivered agent event) = Some agent
+delivered_to _ = None
+
 -- a letter to an agent is a report
 abbrev pub as_rites : ℕ → Effect → Effect
 as_rites dead (effect.Delivered agent event) = effect.Rites agent dead
