@@ -25,3 +25,4 @@ pub mod Ticking
 pub mod Unwound
 pub mod WaitMoves
 pub mod Waiting
+pub mod Machines

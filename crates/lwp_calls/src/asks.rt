@@ -11,9 +11,11 @@ ghost use Rattle.lwp_types.specs.Unblock.{blocked, blocked_for};
 ghost use Rattle.lwp_types.specs.declared.call.Answer.TheVariants as answer;
 ghost use Rattle.lwp_types.specs.declared.call.Effect.TheVariants as effect;
 ghost use Rattle.lwp_calls.specs.Asks.{serves};
+ghost use Rattle.pod_events.specs.Events.{has_agent};
+ghost use Rattle.pod_events.specs.Rites.{flags_of};
 
 use death_cleanup::{Awaited, Kind, Parts, note, nth_of, set_block};
-use lwp_types::{Answer, Block, Effects, IdKind, IdList, NoMemory, Tid};
+use lwp_types::{Answer, Block, Effects, Flags, IdKind, IdList, NoMemory, Tid};
 use stale_ids::Registry;
 use std::alloc::Global;
 
@@ -99,6 +101,29 @@ pub fn receivers(parts: &Parts, alloc: Global, from: Tid) -> Result<IdList, NoMe
         }
     }
     Ok(list)
+}
+
+/// How the thread was made, if it lives.
+pub fn flags_of(parts: &Parts, tid: Tid) -> Option<Flags>
+    ensures { result ≡ flags_of (state_of parts.now) tid }
+{
+    // The check learns here that the living stand in birth order, so that a number finds one of them.
+    let _living = parts.ids.len();
+    match parts.ids.get(tid.number) {
+        Some(Kind::Thread(rec)) => Some(rec.flags),
+        Some(Kind::Agent) => None,
+        None => None,
+    }
+}
+
+/// Whether the event has an agent.
+pub fn has_agent(parts: &Parts, event: u8) -> bool
+    ensures { result ≡ has_agent (state_of parts.now) event }
+{
+    match parts.agents.nth_of(event, 0) {
+        Some(_) => true,
+        None => false,
+    }
 }
 
 /// How many threads there are.

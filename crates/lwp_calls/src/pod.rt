@@ -1,5 +1,5 @@
 // A pod, and its calls.
-ghost use Rattle.std.specs.Prelude.{◌≡◌, ◌≤◌, ◌<◌, ◌^◌, ◌++◌, ◌∷◌, [], length, IfOk, OnOk, OnErr, IsErr, IsSome, IfNone, IfSome, IsTrue, None, Some};
+ghost use Rattle.std.specs.Prelude.{◌≡◌, ◌≤◌, ◌<◌, ◌^◌, ◌+◌, ◌++◌, ◌∷◌, [], length, IfOk, OnOk, OnErr, IsErr, IsSome, IfNone, IfSome, IsTrue, None, Some};
 ghost use Rattle.std.specs.Slice.Scan.{HoldsNowhere, IsFirstPlace};
 ghost use Rattle.death_cleanup.specs.Comes.{CameTo};
 ghost use Rattle.exc_stack.specs.Stack.{one_frame};
@@ -19,7 +19,7 @@ ghost use Rattle.lwp_calls.specs.Comes.{IsAsBefore, Told};
 ghost use Rattle.lwp_calls.specs.Opening.{no_thread};
 ghost use Rattle.lwp_calls.specs.Pod.{ForgetsTheDead, RunsExitsOnce, is_refusal};
 
-use crate::asks::{all_serve, thread_count};
+use crate::asks::{all_serve, flags_of, has_agent, thread_count};
 use crate::clock::{CLOCK, may_tick, tick};
 use crate::messages::deliver_to_agents;
 use crate::{agent_calls, letters, lives, locks, marks, numbers, turns, waits};
@@ -221,17 +221,14 @@ impl Pod {
     pub fn flags(&self, tid: Tid) -> Option<Flags>
         ensures { result ≡ flags_of self.now tid }
     {
-        match self.parts.ids.get(tid.number) {
-            Some(Kind::Thread(rec)) => Some(rec.flags),
-            _ => None,
-        }
+        flags_of(&self.parts, tid)
     }
 
     /// Whether the event has a live agent.
     pub fn has_agent(&self, event: u8) -> bool
         ensures { result ≡ has_agent self.now event }
     {
-        self.parts.agents.nth_of(event, 0).is_some()
+        has_agent(&self.parts, event)
     }
 
     /// How many threads live.
@@ -370,6 +367,7 @@ fn finish(parts: &mut Parts, effects: &mut Effects) -> Option<Tid>
     requires status { parts.old.exit ≤ 99 }
     ensures after { state_of parts.new ≡ record (state_of parts.old) { ended = ends (state_of parts.old) } }
     ensures effects { effects.new ≡ effects.old ++ end_effects (state_of parts.old) }
+    ensures most { length effects.new ≤ length effects.old + 1 }
     ensures step { InStep parts.new }
     ensures still_alone { parts.new.dying ≡ None }
     ensures next { result ≡ choice parts.new.sched }
