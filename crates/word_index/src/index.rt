@@ -2,6 +2,7 @@
 ghost use Rattle.std.specs.Prelude.{◌≡◌, None, OnErr, OnOk, Some};
 ghost use Rattle.word_index.specs.Index.{Puts, bare, number_of};
 
+use crate::digits::Digits;
 use crate::packed::packed;
 use lwp_types::NoMemory;
 use std::alloc::Global;
@@ -15,7 +16,7 @@ const SHORT: u128 = 0xffff_ffff_ffff_ffff;
 pub struct WordIndex {
     alloc: Global,
     // By the number that the word's bytes are the digits of, if it is so small.
-    short: BTreeMap<u64, u32>,
+    short: BTreeMap<Digits, u32>,
     // By the others of these numbers, which take longer to compare.
     wide: BTreeMap<u128, u32>,
     // The words that have no number.
@@ -60,7 +61,7 @@ impl WordIndex {
         ensures { result ≡ number_of self.now word.now }
     {
         let found = match packed(word) {
-            Some(digits) if digits <= SHORT => self.short.get(&(digits as u64)),
+            Some(digits) if digits <= SHORT => self.short.get(&Digits::new(digits as u64)),
             Some(digits) => self.wide.get(&digits),
             None => self.long.get(word),
         };
@@ -74,7 +75,7 @@ impl WordIndex {
     {
         match packed(word) {
             Some(digits) if digits <= SHORT => {
-                self.short.insert(digits as u64, number)?;
+                self.short.insert(Digits::new(digits as u64), number)?;
             }
             Some(digits) => {
                 self.wide.insert(digits, number)?;
@@ -94,7 +95,7 @@ impl WordIndex {
     {
         match packed(word) {
             Some(digits) if digits <= SHORT => {
-                self.short.remove(&(digits as u64));
+                self.short.remove(&Digits::new(digits as u64));
             }
             Some(digits) => {
                 self.wide.remove(&digits);

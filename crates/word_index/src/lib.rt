@@ -9,6 +9,7 @@
 //! are compared in one step. Any other word stands in a third tree, under its bytes. The crate stands on `lwp_types` alone.
 #![tactic(auto)]
 
+mod digits;
 mod index;
 mod packed;
 

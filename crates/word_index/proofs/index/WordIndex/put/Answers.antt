@@ -3,7 +3,7 @@ use Rattle.std.specs.BTreeMap.{UpdatesBy}
 use Rattle.std.specs.Cmp.Lexicographic.{slice_cmp}
 use Rattle.std.specs.Ordering.{nat_cmp}
 use Rattle.word_index.specs.Index.{Numbered, Puts, keyed}
-use Rattle.word_index.proofs.IndexLemmas.{put_long, put_short, put_wide, updates_keyed}
+use Rattle.word_index.proofs.IndexLemmas.{PutsAt, put_long, put_short, put_wide, updates_keyed}
 use Rattle.word_index.proofs.index.WordIndex.put.Goals as goal
 
 pub returns-in_ok-insert-in-Some-clause-ok : goal.returns-in_ok-insert-in-Some-clause-ok
@@ -12,7 +12,7 @@ returns-in_ok-insert-in-Some-clause-ok c =
     let old : Numbered = record { short = c.self.inside.short.entries; wide = c.self.inside.wide.entries; long = keyed c.self.inside.long.entries } in
     let new : Numbered = record old { short = c.insert.new.self.entries } in
     subst (λ was. Puts was new word (Some c.args.number)) c.self.view_is
-    (put_short word (Some c.args.number) old new c.in-Some.digits (sym c.packed.ensures ∙ c.in-Some.is) c.if-digits-le-SHORT.true refl refl c.in_ok-insert-in-Some.ensures.updates.0)
+    (put_short word (Some c.args.number) old new c.in-Some.digits (sym c.packed.ensures ∙ c.in-Some.is) c.if-digits-le-SHORT.true refl refl (subst (λ k. PutsAt old.short new.short k (Some c.args.number)) c.new.ensures c.in_ok-insert-in-Some.ensures.updates.0))
 
 pub returns-in_ok-insert-in-Some-2-clause-ok : goal.returns-in_ok-insert-in-Some-2-clause-ok
 returns-in_ok-insert-in-Some-2-clause-ok c =

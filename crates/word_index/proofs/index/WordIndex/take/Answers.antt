@@ -1,6 +1,6 @@
 use Rattle.std.proofs.Common.{None, refl, subst, sym, ◌∙◌}
 use Rattle.word_index.specs.Index.{Numbered, Puts, keyed}
-use Rattle.word_index.proofs.IndexLemmas.{put_long, put_short, put_wide, updates_keyed}
+use Rattle.word_index.proofs.IndexLemmas.{PutsAt, put_long, put_short, put_wide, updates_keyed}
 use Rattle.word_index.proofs.index.WordIndex.take.Goals as goal
 
 pub returns-in-Some : goal.returns-in-Some
@@ -9,7 +9,7 @@ returns-in-Some c =
     let old : Numbered = record { short = c.self.inside.short.entries; wide = c.self.inside.wide.entries; long = keyed c.self.inside.long.entries } in
     let new : Numbered = record old { short = c.remove.new.self.entries } in
     subst (λ was. Puts was new word None) c.self.view_is
-    (put_short word None old new c.in-Some.digits (sym c.packed.ensures ∙ c.in-Some.is) c.if-digits-le-SHORT.true refl refl c.remove.ensures.updates.0)
+    (put_short word None old new c.in-Some.digits (sym c.packed.ensures ∙ c.in-Some.is) c.if-digits-le-SHORT.true refl refl (subst (λ k. PutsAt old.short new.short k None) c.new.ensures c.remove.ensures.updates.0))
 
 pub returns-in-Some-2 : goal.returns-in-Some-2
 returns-in-Some-2 c =
