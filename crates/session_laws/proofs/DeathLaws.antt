@@ -1,16 +1,7 @@
 -- The dead are forgotten, over a whole session.
-use Rattle.lwp_types.specs.Agents.{deliver}
-use Rattle.lwp_types.specs.Choice.{choice}
 use Rattle.lwp_types.specs.Lawful.{Lawful}
 use Rattle.lwp_types.specs.State.{State, is_agent, is_thread, opening}
-use Rattle.lwp_types.specs.Step.{case_of, step, step_by, step_if}
-use Rattle.lwp_types.specs.declared.call.Call.{Call}
 use Rattle.lwp_types.specs.declared.call.PodParams.{PodParams}
-use Rattle.pod_laws.proofs.Absent.{deliveries_are_quiet}
-use Rattle.pod_laws.proofs.Chosen.{chosen}
-use Rattle.pod_laws.proofs.Died.{case_died, death_died, finished_died, the_dead_are_forgotten}
-use Rattle.pod_laws.proofs.EveryStep.{Lawful-deliver, Lawful-step}
-use Rattle.pod_laws.proofs.Fading.{deliver_fades, gone_stays, step_fades}
 use Rattle.pod_laws.proofs.Gone.{unnamed}
 use Rattle.pod_laws.proofs.Opening.{Lawful-opening}
 use Rattle.pod_laws.specs.Forgotten.{IsGone, is_died}
@@ -19,9 +10,7 @@ use Rattle.session_laws.proofs.Pods.{Dies}
 use Rattle.session_laws.proofs.Steps.{Lasts, play_lasts}
 use Rattle.session_laws.specs.Deaths.{EachDiesOnce, TheDeadStayForgotten, deaths}
 use Rattle.session_laws.specs.Sessions.{InEverySession}
-use Rattle.lwp_types.specs.CountLaws.{one, one-le}
-use Rattle.lwp_types.specs.Death.{death}
-use Rattle.std.proofs.Common.{List, None, Option, Some, [], ap, arith, count_by, eqb, refl, true, zero, suc, ℕ, ◌++◌, ◌+◌, ◌∙◌, ◌∷◌, ◌≡◌, ◌≤◌}
+use Rattle.std.proofs.Common.{List, None, [], arith, count_by, refl, true, zero, suc, ℕ, ◌++◌, ◌+◌, ◌∷◌, ◌≡◌, ◌≤◌}
 use Rattle.std.proofs.lemmas.Bool.{or_parts}
 use Rattle.std.proofs.lemmas.List.Sums.{sum_by_push}
 

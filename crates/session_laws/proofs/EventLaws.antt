@@ -7,7 +7,7 @@ use Rattle.pod_events.specs.Laws.{is_raised, pends, told_in}
 use Rattle.pod_events.specs.Moves.{EventMove, event_move, moved_on}
 use Rattle.pod_runner.proofs.Moving.{sessions_are_moves}
 use Rattle.session_laws.specs.Events.{PodEventsAreExact}
-use Rattle.std.proofs.Common.{List, [], ap, arith, count_by, refl, sym, ℕ, ◌++◌, ◌∙◌, ◌∷◌, ◌≡◌}
+use Rattle.std.proofs.Common.{List, [], ap, arith, count_by, refl, sym, ◌++◌, ◌∙◌, ◌∷◌, ◌≡◌}
 
 moved-append : (before later : List EventMove) (es : EventState) → moved_on (before ++ later) es ≡ moved_on later (moved_on before es)
 moved-append [] later es = refl

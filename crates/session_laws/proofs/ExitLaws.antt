@@ -1,36 +1,20 @@
 -- Exit procedures run once, over a whole session.
-use Rattle.lwp_types.specs.Agents.{deliver, deliver_to, event_agents}
-use Rattle.lwp_types.specs.Choice.{choice}
-use Rattle.lwp_types.specs.CountLaws.{count_never, one}
+use Rattle.lwp_types.specs.CountLaws.{one}
 use Rattle.lwp_types.specs.Lawful.{Lawful}
-use Rattle.lwp_types.specs.State.{State, ThreadRow, and_then, for_each, is_number, marks_in, opening}
-use Rattle.lwp_types.specs.Step.{step}
-use Rattle.lwp_types.specs.Time.{tick}
-use Rattle.lwp_types.specs.declared.call.Call.{Call}
+use Rattle.lwp_types.specs.State.{State, opening}
 use Rattle.lwp_types.specs.declared.call.PodParams.{PodParams}
-use Rattle.lwp_types.specs.declared.rows.AgentRow.{AgentRow}
-use Rattle.lwp_types.specs.declared.rows.Mark.{Mark}
-use Rattle.pod_laws.proofs.Absent.{deliveries_are_quiet}
-use Rattle.pod_laws.proofs.EveryStep.{Lawful-deliver, Lawful-step}
-use Rattle.pod_laws.proofs.OnceCalls.{exits_run_once}
 use Rattle.pod_laws.proofs.Opening.{Lawful-opening}
-use Rattle.pod_laws.specs.Once.{ExitTest, exits_passing, mark_passes, marks_passing, row_passing, set_by, set_now}
+use Rattle.pod_laws.specs.Once.{ExitTest, exits_passing, marks_passing}
 use Rattle.pod_runner.specs.Session.{Made, Session}
-use Rattle.pod_runner.specs.declared.session.Took.{Took}
-use Rattle.session_laws.proofs.Numbering.{deliveries_number_none, steps_number_exits}
 use Rattle.session_laws.proofs.Pods.{none_left}
 use Rattle.session_laws.proofs.Steps.{Lasts, play_lasts}
-use Rattle.session_laws.proofs.Told.{Sets, Sets.Exit, Sets.Nothing, step_told, what_it_sets}
 use Rattle.session_laws.specs.Exits.{EachExitHasItsFate, EachExitOnce, EachNumberIsGivenOnce, EachSetExitOnce, Fate, Fate.HasRun, Fate.IsNotGiven, Fate.IsWaiting, TheDeadHaveRunTheirExits, exits_run, exits_set, exits_set_in, has_number, set_by_thread}
-use Rattle.session_laws.specs.Numbers.{any_exit}
 use Rattle.session_laws.specs.Sessions.{InEverySession}
-use Rattle.std.proofs.Common.{Bool, List, None, Option, Some, [], ap, arith, cond, eqb, false, length, refl, suc, sum_by, true, zero, ℕ, ◌++◌, ◌+◌, ◌<◌, ◌∷◌, ◌≡◌, ◌≤◌, ◌||◌}
+use Rattle.std.proofs.Common.{Bool, List, None, [], ap, arith, cond, false, refl, suc, true, zero, ℕ, ◌++◌, ◌+◌, ◌<◌, ◌∷◌, ◌≡◌, ◌≤◌}
 use Rattle.std.proofs.lemmas.Bool.{ltb-false, ltb-true}
 use Rattle.std.proofs.lemmas.Bool.Decides.{nat_tests}
-use Rattle.std.proofs.lemmas.List.Sums.{sum_by-cons, sum_by_push}
-use Rattle.std.specs.List.{find}
-use Rattle.std.specs.Prelude.{is_some, nat_le, nat_lt}
-use Rattle.lwp_types.specs.declared.rows.Mark.TheVariants as mark
+use Rattle.std.proofs.lemmas.List.Sums.{sum_by_push}
+use Rattle.std.specs.Prelude.{nat_lt}
 
 -- ---- what holds between any two steps
 

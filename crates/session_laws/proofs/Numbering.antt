@@ -17,7 +17,6 @@ use Rattle.lwp_types.specs.declared.call.Call.{Call}
 use Rattle.lwp_types.specs.declared.call.ExitCall.{ExitCall}
 use Rattle.lwp_types.specs.declared.call.Func.{Func}
 use Rattle.lwp_types.specs.declared.call.Mode.{Mode}
-use Rattle.lwp_types.specs.declared.rows.AgentRow.{AgentRow}
 use Rattle.lwp_types.specs.declared.rows.CondRow.{CondRow}
 use Rattle.lwp_types.specs.declared.rows.Found.{Found}
 use Rattle.lwp_types.specs.declared.rows.Letter.{Letter}

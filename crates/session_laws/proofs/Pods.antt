@@ -8,18 +8,18 @@ use Rattle.lwp_types.specs.Death.{death}
 use Rattle.lwp_types.specs.Lawful.{Lawful}
 use Rattle.lwp_types.specs.Names.{null_id}
 use Rattle.lwp_types.specs.State.{State, ThreadRow, is_number, is_thread, marks_in, passes, thread_of}
-use Rattle.lwp_types.specs.Step.{case_of, end_effects, ends, finished, own_effects, step, step_by, step_if}
+use Rattle.lwp_types.specs.Step.{case_of, end_effects, ends, own_effects, step, step_by, step_if}
 use Rattle.lwp_types.specs.declared.call.Answer.{Answer}
 use Rattle.lwp_types.specs.declared.call.Call.{Call}
 use Rattle.lwp_types.specs.declared.call.Effect.{Effect}
 use Rattle.lwp_types.specs.declared.call.ExitCall.{ExitCall}
 use Rattle.lwp_types.specs.declared.call.LwpErr.{LwpErr}
 use Rattle.lwp_types.specs.declared.rows.Mark.{Mark}
-use Rattle.pod_events.proofs.Mild.{is_mild, mild_deliver}
+use Rattle.pod_events.proofs.Mild.{mild_deliver}
 use Rattle.pod_events.proofs.MildCalls.{case_toll, is_tame, mild_tame}
 use Rattle.pod_events.specs.Events.{EventState, is_takeable, is_trapped, may_trap, passed_on, rites_event, take_event, trap_taken}
 use Rattle.pod_events.specs.Laws.{AsksForFates}
-use Rattle.pod_events.specs.Rites.{as_rites, first_reported, report_text, reports_after, rites_said}
+use Rattle.pod_events.specs.Rites.{as_rites, first_reported, report_text, rites_said}
 use Rattle.pod_events.specs.Step.{event_step, event_step_by, event_step_if}
 use Rattle.pod_events.specs.Traps.{agent_event_of, but_call, called, is_catch, is_given, made, made_as, notice, refused_by, stepped, trap_made, trap_of, trap_refusal}
 use Rattle.pod_laws.proofs.Absent.{deliveries_are_quiet}

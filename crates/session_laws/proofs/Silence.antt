@@ -1,29 +1,20 @@
 -- After its death no thread runs an exit procedure.
-use Rattle.lwp_types.specs.Agents.{deliver}
-use Rattle.lwp_types.specs.Choice.{choice}
-use Rattle.lwp_types.specs.Lawful.{Lawful}
-use Rattle.lwp_types.specs.State.{State, ThreadRow, is_agent, is_thread, marks_in, opening, thread_of}
-use Rattle.lwp_types.specs.Step.{step}
-use Rattle.lwp_types.specs.declared.call.Call.{Call}
+use Rattle.lwp_types.specs.State.{State, is_agent, is_thread, opening}
 use Rattle.lwp_types.specs.declared.call.PodParams.{PodParams}
-use Rattle.pod_laws.proofs.Absent.{deliveries_are_quiet}
-use Rattle.pod_laws.proofs.Chosen.{chosen}
-use Rattle.pod_laws.proofs.OnceCalls.{exits_run_once}
 use Rattle.pod_laws.specs.Forgotten.{is_died}
-use Rattle.pod_laws.specs.Once.{ExitTest, exits_passing, set_by, set_now}
+use Rattle.pod_laws.specs.Once.{ExitTest, exits_passing}
 use Rattle.pod_runner.specs.Session.{Made}
 use Rattle.session_laws.proofs.DeathLaws.{Buried, buried_lasts, buried_opening}
 use Rattle.session_laws.proofs.ExitLaws.{run_push}
 use Rattle.session_laws.proofs.Steps.{Lasts, play_lasts}
-use Rattle.session_laws.proofs.Told.{Sets, Sets.Exit, Sets.Nothing, what_it_sets}
 use Rattle.session_laws.specs.Deaths.{TheDeadRunNothing, deaths}
 use Rattle.session_laws.specs.Exits.{exits_run, set_by_thread}
 use Rattle.session_laws.specs.Sessions.{InEverySession}
-use Rattle.std.proofs.Common.{Bool, List, None, Option, Some, [], ap, arith, cond, count_by, drop, eqb, false, length, refl, take, true, ℕ, ◌++◌, ◌∷◌, ◌≡◌, ◌≤◌, ◌||◌}
-use Rattle.std.proofs.lemmas.Bool.{eqb-true, leb-false, leb-true, or_parts}
+use Rattle.std.proofs.Common.{Bool, List, [], ap, arith, count_by, drop, false, length, refl, take, true, ℕ, ◌++◌, ◌∷◌, ◌≡◌, ◌≤◌}
+use Rattle.std.proofs.lemmas.Bool.{leb-false, leb-true, or_parts}
 use Rattle.std.proofs.lemmas.List.{drop-append-le, drop_all, length_push, take-append-le}
 use Rattle.std.proofs.lemmas.List.Sums.{sum_by-take-le}
-use Rattle.std.specs.Prelude.{is_some, nat_le}
+use Rattle.std.specs.Prelude.{nat_le}
 
 -- whoever died in the first of these steps has run nothing in the others
 record Silent (s : State) (steps : List Made) : Type 0 where

@@ -1,8 +1,8 @@
 // Pods where memory is given. What each call comes to is said by the clauses; whole scripts stand in the corpus.
 use lwp_calls::Pod;
 use lwp_types::{
-    Answer, Call, Cid, Effect, Effects, ExitCall, Flags, Func, Mid, Mode, Pattern, PodEnd, PodParams,
-    Text, Tid,
+    Answer, Call, Cid, Effect, Effects, ExitCall, Flags, Func, Mid, Mode, Pattern, PodEnd,
+    PodParams, Text, Tid,
 };
 use std::alloc::Global;
 
