@@ -58,7 +58,7 @@ fn reports_a_death(pod: &mut EventPod<Pod>, effects: &mut Effects) -> bool {
         },
     };
     let yield_self = Call::Yield {
-        tid: Tid { number: 0 },
+        to: Tid { number: 0 },
     };
     makes(pod, effects, &Call::Agent { event: 32 }) == 1
         && makes(pod, effects, &create) == 1
