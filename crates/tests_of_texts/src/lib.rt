@@ -9,6 +9,8 @@ mod counts;
 #[cfg(test)]
 mod made_scripts;
 #[cfg(test)]
+mod names;
+#[cfg(test)]
 mod scripts;
 #[cfg(test)]
 mod servers;
