@@ -27,7 +27,9 @@ use agents::Agents;
 use conditions::Conds;
 use death_cleanup::{Kind, Named, Parts, ThreadRec, is_id};
 use exc_stack::ExcStack;
-use lwp_types::{Block, Call, Effect, Effects, Family, Flags, NoMemory, PodEnd, PodParams, Text, Tid};
+use lwp_types::{
+    Block, Call, Effect, Effects, Family, Flags, NoMemory, PodEnd, PodParams, Text, Tid,
+};
 use monitors::Monitors;
 use pod_sched::Sched;
 use rendezvous::Mail;

@@ -19,7 +19,8 @@ mod text;
 
 pub use body::{Body, Program};
 pub use call::{
-    Answer, Call, Effect, ExitCall, Flags, Func, IdKind, Line, LwpErr, Mode, Pattern, PodEnd, PodParams,
+    Answer, Call, Effect, ExitCall, Flags, Func, IdKind, Line, LwpErr, Mode, Pattern, PodEnd,
+    PodParams,
 };
 pub use effects::{Effects, PLACES};
 pub use env::Env;
