@@ -1,0 +1,4 @@
+pub mod Parts
+pub mod Answers
+pub mod Working
+pub mod Slots
