@@ -6,7 +6,7 @@ use Rattle.death_cleanup.specs.declared.rows.Kind.TheVariants as kind
 use Rattle.lwp_types.specs.Case.{Check}
 use Rattle.lwp_types.specs.declared.call.LwpErr.{LwpErr}
 pub use Rattle.pod_events.specs.Machine.{asks_memory}
-use Rattle.std.specs.Prelude.{Bool, List, None, Option, Some, [], false, if◌then◌else◌, length, true, ◌+◌, ◌∷◌, ◌≤◌}
+use Rattle.std.specs.Prelude.{Bool, List, None, Option, Some, [], if◌then◌else◌, length, true, ◌+◌, ◌∷◌, ◌≤◌}
 
 -- the error of the first check that strikes
 abbrev pub first_refusal : List Check → Option LwpErr

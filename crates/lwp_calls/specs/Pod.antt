@@ -7,11 +7,10 @@ use Rattle.lwp_types.specs.declared.call.Answer.{Answer}
 use Rattle.lwp_types.specs.declared.call.Answer.TheVariants as answer
 use Rattle.lwp_types.specs.declared.call.Call.{Call}
 use Rattle.lwp_types.specs.declared.call.Effect.{Effect}
-use Rattle.lwp_types.specs.declared.call.Effect.TheVariants as effect
 use Rattle.pod_laws.specs.Forgotten.{IsForgotten, is_died}
 use Rattle.pod_laws.specs.Once.{ExitTest, exits_passing, marks_passing, set_now}
 use Rattle.std.specs.List.{count_by}
-use Rattle.std.specs.Prelude.{Bool, List, None, Option, Some, [], false, if◌then◌else◌, true, ℕ, ◌+◌, ◌∷◌, ◌≡◌, ◌≤◌}
+use Rattle.std.specs.Prelude.{Bool, List, false, true, ℕ, ◌+◌, ◌≡◌, ◌≤◌}
 
 -- the answer is a refusal
 abbrev pub refuses : Answer → Bool

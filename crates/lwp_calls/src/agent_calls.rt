@@ -4,11 +4,12 @@ ghost use Rattle.death_cleanup.specs.Comes.{Answers, CameTo};
 ghost use Rattle.death_cleanup.specs.Ties.{InStep, LawfulParts};
 ghost use Rattle.death_cleanup.specs.View.{state_of};
 ghost use Rattle.lwp_types.specs.Agents.{agent_born, make_agent};
-ghost use Rattle.lwp_types.specs.Case.{listed};
+ghost use Rattle.lwp_types.specs.Case.{listed, refused};
 ghost use Rattle.lwp_types.specs.Families.{agent_call};
 ghost use Rattle.lwp_types.specs.State.{agent_numbers, still};
 ghost use Rattle.lwp_types.specs.Step.{case_of};
 ghost use Rattle.lwp_types.specs.declared.call.IdKind.TheVariants as kind;
+ghost use Rattle.lwp_types.specs.declared.call.LwpErr.TheVariants as error;
 ghost use Rattle.lwp_calls.specs.Asks.{HasAgentPlaces, asks_memory};
 ghost use Rattle.lwp_calls.specs.Comes.{IsAsBefore, Told};
 
@@ -42,7 +43,7 @@ pub fn carry_out(
         AgentCall::Create(event) => create(parts, tid, event, effects),
         AgentCall::List => list(parts, tid, effects),
         AgentCall::Trap(_) => {
-            effects.done(tid, Err(LwpErr::InvalidArg));
+            refuse_trap(parts, tid, effects);
             Ok(())
         }
     }
@@ -107,6 +108,16 @@ fn make_places(parts: &mut Parts) -> Result<(), NoMemory>
     parts.ids.reserve(living)?;
     parts.agents.reserve(agents)?;
     parts.mail.reserve(threads + agents)
+}
+
+// A Trap is for whoever keeps the pod's own events, and never asked of the machine.
+fn refuse_trap(parts: &Parts, tid: Tid, effects: &mut Effects)
+    requires step { InStep parts.now }
+    requires room { effects.old ≡ [] }
+    ensures told { Told parts.now parts.now effects.old effects.new tid (refused (state_of parts.now) error.InvalidArg) }
+    ensures most { length effects.new ≤ 1 }
+{
+    effects.done(tid, Err(LwpErr::InvalidArg));
 }
 
 // The live agents.

@@ -1,8 +1,5 @@
-// The pod as a machine under events of its own.
-ghost use Rattle.std.specs.Prelude.{◌≡◌};
-
+// A pod as a machine, around which events of the pod's own may lie.
 use crate::Pod;
-use death_cleanup::Kind;
 use lwp_types::{Call, Effects, Flags, NoMemory, PodEnd, Text, Tid};
 use pod_events::Machine;
 
