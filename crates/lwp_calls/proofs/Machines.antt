@@ -9,7 +9,7 @@ use Rattle.lwp_types.specs.State.{ThreadRow, agent_numbers}
 use Rattle.lwp_types.specs.declared.rows.AgentRow.{AgentRow}
 use Rattle.pod_events.specs.Rites.{flags_of}
 use Rattle.stale_ids.specs.Register.{AreRising, value_of}
-use Rattle.std.proofs.Common.{Bool, List, Option, [], ap, cond, false, option_map, refl, true, ℕ, ◌∙◌, ◌∷◌, ◌≡◌}
+use Rattle.std.proofs.Common.{Bool, List, Option, [], ap, cond, false, option_map, refl, true, ℕ, ◌||◌, ◌∙◌, ◌∷◌, ◌≡◌}
 use Rattle.std.specs.List.{list_any}
 use Rattle.std.specs.Prelude.{is_some, slice_get}
 
@@ -23,6 +23,6 @@ pub any-first : (e : ℕ) (rows : List AgentRow) → list_any (is_for e) rows �
 any-first e [] = refl
 any-first e (row ∷ rows) = by_test (is_for e row) (any-first e rows)
   where
-    by_test : (b : Bool) → list_any (is_for e) rows ≡ is_some (nth_of rows e 0) → cond b true (list_any (is_for e) rows) ≡ is_some (slice_get (agent_numbers (cond b (row ∷ event_agents rows e) (event_agents rows e))) 0)
+    by_test : (b : Bool) → list_any (is_for e) rows ≡ is_some (nth_of rows e 0) → (b || list_any (is_for e) rows) ≡ is_some (slice_get (agent_numbers (cond b (row ∷ event_agents rows e) (event_agents rows e))) 0)
     by_test true rest = refl
     by_test false rest = rest
