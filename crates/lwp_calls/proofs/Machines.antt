@@ -9,7 +9,7 @@ use Rattle.lwp_types.specs.State.{ThreadRow, agent_numbers}
 use Rattle.lwp_types.specs.declared.rows.AgentRow.{AgentRow}
 use Rattle.pod_events.specs.Rites.{flags_of}
 use Rattle.stale_ids.specs.Register.{AreRising, value_of}
-use Rattle.std.proofs.Common.{Bool, List, Option, [], ap, cond, false, option_map, refl, true, ℕ, ◌∙◌, ◌∷◌, ◌≡◌}
+use Rattle.std.proofs.Common.{Bool, List, Option, [], ap, cond, false, option_map, refl, true, ℕ, ◌||◌, ◌∙◌, ◌∷◌, ◌≡◌}
 use Rattle.std.specs.List.{list_any}
 use Rattle.std.specs.Prelude.{is_some, slice_get, ◌||◌}
 
