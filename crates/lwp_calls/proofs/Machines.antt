@@ -11,7 +11,7 @@ use Rattle.pod_events.specs.Rites.{flags_of}
 use Rattle.stale_ids.specs.Register.{AreRising, value_of}
 use Rattle.std.proofs.Common.{Bool, List, Option, [], ap, cond, false, option_map, refl, true, ℕ, ◌||◌, ◌∙◌, ◌∷◌, ◌≡◌}
 use Rattle.std.specs.List.{list_any}
-use Rattle.std.specs.Prelude.{is_some, slice_get, ◌||◌}
+use Rattle.std.specs.Prelude.{is_some, slice_get}
 
 -- by who lives under the number
 pub flags-under : (parts : Parts) (t : ℕ) (o : Option Kind) → AreRising parts.ids.live → value_of t parts.ids.live ≡ o
