@@ -22,6 +22,15 @@ fn makes(pod: &mut EventPod<Pod>, effects: &mut Effects, call: &Call) -> usize {
     effects.len()
 }
 
+// The effect at this place, if there is one.
+fn effect_at(effects: &Effects, i: usize) -> Option<&Effect> {
+    if i < effects.len() {
+        Some(effects.get(i))
+    } else {
+        None
+    }
+}
+
 // The event is taken, which is told by one effect, and its trap is to be raised.
 fn takes_a_trap(pod: &mut EventPod<Pod>, effects: &mut Effects, event: u8) -> bool {
     if pod.next_armed(1) != Some(event) || !pod.armed(event) {
@@ -42,7 +51,10 @@ fn is_trapped(pod: &mut EventPod<Pod>, effects: &mut Effects) -> bool {
         && makes(pod, effects, &Call::Trap { event: 5 }) == 1
         && takes_a_trap(pod, effects, 5)
         && makes(pod, effects, &Call::Me) == 3
-        && matches!(effects.get(0), Effect::Trapped { event: 5, .. })
+        && matches!(
+            effect_at(effects, 0),
+            Some(Effect::Trapped { event: 5, .. })
+        )
         && pod.pending().is_none()
 }
 
@@ -64,7 +76,7 @@ fn reports_a_death(pod: &mut EventPod<Pod>, effects: &mut Effects) -> bool {
         && makes(pod, effects, &create) == 1
         && makes(pod, effects, &yield_self) == 1
         && makes(pod, effects, &Call::Return) == 2
-        && matches!(effects.get(1), Effect::Rites { .. })
+        && matches!(effect_at(effects, 1), Some(Effect::Rites { .. }))
         && !pod.is_live(WORKER)
 }
 
@@ -74,8 +86,8 @@ fn is_told(pod: &mut EventPod<Pod>, effects: &mut Effects) -> bool {
     if makes(pod, effects, &Call::Recv { from, mode }) != 1 {
         return false;
     }
-    match effects.get(0) {
-        Effect::Answered { answer, .. } => match answer {
+    match effect_at(effects, 0) {
+        Some(Effect::Answered { answer, .. }) => match answer {
             Answer::Letter { text, .. } => text.bytes() == b"t2".as_slice(),
             _ => false,
         },
