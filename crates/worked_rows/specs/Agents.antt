@@ -212,7 +212,8 @@ agent_dies_with_owner = record {
   takes = [];
 }
 
--- Events are 1 to 32, and any number of agents may have the same; the list has the agents of all threads.
+-- Events are 1 to 32, and any number of agents may have the same; the list has the agents of all threads. The agent of event 32 that
+-- outlives the first thread hears of its death.
 --   lwp 1 / pod 1
 --   proc main / agent a 0 / agent b 33 / agent c 1 / agent d 32 / agent e 1 / create f w 1 - / yield self / agents
 --   proc w / agent g 2 / agent h 32 / yield self
@@ -224,7 +225,7 @@ events_at_both_ends = record {
       ∷ procedure 1 (stmt.Agent 6 2 ∷ stmt.Agent 7 32 ∷ stmt.Yield who.Me ∷ [])
       ∷ []);
   turns = 100000;
-  trace = codes "t0: agent 0\nt0 ! LE_INVALIDARG\nt0: agent 33\nt0 ! LE_INVALIDARG\nt0: agent 1\nt0 = t1\nt0: agent 32\nt0 = t2\nt0: agent 1\nt0 = t3\nt0: create w 1 -\nt0 = t4\nt0: yield self\nt0 = 0\nt4: agent 2\nt4 = t5\nt4: agent 32\nt4 = t6\nt4: yield self\nt4 = 0\nt0: agents\nt0 = ids t1 t2 t3 t5 t6\nt0: return\nt0 dies\nt4: return\nt4 dies\npod ends 0\n";
+  trace = codes "t0: agent 0\nt0 ! LE_INVALIDARG\nt0: agent 33\nt0 ! LE_INVALIDARG\nt0: agent 1\nt0 = t1\nt0: agent 32\nt0 = t2\nt0: agent 1\nt0 = t3\nt0: create w 1 -\nt0 = t4\nt0: yield self\nt0 = 0\nt4: agent 2\nt4 = t5\nt4: agent 32\nt4 = t6\nt4: yield self\nt4 = 0\nt0: agents\nt0 = ids t1 t2 t3 t5 t6\nt0: return\nt0 dies\nrites t0 to t6\nt4: return\nt4 dies\npod ends 0\n";
   halt = Ended 0;
   calls = 13;
   takes = [];
