@@ -40,6 +40,7 @@ impl Machine for Pod {
         Pod::threads(self)
     }
 
+    #[inline(always)]
     fn call(&mut self, call: &Call, effects: &mut Effects) -> Result<(), NoMemory> {
         Pod::call(self, call, effects)
     }

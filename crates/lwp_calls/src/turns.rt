@@ -41,6 +41,11 @@ fn yield_to(parts: &mut Parts, caller: Tid, to: Tid) -> Result<i64, LwpErr>
     requires may_run { IsTrue (is_eligible_in (state_of parts.old) caller) }
     ensures { Answers parts.old parts.new [] [] (yield_to (state_of parts.old) caller to) (answer_by result) }
 {
+    if to == caller {
+        // Who makes a call lives, may run, and has its own priority.
+        parts.sched.yield_to(caller, caller);
+        return Ok(0);
+    }
     if !is_thread(parts, to) {
         return Err(LwpErr::NonExist);
     }
