@@ -42,10 +42,20 @@ fn yield_to(parts: &mut Parts, caller: Tid, to: Tid) -> Result<i64, LwpErr>
     ensures { Answers parts.old parts.new [] [] (yield_to (state_of parts.old) caller to) (answer_by result) }
 {
     if to == caller {
-        // Who makes a call lives, may run, and has its own priority.
+        // Who makes a call lives, may run, and has the priority that it has.
         parts.sched.yield_to(caller, caller);
         return Ok(0);
     }
+    yield_to_other(parts, caller, to)
+}
+
+// The same, where another is named.
+fn yield_to_other(parts: &mut Parts, caller: Tid, to: Tid) -> Result<i64, LwpErr>
+    requires step { InStep parts.old }
+    requires alone { parts.old.dying ≡ None }
+    requires may_run { IsTrue (is_eligible_in (state_of parts.old) caller) }
+    ensures { Answers parts.old parts.new [] [] (yield_to (state_of parts.old) caller to) (answer_by result) }
+{
     if !is_thread(parts, to) {
         return Err(LwpErr::NonExist);
     }

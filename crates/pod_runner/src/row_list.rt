@@ -300,7 +300,8 @@ impl<B> RowList<B> {
         poll_in(&mut self.rows, i, env, call)
     }
 
-    /// The row of a new thread, if there is such a procedure.
+    /// The row of a new thread, if there is such a procedure. It stands apart from the steps that bear nobody.
+    #[inline(never)]
     pub fn open<P: Program<B>>(&mut self, program: &P, proc: u32, tid: Tid) -> Result<(), NoMemory>
     where
         B: Body,

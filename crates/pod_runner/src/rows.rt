@@ -25,6 +25,7 @@ fn thread_in(answer: &Answer) -> Option<Tid>
 }
 
 // The row of the thread that was created, if the call creates one and was answered so.
+#[inline(always)]
 fn bear<B: Body, P: Program<B>>(
     rows: &mut RowList<B>,
     program: &P,
