@@ -1,7 +1,7 @@
-// Many scripts at once: what comes of an input, and of a read or a write that fails.
+// Many scripts at once: what comes of a read or a write that fails. The corpus has what comes of inputs.
 ghost use Rattle.std.specs.Prelude.{◌≤◌};
 
-use lwp_serve::{SessionEnd, batch_main, fault_text};
+use lwp_serve::{SessionEnd, batch_main};
 use lwp_types::{MemSink, MemSource, NoMemory};
 use std::alloc::Global;
 use std::test::Fail;
@@ -11,9 +11,6 @@ const TWO: &[u8] =
     b"script 72\nlwp 1\npod 1\nproc main\ncreate a worker 1 -\nyield self\nproc worker\nsay hi\nscript 0\n";
 
 const REPORT: &[u8] = b"0 status 0 calls 5 taken 0 left 0 trace 119\n1 status 103 line 1 Missing\n";
-
-// The second part has fewer bytes than its line says.
-const SHORT: &[u8] = b"script 0\nscript 9\nabc";
 
 // How a session ended, and what it wrote.
 #[derive(Drop)]
@@ -47,32 +44,6 @@ fn batch<R: Threads + Sync>(
 
 fn is(outcome: &Outcome, end: SessionEnd, status: u8, written: &[u8]) -> bool {
     outcome.end == end && outcome.status == status && outcome.written.as_slice() == written
-}
-
-// Whether so many threads write the report.
-fn is_report<R: Threads + Sync>(rt: &R, alloc: Global, threads: u32) -> Result<bool, NoMemory>
-    requires { (1 ≤ threads) × (threads ≤ 16) }
-{
-    let outcome = batch(rt, alloc, threads, TWO, Vec::new(alloc), Vec::new(alloc))?;
-    Ok(is(&outcome, SessionEnd::Reported, 0, REPORT))
-}
-
-#[test]
-fn the_report_is_the_same_by_any_number_of_threads(rt: HostRuntime) -> Result<(), Fail> {
-    assert!(rt; is_report(&rt, rt.alloc(), 1)?);
-    assert!(rt; is_report(&rt, rt.alloc(), 2)?);
-    assert!(rt; is_report(&rt, rt.alloc(), 16)?);
-    Ok(())
-}
-
-#[test]
-fn a_part_that_is_too_short_is_named(rt: HostRuntime) -> Result<(), Fail> {
-    let alloc = rt.alloc();
-    let outcome = batch(&rt, alloc, 2, SHORT, Vec::new(alloc), Vec::new(alloc))?;
-    assert!(rt; is(&outcome, SessionEnd::Input { part: 1 }, 108, b""));
-    let text = fault_text(alloc, &outcome.end)?;
-    assert!(rt; text.as_slice() == b"lwpserve: input part 1\n".as_slice());
-    Ok(())
 }
 
 #[test]
