@@ -1,4 +1,5 @@
 -- What the program's words ask for.
+use Rattle.script_batch.specs.Batch.{IsBatch}
 use Rattle.script_run.specs.Live.{IsLive}
 use Rattle.script_plan.specs.Make.{IsMake}
 use Rattle.script_session.specs.Outcome.{outcome_of}
@@ -41,6 +42,25 @@ is_plan word = bytes_eq word (codes "plan")
 abbrev pub is_make : List ℕ → Bool
 is_make word = bytes_eq word (codes "make")
 
+-- the word of many scripts
+abbrev pub is_batch : List ℕ → Bool
+is_batch word = bytes_eq word (codes "batch")
+
+-- a number of threads, by the number that a word writes, if it writes one
+abbrev pub threads_by : Option ℕ → Option ℕ
+threads_by None = None
+threads_by (Some n) = if nat_le 1 n && nat_le n 16 then Some n else None
+
+-- the same, by the word
+abbrev pub threads_of : List ℕ → Option ℕ
+threads_of word = threads_by (number_at word)
+
+-- the command of a number of threads and of a number of calls, if there are both
+abbrev pub batch_by : Option ℕ → Option ℕ → Option Command
+batch_by None turns = None
+batch_by (Some threads) None = None
+batch_by (Some threads) (Some turns) = Some (command.Batch threads turns)
+
 -- the command of a word and of a number of calls: `run` or `plan`
 abbrev pub command_by : List ℕ → ℕ → Option Command
 command_by word turns = if is_run word then Some (command.Run turns) else if is_plan word then Some (command.Plan turns) else None
@@ -51,12 +71,12 @@ command_if word None = None
 command_if word (Some turns) = command_by word turns
 
 -- the command of these words, if they are one: `run` or `plan`, and behind it perhaps how many calls; or `make`, and what is to be
--- made
+-- made; or `batch`, how many threads, and behind that perhaps how many calls
 abbrev pub command_of : List (List ℕ) → Option Command
 command_of [] = None
 command_of (word ∷ []) = command_by word turns_unsaid
-command_of (word ∷ turns ∷ []) = command_if word (turns_of turns)
-command_of (word ∷ seed ∷ threads ∷ []) = None
+command_of (word ∷ number ∷ []) = if is_batch word then batch_by (threads_of number) (Some turns_unsaid) else command_if word (turns_of number)
+command_of (word ∷ threads ∷ turns ∷ []) = if is_batch word then batch_by (threads_of threads) (turns_of turns) else None
 command_of (word ∷ seed ∷ threads ∷ lines ∷ []) = if is_make word then option_map command.Make (order_at seed threads lines) else None
 command_of (word ∷ seed ∷ threads ∷ lines ∷ other ∷ words) = None
 
@@ -65,11 +85,14 @@ abbrev pub MayBe : Command → Type 0
 MayBe (command.Run turns) = (1 ≤ turns) × (turns ≤ 1000000)
 MayBe (command.Plan turns) = (1 ≤ turns) × (turns ≤ 1000000)
 MayBe (command.Make order) = IsAllowed order.threads order.lines
+MayBe (command.Batch threads turns) = ((1 ≤ threads) × (threads ≤ 16)) × ((1 ≤ turns) × (turns ≤ 1000000))
 
--- What a session of these words says: a run's or a plan's; or that of what is made, which reads nothing; or else that they are no command, and
+-- What a session of these words says: a run's or a plan's; or that of what is made, which reads nothing; or that of many scripts, whatever the
+-- number of threads; or else that they are no command, and
 -- then nothing was read or written.
 abbrev pub TopSays : Option Command → Stream → Stream → Session → Type 0
 TopSays None source sink session = (session ≡ outcome_of end.Usage [] 0) × IsQuiet source × IsQuiet sink
 TopSays (Some (command.Run turns)) source sink session = IsLive turns source sink session
 TopSays (Some (command.Plan turns)) source sink session = IsPlan turns source sink session
 TopSays (Some (command.Make order)) source sink session = IsQuiet source × IsMake order.seed order.threads order.lines sink session
+TopSays (Some (command.Batch threads turns)) source sink session = IsBatch turns source sink session

@@ -1,9 +1,10 @@
 // What the program does, by its words.
 ghost use Rattle.std.specs.Prelude.{◌≡◌, ◌≤◌, IfSome, length, map, string_bytes};
-ghost use Rattle.lwp_serve.specs.Words.{MayBe, TopSays, command_by, command_of, is_make, is_plan, is_run, turns_of};
+ghost use Rattle.lwp_serve.specs.Words.{MayBe, TopSays, batch_by, command_by, command_of, is_batch, is_make, is_plan, is_run, threads_of, turns_of};
 
 use event_gate::PostGate;
 use lwp_types::{Sink, Source};
+use script_batch::batch_main;
 use script_maker::{Order, order_at};
 use script_plan::{make_main, plan_main};
 use script_run::run_main;
@@ -19,12 +20,17 @@ const TURNS_UNSAID: u64 = 100_000;
 // The most calls that they may allow.
 const MOST_TURNS: u64 = 1_000_000;
 
-/// What is asked for: a run or a plan with so many calls allowed, or a script that is to be made.
+// The most threads that plan many scripts.
+const MOST_THREADS: u32 = 16;
+
+/// What is asked for: a run or a plan with so many calls allowed, or a script that is to be made, or a report on many scripts, by so
+/// many threads and with so many calls allowed of each.
 #[derive(Clone, Copy)]
 pub enum Command {
     Run(u64),
     Plan(u64),
     Make(Order),
+    Batch(u32, u64),
 }
 
 fn is_run(word: &[u8]) -> bool
@@ -45,6 +51,12 @@ fn is_make(word: &[u8]) -> bool
     word == b"make".as_slice()
 }
 
+fn is_batch(word: &[u8]) -> bool
+    ensures { result ≡ is_batch word.now }
+{
+    word == b"batch".as_slice()
+}
+
 // The calls allowed, where a word says so.
 fn turns_of(word: &[u8]) -> Option<u64>
     ensures value { result ≡ turns_of word.now }
@@ -56,6 +68,29 @@ fn turns_of(word: &[u8]) -> Option<u64>
         return None;
     }
     Some(turns)
+}
+
+// How many threads there are, where a word says so.
+fn threads_of(word: &[u8]) -> Option<u32>
+    ensures value { result ≡ threads_of word.now }
+    ensures least { IfSome result (λ threads. 1 ≤ threads) }
+    ensures most { IfSome result (λ threads. threads ≤ 16) }
+{
+    let threads = number_at(word)?;
+    if threads == 0 || threads > MOST_THREADS {
+        return None;
+    }
+    Some(threads)
+}
+
+// The command of a number of threads and of a number of calls, if there are both.
+fn batch_by(threads: Option<u32>, turns: Option<u64>) -> Option<Command>
+    ensures { result ≡ batch_by threads turns }
+{
+    match (threads, turns) {
+        (Some(threads), Some(turns)) => Some(Command::Batch(threads, turns)),
+        _ => None,
+    }
 }
 
 // The command of a word and of a number of calls.
@@ -78,7 +113,13 @@ fn command_of(words: &Vec<String>) -> Option<Command>
 {
     match words.as_slice() {
         [word] => command_by(word.as_bytes(), TURNS_UNSAID),
+        [word, threads] if is_batch(word.as_bytes()) => {
+            batch_by(threads_of(threads.as_bytes()), Some(TURNS_UNSAID))
+        }
         [word, turns] => command_by(word.as_bytes(), turns_of(turns.as_bytes())?),
+        [word, threads, turns] if is_batch(word.as_bytes()) => {
+            batch_by(threads_of(threads.as_bytes()), turns_of(turns.as_bytes()))
+        }
         [word, seed, threads, lines] if is_make(word.as_bytes()) => {
             let order = order_at(seed.as_bytes(), threads.as_bytes(), lines.as_bytes())?;
             Some(Command::Make(order))
@@ -89,7 +130,8 @@ fn command_of(words: &Vec<String>) -> Option<Command>
 
 /// A session by the program's words, which stand behind its name. The command is `run` or `plan`, which allows 100,000 calls, or
 /// `run TURNS` or `plan TURNS`, which allows as many as this number says, 1 to 1,000,000; or it is `make SEED THREADS LINES`, which
-/// reads nothing, makes the script of these three numbers and sums up its session. Other words are no command: nothing is read or
+/// reads nothing, makes the script of these three numbers and sums up its session; or it is `batch THREADS` or `batch THREADS TURNS`,
+/// which reads many scripts and reports on them, by 1 to 16 threads. Other words are no command: nothing is read or
 /// written then. The gates are for the clients of a run.
 pub fn top<S: Source, K: Sink, G: PostGate, R: Threads + Wait + Sync>(
     rt: &R,
@@ -109,6 +151,9 @@ pub fn top<S: Source, K: Sink, G: PostGate, R: Threads + Wait + Sync>(
         Some(Command::Plan(turns)) => plan_main(alloc, turns, source, sink),
         Some(Command::Make(order)) => {
             make_main(alloc, order.seed, order.threads, order.lines, sink)
+        }
+        Some(Command::Batch(threads, turns)) => {
+            batch_main(rt, alloc, threads, turns, source, sink)
         }
         None => Session::unread(alloc, SessionEnd::Usage),
     }

@@ -1,4 +1,4 @@
 mod HistoryLaws
 mod LineLaws
 mod PlanLaws
-mod MakeLaws
+pub mod MakeLaws

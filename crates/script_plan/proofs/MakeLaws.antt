@@ -93,7 +93,7 @@ no_more (x ∷ xs) ys h =
     (same_or c d)) in
     omega (arith, rest, one_less c ys some)
 
-few_taken : (script : Script) (takes : List Took) (left : List Line) → IsHistory script takes left → length takes ≤ length script.posts
+pub few_taken : (script : Script) (takes : List Took) (left : List Line) → IsHistory script takes left → length takes ≤ length script.posts
 few_taken script takes left h =
     let taken = lines_of (pairs_of takes) in
     let all : length taken ≤ length (lines_posted script) =
@@ -133,6 +133,8 @@ run-of script sink session end.ReadFault o s = absurd (cc o)
 run-of script sink session end.WriteFault o s = absurd (cc o)
 run-of script sink session (end.Script line reason) o s = absurd (cc o)
 run-of script sink session end.NoMemory o s = absurd (cc o)
+run-of script sink session (end.Input part) o s = absurd (cc o)
+run-of script sink session end.Reported o s = absurd (cc o)
 
 -- a sink that counts, before and after
 abbrev pub counted : Counting → Counting → Stream
@@ -162,6 +164,8 @@ came-so script sink session (end.Ended status) o s = absurd (cc o)
 came-so script sink session end.Stuck o s = absurd (cc o)
 came-so script sink session end.Spent o s = absurd (cc o)
 came-so script sink session end.Usage o s = absurd s
+came-so script sink session (end.Input part) o s = absurd s
+came-so script sink session end.Reported o s = absurd s
 came-so script sink session end.ReadFault o s = absurd s
 came-so script sink session end.WriteFault o s = inr (part-by script sink session s.1.0 s.1.1 s.1.2)
 came-so script sink session (end.Script line reason) o s = absurd s
@@ -223,6 +227,8 @@ says-whole summary told script bytes sink session is written faultless o r =
     by end.WriteFault o s = absurd (cc o)
     by (end.Script line reason) o s = absurd (cc o)
     by end.NoMemory o s = absurd (cc o)
+    by (end.Input part) o s = absurd (cc o)
+    by end.Reported o s = absurd (cc o)
 
 -- ---- the summary
 

@@ -224,3 +224,5 @@ plan-ran turns script sink session end.NoMemory s = tt
 plan-ran turns script sink session end.Usage s = s
 plan-ran turns script sink session end.ReadFault s = s
 plan-ran turns script sink session (end.Script line reason) s = s
+plan-ran turns script sink session (end.Input part) s = s
+plan-ran turns script sink session end.Reported s = s

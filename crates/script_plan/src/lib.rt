@@ -14,5 +14,5 @@ mod lines;
 mod make;
 mod plan;
 
-pub use make::make_main;
-pub use plan::plan_main;
+pub use make::{is_over, make_main};
+pub use plan::{plan_main, play_script};

@@ -35,8 +35,8 @@ fn script_of(alloc: Global, text: &[u8]) -> Result<Script, NoMemory>
     }
 }
 
-// Whether the session of a script has come to its end.
-fn is_over(end: SessionEnd) -> bool
+/// Whether the session of a script has come to its end.
+pub fn is_over(end: SessionEnd) -> bool
     ensures { result ≡ is_over end }
 {
     matches!(

@@ -297,3 +297,5 @@ live-ran turns script sink session end.NoMemory s = tt
 live-ran turns script sink session end.Usage s = s
 live-ran turns script sink session end.ReadFault s = s
 live-ran turns script sink session (end.Script line reason) s = s
+live-ran turns script sink session (end.Input part) s = s
+live-ran turns script sink session end.Reported s = s

@@ -60,6 +60,8 @@ abbrev pub IsRanEnd : SessionEnd → Type 0
 IsRanEnd end.Usage = ⊥
 IsRanEnd end.ReadFault = ⊥
 IsRanEnd (end.Script line reason) = ⊥
+IsRanEnd (end.Input part) = ⊥
+IsRanEnd end.Reported = ⊥
 IsRanEnd _ = Unit {0}
 
 pub read-of : (source : Stream) (script : Script) (e : SessionEnd) → IsRead source script → IsRanEnd e → ReadSays source e
@@ -71,6 +73,8 @@ read-of source script end.NoMemory h r = part-of-up source.old source.new h.up
 read-of source script end.Usage h r = r
 read-of source script end.ReadFault h r = absurd r
 read-of source script (end.Script line reason) h r = absurd r
+read-of source script (end.Input part) h r = absurd r
+read-of source script end.Reported h r = absurd r
 
 pub says-of : (ran : Script → SessionEnd → Type 0) (source sink : Stream) (session : Session) (script : Script) (e : SessionEnd) → IsRead source script → IsRanEnd e
     → ran script e → EndsBy ran source sink session e
@@ -82,6 +86,8 @@ says-of ran source sink session script end.NoMemory h r s = inr (h.faultless, sa
 says-of ran source sink session script end.Usage h r s = r
 says-of ran source sink session script end.ReadFault h r s = absurd r
 says-of ran source sink session script (end.Script line reason) h r s = absurd r
+says-of ran source sink session script (end.Input part) h r s = absurd r
+says-of ran source sink session script end.Reported h r s = absurd r
 
 -- a session of a script that was read
 pub session-of : (ran : Script → SessionEnd → Type 0) (source sink : Stream) (session : Session) (script : Script) → IsRead source script → session.status ≡ status_of session.end
@@ -102,6 +108,8 @@ not-read-by ran source sink end.Stuck quiet h = absurd h
 not-read-by ran source sink end.Spent quiet h = absurd h
 not-read-by ran source sink end.WriteFault quiet h = absurd h
 not-read-by ran source sink end.Usage quiet h = absurd h
+not-read-by ran source sink (end.Input part) quiet h = absurd h
+not-read-by ran source sink end.Reported quiet h = absurd h
 
 pub not-read : (ran : Script → SessionEnd → Type 0) (source sink : Stream) (e : SessionEnd) (session : Session) → session ≡ outcome_of e [] 0 → IsQuiet sink → IsNotRead source e → IsOf ran source sink session
 not-read ran source sink e session is quiet h = subst (λ (x : Session). IsOf ran source sink x) (sym is) (not-read-by ran source sink e quiet h)

@@ -18,6 +18,8 @@ status_of (end.Script line reason) = 103
 status_of end.Stuck = 104
 status_of end.Spent = 105
 status_of end.NoMemory = 106
+status_of (end.Input part) = 108
+status_of end.Reported = 0
 
 -- a session of this end, with these lines taken and so many calls made
 abbrev pub outcome_of : SessionEnd → List Took → ℕ → Session

@@ -31,3 +31,5 @@ fault_text (end.Script line why) = codes "lwpserve: script line " ++ decimal lin
 fault_text end.Stuck = []
 fault_text end.Spent = []
 fault_text end.NoMemory = codes "lwpserve: no memory\n"
+fault_text (end.Input part) = codes "lwpserve: input part " ++ decimal part ++ codes "\n"
+fault_text end.Reported = []

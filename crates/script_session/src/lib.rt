@@ -17,4 +17,4 @@ mod texts;
 pub use opening::{read_whole, session_of, start};
 pub use session::{Session, SessionEnd, Taken, TakenLines, end_of, status_of};
 pub use source::SCRIPT_MAX;
-pub use texts::fault_text;
+pub use texts::{fault_text, reason_text};

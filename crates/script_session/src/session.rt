@@ -85,6 +85,10 @@ pub enum SessionEnd {
     /// All calls that are allowed were made.
     Spent,
     NoMemory,
+    /// The input isn't parts of scripts; this is the first bad part, counted from 0.
+    Input { part: u32 },
+    /// What many scripts come to was told.
+    Reported,
 }
 
 /// A session: the status that the program ends with, how it ended, the lines taken, and how many calls were made.
@@ -109,6 +113,8 @@ pub fn status_of(end: SessionEnd) -> u8
         SessionEnd::Stuck => 104,
         SessionEnd::Spent => 105,
         SessionEnd::NoMemory => 106,
+        SessionEnd::Input { .. } => 108,
+        SessionEnd::Reported => 0,
     }
 }
 

@@ -8,7 +8,8 @@ use lwp_types::NoMemory;
 use script_text::Reason;
 use std::alloc::Global;
 
-fn reason_text(reason: Reason) -> &'static [u8]
+/// The name of a reason.
+pub fn reason_text(reason: Reason) -> &'static [u8]
     ensures { result.now ≡ reason_text reason }
 {
     match reason {
@@ -48,13 +49,24 @@ fn script_text(alloc: Global, line: u32, reason: Reason) -> Result<Vec<u8>, NoMe
     Ok(out)
 }
 
+// The part that is bad.
+fn input_text(alloc: Global, part: u32) -> Result<Vec<u8>, NoMemory>
+    ensures { IfOk result (λ out. out.items ≡ fault_text (end.Input part)) }
+{
+    let mut out = Vec::new(alloc);
+    add(&mut out, b"lwpserve: input part ")?;
+    add(&mut out, part.to_string(alloc)?.as_bytes())?;
+    add(&mut out, b"\n")?;
+    Ok(out)
+}
+
 /// What is said of how a session ended; no bytes, where nothing is.
 pub fn fault_text(alloc: Global, end: &SessionEnd) -> Result<Vec<u8>, NoMemory>
     ensures { IfOk result (λ out. out.items ≡ fault_text end.now) }
 {
     let mut out = Vec::new(alloc);
     match *end {
-        SessionEnd::Ended(_) | SessionEnd::Stuck | SessionEnd::Spent => {}
+        SessionEnd::Ended(_) | SessionEnd::Stuck | SessionEnd::Spent | SessionEnd::Reported => {}
         SessionEnd::Usage => add(
             &mut out,
             b"lwpserve: usage: run [TURNS] | plan [TURNS] | make SEED THREADS LINES\n",
@@ -62,6 +74,7 @@ pub fn fault_text(alloc: Global, end: &SessionEnd) -> Result<Vec<u8>, NoMemory>
         SessionEnd::ReadFault => add(&mut out, b"lwpserve: read fault\n")?,
         SessionEnd::WriteFault => add(&mut out, b"lwpserve: write fault\n")?,
         SessionEnd::Script { line, reason } => return script_text(alloc, line, reason),
+        SessionEnd::Input { part } => return input_text(alloc, part),
         SessionEnd::NoMemory => add(&mut out, b"lwpserve: no memory\n")?,
     }
     Ok(out)

@@ -4,6 +4,7 @@ use batch::{Job, run_parts, split};
 use crossbeam_utils::atomic::AtomicCell;
 use lwp_types::NoMemory;
 use std::alloc::Global;
+use std::sync::atomic::{AtomicU64, Ordering};
 use std::test::*;
 use std::thread::{self, Threads};
 
@@ -115,5 +116,42 @@ fn the_answers_are_the_same_by_any_number_of_threads(rt: HostRuntime) {
     for threads in [1, 2, 4, 16] {
         let gave_up = met(&rt, rt.alloc(), threads, 0, FIVE, &FIVE_ANSWERS);
         assert!(rt; gave_up == Some(false));
+    }
+}
+
+// Answers each input with its bytes, and counts how often it is asked.
+#[derive(Drop)]
+struct Counting<'a> {
+    asked: &'a AtomicU64,
+}
+
+impl Job for Counting<'_> {
+    ghost means = { λ _ input. input };
+
+    fn answer(&self, alloc: Global, input: &[u8]) -> Result<Vec<u8>, NoMemory> {
+        self.asked.fetch_add(1, Ordering::SeqCst);
+        copy_of(alloc, input)
+    }
+}
+
+// How often it is asked by so many threads, if memory isn't wanting.
+fn times_asked<R: Threads + Sync>(rt: &R, alloc: Global, threads: u32, text: &[u8]) -> Option<u64>
+    requires { (1 ≤ threads) × (threads ≤ 16) }
+{
+    let asked = AtomicU64::new(0);
+    let job = Counting { asked: &asked };
+    let Ok(parts) = split(alloc, text) else {
+        return None;
+    };
+    let Ok(_) = run_parts(rt, alloc, threads, &job, text, &parts) else {
+        return None;
+    };
+    Some(asked.load(Ordering::SeqCst))
+}
+
+#[test]
+fn each_part_is_answered_once(rt: HostRuntime) {
+    for threads in [1, 2, 4, 16] {
+        assert!(rt; times_asked(&rt, rt.alloc(), threads, FIVE) == Some(5));
     }
 }

@@ -1,0 +1,5 @@
+mod PlannedLaws
+mod InputLaws
+mod LineLaws
+mod EndLaws
+mod TextLaws

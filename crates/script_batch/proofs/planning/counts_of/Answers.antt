@@ -1,0 +1,18 @@
+use Rattle.script_batch.proofs.PlannedLaws.{ended-of, told-is}
+use Rattle.script_plan.specs.Make.{is_over}
+use Rattle.std.proofs.Common.{refl, rules, true, ◌≡◌}
+use Rattle.script_batch.proofs.planning.counts_of.Goals as goal
+
+pub told_of-requires : goal.told_of-requires
+told_of-requires c =
+    let session = c.play_script-session.result in
+    let over : is_over session.end ≡ true = search rules in
+    (ended-of c.args.turns c.args.script.now c.new-counted.result c.play_script-session.new.sink session c.new-counted.ensures over c.play_script-session.ensures).few
+
+pub returns : goal.returns
+returns c =
+    let session = c.play_script-session.result in
+    let bytes = c.play_script-session.new.sink.bytes in
+    let over : is_over session.end ≡ true = search rules in
+    let ended = ended-of c.args.turns c.args.script.now c.new-counted.result c.play_script-session.new.sink session c.new-counted.ensures over c.play_script-session.ensures in
+    told-is c.args.turns c.args.script.now bytes session c.told_of.result c.count.result c.told_of.ensures c.count.ensures ended
