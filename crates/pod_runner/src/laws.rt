@@ -1,9 +1,4 @@
 // What holds of every session. There is no code here: the clauses are laws.
-ghost use Rattle.std.specs.Prelude.{◌≡◌, ◌∷◌, ◌++◌, [], List, Option};
-ghost use Rattle.pod_runner.specs.Session.{Made};
-ghost use Rattle.lwp_types.specs.declared.call.Effect.{Effect};
-ghost use Rattle.pod_runner.specs.declared.session.Took.{Took};
-ghost use Rattle.pod_runner.specs.Calls.{last_effects};
 ghost use Rattle.pod_runner.specs.Laws.{SessionsAreLawful};
 ghost use Rattle.pod_runner.specs.SessionMoves.{SessionsAreMoves};
 
@@ -17,9 +12,4 @@ pub fn every_session<B: Body>()
 /// A session moves its pod by calls and takes alone, each of which could be made, and the effects of its steps are theirs.
 pub fn every_session_moves<B: Body>()
     ensures { SessionsAreMoves B }
-{}
-
-/// tmp
-pub fn tmp_law()
-    ensures { (takes : List Made) (take : Option Took) (effects : List Effect) → last_effects (takes ++ record { take = take; effects = effects } ∷ []) ≡ effects }
 {}

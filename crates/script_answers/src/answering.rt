@@ -25,9 +25,9 @@ use whole_streams::write_all;
 fn event_of(script: &Script, client: u8) -> Option<u8>
     ensures { result ≡ event_of script.now client }
 {
-    let client = usize::from(client);
-    if client < script.clients.len() {
-        Some(*script.clients.get(client))
+    let place = usize::from(client);
+    if place < script.clients.len() {
+        Some(*script.clients.get(place))
     } else {
         None
     }

@@ -1,5 +1,5 @@
 // What is known of a client while its session is played.
-ghost use Rattle.std.specs.Prelude.{◌≡◌, ◌∷◌, ◌++◌, [], IfOk, OnOk};
+ghost use Rattle.std.specs.Prelude.{◌≡◌, ◌∷◌, ◌++◌, [], if◌then◌else◌, IfOk, OnOk};
 ghost use Rattle.script_answers.specs.Replies.{agent_born, agent_event, agents_after, is_among, is_event, reply_line, told_by, with_agent};
 
 use lwp_types::{Call, NoMemory, Text, Tid};
@@ -66,14 +66,31 @@ impl Notes {
         }
     }
 
+    // Whether the thread is one of these agents.
+    fn knows(&self, tid: Tid) -> bool
+        ensures { result ≡ is_among self.now.agents.items tid }
+    {
+        let number = tid.number;
+        self.agents.as_slice().contains(&number)
+    }
+
+    // A reply's text on a line of its own, if it is made to one of these agents.
+    fn text_for(&self, alloc: Global, to: Tid, text: &Text) -> Result<Vec<u8>, NoMemory>
+        ensures { IfOk result (λ line. line.items ≡ (if is_among self.now.agents.items to then text.now ++ 10 ∷ [] else [])) }
+    {
+        if self.knows(to) {
+            line_of(alloc, text)
+        } else {
+            Ok(Vec::new(alloc))
+        }
+    }
+
     // What a call says to the client, if it is a reply to one of these agents.
     fn reply_line(&self, alloc: Global, call: &Call) -> Result<Vec<u8>, NoMemory>
         ensures { IfOk result (λ line. line.items ≡ reply_line self.now.agents.items call.now) }
     {
         match call {
-            Call::Reply { to, text } if self.agents.as_slice().contains(&to.number) => {
-                line_of(alloc, text)
-            }
+            Call::Reply { to, text } => self.text_for(alloc, *to, text),
             _ => Ok(Vec::new(alloc)),
         }
     }
@@ -83,8 +100,14 @@ impl Notes {
         ensures { IfOk result (λ line. line.items ≡ told_by self.now.agents.items made.now) }
     {
         match made {
-            Some(made) if made.zero => self.reply_line(alloc, &made.call),
-            _ => Ok(Vec::new(alloc)),
+            Some(made) => {
+                if made.zero {
+                    self.reply_line(alloc, &made.call)
+                } else {
+                    Ok(Vec::new(alloc))
+                }
+            }
+            None => Ok(Vec::new(alloc)),
         }
     }
 
