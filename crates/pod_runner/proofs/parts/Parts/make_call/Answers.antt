@@ -35,7 +35,7 @@ returns g c =
     let effects = lead es.pending c.args.tid call ++ c.call.new.effects in
     let rows = c.in_ok-settle.ensures ∙ settled-lead (g.P.Program.bodies c.args.program.now) c.proc_of-born.result es.pending c.args.tid call c.call.new.effects c.poll_at.new.self in
     let lines = rw c.pending-trap.ensures at c.in_ok-set_turn_lines.ensures in
-    let caller = c.caller_of.ensures ∙ ap (λ trap. caller_of trap c.args.tid) c.pending-trap.ensures in
+    let caller = c.caller_of-self.ensures ∙ ap (λ trap. caller_of trap c.args.tid) c.pending-trap.ensures in
     let m = moves_at g.B.Body.next (g.P.Program.bodies c.args.program.now) c.args.names.now (live_of c.args.self.now) c.args.tid c.args.i c.set_me.new.self call c.call.new.self effects c.poll_at.new.self c.settle.new.rows c.poll_at.new.env c.set_turn_lines.new.out.items c.proc_of-born.result
     chosen c.requires.place c.requires.within c.set_me.ensures c.in_ok-poll_at.ensures c.in_ok-call.ensures.after told c.proc_of-born.ensures rows lines in
     record { live = m.live; effects = ap (λ who. with_call_by who call c.call.new.effects) caller ∙ led es.pending c.args.tid call c.call.new.effects ∙ m.effects; lines = m.lines }
