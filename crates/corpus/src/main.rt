@@ -7,7 +7,7 @@
 //!
 //! How the text is compared is said by the last part of its file's name:
 //!
-//! - `.trace`, `.report`, `.fault`: it is the whole trace or report, and behind it what is said on standard error;
+//! - `.trace`, `.report`, `.answers`, `.fault`: it is the whole of what is written, and behind it what is said on standard error;
 //! - `.tail`: it is the last lines of that;
 //! - `.damages`: the script is run cut at each length and then with each byte zeroed; the text has, for each, a line with the
 //!   damage and the status, and then the whole text; the status of the row is the greatest of theirs.

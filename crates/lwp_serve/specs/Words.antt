@@ -1,4 +1,5 @@
 -- What the program's words ask for.
+use Rattle.script_answers.specs.Answers.{IsAnswers}
 use Rattle.script_batch.specs.Batch.{IsBatch}
 use Rattle.script_run.specs.Live.{IsLive}
 use Rattle.script_plan.specs.Make.{IsMake}
@@ -46,6 +47,19 @@ is_make word = bytes_eq word (codes "make")
 abbrev pub is_batch : List ℕ → Bool
 is_batch word = bytes_eq word (codes "batch")
 
+-- the word of one client
+abbrev pub is_answers : List ℕ → Bool
+is_answers word = bytes_eq word (codes "answers")
+
+-- a client, by the number that a word writes, if it writes one
+abbrev pub client_by : Option ℕ → Option ℕ
+client_by None = None
+client_by (Some n) = if nat_le n 15 then Some n else None
+
+-- the same, by the word
+abbrev pub client_of : List ℕ → Option ℕ
+client_of word = client_by (number_at word)
+
 -- a number of threads, by the number that a word writes, if it writes one
 abbrev pub threads_by : Option ℕ → Option ℕ
 threads_by None = None
@@ -61,6 +75,12 @@ batch_by None turns = None
 batch_by (Some threads) None = None
 batch_by (Some threads) (Some turns) = Some (command.Batch threads turns)
 
+-- the command of a client and of a number of calls, if there are both
+abbrev pub answers_by : Option ℕ → Option ℕ → Option Command
+answers_by None turns = None
+answers_by (Some client) None = None
+answers_by (Some client) (Some turns) = Some (command.Answers client turns)
+
 -- the command of a word and of a number of calls: `run` or `plan`
 abbrev pub command_by : List ℕ → ℕ → Option Command
 command_by word turns = if is_run word then Some (command.Run turns) else if is_plan word then Some (command.Plan turns) else None
@@ -71,12 +91,17 @@ command_if word None = None
 command_if word (Some turns) = command_by word turns
 
 -- the command of these words, if they are one: `run` or `plan`, and behind it perhaps how many calls; or `make`, and what is to be
--- made; or `batch`, how many threads, and behind that perhaps how many calls
+-- made; or `batch`, how many threads, and behind that perhaps how many calls; or `answers`, which client, and behind that perhaps how
+-- many calls
 abbrev pub command_of : List (List ℕ) → Option Command
 command_of [] = None
 command_of (word ∷ []) = command_by word turns_unsaid
-command_of (word ∷ number ∷ []) = if is_batch word then batch_by (threads_of number) (Some turns_unsaid) else command_if word (turns_of number)
-command_of (word ∷ threads ∷ turns ∷ []) = if is_batch word then batch_by (threads_of threads) (turns_of turns) else None
+command_of (word ∷ number ∷ []) = if is_batch word then batch_by (threads_of number) (Some turns_unsaid)
+    else if is_answers word then answers_by (client_of number) (Some turns_unsaid)
+    else command_if word (turns_of number)
+command_of (word ∷ threads ∷ turns ∷ []) = if is_batch word then batch_by (threads_of threads) (turns_of turns)
+    else if is_answers word then answers_by (client_of threads) (turns_of turns)
+    else None
 command_of (word ∷ seed ∷ threads ∷ lines ∷ []) = if is_make word then option_map command.Make (order_at seed threads lines) else None
 command_of (word ∷ seed ∷ threads ∷ lines ∷ other ∷ words) = None
 
@@ -86,13 +111,14 @@ MayBe (command.Run turns) = (1 ≤ turns) × (turns ≤ 1000000)
 MayBe (command.Plan turns) = (1 ≤ turns) × (turns ≤ 1000000)
 MayBe (command.Make order) = IsAllowed order.threads order.lines
 MayBe (command.Batch threads turns) = ((1 ≤ threads) × (threads ≤ 16)) × ((1 ≤ turns) × (turns ≤ 1000000))
+MayBe (command.Answers client turns) = (client ≤ 15) × ((1 ≤ turns) × (turns ≤ 1000000))
 
 -- What a session of these words says: a run's or a plan's; or that of what is made, which reads nothing; or that of many scripts, whatever the
--- number of threads; or else that they are no command, and
--- then nothing was read or written.
+-- number of threads; or that of one client; or else that they are no command, and then nothing was read or written.
 abbrev pub TopSays : Option Command → Stream → Stream → Session → Type 0
 TopSays None source sink session = (session ≡ outcome_of end.Usage [] 0) × IsQuiet source × IsQuiet sink
 TopSays (Some (command.Run turns)) source sink session = IsLive turns source sink session
 TopSays (Some (command.Plan turns)) source sink session = IsPlan turns source sink session
 TopSays (Some (command.Make order)) source sink session = IsQuiet source × IsMake order.seed order.threads order.lines sink session
 TopSays (Some (command.Batch threads turns)) source sink session = IsBatch turns source sink session
+TopSays (Some (command.Answers client turns)) source sink session = IsAnswers client turns source sink session

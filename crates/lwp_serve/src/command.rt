@@ -1,9 +1,10 @@
 // What the program does, by its words.
 ghost use Rattle.std.specs.Prelude.{◌≡◌, ◌≤◌, IfSome, length, map, string_bytes};
-ghost use Rattle.lwp_serve.specs.Words.{MayBe, TopSays, batch_by, command_by, command_of, is_batch, is_make, is_plan, is_run, threads_of, turns_of};
+ghost use Rattle.lwp_serve.specs.Words.{MayBe, TopSays, answers_by, batch_by, client_of, command_by, command_of, is_answers, is_batch, is_make, is_plan, is_run, threads_of, turns_of};
 
 use event_gate::PostGate;
 use lwp_types::{Sink, Source};
+use script_answers::answers_main;
 use script_batch::batch_main;
 use script_maker::{Order, order_at};
 use script_plan::{make_main, plan_main};
@@ -23,14 +24,18 @@ const MOST_TURNS: u64 = 1_000_000;
 // The most threads that plan many scripts.
 const MOST_THREADS: u32 = 16;
 
+// The last client that a script may have.
+const LAST_CLIENT: u32 = 15;
+
 /// What is asked for: a run or a plan with so many calls allowed, or a script that is to be made, or a report on many scripts, by so
-/// many threads and with so many calls allowed of each.
+/// many threads and with so many calls allowed of each, or what this client is told, with so many calls allowed.
 #[derive(Clone, Copy)]
 pub enum Command {
     Run(u64),
     Plan(u64),
     Make(Order),
     Batch(u32, u64),
+    Answers(u8, u64),
 }
 
 fn is_run(word: &[u8]) -> bool
@@ -55,6 +60,12 @@ fn is_batch(word: &[u8]) -> bool
     ensures { result ≡ is_batch word.now }
 {
     word == b"batch".as_slice()
+}
+
+fn is_answers(word: &[u8]) -> bool
+    ensures { result ≡ is_answers word.now }
+{
+    word == b"answers".as_slice()
 }
 
 // The calls allowed, where a word says so.
@@ -93,6 +104,28 @@ fn batch_by(threads: Option<u32>, turns: Option<u64>) -> Option<Command>
     }
 }
 
+// The client that a word names.
+fn client_of(word: &[u8]) -> Option<u8>
+    ensures value { result ≡ client_of word.now }
+    ensures most { IfSome result (λ client. client ≤ 15) }
+{
+    let client = number_at(word)?;
+    if client > LAST_CLIENT {
+        return None;
+    }
+    Some(client as u8)
+}
+
+// The command of a client and of a number of calls, if there are both.
+fn answers_by(client: Option<u8>, turns: Option<u64>) -> Option<Command>
+    ensures { result ≡ answers_by client turns }
+{
+    match (client, turns) {
+        (Some(client), Some(turns)) => Some(Command::Answers(client, turns)),
+        _ => None,
+    }
+}
+
 // The command of a word and of a number of calls.
 fn command_by(word: &[u8], turns: u64) -> Option<Command>
     ensures { result ≡ command_by word.now turns }
@@ -116,9 +149,15 @@ fn command_of(words: &Vec<String>) -> Option<Command>
         [word, threads] if is_batch(word.as_bytes()) => {
             batch_by(threads_of(threads.as_bytes()), Some(TURNS_UNSAID))
         }
+        [word, client] if is_answers(word.as_bytes()) => {
+            answers_by(client_of(client.as_bytes()), Some(TURNS_UNSAID))
+        }
         [word, turns] => command_by(word.as_bytes(), turns_of(turns.as_bytes())?),
         [word, threads, turns] if is_batch(word.as_bytes()) => {
             batch_by(threads_of(threads.as_bytes()), turns_of(turns.as_bytes()))
+        }
+        [word, client, turns] if is_answers(word.as_bytes()) => {
+            answers_by(client_of(client.as_bytes()), turns_of(turns.as_bytes()))
         }
         [word, seed, threads, lines] if is_make(word.as_bytes()) => {
             let order = order_at(seed.as_bytes(), threads.as_bytes(), lines.as_bytes())?;
@@ -131,8 +170,8 @@ fn command_of(words: &Vec<String>) -> Option<Command>
 /// A session by the program's words, which stand behind its name. The command is `run` or `plan`, which allows 100,000 calls, or
 /// `run TURNS` or `plan TURNS`, which allows as many as this number says, 1 to 1,000,000; or it is `make SEED THREADS LINES`, which
 /// reads nothing, makes the script of these three numbers and sums up its session; or it is `batch THREADS` or `batch THREADS TURNS`,
-/// which reads many scripts and reports on them, by 1 to 16 threads. Other words are no command: nothing is read or
-/// written then. The gates are for the clients of a run.
+/// which reads many scripts and reports on them, by 1 to 16 threads; or it is `answers CLIENT` or `answers CLIENT TURNS`, which does
+/// as a plan and writes what that client is told, in place of the trace. Other words are no command: nothing is read or written then. The gates are for the clients of a run.
 pub fn top<S: Source, K: Sink, G: PostGate, R: Threads + Wait + Sync>(
     rt: &R,
     alloc: Global,
@@ -155,6 +194,7 @@ pub fn top<S: Source, K: Sink, G: PostGate, R: Threads + Wait + Sync>(
         Some(Command::Batch(threads, turns)) => {
             batch_main(rt, alloc, threads, turns, source, sink)
         }
+        Some(Command::Answers(client, turns)) => answers_main(alloc, client, turns, source, sink),
         None => Session::unread(alloc, SessionEnd::Usage),
     }
 }

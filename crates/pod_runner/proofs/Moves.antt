@@ -59,25 +59,26 @@ pub moves_at : {B : Type 0} (next : Next B) (bodies : List B) (procs : List (Lis
     → ((row : Row B) → slice_get live.rows i ≡ Some row → Polls next row known call i live.rows mid names)
     → after ≡ (event_step live.pod call).after → effects ≡ (event_step live.pod call).effects
     → born ≡ proc_of call → rows ≡ settled bodies born effects mid → out ≡ step_lines procs None effects
-    → Moves procs None (move next bodies live) (record { pod = after; rows = rows; names = names }) out
+    → Moves procs None (move next bodies live) (record { pod = after; rows = rows; names = names }) effects out
 moves_at next bodies procs live t i known call after effects mid rows names out born h at there k polls a e b r o =
     let found = slice_get_present live.rows i there in
     let is : slice_get live.rows (place_of t live.rows) ≡ Some found.0 = ap (slice_get live.rows) (sym at) ∙ found.1 in
     let p : Polls next found.0 (polled_as t live.names) call (place_of t live.rows) live.rows mid names = rw (← at, ← k) (polls found.0 found.1) in
     let m = moved next bodies live t found.0 call after effects mid rows names h is p a e (r ∙ ap (λ born. settled bodies born effects mid) b) in
-    record { live = rw m refl; lines = o ∙ rw m refl }
+    record { live = rw m refl; effects = rw m refl; lines = o ∙ rw m refl }
 
 -- with no row, nothing happens
-pub moves_none : {B : Type 0} (next : Next B) (bodies : List B) (procs : List (List ℕ)) (live : Live B) (t : ℕ) (out : List ℕ) → choice live.pod.state ≡ Some t → length live.rows ≤ place_of t live.rows → out ≡ [] → Moves procs None (move next bodies live) live out
-moves_none next bodies procs live t out h past none = let m = move_no_row next bodies live t h past in record { live = rw m refl; lines = none ∙ rw m refl }
+pub moves_none : {B : Type 0} (next : Next B) (bodies : List B) (procs : List (List ℕ)) (live : Live B) (t : ℕ) (out : List ℕ) → choice live.pod.state ≡ Some t → length live.rows ≤ place_of t live.rows → out ≡ [] → Moves procs None (move next bodies live) live [] out
+moves_none next bodies procs live t out h past none = let m = move_no_row next bodies live t h past in record { live = rw m refl; effects = rw m refl; lines = none ∙ rw m refl }
 
 -- a line was taken
 pub taken_moves : {B : Type 0} (bodies : List B) (procs : List (List ℕ)) (live : Live B) (took : Took) (after : EventState) (effects : List Effect) (rows : List (Row B)) (out : List ℕ)
     → after ≡ (take_event live.pod took.event took.line.text).after → effects ≡ (take_event live.pod took.event took.line.text).effects
     → rows ≡ settled bodies None effects live.rows → out ≡ step_lines procs (Some took.line) effects
-    → Moves procs (Some took.line) (taken bodies took live) (record { pod = after; rows = rows; names = live.names }) out
+    → Moves procs (Some took.line) (taken bodies took live) (record { pod = after; rows = rows; names = live.names }) effects out
 unfolding taken
 taken_moves bodies procs live took after effects rows out a e r o = record {
   live = (λ t. record { pod = a t; rows = (r ∙ ap (λ effects. settled bodies None effects live.rows) e) t; names = live.names });
+  effects = e;
   lines = o ∙ ap (step_lines procs (Some took.line)) e;
 }

@@ -4,11 +4,14 @@ use Rattle.std.specs.Prelude.{Option, Ok, IsTrue, is_some, not, option_map, ◌&
 use Rattle.std.proofs.lemmas.Bool.Decides.{nat_tests}
 use Rattle.lwp_types.specs.Choice.{choice}
 use Rattle.lwp_types.specs.State.{State}
+use Rattle.std.proofs.lemmas.List.Sums.{fold-append}
+use Rattle.lwp_types.specs.declared.call.Effect.{Effect}
+use Rattle.pod_runner.specs.Calls.{last_effects}
 use Rattle.pod_runner.specs.Due.{IsDefined, is_call_due}
 use Rattle.pod_runner.specs.Parts.{Moves}
 use Rattle.pod_runner.specs.Phase.{phase_by, phase_of}
 use Rattle.pod_runner.specs.Play.{play}
-use Rattle.pod_runner.specs.Session.{Live, Move, Session, Setting, extended, move, taken}
+use Rattle.pod_runner.specs.Session.{Live, Made, Move, Session, Setting, extended, move, taken}
 use Rattle.pod_runner.specs.Keeps.{Keeps}
 use Rattle.pod_runner.specs.Run.{Broke, Tells}
 use Rattle.pod_runner.specs.Trace.{lines}
@@ -21,41 +24,48 @@ use Rattle.pod_runner.specs.declared.phase.Phase.TheVariants as phase
 use Rattle.pod_runner.specs.declared.session.Took.{Took}
 use Rattle.pod_runner.proofs.Plays.{IsDefined-call, IsDefined-take, LastBy-of, lines-step, play-call, play-take}
 
--- a step was made: the parts stand as the longer session does, and its lines are longer by those of the step
-pub record Stepped {B : Type 0} (procs : List (List ℕ)) (old : Session B) (new : Session B) (live : Live B) (out : List ℕ) : Type 0 where
+-- a step was made: the parts stand as the longer session does, with the effects of its last step, and its lines are longer by those of
+-- the step
+pub record Stepped {B : Type 0} (procs : List (List ℕ)) (old : Session B) (new : Session B) (live : Live B) (told : List Effect) (out : List ℕ) : Type 0 where
   pub now : live ≡ new.live
+  pub last : told ≡ last_effects new.steps
   pub lines : lines procs new.steps ≡ lines procs old.steps ++ out
 
-stepped-by : {B : Type 0} (procs : List (List ℕ)) (old new : Session B) (take : Option Took) (m : Move B) (live : Live B) (out : List ℕ)
-    → new ≡ extended old take m → Moves procs (option_map (λ (took : Took). took.line) take) m live out → Stepped procs old new live out
-stepped-by procs old new take m live out is moves = record {
+-- the effects of the last step are those of the step that was made last
+pub last_effects-step : (steps : List Made) (take : Option Took) (effects : List Effect) → last_effects (steps ++ record { take = take; effects = effects } ∷ []) ≡ effects
+last_effects-step steps take effects = fold-append (λ (known : List Effect) (step : Made). step.effects) [] steps (record { take = take; effects = effects } ∷ [])
+
+stepped-by : {B : Type 0} (procs : List (List ℕ)) (old new : Session B) (take : Option Took) (m : Move B) (live : Live B) (told : List Effect) (out : List ℕ)
+    → new ≡ extended old take m → Moves procs (option_map (λ (took : Took). took.line) take) m live told out → Stepped procs old new live told out
+stepped-by procs old new take m live told out is moves = record {
   now = moves.live ∙ sym (ap (λ (s : Session _). s.live) is);
+  last = moves.effects ∙ sym (ap (λ (s : Session _). last_effects s.steps) is ∙ last_effects-step old.steps take m.effects);
   lines = ap (λ (s : Session _). lines procs s.steps) is
       ∙ lines-step procs old.steps take m.effects
       ∙ ap (λ l. lines procs old.steps ++ l) (sym moves.lines);
 }
 
-module _ {B : Type 0} (setting : Setting B) (procs : List (List ℕ)) (takes : List Took) (n : ℕ) (old new : Live B) (out : List ℕ) (made : IsDefined setting takes n) (was : old ≡ (play setting takes n).live) where
-  pub stepped-call : Moves procs None (move setting.next setting.bodies old) new out → Stepped procs (play setting takes n) (play setting takes (n + 1)) new out
-  stepped-call moves = stepped-by procs (play setting takes n) (play setting takes (n + 1)) None (move setting.next setting.bodies (play setting takes n).live) new out
+module _ {B : Type 0} (setting : Setting B) (procs : List (List ℕ)) (takes : List Took) (n : ℕ) (old new : Live B) (told : List Effect) (out : List ℕ) (made : IsDefined setting takes n) (was : old ≡ (play setting takes n).live) where
+  pub stepped-call : Moves procs None (move setting.next setting.bodies old) new told out → Stepped procs (play setting takes n) (play setting takes (n + 1)) new told out
+  stepped-call moves = stepped-by procs (play setting takes n) (play setting takes (n + 1)) None (move setting.next setting.bodies (play setting takes n).live) new told out
       (play-call setting takes n (LastBy-of setting takes n made)) (rw (← was) moves)
 
-  pub stepped-take : (took : Took) → took.turn ≡ n → Moves procs (Some took.line) (taken setting.bodies took old) new out → Stepped procs (play setting takes n) (play setting (takes ++ took ∷ []) n) new out
-  stepped-take took h moves = stepped-by procs (play setting takes n) (play setting (takes ++ took ∷ []) n) (Some took) (taken setting.bodies took (play setting takes n).live) new out
+  pub stepped-take : (took : Took) → took.turn ≡ n → Moves procs (Some took.line) (taken setting.bodies took old) new told out → Stepped procs (play setting takes n) (play setting (takes ++ took ∷ []) n) new told out
+  stepped-take took h moves = stepped-by procs (play setting takes n) (play setting (takes ++ took ∷ []) n) (Some took) (taken setting.bodies took (play setting takes n).live) new told out
       (play-take setting took takes n h) (rw (← was) moves)
 
 -- ---- what a call and a take leave
 
-module _ {B : Type 0} (setting : Setting B) (names procs : List (List ℕ)) (takes : List Took) (n turns : ℕ) (old new : Live B) (out bytes : List ℕ)
+module _ {B : Type 0} (setting : Setting B) (names procs : List (List ℕ)) (takes : List Took) (n turns : ℕ) (old new : Live B) (told : List Effect) (out bytes : List ℕ)
     (named : procs ≡ names) (same : bytes ≡ out) (made : IsDefined setting takes n) (was : old ≡ (play setting takes n).live) where
-  pub called-step : Moves procs None (move setting.next setting.bodies old) new out → Stepped names (play setting takes n) (play setting takes (n + 1)) new bytes
-  called-step moves = stepped-call setting names takes n old new bytes made was
-      (record { live = moves.live; lines = same ∙ moves.lines ∙ ap (λ names. step_lines names None (move setting.next setting.bodies old).effects) named })
+  pub called-step : Moves procs None (move setting.next setting.bodies old) new told out → Stepped names (play setting takes n) (play setting takes (n + 1)) new told bytes
+  called-step moves = stepped-call setting names takes n old new told bytes made was
+      (record { live = moves.live; effects = moves.effects; lines = same ∙ moves.lines ∙ ap (λ names. step_lines names None (move setting.next setting.bodies old).effects) named })
 
-  pub taken-step : (took : Took) → took.turn ≡ n → Moves procs (Some took.line) (taken setting.bodies took old) new out
-      → Stepped names (play setting takes n) (play setting (takes ++ took ∷ []) n) new bytes
-  taken-step took h moves = stepped-take setting names takes n old new bytes made was took h
-      (record { live = moves.live; lines = same ∙ moves.lines ∙ ap (λ names. step_lines names (Some took.line) (taken setting.bodies took old).effects) named })
+  pub taken-step : (took : Took) → took.turn ≡ n → Moves procs (Some took.line) (taken setting.bodies took old) new told out
+      → Stepped names (play setting takes n) (play setting (takes ++ took ∷ []) n) new told bytes
+  taken-step took h moves = stepped-take setting names takes n old new told bytes made was took h
+      (record { live = moves.live; effects = moves.effects; lines = same ∙ moves.lines ∙ ap (λ names. step_lines names (Some took.line) (taken setting.bodies took old).effects) named })
 
 -- in phase Turn a call is due
 due-turn : (s : State) (turns calls : ℕ) → phase_of s turns calls ≡ phase.Turn → (not s.ended && is_some (choice s)) ≡ true
@@ -87,32 +97,34 @@ room-turn s turns calls h = by_end s.ended (choice s) h
 pub made-call : {B : Type 0} (setting : Setting B) (takes : List Took) (n turns : ℕ) → IsDefined setting takes n → phase_of (play setting takes n).live.pod.state turns n ≡ phase.Turn → IsDefined setting takes (n + 1)
 made-call setting takes n turns made due = IsDefined-call setting takes n (LastBy-of setting takes n made) made (is_call_due-turn (play setting takes n) turns n due)
 
-pub keeps-call : {B : Type 0} (setting : Setting B) (names procs : List (List ℕ)) (takes : List Took) (n turns : ℕ) (live : Live B) (failed : Bool) (out : List ℕ)
+pub keeps-call : {B : Type 0} (setting : Setting B) (names procs : List (List ℕ)) (takes : List Took) (n turns : ℕ) (live : Live B) (told : List Effect) (failed : Bool) (out : List ℕ)
     → procs ≡ names → IsDefined setting takes n → phase_of (play setting takes n).live.pod.state turns n ≡ phase.Turn
-    → Stepped names (play setting takes n) (play setting takes (n + 1)) live out → Keeps setting names procs live takes (n + 1) turns failed
-keeps-call setting names procs takes n turns live failed out named made due step = record {
+    → Stepped names (play setting takes n) (play setting takes (n + 1)) live told out → Keeps setting names procs live told takes (n + 1) turns failed
+keeps-call setting names procs takes n turns live told failed out named made due step = record {
   named = named;
   made = made-call setting takes n turns made due;
   room = room-turn (play setting takes n).live.pod.state turns n due;
   now = λ _. step.now;
+  last = λ _. step.last;
 }
 
-pub keeps-take : {B : Type 0} (setting : Setting B) (names procs : List (List ℕ)) (takes : List Took) (n turns : ℕ) (live : Live B) (failed : Bool) (out : List ℕ) (took : Took)
+pub keeps-take : {B : Type 0} (setting : Setting B) (names procs : List (List ℕ)) (takes : List Took) (n turns : ℕ) (live : Live B) (told : List Effect) (failed : Bool) (out : List ℕ) (took : Took)
     → procs ≡ names → IsDefined setting takes n → n ≤ turns → took.turn ≡ n → IsTrue (is_takeable (play setting takes n).live.pod took.event)
-    → Stepped names (play setting takes n) (play setting (takes ++ took ∷ []) n) live out → Keeps setting names procs live (takes ++ took ∷ []) n turns failed
-keeps-take setting names procs takes n turns live failed out took named made room h may step = record {
+    → Stepped names (play setting takes n) (play setting (takes ++ took ∷ []) n) live told out → Keeps setting names procs live told (takes ++ took ∷ []) n turns failed
+keeps-take setting names procs takes n turns live told failed out took named made room h may step = record {
   named = named;
   made = IsDefined-take setting took takes n h made may;
   room = room;
   now = λ _. step.now;
+  last = λ _. step.last;
 }
 
 -- ---- what is told
 
-pub told-ok : {B : Type 0} (procs : List (List ℕ)) (a b : Session B) (live : Live B) (out : List ℕ) (w v : Option (List ℕ)) (f g : ℕ) (x : Unit {0}) → Stepped procs a b live out → v ≡ appended w out → g ≡ f
+pub told-ok : {B : Type 0} (procs : List (List ℕ)) (a b : Session B) (live : Live B) (told : List Effect) (out : List ℕ) (w v : Option (List ℕ)) (f g : ℕ) (x : Unit {0}) → Stepped procs a b live told out → v ≡ appended w out → g ≡ f
     → Tells (record { old = w; new = v; faults_old = f; faults_new = g }) (lines procs a.steps) (lines procs a.steps) (lines procs b.steps) (Ok x)
-told-ok procs a b live out w v f g x step wrote quiet = (writes_on w v (lines procs a.steps) out (lines procs b.steps) step.lines wrote, quiet)
+told-ok procs a b live told out w v f g x step wrote quiet = (writes_on w v (lines procs a.steps) out (lines procs b.steps) step.lines wrote, quiet)
 
-pub told-fault : {B : Type 0} (procs : List (List ℕ)) (a b : Session B) (live : Live B) (out : List ℕ) (w v : Option (List ℕ)) (f g : ℕ) → Stepped procs a b live out → AppendsPart w v out → Rose f g → f ≤ g
+pub told-fault : {B : Type 0} (procs : List (List ℕ)) (a b : Session B) (live : Live B) (told : List Effect) (out : List ℕ) (w v : Option (List ℕ)) (f g : ℕ) → Stepped procs a b live told out → AppendsPart w v out → Rose f g → f ≤ g
     → Broke (record { old = w; new = v; faults_old = f; faults_new = g }) (lines procs a.steps) (lines procs a.steps) (lines procs b.steps)
-told-fault procs a b live out w v f g step cut rose later = (cut_on w v (lines procs a.steps) out (lines procs b.steps) step.lines cut, rose, later)
+told-fault procs a b live told out w v f g step cut rose later = (cut_on w v (lines procs a.steps) out (lines procs b.steps) step.lines cut, rose, later)

@@ -1,4 +1,5 @@
 pub mod Session
+pub mod Calls
 pub mod Polls
 pub mod Play
 pub mod Due

@@ -73,8 +73,9 @@ fn serve_all<B: Body, P: Program<B>, G: Gate, K: Sink>(
     Ok(())
 }
 
-// Lines are taken, and then, if somebody may run, a call is made; unless the session is over, which is told.
-fn go_round<B: Body, P: Program<B>, G: Gate, K: Sink>(
+/// Lines are taken, each event's first if it can be delivered, and then, if somebody may run, a call is made; unless the session is
+/// over, which is told. `run` goes on so until the end.
+pub fn go_round<B: Body, P: Program<B>, G: Gate, K: Sink>(
     run: &mut Run<B, P>,
     gate: &mut G,
     sink: &mut K,

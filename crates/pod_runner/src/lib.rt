@@ -7,6 +7,7 @@
 //! the lines of `trace_text`, for every kind of body, program, gate and sink.
 #![tactic(auto)]
 
+mod calls;
 mod drive;
 mod drive_live;
 mod inlets;
@@ -20,11 +21,11 @@ mod rows;
 mod session;
 mod written;
 
-pub use drive::run;
+pub use drive::{go_round, run};
 pub use drive_live::run_live;
 pub use laws::{every_session, every_session_moves};
 pub use live::Live;
 pub use phase::{Phase, RunErr};
 pub use playing::Run;
-pub use session::{Row, Took};
+pub use session::{Made, Row, Took};
 pub use written::lines_of;

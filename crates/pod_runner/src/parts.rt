@@ -1,21 +1,34 @@
 // What a run moves: the pod with its own events, each live thread's body, and the names.
-ghost use Rattle.std.specs.Prelude.{◌≡◌, ◌<◌, ◌≤◌, ◌^◌, IfNone, IfOk, IfSome, OnOk, IsSome, IsTrue, None, Some, slice_get, length};
+ghost use Rattle.std.specs.Prelude.{◌≡◌, ◌<◌, ◌≤◌, ◌^◌, IfNone, IfOk, IfSome, OnOk, IsSome, IsTrue, None, Some, [], slice_get, length};
 ghost use Rattle.std.specs.Slice.Scan.{HoldsNowhere, IsFirstPlace};
 ghost use Rattle.lwp_types.specs.State.{opening};
 ghost use Rattle.pod_events.specs.Events.{is_takeable, quiet_events};
 ghost use Rattle.pod_events.specs.Machine.{current_of};
+ghost use Rattle.pod_runner.specs.Calls.{caller_of, made_in};
 ghost use Rattle.pod_runner.specs.Phase.{phase_of};
 ghost use Rattle.pod_runner.specs.Polls.{place_of};
 ghost use Rattle.pod_runner.specs.Session.{move, row_opened, taken};
 
+use crate::calls::made_among;
 use crate::row_list::RowList;
 use crate::rows::{proc_of, settle};
 use crate::written::{set_lines, set_turn_lines};
-use crate::{Phase, Took};
+use crate::{Made, Phase, Took};
 use lwp_calls::Pod;
 use lwp_types::{Body, Call, Effects, Env, NoMemory, PodEnd, PodParams, Program, Text, Tid};
 use pod_events::EventPod;
 use std::alloc::Global;
+
+// Whose call stands before the effects of a turn: where a trap was raised, they tell it themselves, if it was made.
+#[inline(always)]
+fn caller_of(trap: Option<u8>, tid: Tid) -> Option<Tid>
+    ensures { result ≡ caller_of trap tid }
+{
+    match trap {
+        None => Some(tid),
+        Some(_) => None,
+    }
+}
 
 /// A pod with its threads' bodies.
 pub(crate) struct Parts<B> {
@@ -25,6 +38,8 @@ pub(crate) struct Parts<B> {
     pub(crate) effects: Effects,
     // The call of the last step. It has room for a text, so the next one is set where it lies.
     pub(crate) call: Call,
+    // Who made it, where the effects of the last step begin with it. They don't have it then.
+    pub(crate) caller: Option<Tid>,
 }
 
 // By hand, so that whoever drops one calls this.
@@ -36,12 +51,13 @@ impl<B: Drop> Drop for Parts<B> {
             env: _,
             effects: _,
             call: _,
+            caller: _,
         } = self;
     }
 }
 
 impl<B: Body> Parts<B> {
-    ghost use Rattle.pod_runner.specs.Parts.{live_of, Moves};
+    ghost use Rattle.pod_runner.specs.Parts.{live_of, told_of, Moves};
 
     /// The first thread, before its first call.
     pub(crate) fn new<P: Program<B>>(
@@ -55,7 +71,8 @@ impl<B: Body> Parts<B> {
         requires births { 1 ≤ params.births }
         requires few_births { params.births < 2 ^ 32 }
         requires procs { 1 ≤ params.procs }
-        ensures { IfOk result (λ parts. live_of parts ≡ record { pod = quiet_events (opening params); rows = row_opened 0 (slice_get (P.bodies program.now) 0); names = env }) }
+        ensures live { IfOk result (λ parts. live_of parts ≡ record { pod = quiet_events (opening params); rows = row_opened 0 (slice_get (P.bodies program.now) 0); names = env }) }
+        ensures effects { IfOk result (λ parts. told_of parts ≡ []) }
     {
         let mut rows = RowList::new(alloc);
         rows.open(program, 0, Tid { number: 0 })?;
@@ -67,6 +84,7 @@ impl<B: Body> Parts<B> {
             env,
             effects,
             call: Call::Return,
+            caller: None,
         })
     }
 
@@ -85,6 +103,13 @@ impl<B: Body> Parts<B> {
                 }
             }
         }
+    }
+
+    /// The call of the last step, if it has one.
+    pub(crate) fn made(&self) -> Option<Made>
+        ensures { result ≡ made_in (told_of self.now) }
+    {
+        made_among(self.caller, &self.call, &self.effects)
     }
 
     /// Whether a line of the event can be taken.
@@ -112,8 +137,9 @@ impl<B: Body> Parts<B> {
         out: &mut Vec<u8>,
     ) -> Result<(), NoMemory>
         requires { IsTrue (is_takeable self.old.pod took.now.event) }
-        ensures { OnOk result (Moves names.now (Some took.now.line) (taken (P.bodies program.now) took.now (live_of self.old)) (live_of self.new) out.new.items) }
+        ensures { OnOk result (Moves names.now (Some took.now.line) (taken (P.bodies program.now) took.now (live_of self.old)) (live_of self.new) (told_of self.new) out.new.items) }
     {
+        self.caller = None;
         self.pod
             .deliver(took.event, took.line.text, &mut self.effects);
         set_lines(out, &self.effects, Some(&took.line), names)?;
@@ -130,7 +156,7 @@ impl<B: Body> Parts<B> {
         out: &mut Vec<u8>,
     ) -> Result<(), NoMemory>
         requires current { IsSome (current_of self.old.pod.state) }
-        ensures { OnOk result (Moves names.now None (move B.next (P.bodies program.now) (live_of self.old)) (live_of self.new) out.new.items) }
+        ensures { OnOk result (Moves names.now None (move B.next (P.bodies program.now) (live_of self.old)) (live_of self.new) (told_of self.new) out.new.items) }
     {
         out.clear();
         match self.pod.current() {
@@ -140,6 +166,8 @@ impl<B: Body> Parts<B> {
                 if i < self.rows.len() {
                     self.make_call(program, names, tid, i, out)
                 } else {
+                    self.caller = None;
+                    self.effects.clear();
                     Ok(())
                 }
             }
@@ -157,13 +185,14 @@ impl<B: Body> Parts<B> {
         requires current { current_of self.old.pod.state ≡ Some tid }
         requires place { i ≡ place_of tid self.old.rows }
         requires within { i < length self.old.rows }
-        ensures { OnOk result (Moves names.now None (move B.next (P.bodies program.now) (live_of self.old)) (live_of self.new) out.new.items) }
+        ensures { OnOk result (Moves names.now None (move B.next (P.bodies program.now) (live_of self.old)) (live_of self.new) (told_of self.new) out.new.items) }
     {
         self.env.set_me(tid);
         self.rows.poll_at(i, &mut self.env, &mut self.call)?;
         let born = proc_of(&self.call);
         let trap = self.pod.pending();
         self.pod.call(&self.call, &mut self.effects)?;
+        self.caller = caller_of(trap, tid);
         set_turn_lines(out, trap, tid, &self.call, &self.effects, names)?;
         settle(&mut self.rows, program, born, &self.effects)?;
         Ok(())

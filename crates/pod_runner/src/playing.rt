@@ -2,12 +2,13 @@
 ghost use Rattle.std.specs.Prelude.{◌≡◌, ◌≤◌, ◌<◌, ◌^◌, [], false, length, IfNone, IfOk, IfSome, IsTrue, slice_index_or};
 ghost use Rattle.std.specs.Slice.Scan.{HoldsNowhere, IsFirstPlace};
 ghost use Rattle.pod_events.specs.Events.{is_takeable};
+ghost use Rattle.pod_runner.specs.Calls.{last_made};
 ghost use Rattle.pod_runner.specs.Due.{IsDefined};
 ghost use Rattle.pod_runner.specs.Run.{setting_of, session_of, phase_now, trace_of, names_like, stepped, with_call, with_took, Tells};
 ghost use Rattle.pod_runner.specs.declared.phase.Phase.TheVariants as phase;
 
 use crate::parts::Parts;
-use crate::{Phase, RunErr, Took};
+use crate::{Made, Phase, RunErr, Took};
 use lwp_types::{Body, Env, Line, NoMemory, PodParams, Program, Sink, Text};
 use std::alloc::Global;
 use std::marker::Model;
@@ -55,14 +56,14 @@ impl<B: Body, P: Program<B>> Model for Run<B, P> {
     ghost use Rattle.std.specs.Prelude.{◌≡◌, false};
     ghost use Rattle.lwp_types.specs.Names.{null_names};
     ghost use Rattle.pod_runner.specs.Run.{Played};
-    ghost use Rattle.pod_runner.specs.Parts.{live_of};
+    ghost use Rattle.pod_runner.specs.Parts.{live_of, told_of};
     ghost use Rattle.pod_runner.specs.Keeps.{Keeps};
 
     ghost Value = { Played P };
 
     ghost view = { λ r. record { program = r.program; params = r.params; names = null_names r.threads r.mons r.conds; turns = r.turns; calls = r.calls; takes = r.takes.items; failed = r.failed } };
 
-    ghost invariant = { λ r. Keeps (record { next = B.next; bodies = P.bodies r.program; params = r.params; names = null_names r.threads r.mons r.conds }) (P.proc_names r.program) r.procs.items (live_of r.parts) r.takes.items r.calls r.turns r.failed };
+    ghost invariant = { λ r. Keeps (record { next = B.next; bodies = P.bodies r.program; params = r.params; names = null_names r.threads r.mons r.conds }) (P.proc_names r.program) r.procs.items (live_of r.parts) (told_of r.parts) r.takes.items r.calls r.turns r.failed };
 }
 
 // The names of a program's procedures, by number.
@@ -155,6 +156,14 @@ impl<B: Body, P: Program<B>> Run<B, P> {
             out: _,
         } = self;
         takes
+    }
+
+    /// The call of the last step: None where there was no step yet, or the last one made no call.
+    pub fn made(&self) -> Option<Made>
+        requires { self.now.failed ≡ false }
+        ensures { result ≡ last_made (session_of B.next P.bodies self.now).steps }
+    {
+        self.parts.made()
     }
 
     /// Where the run stands.

@@ -15,7 +15,8 @@ pub fn proc_of(call: &Call) -> Option<u32>
     }
 }
 
-fn thread_in(answer: &Answer) -> Option<Tid>
+/// The thread or agent that an answer names.
+pub fn thread_in(answer: &Answer) -> Option<Tid>
     ensures { result ≡ thread_in answer.now }
 {
     match answer {

@@ -1,4 +1,4 @@
 mod HistoryLaws
 mod LineLaws
-mod PlanLaws
+pub mod PlanLaws
 pub mod MakeLaws

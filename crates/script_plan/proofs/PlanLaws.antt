@@ -45,11 +45,11 @@ first-of zero a rest = (0, refl)
 first-of (suc k) [] rest = (0, refl)
 first-of (suc k) (x ∷ a) rest = let h = first-of k a rest in (suc h.0, ap (λ xs. x ∷ xs) h.1)
 
-prefix-more : (old new : Option (List ℕ)) (a rest whole : List ℕ) → whole ≡ a ++ rest → AppendsPrefix old new a → AppendsPrefix old new whole
+pub prefix-more : (old new : Option (List ℕ)) (a rest whole : List ℕ) → whole ≡ a ++ rest → AppendsPrefix old new a → AppendsPrefix old new whole
 prefix-more old new a rest whole h p = let found = first-of p.0 a rest in
     (found.0, p.1 ∙ ap (appended old) (found.1 ∙ ap (take found.0) (sym h)))
 
-prefix-all : (old new : Option (List ℕ)) (a : List ℕ) → new ≡ appended old a → AppendsPrefix old new a
+pub prefix-all : (old new : Option (List ℕ)) (a : List ℕ) → new ≡ appended old a → AppendsPrefix old new a
 prefix-all old new a h = (length a, h ∙ ap (appended old) (sym (take-length a)))
 
 prefix-then : (old mid new : Option (List ℕ)) (a b whole : List ℕ) → whole ≡ a ++ b → mid ≡ appended old a → AppendsPrefix mid new b → AppendsPrefix old new whole
@@ -60,7 +60,7 @@ prefix-then old mid new a b whole h g p = (
 )
 
 -- the session planned for it is the script's
-whole-is : (script : Script) (turns : ℕ) (o : Played Script) (s : Shelves) → o ≡ opening_run script turns → s ≡ stock_of script → plan_whole (run.planned_of body_next bodies_of o) s ≡ plan_of script turns
+pub whole-is : (script : Script) (turns : ℕ) (o : Played Script) (s : Shelves) → o ≡ opening_run script turns → s ≡ stock_of script → plan_whole (run.planned_of body_next bodies_of o) s ≡ plan_of script turns
 whole-is script turns o s h t = ap (λ x. plan_whole (run.planned_of body_next bodies_of x) s) h ∙ ap (plan_whole (planned_of script turns)) t
 
 -- a run of this script over its lines, of which these are left, as far as it came

@@ -19,3 +19,4 @@ pub mod Sleepers
 pub mod SharedEvents
 pub mod Traps
 pub mod LastRites
+pub mod AnswerRows

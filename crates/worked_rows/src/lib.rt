@@ -7,6 +7,7 @@
 #![tactic(auto)]
 
 pub mod agent_rows;
+pub mod answer_rows;
 pub mod deaths;
 pub mod ends;
 pub mod exits;

@@ -4,12 +4,13 @@ use Rattle.lwp_types.specs.declared.call.Effect.{Effect}
 use Rattle.pod_events.specs.Events.{EventState}
 use Rattle.pod_events.specs.Step.{event_step, leads, leads_if}
 use Rattle.pod_events.specs.Traps.{lead}
+use Rattle.pod_runner.specs.Calls.{caller_of, with_call_by}
 use Rattle.pod_runner.specs.Parts.{live_of}
 use Rattle.pod_runner.specs.Session.{settled}
 use Rattle.pod_runner.specs.declared.session.Row.{Row}
 use Rattle.pod_runner.proofs.Moves.{chosen_from, moves_at}
 use Rattle.pod_runner.proofs.parts.Parts.make_call.Goals as goal
-use Rattle.std.proofs.Common.{List, None, Option, Some, refl, subst, ◌++◌, ◌∙◌, ◌≡◌, ℕ}
+use Rattle.std.proofs.Common.{List, None, Option, Some, ap, refl, subst, ◌++◌, ◌∙◌, ◌≡◌, ℕ}
 
 -- of whose turn it is the call is told first, unless a trap is raised before it
 first_told : (es : EventState) (t : ℕ) (call : Call) (effects : List Effect) → choice es.state ≡ Some t → leads es call ++ effects ≡ (event_step es call).effects → lead es.pending t call ++ effects ≡ (event_step es call).effects
@@ -20,6 +21,11 @@ settled-lead : {B : Type 0} (bodies : List B) (born : Option ℕ) (pending : Opt
 settled-lead bodies born None t call effects rows = refl
 settled-lead bodies born (Some e) t call effects rows = refl
 
+-- the call itself stands before the effects, unless a trap is raised before it
+led : (pending : Option ℕ) (t : ℕ) (call : Call) (effects : List Effect) → with_call_by (caller_of pending t) call effects ≡ lead pending t call ++ effects
+led None t call effects = refl
+led (Some e) t call effects = refl
+
 pub returns : goal.returns
 returns g c =
     let es = c.args.self.now.pod in
@@ -29,5 +35,7 @@ returns g c =
     let effects = lead es.pending c.args.tid call ++ c.call.new.effects in
     let rows = c.in_ok-settle.ensures ∙ settled-lead (g.P.Program.bodies c.args.program.now) c.proc_of-born.result es.pending c.args.tid call c.call.new.effects c.poll_at.new.self in
     let lines = rw c.pending-trap.ensures at c.in_ok-set_turn_lines.ensures in
-    moves_at g.B.Body.next (g.P.Program.bodies c.args.program.now) c.args.names.now (live_of c.args.self.now) c.args.tid c.args.i c.set_me.new.self call c.call.new.self effects c.poll_at.new.self c.settle.new.rows c.poll_at.new.env c.set_turn_lines.new.out.items c.proc_of-born.result
-    chosen c.requires.place c.requires.within c.set_me.ensures c.in_ok-poll_at.ensures c.in_ok-call.ensures.after told c.proc_of-born.ensures rows lines
+    let caller = c.caller_of-self.ensures ∙ ap (λ trap. caller_of trap c.args.tid) c.pending-trap.ensures in
+    let m = moves_at g.B.Body.next (g.P.Program.bodies c.args.program.now) c.args.names.now (live_of c.args.self.now) c.args.tid c.args.i c.set_me.new.self call c.call.new.self effects c.poll_at.new.self c.settle.new.rows c.poll_at.new.env c.set_turn_lines.new.out.items c.proc_of-born.result
+    chosen c.requires.place c.requires.within c.set_me.ensures c.in_ok-poll_at.ensures c.in_ok-call.ensures.after told c.proc_of-born.ensures rows lines in
+    record { live = m.live; effects = ap (λ who. with_call_by who call c.call.new.effects) caller ∙ led es.pending c.args.tid call c.call.new.effects ∙ m.effects; lines = m.lines }

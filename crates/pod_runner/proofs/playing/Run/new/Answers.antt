@@ -12,5 +12,6 @@ invariant_of-result g c =
       named = c.in_ok-procs.ensures;
       made = IsDefined-zero setting;
       room = omega arith;
-      now = λ _. rw (play-zero setting) (c.in_ok-parts.ensures ∙ rw same refl);
+      now = λ _. rw (play-zero setting) (c.in_ok-parts.ensures.live ∙ rw same refl);
+      last = λ _. rw (play-zero setting) c.in_ok-parts.ensures.effects;
     })

@@ -1,0 +1,65 @@
+-- The call of a step, by the step's effects: who made it, and how the step answered whoever did.
+use Rattle.lwp_types.specs.declared.call.Answer.{Answer}
+use Rattle.lwp_types.specs.declared.call.Answer.TheVariants as answer
+use Rattle.lwp_types.specs.declared.call.Call.{Call}
+use Rattle.lwp_types.specs.declared.call.Effect.{Effect}
+use Rattle.lwp_types.specs.declared.call.Effect.TheVariants as effect
+use Rattle.pod_runner.specs.Session as Sessions
+use Rattle.pod_runner.specs.Session.{thread_in}
+use Rattle.pod_runner.specs.declared.session.Made.{Made}
+use Rattle.std.specs.List.{fold}
+use Rattle.std.specs.Prelude.{Bool, List, None, Option, Some, [], false, if◌then◌else◌, pos, ℕ, ◌==◌, ◌∷◌}
+
+-- a call that isn't answered yet
+abbrev pub made_now : ℕ → Call → Made
+made_now t c = record { tid = t; call = c; zero = false; thread = None }
+
+-- the answer of a call that has nothing else to tell
+abbrev pub is_zero : Answer → Bool
+is_zero (answer.Value (pos n)) = n == 0
+is_zero _ = false
+
+-- whoever made the call is answered so
+abbrev pub made_answered : Made → Answer → Made
+made_answered made a = record made { zero = is_zero a; thread = thread_in a }
+
+-- the same, if it was this thread that was answered
+abbrev pub made_if : Made → ℕ → Answer → Made
+made_if made t a = if t == made.tid then made_answered made a else made
+
+-- what an effect tells where no call was told yet: a call, or nothing
+abbrev pub begun_by : Effect → Option Made
+begun_by (effect.Called t c) = Some (made_now t c)
+begun_by _ = None
+
+-- what an effect tells of a call behind it: how it is answered, or nothing
+abbrev pub answered_by : Made → Effect → Made
+answered_by made (effect.Answered t a) = made_if made t a
+answered_by made _ = made
+
+-- what is known of the call, one effect more
+abbrev pub made_by : Option Made → Effect → Option Made
+made_by None e = begun_by e
+made_by (Some made) e = Some (answered_by made e)
+
+-- the call of a step with these effects; none, if no call is told among them
+abbrev pub made_in : List Effect → Option Made
+made_in effects = fold made_by None effects
+
+-- the effects of the last step; none before the first
+abbrev pub last_effects : List Sessions.Made → List Effect
+last_effects steps = fold (λ effects step. step.effects) [] steps
+
+-- the call of the last step, if it has one
+abbrev pub last_made : List Sessions.Made → Option Made
+last_made steps = made_in (last_effects steps)
+
+-- effects, with the call itself before them, if this thread made it and that was left out
+abbrev pub with_call_by : Option ℕ → Call → List Effect → List Effect
+with_call_by None c effects = effects
+with_call_by (Some t) c effects = effect.Called t c ∷ effects
+
+-- who made the call that stands before the effects of a turn, by the trap that was raised before it, if any
+abbrev pub caller_of : Option ℕ → ℕ → Option ℕ
+caller_of None t = Some t
+caller_of (Some e) t = None

@@ -1,0 +1,2 @@
+mod KnownLaws
+mod AnswerLaws
