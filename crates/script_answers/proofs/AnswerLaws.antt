@@ -1,9 +1,9 @@
 -- From the rounds of a run to what a session of `answers` says.
-use Rattle.event_gate.specs.Shelves.{Shelves}
+use Rattle.event_gate.specs.Shelves.{Shelves, left_in_all}
 use Rattle.lwp_types.specs.Streams.{AppendsPrefix, Rose, appended}
 use Rattle.pod_runner.proofs.Appends.{cut_on}
 use Rattle.pod_runner.proofs.Eagers.{finished-grows}
-use Rattle.pod_runner.proofs.Rounds.{Going, going-finishes, going-on, going-part, goes-same, goes-then, new-whole, stream}
+use Rattle.pod_runner.proofs.Rounds.{Going, going-falls, going-finishes, going-on, going-part, goes-same, goes-then, new-whole, stream}
 use Rattle.pod_runner.specs.Calls.{last_made}
 use Rattle.pod_runner.specs.Does.{Does}
 use Rattle.pod_runner.specs.Due.{IsDefined}
@@ -36,7 +36,7 @@ use Rattle.script_session.specs.declared.session.SessionEnd.TheVariants as end
 use Rattle.script_session.specs.SoFar.{opening_run, session_at}
 use Rattle.script_text.specs.Script.{proc_names}
 use Rattle.script_text.specs.declared.script.Script.{Script}
-use Rattle.std.proofs.Common.{Err, List, None, Ok, Option, Result, Some, [], ap, arith, false, refl, subst, sym, ℕ, ◌++◌, ◌∙◌, ◌≡◌, ◌≢◌}
+use Rattle.std.proofs.Common.{Err, List, None, Ok, Option, Result, Some, [], ap, arith, false, refl, subst, sym, ℕ, ◌++◌, ◌+◌, ◌-◌, ◌∙◌, ◌≡◌, ◌≢◌, ◌≤◌}
 use Rattle.trace_text.specs.Lines.{end_text}
 use Rattle.pod_runner.specs.Trace.{left_from}
 use Rattle.trace_text.specs.declared.ends.Halt.{Halt}
@@ -80,6 +80,11 @@ pub never-fails : {T : Type 0} (now new : Played Script) (some left : Shelves) (
 never-fails now new some left fails.NoMemory h = refl
 never-fails now new some left fails.WriteFault h = absurd (no-rise h.told.1)
 
+-- each round but the last brings the end nearer
+pub falls-so : (now new : Played Script) (some left : Shelves) (x : Option Halt) → Round now new some left (Ok x) → plan_over (planned_by now) (plan_at now some) ≡ None
+    → (new.turns - new.calls) + left_in_all left + 1 ≤ (now.turns - now.calls) + left_in_all some
+falls-so now new some left x p is = going-falls body_next bodies_of proc_names silence now new some left x p is
+
 module _ (event : Option ℕ) (old now new : Played Script) (stock some left : Shelves) (known : Option ℕ) (agents : List ℕ) (w v : Option (List ℕ)) (f g : ℕ)
     (so : Answering event old now stock some known agents w v f g) where
   module _ (x : Option Halt) (p : Round now new some left (Ok x)) (none : plan_over (planned_by now) (plan_at now some) ≡ None) where
@@ -116,11 +121,11 @@ module _ (event : Option ℕ) (old now new : Played Script) (stock some left : S
     }
 
     -- a call was told
-    pub answering-told : new.calls ≢ now.calls → (told : List ℕ) (after : List ℕ) (u : Option (List ℕ)) (h : ℕ) → told ≡ told_by agents (last_made (steps_of new)) → after ≡ agents_after known agents (last_made (steps_of new))
-        → u ≡ appended v told → h ≡ g → Answering event old new stock left known after w u f h
-    answering-told differs told after u h is-told is-after wrote quiet = record {
+    pub answering-told : new.calls ≢ now.calls → (later : Option ℕ) (told : List ℕ) (after : List ℕ) (u : Option (List ℕ)) (h : ℕ) → later ≡ known → told ≡ told_by agents (last_made (steps_of new)) → after ≡ agents_after known agents (last_made (steps_of new))
+        → u ≡ appended v told → h ≡ g → Answering event old new stock left later after w u f h
+    answering-told differs later told after u h kept is-told is-after wrote quiet = record {
       going = goes-on;
-      is_event = so.is_event;
+      is_event = kept ∙ so.is_event;
       has_agents = is-after ∙ ap (λ e. agents_after e agents (last_made (steps_of new))) so.is_event ∙ ap (λ those. agents_after event those (last_made (steps_of new))) so.has_agents
           ∙ ap (λ (k : Known). k.agents) (sym (called differs));
       written = wrote ∙ ap (λ x. appended x told) so.written ∙ appended-append w (known_in event (steps_of now)).replies told

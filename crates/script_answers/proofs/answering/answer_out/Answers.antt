@@ -1,66 +1,74 @@
-use Rattle.std.proofs.Common.{rules, ◌≡◌, ◌≤◌, IfOk, IsErrOf, OnOk, true, ℕ, ◌+◌, ◌-◌, ◌*◌, ◌<◌, length, ◌/◌, ◌%◌, Bool, false, nat_eq, nat_lt, List, [], ◌∷◌, ◌++◌, slice_index_or, slice_set, bit_and, bit_or, Fits, w8, w32, w64, Bor, MutBor}
-use Rattle.lwp_types.specs.Streams.{Rose, appended}
-use Rattle.script_answers.specs.Answers.{IsAnswered, IsAnswers, IsCutOff, IsStopped, IsTold}
-use Rattle.script_answers.specs.Replies.{agents_after, event_of, told_by}
-use Rattle.script_gate.specs.Posted.{IsPosted}
-use Rattle.script_gate.specs.Stocked.{stock_of}
-use Rattle.script_session.specs.SoFar.{opening_run}
-use Rattle.script_text.specs.Limits.{IsWithinLimits}
-use Rattle.whole_streams.specs.Writing.{AppendsPart}
+use Rattle.std.proofs.Common.{◌≡◌, ◌∙◌, None, ap, arith, refl, rules}
+use Rattle.script_answers.proofs.AnswerLaws.{answering-opens, answering-still, answering-told, came-failing, came-going, cut-by, falls-so, stopped-by, whole-by}
 use Rattle.script_answers.proofs.answering.answer_out.Goals as goal
+use Rattle.script_answers.specs.Replies.{agents_after, event_of, told_by}
+use Rattle.pod_runner.specs.Run.{Played}
+use Rattle.script_text.specs.declared.script.Script.{Script}
 
--- src/answering.rt:80:5
 pub loop-notes-init : goal.loop-notes-init
-loop-notes-init g c = ?
+loop-notes-init g c = answering-opens c.args.client c.args.script.now c.args.played.now c.args.gate.now c.requires.opening c.requires.stocked
+    c.new-notes.result.event c.new-notes.result.agents.items (g.K.Sink.written c.args.sink.now) (g.K.Sink.faults c.args.sink.now)
+    (ap (λ (r : Played Script). r.failed) c.requires.opening) (c.new-notes.ensures.event ∙ c.event_of.ensures) c.new-notes.ensures.agents
 
--- src/answering.rt:82:29
-pub go_round-requires : goal.go_round-requires
-go_round-requires g c = ?
-
--- src/answering.rt:82:29
 pub returns-in_err-halt-clause-stopped : goal.returns-in_err-halt-clause-stopped
-returns-in_err-halt-clause-stopped g c = ?
+returns-in_err-halt-clause-stopped g c =
+    let so = c.loop-notes.invariant in
+    let came = came-failing c.args.client c.args.script.now c.args.played.now c.args.gate.now c.requires.opening c.requires.stocked c.loop-notes.played c.go_round.new.run c.loop-notes.gate c.go_round.new.gate _ so.going c.in_err-halt.ensures.does in
+    λ is. stopped-by c.args.client c.args.script.now c.args.played.now c.args.gate.now c.requires.opening c.requires.stocked c.requires.posted c.loop-notes.played c.loop-notes.gate c.loop-notes.notes.event c.loop-notes.notes.agents.items
+    (g.K.Sink.written c.args.sink.now) (g.K.Sink.written c.loop-notes.sink) (g.K.Sink.faults c.args.sink.now) (g.K.Sink.faults c.loop-notes.sink) so
+    c.go_round.new.run c.go_round.new.gate came (g.K.Sink.written c.loop-notes.sink) refl
 
--- src/answering.rt:82:29
-pub returns-in_err-halt-clause-memory : goal.returns-in_err-halt-clause-memory
-returns-in_err-halt-clause-memory g c = ?
-
--- src/answering.rt:83:13
 pub returns-in-Some-clause-whole : goal.returns-in-Some-clause-whole
-returns-in-Some-clause-whole g c = ?
+returns-in-Some-clause-whole g c =
+    whole-by c.args.client c.args.script.now c.args.played.now c.args.gate.now c.requires.opening c.requires.stocked c.requires.posted c.loop-notes.played c.loop-notes.gate c.loop-notes.notes.event c.loop-notes.notes.agents.items
+    (g.K.Sink.written c.args.sink.now) (g.K.Sink.written c.loop-notes.sink) (g.K.Sink.faults c.args.sink.now) (g.K.Sink.faults c.loop-notes.sink) c.loop-notes.invariant
+    c.go_round.new.run c.go_round.new.gate c.in-Some.halt c.in_ok-halt.field-0 c.in_ok-halt.ensures.does (c.in_ok-halt.ensures.over ∙ c.in-Some.is)
 
--- src/answering.rt:83:13
-pub returns-in-Some-clause-faults : goal.returns-in-Some-clause-faults
-returns-in-Some-clause-faults g c = ?
-
--- src/answering.rt:80:5
 pub loop-notes-smaller-in-Continue-branch-3 : goal.loop-notes-smaller-in-Continue-branch-3
-loop-notes-smaller-in-Continue-branch-3 g c = ?
+loop-notes-smaller-in-Continue-branch-3 g c =
+    let none : c.in_ok-halt.field-0 ≡ None = search rules in
+    let fewer = falls-so c.loop-notes.played c.go_round.new.run c.loop-notes.gate c.go_round.new.gate c.in_ok-halt.field-0 c.in_ok-halt.ensures.does (c.in_ok-halt.ensures.over ∙ none) in
+    omega (arith, fewer)
 
--- src/answering.rt:80:5
 pub loop-notes-preserved-in-Continue-branch-3 : goal.loop-notes-preserved-in-Continue-branch-3
-loop-notes-preserved-in-Continue-branch-3 g c = ?
+loop-notes-preserved-in-Continue-branch-3 g c =
+    let none : c.in_ok-halt.field-0 ≡ None = search rules in
+    let over = c.in_ok-halt.ensures.over ∙ none in
+    answering-told (event_of c.args.script.now c.args.client) c.args.played.now c.loop-notes.played c.go_round.new.run c.args.gate.now c.loop-notes.gate c.go_round.new.gate c.loop-notes.notes.event c.loop-notes.notes.agents.items
+    (g.K.Sink.written c.args.sink.now) (g.K.Sink.written c.loop-notes.sink) (g.K.Sink.faults c.args.sink.now) (g.K.Sink.faults c.loop-notes.sink) c.loop-notes.invariant
+    c.in_ok-halt.field-0 c.in_ok-halt.ensures.does over (search rules)
+    c.tell.new.notes.event (told_by c.loop-notes.notes.agents.items c.made.result) c.tell.new.notes.agents.items (g.K.Sink.written c.tell.new.sink) (g.K.Sink.faults c.tell.new.sink) c.tell.ensures.event
+    (ap (told_by c.loop-notes.notes.agents.items) c.made.ensures)
+    (c.in_ok-tell.ensures.agents ∙ ap (agents_after c.loop-notes.notes.event c.loop-notes.notes.agents.items) c.made.ensures)
+    c.in_ok-tell.ensures.told c.in_ok-tell.ensures.same
 
--- src/answering.rt:86:13
 pub returns-in_err-tell-clause-cut : goal.returns-in_err-tell-clause-cut
-returns-in_err-tell-clause-cut g c = ?
+returns-in_err-tell-clause-cut g c =
+    let none : c.in_ok-halt.field-0 ≡ None = search rules in
+    let over = c.in_ok-halt.ensures.over ∙ none in
+    λ is. cut-by c.args.client c.args.script.now c.args.played.now c.args.gate.now c.requires.opening c.requires.stocked c.requires.posted c.loop-notes.played c.loop-notes.gate c.loop-notes.notes.event c.loop-notes.notes.agents.items
+    (g.K.Sink.written c.args.sink.now) (g.K.Sink.written c.loop-notes.sink) (g.K.Sink.faults c.args.sink.now) (g.K.Sink.faults c.loop-notes.sink) c.loop-notes.invariant
+    c.go_round.new.run c.go_round.new.gate c.in_ok-halt.field-0 c.in_ok-halt.ensures.does over (search rules)
+    (told_by c.loop-notes.notes.agents.items c.made.result) (g.K.Sink.written c.tell.new.sink) (ap (told_by c.loop-notes.notes.agents.items) c.made.ensures) (c.in_err-tell.ensures.cut (search rules))
 
--- src/answering.rt:86:13
 pub returns-in_err-tell-clause-stopped : goal.returns-in_err-tell-clause-stopped
-returns-in_err-tell-clause-stopped g c = ?
+returns-in_err-tell-clause-stopped g c =
+    let so = c.loop-notes.invariant in
+    let came = came-going c.args.client c.args.script.now c.args.played.now c.args.gate.now c.requires.opening c.requires.stocked c.loop-notes.played c.go_round.new.run c.loop-notes.gate c.go_round.new.gate c.in_ok-halt.field-0 so.going c.in_ok-halt.ensures.does in
+    λ is. stopped-by c.args.client c.args.script.now c.args.played.now c.args.gate.now c.requires.opening c.requires.stocked c.requires.posted c.loop-notes.played c.loop-notes.gate c.loop-notes.notes.event c.loop-notes.notes.agents.items
+    (g.K.Sink.written c.args.sink.now) (g.K.Sink.written c.loop-notes.sink) (g.K.Sink.faults c.args.sink.now) (g.K.Sink.faults c.loop-notes.sink) so
+    c.go_round.new.run c.go_round.new.gate came (g.K.Sink.written c.tell.new.sink) (c.in_err-tell.ensures.quiet (search rules)).0
 
--- src/answering.rt:86:13
-pub returns-in_err-tell-clause-cause : goal.returns-in_err-tell-clause-cause
-returns-in_err-tell-clause-cause g c = ?
-
--- src/answering.rt:86:13
-pub returns-in_err-tell-clause-memory : goal.returns-in_err-tell-clause-memory
-returns-in_err-tell-clause-memory g c = ?
-
--- src/answering.rt:80:5
 pub loop-notes-smaller : goal.loop-notes-smaller
-loop-notes-smaller g c = ?
+loop-notes-smaller g c =
+    let none : c.in_ok-halt.field-0 ≡ None = search rules in
+    let fewer = falls-so c.loop-notes.played c.go_round.new.run c.loop-notes.gate c.go_round.new.gate c.in_ok-halt.field-0 c.in_ok-halt.ensures.does (c.in_ok-halt.ensures.over ∙ none) in
+    omega (arith, fewer)
 
--- src/answering.rt:80:5
 pub loop-notes-preserved : goal.loop-notes-preserved
-loop-notes-preserved g c = ?
+loop-notes-preserved g c =
+    let none : c.in_ok-halt.field-0 ≡ None = search rules in
+    let over = c.in_ok-halt.ensures.over ∙ none in
+    answering-still (event_of c.args.script.now c.args.client) c.args.played.now c.loop-notes.played c.go_round.new.run c.args.gate.now c.loop-notes.gate c.go_round.new.gate c.loop-notes.notes.event c.loop-notes.notes.agents.items
+    (g.K.Sink.written c.args.sink.now) (g.K.Sink.written c.loop-notes.sink) (g.K.Sink.faults c.args.sink.now) (g.K.Sink.faults c.loop-notes.sink) c.loop-notes.invariant
+    c.in_ok-halt.field-0 c.in_ok-halt.ensures.does over (search rules)
