@@ -21,7 +21,7 @@
 ghost use Rattle.session_laws.specs.Deaths.{EachDiesOnce, TheDeadRunNothing, TheDeadStayForgotten};
 ghost use Rattle.session_laws.specs.Events.{PodEventsAreExact};
 ghost use Rattle.session_laws.specs.Exits.{EachExitHasItsFate, EachExitOnce, EachNumberIsGivenOnce, EachSetExitOnce, TheDeadHaveRunTheirExits};
-ghost use Rattle.session_laws.specs.Numbers.{DeliveriesNumberNone, StepsNumberExits};
+ghost use Rattle.session_laws.specs.Numbers.{DeliveriesBearNone, DeliveriesNumberNone, DeliveriesTick, StepsBearNone, StepsKeepTheClock, StepsNumberExits};
 ghost use Rattle.session_laws.specs.Sessions.{InEverySession};
 
 use lwp_types::Body;
@@ -74,6 +74,26 @@ pub fn every_number()
 /// Nor does a delivery.
 pub fn every_number_of_a_delivery()
     ensures { DeliveriesNumberNone }
+{}
+
+/// No call makes the clock tick.
+pub fn every_call_of_the_clock()
+    ensures { StepsKeepTheClock }
+{}
+
+/// A line of the clock's event makes it tick once, and no other line does.
+pub fn every_tick()
+    ensures { DeliveriesTick }
+{}
+
+/// By a call that is no Create and no Agent nobody is born.
+pub fn every_birth()
+    ensures { StepsBearNone }
+{}
+
+/// Nor by a delivery.
+pub fn every_birth_by_a_delivery()
+    ensures { DeliveriesBearNone }
 {}
 
 /// Each death of an unmarked thread is reported once, in order, or waits, as long as event 32 has an agent; each line that is taken as

@@ -1,0 +1,17 @@
+pub mod LineLaws
+pub mod Digits
+pub mod StepLines
+pub mod Moves
+pub mod Clock
+pub mod Left
+pub mod Forcing
+pub mod Extends
+pub mod Exits
+pub mod Steps
+pub mod CommonLaws
+pub mod GivenLaws
+pub mod EndLaws
+pub mod FollowLaws
+pub mod WalkLaws
+pub mod EndWalk
+pub mod LoopLaws
