@@ -15,3 +15,4 @@ pub mod FollowLaws
 pub mod WalkLaws
 pub mod EndWalk
 pub mod LoopLaws
+pub mod Peopled

@@ -41,3 +41,10 @@ StepsBearNone = (s : State) (c : Call) → bears c ≡ false → (step s c).afte
 -- nor by a delivery
 abbrev pub DeliveriesBearNone : Type 0
 DeliveriesBearNone = (s : State) (e : ℕ) (text : List ℕ) → (deliver s e text).after.births ≡ s.births
+
+-- as many procedures as the pod began with there are always
+abbrev pub StepsKeepProcs : Type 0
+StepsKeepProcs = (s : State) (c : Call) → (step s c).after.procs ≡ s.procs
+
+abbrev pub DeliveriesKeepProcs : Type 0
+DeliveriesKeepProcs = (s : State) (e : ℕ) (text : List ℕ) → (deliver s e text).after.procs ≡ s.procs

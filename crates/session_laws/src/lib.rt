@@ -21,7 +21,7 @@
 ghost use Rattle.session_laws.specs.Deaths.{EachDiesOnce, TheDeadRunNothing, TheDeadStayForgotten};
 ghost use Rattle.session_laws.specs.Events.{PodEventsAreExact};
 ghost use Rattle.session_laws.specs.Exits.{EachExitHasItsFate, EachExitOnce, EachNumberIsGivenOnce, EachSetExitOnce, TheDeadHaveRunTheirExits};
-ghost use Rattle.session_laws.specs.Numbers.{DeliveriesBearNone, DeliveriesNumberNone, DeliveriesTick, StepsBearNone, StepsKeepTheClock, StepsNumberExits};
+ghost use Rattle.session_laws.specs.Numbers.{DeliveriesBearNone, DeliveriesKeepProcs, DeliveriesNumberNone, DeliveriesTick, StepsBearNone, StepsKeepProcs, StepsKeepTheClock, StepsNumberExits};
 ghost use Rattle.session_laws.specs.Sessions.{InEverySession};
 
 use lwp_types::Body;
@@ -94,6 +94,16 @@ pub fn every_birth()
 /// Nor by a delivery.
 pub fn every_birth_by_a_delivery()
     ensures { DeliveriesBearNone }
+{}
+
+/// A call leaves the number of procedures as it is.
+pub fn every_call_of_the_procedures()
+    ensures { StepsKeepProcs }
+{}
+
+/// So does a delivery.
+pub fn every_delivery_of_the_procedures()
+    ensures { DeliveriesKeepProcs }
 {}
 
 /// Each death of an unmarked thread is reported once, in order, or waits, as long as event 32 has an agent; each line that is taken as

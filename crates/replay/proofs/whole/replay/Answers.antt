@@ -1,5 +1,6 @@
 use Rattle.std.proofs.Common.{[], false, refl, subst, sym}
 use Rattle.pod_runner.specs.Run.{Played}
+use Rattle.replay.proofs.Peopled.{speaks}
 use Rattle.replay.proofs.Steps.{going-opened}
 use Rattle.replay.specs.Following.{Following}
 use Rattle.replay.specs.Replayed.{asked_of, moment_of}
@@ -8,7 +9,12 @@ use Rattle.replay.proofs.whole.replay.Goals as goal
 
 pub follow-requires-clause-speaks : goal.follow-requires-clause-speaks
 follow-requires-clause-speaks g c =
-    subst (λ (r : Played _). Speaks (asked_of g.B.Body.next g.P.Program.bodies g.P.Program.proc_names r (g.C.Posted.lines c.args.lines.now).clients (g.C.Posted.posts c.args.lines.now))) (sym c.in_ok-run.ensures) c.requires.speaks
+    let lines = g.C.Posted.lines c.args.lines.now in
+    let posts = g.C.Posted.posts c.args.lines.now in
+    let first : Played _ = record { program = c.args.program; params = c.args.params; names = c.args.env; turns = c.args.turns; calls = 0; takes = []; failed = false } in
+    subst (λ (r : Played _). Speaks (asked_of g.B.Body.next g.P.Program.bodies g.P.Program.proc_names r lines.clients posts)) (sym c.in_ok-run.ensures)
+    (speaks (asked_of g.B.Body.next g.P.Program.bodies g.P.Program.proc_names first lines.clients posts)
+    (record { bodies = c.requires.bodies; first = c.requires.procs; least = c.requires.least; most = c.requires.most }))
 
 pub follow-requires-clause-going : goal.follow-requires-clause-going
 follow-requires-clause-going g c =
