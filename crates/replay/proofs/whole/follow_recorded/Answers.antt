@@ -5,7 +5,7 @@ use Rattle.replay.proofs.Steps.{going-opened}
 use Rattle.replay.specs.Following.{Following}
 use Rattle.replay.specs.Replayed.{asked_of, moment_of}
 use Rattle.replay.specs.Walk.{Going, Speaks, opened}
-use Rattle.replay.proofs.whole.replay.Goals as goal
+use Rattle.replay.proofs.whole.follow_recorded.Goals as goal
 
 pub follow-requires-clause-speaks : goal.follow-requires-clause-speaks
 follow-requires-clause-speaks g c =
