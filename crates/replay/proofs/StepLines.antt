@@ -23,8 +23,7 @@ use Rattle.replay.specs.Walk.{is_spoken}
 use Rattle.std.proofs.Common.{Bool, List, None, Some, [], ap, append_assoc, arith, codes, cond, false, inl, inr, refl, subst, sym, true, zero, suc, ℕ, ◌++◌, ◌+◌, ◌/◌, ◌%◌, ◌<◌, ◌^◌, ◌∙◌, ◌∷◌, ◌≡◌, ◌≤◌, ◌⊎◌}
 use Rattle.std.specs.Prelude.{IsTrue, Option, map, nat_lt, not, ◌&&◌, ◌==◌, ◌||◌}
 use Rattle.std.specs.List.{AllByRecursion, filter, list_all}
-use Rattle.core.specs.Fmt.{digit_glyph, digits, digits_onto}
-use Rattle.std.specs.Fmt.{decimal}
+use Rattle.std.specs.Fmt.{decimal, digit_glyph, digits, digits_onto}
 use Rattle.std.proofs.lemmas.Bool.{eqb-true, ne_eqb}
 use Rattle.trace_text.specs.Lines.{call_text, end_text, ended_line, halt_text, later_lines, left_text, left_texts, line_text, spaced, step_lines, taken_text, thread_text, ticked_text}
 use Rattle.trace_text.specs.declared.ends.Halt.{Halt}

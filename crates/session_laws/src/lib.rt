@@ -7,6 +7,7 @@
 //! | the dead have run all that they had set, and run nothing more | `TheDeadHaveRunTheirExits` (`specs/Exits.antt`), `TheDeadRunNothing` (`specs/Deaths.antt`) |
 //! | the dead are forgotten, and nobody dies twice | `TheDeadStayForgotten`, `EachDiesOnce` (`specs/Deaths.antt`) |
 //! | each number is given to one of them, in order | `EachNumberIsGivenOnce` (`specs/Exits.antt`), `StepsNumberExits`, `DeliveriesNumberNone` (`specs/Numbers.antt`) |
+//! | the clock ticks by lines of its event alone; only Create and Agent bear anybody; the number of procedures stays | `StepsKeepTheClock`, `DeliveriesTick`, `StepsBearNone`, `DeliveriesBearNone`, `StepsKeepProcs`, `DeliveriesKeepProcs` (`specs/Numbers.antt`) |
 //! | each death of an unmarked thread is reported once, in order, or waits; each line taken as a trap is raised once, or is to be | `PodEventsAreExact` (`specs/Events.antt`) |
 //!
 //! `InEverySession` (`specs/Sessions.antt`) is said of all sessions that there are: whatever bodies do and whenever lines are
