@@ -2,7 +2,6 @@
 use Rattle.lwp_types.specs.Agents.{armed, deliver}
 use Rattle.lwp_types.specs.Choice.{choice}
 use Rattle.lwp_types.specs.Names.{polled_as}
-use Rattle.lwp_types.specs.Poll.{Polled}
 use Rattle.lwp_types.specs.State.{State, passes}
 use Rattle.lwp_types.specs.Step.{step}
 use Rattle.lwp_types.specs.Time.{may_tick}
@@ -13,16 +12,15 @@ use Rattle.lwp_types.specs.declared.call.LwpErr.{LwpErr}
 use Rattle.pod_events.specs.Events.{EventState, has_agent, is_takeable, is_trapped, may_trap, passed_on, rites_event, take_event, trap_taken}
 use Rattle.pod_events.specs.Rites.{first_reported, report_text, reports_after, rites_said}
 use Rattle.pod_events.specs.Step.{event_step, event_step_by, event_step_if}
-use Rattle.pod_events.specs.Traps.{agent_event_of, but_call, called, is_catch, is_given, made, made_as, notice, refused_by, stepped, trap_made, trap_of, trap_refusal, trap_set}
+use Rattle.pod_events.specs.Traps.{agent_event_of, but_call, called, is_catch, is_given, made, made_as, notice, refused_by, stepped, trap_made, trap_of, trap_refusal}
 use Rattle.pod_runner.proofs.Plays.{IsDefined-zero, LastBy-of, play-call, play-take, play-zero}
 use Rattle.pod_runner.specs.Session as Sessions
 use Rattle.pod_runner.specs.Session.{Live, Session, Setting, move, move_by, move_row, row_of, taken}
 use Rattle.pod_runner.specs.declared.session.Row.{Row}
-use Rattle.pod_runner.specs.declared.session.Took.{Took}
 use Rattle.replay.proofs.Moves.{IsAt-moved, reached}
 use Rattle.replay.specs.Walk.{Due, DueAll, IsAt, Moment, Move, gone, moved, opened, session_of, ticks_after, took_at}
 use Rattle.session_laws.proofs.Numbering.{deliveries_tick, steps_keep_clock}
-use Rattle.std.proofs.Common.{Bool, List, None, Some, [], ap, arith, cond, false, refl, subst, suc, sym, true, zero, ℕ, ◌+◌, ◌<◌, ◌∙◌, ◌∷◌, ◌≡◌, ◌≤◌}
+use Rattle.std.proofs.Common.{Bool, List, None, Some, [], ap, cond, false, refl, subst, suc, sym, true, zero, ℕ, ◌+◌, ◌<◌, ◌∙◌, ◌∷◌, ◌≡◌}
 use Rattle.std.specs.Prelude.{IsTrue, Option, nat_lt, not, slice_set, ◌&&◌, ◌==◌, ◌||◌}
 use Rattle.std.proofs.lemmas.Bool.{ltb-true, eqb-true}
 use Rattle.lwp_types.specs.declared.call.Call.TheVariants as call

@@ -1,22 +1,20 @@
 -- Every thread has its body: so whoever is chosen speaks.
-use Rattle.lwp_types.specs.Agents.{agent_born, armed, deliver, make_agent}
-use Rattle.lwp_types.specs.Case.{Case, Check, answered, refused, unless}
+use Rattle.lwp_types.specs.Agents.{armed, deliver, make_agent}
+use Rattle.lwp_types.specs.Case.{Case, Check, refused, unless}
 use Rattle.lwp_types.specs.Choice.{choice}
-use Rattle.lwp_types.specs.CountLaws.{count-append, count-cons, one}
+use Rattle.lwp_types.specs.CountLaws.{count-cons, one}
 use Rattle.lwp_types.specs.Lawful.{Lawful}
 use Rattle.lwp_types.specs.Names.{polled_as}
 use Rattle.lwp_types.specs.Poll.{Polled}
-use Rattle.lwp_types.specs.State.{State, all_below, is_agent, is_number, is_thread, numbers, opening, opening_thread, passes, ThreadRow}
-use Rattle.lwp_types.specs.Step.{case_of, end_effects, finished, own_effects, step, step_by, step_if}
+use Rattle.lwp_types.specs.State.{State, all_below, is_agent, is_number, is_thread, numbers, opening_thread, passes, ThreadRow}
+use Rattle.lwp_types.specs.Step.{end_effects, finished, step, step_by, step_if}
 use Rattle.lwp_types.specs.Threads.{create, created}
 use Rattle.lwp_types.specs.Unblock.{zero_answer}
-use Rattle.lwp_types.specs.declared.call.Answer.{Answer}
 use Rattle.lwp_types.specs.declared.call.Call.{Call}
 use Rattle.lwp_types.specs.declared.call.Effect.{Effect}
 use Rattle.lwp_types.specs.declared.call.Flags.{Flags}
-use Rattle.lwp_types.specs.declared.call.Line.{Line}
 use Rattle.lwp_types.specs.declared.call.LwpErr.{LwpErr}
-use Rattle.pod_events.specs.Events.{EventState, has_turn, is_takeable, is_trapped, may_trap, passed_on, quiet_events, rites_event, take_event, trap_taken}
+use Rattle.pod_events.specs.Events.{EventState, is_takeable, is_trapped, passed_on, rites_event, take_event, trap_taken}
 use Rattle.pod_events.specs.Rites.{as_rites, first_reported, report_text, reports_after, rites_said}
 use Rattle.pod_events.specs.Step.{event_step, event_step_by, event_step_if}
 use Rattle.pod_events.specs.Traps.{agent_event_of, but_call, called, is_catch, is_given, made, made_as, notice, refused_by, stepped, trap_made, trap_of, trap_refusal}
@@ -33,11 +31,11 @@ use Rattle.replay.proofs.Clock.{live-call, live-take}
 use Rattle.replay.proofs.Moves.{IsAt-moved, reached}
 use Rattle.replay.proofs.StepLines.{FirstSpoken, event-first}
 use Rattle.replay.specs.Asked.{Asked}
-use Rattle.replay.specs.Walk.{Due, DueAll, IsAt, IsPeopled, Moment, Move, Speaks, gone, is_spoken, move_effects, moved, opened, session_of, took_at}
+use Rattle.replay.specs.Walk.{DueAll, IsAt, IsPeopled, Moment, Move, Speaks, gone, moved, opened, session_of, took_at}
 use Rattle.session_laws.proofs.Numbering.{deliveries_bear_none, deliveries_keep_procs, steps_bear_none, steps_keep_procs}
 use Rattle.session_laws.proofs.Pods.{call_moved, take_moved}
 use Rattle.session_laws.specs.Numbers.{bears}
-use Rattle.std.proofs.Common.{Bool, List, None, Some, [], ap, append_assoc, arith, cond, count_by, eqb, false, length, refl, slice_get, subst, suc, sym, true, zero, ℕ, ◌++◌, ◌+◌, ◌<◌, ◌∙◌, ◌∷◌, ◌≡◌, ◌≤◌, ◌≢◌}
+use Rattle.std.proofs.Common.{Bool, List, None, Some, [], ap, append_assoc, arith, cond, count_by, false, length, refl, slice_get, subst, suc, sym, true, zero, ℕ, ◌++◌, ◌<◌, ◌∙◌, ◌∷◌, ◌≡◌, ◌≤◌}
 use Rattle.std.specs.List.{find}
 use Rattle.std.specs.Prelude.{IsTrue, Option, is_some, map, nat_le, nat_lt, not, ◌&&◌, ◌==◌, ◌||◌}
 use Rattle.std.proofs.lemmas.Bool.{eq-eqb, eqb-true, leb-false, leb-true, ltb-true}

@@ -14,7 +14,7 @@ use Rattle.lwp_types.specs.declared.rows.AgentRow.{AgentRow}
 use Rattle.pod_events.specs.Events.{EventState, is_takeable, is_trapped, may_trap, passed_on, rites_event, take_event, trap_taken}
 use Rattle.pod_events.specs.Rites.{as_rites, first_reported, report_text, reports_after, rites_said}
 use Rattle.pod_events.specs.Step.{event_step, event_step_by, event_step_if}
-use Rattle.pod_events.specs.Traps.{agent_event_of, called, made, made_as, refused_by, stepped, trap_made, trap_of, trap_refusal}
+use Rattle.pod_events.specs.Traps.{agent_event_of, called, made_as, refused_by, stepped, trap_made, trap_of, trap_refusal}
 use Rattle.replay.proofs.Digits.{decimal-no-line, number-split}
 use Rattle.replay.proofs.LineLaws.{agree-behind, agree-head, closes-both, closes-line, count-append, head_of}
 use Rattle.replay.specs.Recorded.{Agree, closes, first_lines, is_newline, line_count}

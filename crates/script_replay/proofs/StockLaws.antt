@@ -12,12 +12,12 @@ use Rattle.script_replay.specs.Stock.{AreFrom, left_by, with_place, without_firs
 use Rattle.script_text.specs.Script.{line_of, lines_posted}
 use Rattle.script_text.specs.declared.script.Post.{Post}
 use Rattle.script_text.specs.declared.script.Script.{Script}
-use Rattle.std.proofs.Common.{List, None, Option, Some, [], add-one, ap, arith, drop, get_or, get_or-set_other, get_or-set_same, length, length-set, map, refl, set, slice_get, subst, suc, sym, take, zero, ℕ, ⊎_elim, ◌++◌, ◌+◌, ◌<◌, ◌^◌, ◌∙◌, ◌∷◌, ◌≡◌, ◌≢◌, ◌≤◌}
-use Rattle.std.proofs.lemmas.List.{drop-map, drop_all, drop_more, get_or-map, get_or_default, length-map, map-set}
+use Rattle.std.proofs.Common.{List, [], add-one, ap, arith, drop, get_or, get_or-set_other, get_or-set_same, length, length-set, map, refl, set, slice_get, subst, suc, sym, take, zero, ℕ, ⊎_elim, ◌++◌, ◌+◌, ◌<◌, ◌^◌, ◌∙◌, ◌∷◌, ◌≡◌, ◌≢◌, ◌≤◌}
+use Rattle.std.proofs.lemmas.List.{drop-map, drop_all, drop_more, get_or-map, length-map, map-set}
 use Rattle.std.proofs.lemmas.List.Elements.{All-get_or, recursion_from_All}
 use Rattle.std.proofs.lemmas.Option.{slice_get-map}
 use Rattle.std.specs.List.{AllByRecursion}
-use Rattle.std.specs.Prelude.{All, option_map, replicate, slice_index, slice_index_or}
+use Rattle.std.specs.Prelude.{All, option_map, replicate, slice_index_or}
 
 nobody-at : (n c : ℕ) → ◌≡◌ {A = List ℕ} (slice_index_or (replicate n []) c []) []
 nobody-at zero c = refl

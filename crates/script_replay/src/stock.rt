@@ -132,6 +132,7 @@ impl<'s> Posted for ScriptLines<'s> {
     fn counts(&self, alloc: Global) -> Result<Vec<u32>, NoMemory> {
         let mut counts = Vec::new(alloc);
         for client in 0..self.places.len() {
+            // No client has so many lines.
             let Ok(count) = u32::try_from(self.places[client].len()) else {
                 return Err(NoMemory);
             };

@@ -1,4 +1,4 @@
-use Rattle.std.proofs.Common.{None, ℕ, ◌<◌, ◌≡◌, ◌≤◌}
+use Rattle.std.proofs.Common.{None, ℕ, ◌<◌, ◌≡◌}
 use Rattle.pod_runner.specs.Run.{session_of}
 use Rattle.replay.specs.Next.{take_at}
 use Rattle.replay.proofs.replaying.lowest_take.Given as goal

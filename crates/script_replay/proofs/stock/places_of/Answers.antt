@@ -1,4 +1,4 @@
-use Rattle.std.proofs.Common.{ap, arith, length, length-set, subst, sym, ℕ, ◌+◌, ◌-◌, ◌<◌, ◌∙◌, ◌∷◌, ◌≡◌}
+use Rattle.std.proofs.Common.{arith, length, length-set, subst, sym, ◌+◌, ◌-◌, ◌<◌, ◌∙◌, ◌∷◌, ◌≡◌}
 use Rattle.script_gate.specs.Places.{line_at}
 use Rattle.script_replay.proofs.StockLaws.{client-at, client-known, from-before, posts-long}
 use Rattle.script_replay.specs.Stock.{AreFrom}

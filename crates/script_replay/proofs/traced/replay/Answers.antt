@@ -1,9 +1,7 @@
-use Rattle.std.proofs.Common.{List, subst, sym, ℕ}
+use Rattle.std.proofs.Common.{List, subst, sym}
 use Rattle.lwp_types.specs.declared.call.Line.{Line}
-use Rattle.replay.specs.Replayed.{asked_of}
 use Rattle.replay.specs.Walk.{AreLeft}
 use Rattle.script_replay.proofs.StockLaws.{posted-fits}
-use Rattle.script_replay.specs.Replay.{opening_of}
 use Rattle.script_replay.proofs.traced.replay.Goals as goal
 
 pub follow_recorded-requires-clause-left : goal.follow_recorded-requires-clause-left
