@@ -1,4 +1,5 @@
--- What gives the next exit procedure its number: an OnExit that isn't refused, and nothing else.
+-- What gives the next exit procedure its number: an OnExit that isn't refused, and nothing else. What makes the clock tick: a line of its
+-- event, and nothing else. Which calls give a number to a thread or an agent: Create and Agent, and no other.
 use Rattle.lwp_types.specs.Agents.{deliver, deliver_to, end_agent, event_agents, message}
 use Rattle.lwp_types.specs.Case.{Case, Check, refused, unanswered, unless, valued, with_zero}
 use Rattle.lwp_types.specs.Choice.{choice}
@@ -26,8 +27,8 @@ use Rattle.lwp_types.specs.declared.rows.Request.{Request}
 use Rattle.lwp_types.specs.declared.rows.WaitRow.{WaitRow}
 use Rattle.pod_laws.proofs.Checks.{unless_keeps}
 use Rattle.pod_laws.specs.Once.{set_by, set_now}
-use Rattle.session_laws.specs.Numbers.{DeliveriesNumberNone, StepsNumberExits, any_exit}
-use Rattle.std.proofs.Common.{Bool, List, None, Option, Some, [], arith, cond, eqb, false, length, refl, true, ℕ, ◌++◌, ◌+◌, ◌-◌, ◌∙◌, ◌∷◌, ◌≡◌, ◌||◌}
+use Rattle.session_laws.specs.Numbers.{DeliveriesBearNone, DeliveriesKeepProcs, DeliveriesNumberNone, DeliveriesTick, StepsBearNone, StepsKeepProcs, StepsKeepTheClock, StepsNumberExits, any_exit, bears}
+use Rattle.std.proofs.Common.{Bool, List, None, Option, Some, [], ap, arith, cond, eqb, false, length, refl, sym, true, ℕ, ◌++◌, ◌+◌, ◌-◌, ◌∙◌, ◌∷◌, ◌≡◌, ◌||◌}
 use Rattle.std.specs.List.{fold}
 use Rattle.std.specs.Prelude.{nat_le}
 use Rattle.lwp_types.specs.declared.call.Answer.TheVariants as answer
@@ -39,9 +40,14 @@ use Rattle.lwp_types.specs.declared.call.Mode.TheVariants as mode
 use Rattle.lwp_types.specs.declared.rows.Block.TheVariants as block
 use Rattle.lwp_types.specs.declared.rows.Mark.TheVariants as mark
 
--- no number was given between these two states
+-- the number of the next exit procedure, how often the clock has ticked, how many threads and agents were born, and how many
+-- procedures there are
+abbrev pub counters : State → ℕ × ℕ × ℕ × ℕ
+counters s = (s.next_registration, s.now, s.births, s.procs)
+
+-- no number was given between these two states, and the clock didn't tick
 abbrev pub NoneGiven : State → State → Type 0
-NoneGiven s after = after.next_registration ≡ s.next_registration
+NoneGiven s after = counters after ≡ counters s
 
 -- ---- the changes that calls are made of
 
@@ -173,17 +179,35 @@ exit_numbered s t x = by_tests (nat_le 256 (length (marks_in s t))) (nat_le 4294
     by_tests false true = omega arith
     by_tests false false = refl
 
--- as many numbers were given as this call of t sets
+-- as many numbers were given as this call of t sets, and the clock didn't tick
 record Numbers (s : State) (t : ℕ) (c : Call) (made : Case) : Type 0 where
   next : made.after.next_registration ≡ s.next_registration + set_by any_exit s t c
+  still : made.after.now ≡ s.now
+  procs : made.after.procs ≡ s.procs
+  born : bears c ≡ false → made.after.births ≡ s.births
 
 -- a call that sets none
 plain : (s : State) (t : ℕ) (c : Call) (made : Case) → set_by any_exit s t c ≡ 0 → NoneGiven s made.after → Numbers s t c made
-plain s t c made never none = record { next = omega (arith, never, none) }
+plain s t c made never none = record {
+  next = omega (arith, never, ap (λ (k : ℕ × ℕ × ℕ × ℕ). k.0) none);
+  still = ap (λ (k : ℕ × ℕ × ℕ × ℕ). k.1) none;
+  procs = ap (λ (k : ℕ × ℕ × ℕ × ℕ). k.3) none;
+  born = λ is. ap (λ (k : ℕ × ℕ × ℕ × ℕ). k.2) none;
+}
+
+-- one that may bear a thread or an agent
+bearing : (s : State) (t : ℕ) (c : Call) (checks : List Check) (otherwise : Case) → set_by any_exit s t c ≡ 0 → bears c ≡ true → otherwise.after.next_registration ≡ s.next_registration → otherwise.after.now ≡ s.now → otherwise.after.procs ≡ s.procs
+    → Numbers s t c (unless s checks otherwise)
+bearing s t c checks otherwise never is number clock count = record {
+  next = omega (arith, never, unless_keeps (λ (after : State). after.next_registration ≡ s.next_registration) s checks otherwise refl (λ passed. number));
+  still = unless_keeps (λ (after : State). after.now ≡ s.now) s checks otherwise refl (λ passed. clock);
+  procs = unless_keeps (λ (after : State). after.procs ≡ s.procs) s checks otherwise refl (λ passed. count);
+  born = λ off. let bad : true ≡ false = sym is ∙ off in absurd (cc);
+}
 
 -- of every call
 case_numbers : (s : State) (t : ℕ) (c : Call) → Numbers s t c (case_of s t c)
-case_numbers s t (call.Create number prio flags) = plain s t _ _ refl (none_unless s _ _ refl)
+case_numbers s t (call.Create number prio flags) = bearing s t _ _ _ refl refl refl refl refl
 case_numbers s t (call.Destroy u) = plain s t _ _ refl (none_unless s _ _ (none_destroyed s t u))
 case_numbers s t (call.Ping u) = plain s t _ _ refl (none_unless s _ _ refl)
 case_numbers s t (call.Yield u) = plain s t _ _ refl (none_unless s _ _ refl)
@@ -224,12 +248,17 @@ case_numbers s t (call.CallProc number) = plain s t _ _ refl (none_unless s _ _ 
 case_numbers s t call.Return = plain s t _ _ refl (none_cond s (nat_le 2 (frames (marks_in s t))) (leave_frame s t) (unanswered (death t s)) (none_unwound t (first_frames (frames (marks_in s t) - 1) (marks_in s t)) (later_frames (frames (marks_in s t) - 1) (marks_in s t)) s) (none_died t s))
 case_numbers s t (call.Handle pat func arg) = plain s t _ _ refl (none_unless s _ _ refl)
 case_numbers s t call.Unhandle = plain s t _ _ refl (none_unless s _ _ refl)
-case_numbers s t (call.OnExit x) = record { next = exit_numbered s t x }
+case_numbers s t (call.OnExit x) = record {
+  next = exit_numbered s t x;
+  still = unless_keeps (λ (after : State). after.now ≡ s.now) s _ _ refl (λ passed. refl);
+  procs = unless_keeps (λ (after : State). after.procs ≡ s.procs) s _ _ refl (λ passed. refl);
+  born = λ is. unless_keeps (λ (after : State). after.births ≡ s.births) s _ _ refl (λ passed. refl);
+}
 case_numbers s t (call.Raise q) = plain s t _ _ refl (none_unless s _ _ (none_matched s (caught s t q) (found s t q) (λ f. none_caught s t q f)))
 case_numbers s t (call.ExcNotify q) = plain s t _ _ refl (none_unless s _ _ (none_matched s (λ f. notified_by s t q f f.func) (found s t q) (λ f. none_notified s t q f f.func)))
 case_numbers s t (call.Bound q) = plain s t _ _ refl (none_unless s _ _ (none_matched s _ (found s t q) (λ f. refl)))
 case_numbers s t call.UniqPatt = plain s t _ _ refl (none_unless s _ _ refl)
-case_numbers s t (call.Agent e) = plain s t _ _ refl (none_unless s _ _ refl)
+case_numbers s t (call.Agent e) = bearing s t _ _ _ refl refl refl refl refl
 case_numbers s t call.Agents = plain s t _ _ refl refl
 case_numbers s t (call.Trap e) = plain s t _ _ refl refl
 case_numbers s t (call.Say text) = plain s t _ _ refl refl
@@ -242,10 +271,50 @@ steps_number_exits s c = by_choice (choice s)
     by_choice None = omega arith
     by_choice (Some t) = (case_numbers s t c).next
 
-pub deliveries_number_none : DeliveriesNumberNone
-unfolding deliver and_then
-deliveries_number_none s e text = by_clock (eqb e 0)
+-- a call makes no tick
+pub steps_keep_clock : StepsKeepTheClock
+unfolding step step_by
+steps_keep_clock s c = by_choice (choice s)
   where
-    by_clock : (b : Bool) → NoneGiven s (cond b (tick s) (for_each (deliver_to text) (event_agents s.agents e) s)).after
+    by_choice : (o : Option ℕ) → (step_if s c o).after.now ≡ s.now
+    by_choice None = refl
+    by_choice (Some t) = (case_numbers s t c).still
+
+-- nor does it change how many procedures there are
+pub steps_keep_procs : StepsKeepProcs
+unfolding step step_by
+steps_keep_procs s c = by_choice (choice s)
+  where
+    by_choice : (o : Option ℕ) → (step_if s c o).after.procs ≡ s.procs
+    by_choice None = refl
+    by_choice (Some t) = (case_numbers s t c).procs
+
+-- and but for Create and Agent none bears a thread or an agent
+pub steps_bear_none : StepsBearNone
+unfolding step step_by
+steps_bear_none s c is = by_choice (choice s)
+  where
+    by_choice : (o : Option ℕ) → (step_if s c o).after.births ≡ s.births
+    by_choice None = refl
+    by_choice (Some t) = (case_numbers s t c).born is
+
+-- what a delivery leaves as it was: it makes a tick, or nothing else than others
+delivered_so : (s : State) (e : ℕ) (text : List ℕ) → counters (deliver s e text).after ≡ (s.next_registration, cond (eqb e 0) (s.now + 1) s.now, s.births, s.procs)
+unfolding deliver and_then
+delivered_so s e text = by_clock (eqb e 0)
+  where
+    by_clock : (b : Bool) → counters (cond b (tick s) (for_each (deliver_to text) (event_agents s.agents e) s)).after ≡ (s.next_registration, cond b (s.now + 1) s.now, s.births, s.procs)
     by_clock true = none_each time_out (λ u now. refl) (due_threads (ticked s)) (ticked s)
     by_clock false = none_each (deliver_to text) (λ row now. none_posted (message text row) (record now { agents = with_holding row.number true now.agents })) (event_agents s.agents e) s
+
+pub deliveries_number_none : DeliveriesNumberNone
+deliveries_number_none s e text = ap (λ (k : ℕ × ℕ × ℕ × ℕ). k.0) (delivered_so s e text)
+
+pub deliveries_tick : DeliveriesTick
+deliveries_tick s e text = ap (λ (k : ℕ × ℕ × ℕ × ℕ). k.1) (delivered_so s e text)
+
+pub deliveries_bear_none : DeliveriesBearNone
+deliveries_bear_none s e text = ap (λ (k : ℕ × ℕ × ℕ × ℕ). k.2) (delivered_so s e text)
+
+pub deliveries_keep_procs : DeliveriesKeepProcs
+deliveries_keep_procs s e text = ap (λ (k : ℕ × ℕ × ℕ × ℕ). k.3) (delivered_so s e text)

@@ -1,11 +1,12 @@
--- The numbers of exit procedures are given in order.
+-- The numbers of exit procedures are given in order; and when the clock ticks, and who is born.
 use Rattle.lwp_types.specs.Agents.{deliver}
 use Rattle.lwp_types.specs.Choice.{choice}
 use Rattle.lwp_types.specs.State.{State}
 use Rattle.lwp_types.specs.Step.{step}
 use Rattle.lwp_types.specs.declared.call.Call.{Call}
 use Rattle.pod_laws.specs.Once.{ExitTest, set_now}
-use Rattle.std.specs.Prelude.{List, true, ℕ, ◌+◌, ◌≡◌}
+use Rattle.std.specs.Prelude.{Bool, List, false, if◌then◌else◌, true, ℕ, ◌+◌, ◌==◌, ◌≡◌}
+use Rattle.lwp_types.specs.declared.call.Call.TheVariants as call
 
 -- every exit procedure passes
 abbrev pub any_exit : ExitTest
@@ -18,3 +19,32 @@ StepsNumberExits = (s : State) (c : Call) → (step s c).after.next_registration
 -- no delivery sets one
 abbrev pub DeliveriesNumberNone : Type 0
 DeliveriesNumberNone = (s : State) (e : ℕ) (text : List ℕ) → (deliver s e text).after.next_registration ≡ s.next_registration
+
+-- no call makes the clock tick
+abbrev pub StepsKeepTheClock : Type 0
+StepsKeepTheClock = (s : State) (c : Call) → (step s c).after.now ≡ s.now
+
+-- a line of event 0 makes it tick once, and no other does
+abbrev pub DeliveriesTick : Type 0
+DeliveriesTick = (s : State) (e : ℕ) (text : List ℕ) → (deliver s e text).after.now ≡ (if e == 0 then s.now + 1 else s.now)
+
+-- a thread or an agent may be born by the call
+abbrev pub bears : Call → Bool
+bears (call.Create number prio flags) = true
+bears (call.Agent e) = true
+bears _ = false
+
+-- by no other call one is
+abbrev pub StepsBearNone : Type 0
+StepsBearNone = (s : State) (c : Call) → bears c ≡ false → (step s c).after.births ≡ s.births
+
+-- nor by a delivery
+abbrev pub DeliveriesBearNone : Type 0
+DeliveriesBearNone = (s : State) (e : ℕ) (text : List ℕ) → (deliver s e text).after.births ≡ s.births
+
+-- as many procedures as the pod began with there are always
+abbrev pub StepsKeepProcs : Type 0
+StepsKeepProcs = (s : State) (c : Call) → (step s c).after.procs ≡ s.procs
+
+abbrev pub DeliveriesKeepProcs : Type 0
+DeliveriesKeepProcs = (s : State) (e : ℕ) (text : List ℕ) → (deliver s e text).after.procs ≡ s.procs

@@ -7,6 +7,7 @@
 //! | the dead have run all that they had set, and run nothing more | `TheDeadHaveRunTheirExits` (`specs/Exits.antt`), `TheDeadRunNothing` (`specs/Deaths.antt`) |
 //! | the dead are forgotten, and nobody dies twice | `TheDeadStayForgotten`, `EachDiesOnce` (`specs/Deaths.antt`) |
 //! | each number is given to one of them, in order | `EachNumberIsGivenOnce` (`specs/Exits.antt`), `StepsNumberExits`, `DeliveriesNumberNone` (`specs/Numbers.antt`) |
+//! | the clock ticks by lines of its event alone; only Create and Agent bear anybody; the number of procedures stays | `StepsKeepTheClock`, `DeliveriesTick`, `StepsBearNone`, `DeliveriesBearNone`, `StepsKeepProcs`, `DeliveriesKeepProcs` (`specs/Numbers.antt`) |
 //! | each death of an unmarked thread is reported once, in order, or waits; each line taken as a trap is raised once, or is to be | `PodEventsAreExact` (`specs/Events.antt`) |
 //!
 //! `InEverySession` (`specs/Sessions.antt`) is said of all sessions that there are: whatever bodies do and whenever lines are
@@ -21,7 +22,7 @@
 ghost use Rattle.session_laws.specs.Deaths.{EachDiesOnce, TheDeadRunNothing, TheDeadStayForgotten};
 ghost use Rattle.session_laws.specs.Events.{PodEventsAreExact};
 ghost use Rattle.session_laws.specs.Exits.{EachExitHasItsFate, EachExitOnce, EachNumberIsGivenOnce, EachSetExitOnce, TheDeadHaveRunTheirExits};
-ghost use Rattle.session_laws.specs.Numbers.{DeliveriesNumberNone, StepsNumberExits};
+ghost use Rattle.session_laws.specs.Numbers.{DeliveriesBearNone, DeliveriesKeepProcs, DeliveriesNumberNone, DeliveriesTick, StepsBearNone, StepsKeepProcs, StepsKeepTheClock, StepsNumberExits};
 ghost use Rattle.session_laws.specs.Sessions.{InEverySession};
 
 use lwp_types::Body;
@@ -74,6 +75,36 @@ pub fn every_number()
 /// Nor does a delivery.
 pub fn every_number_of_a_delivery()
     ensures { DeliveriesNumberNone }
+{}
+
+/// No call makes the clock tick.
+pub fn every_call_of_the_clock()
+    ensures { StepsKeepTheClock }
+{}
+
+/// A line of the clock's event makes it tick once, and no other line does.
+pub fn every_tick()
+    ensures { DeliveriesTick }
+{}
+
+/// By a call that is no Create and no Agent nobody is born.
+pub fn every_birth()
+    ensures { StepsBearNone }
+{}
+
+/// Nor by a delivery.
+pub fn every_birth_by_a_delivery()
+    ensures { DeliveriesBearNone }
+{}
+
+/// A call leaves the number of procedures as it is.
+pub fn every_call_of_the_procedures()
+    ensures { StepsKeepProcs }
+{}
+
+/// So does a delivery.
+pub fn every_delivery_of_the_procedures()
+    ensures { DeliveriesKeepProcs }
 {}
 
 /// Each death of an unmarked thread is reported once, in order, or waits, as long as event 32 has an agent; each line that is taken as

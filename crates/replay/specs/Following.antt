@@ -1,0 +1,20 @@
+-- What is seen of the recorded bytes while they are followed.
+use Rattle.std.specs.Prelude.{List, length, take, ℕ, ◌++◌, ◌∷◌}
+
+-- what was recorded, how far it was told, of how many lines that is, how often the clock has ticked by then, and what a step has
+-- told since
+pub record Following : Type 0 where
+  pub recorded : List ℕ
+  pub at : ℕ
+  pub lines : ℕ
+  pub ticks : ℕ
+  pub step : List ℕ
+  pub faults : ℕ
+
+-- what no write changes
+abbrev pub front_of : Following → List ℕ
+front_of f = length f.recorded ∷ f.at ∷ f.lines ∷ f.ticks ∷ f.recorded
+
+-- that, and then all that was told; so whoever writes more of it is known to leave the front as it was
+abbrev pub told_in : Following → List ℕ
+told_in f = front_of f ++ (take f.at f.recorded ++ f.step)
