@@ -1,2 +1,3 @@
 mod KnownLaws
 mod AnswerLaws
+mod RisingLaws

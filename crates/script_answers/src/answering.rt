@@ -40,11 +40,11 @@ fn tell<K: Sink>(
     notes: &mut Notes,
     sink: &mut K,
 ) -> Result<(), RunErr>
-    ensures told { OnOk result (K.written sink.new ≡ appended (K.written sink.old) (told_by notes.old.agents.items made.now)) }
-    ensures agents { OnOk result (notes.new.agents.items ≡ agents_after notes.old.event notes.old.agents.items made.now) }
+    ensures told { OnOk result (K.written sink.new ≡ appended (K.written sink.old) (told_by notes.old.agents made.now)) }
+    ensures agents { OnOk result (notes.new.agents ≡ agents_after notes.old.event notes.old.agents made.now) }
     ensures event { notes.new.event ≡ notes.old.event }
     ensures same { OnOk result (K.faults sink.new ≡ K.faults sink.old) }
-    ensures cut { IsErrOf result RunErr.WriteFault → AppendsPart (K.written sink.old) (K.written sink.new) (told_by notes.old.agents.items made.now) }
+    ensures cut { IsErrOf result RunErr.WriteFault → AppendsPart (K.written sink.old) (K.written sink.new) (told_by notes.old.agents made.now) }
     ensures cause { IsErrOf result RunErr.WriteFault → Rose (K.faults sink.old) (K.faults sink.new) }
     ensures quiet { IsErrOf result RunErr.NoMemory → (K.written sink.new ≡ K.written sink.old) × (K.faults sink.new ≡ K.faults sink.old) }
 {

@@ -11,6 +11,7 @@
 #![tactic(auto)]
 
 mod answering;
+mod event_agents;
 mod notes;
 mod silent;
 

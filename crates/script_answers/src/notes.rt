@@ -2,6 +2,7 @@
 ghost use Rattle.std.specs.Prelude.{◌≡◌, ◌∷◌, ◌++◌, [], if◌then◌else◌, IfOk, OnOk};
 ghost use Rattle.script_answers.specs.Replies.{agent_born, agent_event, agents_after, is_among, is_event, reply_line, told_by, with_agent};
 
+use crate::event_agents::Agents;
 use lwp_types::{Call, NoMemory, Text, Tid};
 use pod_runner::Made;
 use std::alloc::Global;
@@ -10,8 +11,7 @@ use std::alloc::Global;
 #[derive(Drop)]
 pub(crate) struct Notes {
     pub(crate) event: Option<u8>,
-    // Their numbers, as they were born.
-    pub(crate) agents: Vec<u64>,
+    pub(crate) agents: Agents,
 }
 
 // The event that a call asks an agent of.
@@ -58,27 +58,19 @@ impl Notes {
     /// Before the first call.
     pub(crate) fn new(alloc: Global, event: Option<u8>) -> Notes
         ensures event { result.event ≡ event }
-        ensures agents { result.agents.items ≡ [] }
+        ensures agents { result.agents ≡ [] }
     {
         Notes {
             event,
-            agents: Vec::new(alloc),
+            agents: Agents::new(alloc),
         }
-    }
-
-    // Whether the thread is one of these agents.
-    fn knows(&self, tid: Tid) -> bool
-        ensures { result ≡ is_among self.now.agents.items tid }
-    {
-        let number = tid.number;
-        self.agents.as_slice().contains(&number)
     }
 
     // A reply's text on a line of its own, if it is made to one of these agents.
     fn text_for(&self, alloc: Global, to: Tid, text: &Text) -> Result<Vec<u8>, NoMemory>
-        ensures { IfOk result (λ line. line.items ≡ (if is_among self.now.agents.items to then text.now ++ 10 ∷ [] else [])) }
+        ensures { IfOk result (λ line. line.items ≡ (if is_among self.now.agents to then text.now ++ 10 ∷ [] else [])) }
     {
-        if self.knows(to) {
+        if self.agents.has(to) {
             line_of(alloc, text)
         } else {
             Ok(Vec::new(alloc))
@@ -87,7 +79,7 @@ impl Notes {
 
     // What a call says to the client, if it is a reply to one of these agents.
     fn reply_line(&self, alloc: Global, call: &Call) -> Result<Vec<u8>, NoMemory>
-        ensures { IfOk result (λ line. line.items ≡ reply_line self.now.agents.items call.now) }
+        ensures { IfOk result (λ line. line.items ≡ reply_line self.now.agents call.now) }
     {
         match call {
             Call::Reply { to, text } => self.text_for(alloc, *to, text),
@@ -97,7 +89,7 @@ impl Notes {
 
     /// What is told of a call.
     pub(crate) fn told_by(&self, alloc: Global, made: &Option<Made>) -> Result<Vec<u8>, NoMemory>
-        ensures { IfOk result (λ line. line.items ≡ told_by self.now.agents.items made.now) }
+        ensures { IfOk result (λ line. line.items ≡ told_by self.now.agents made.now) }
     {
         match made {
             Some(made) => {
@@ -113,12 +105,12 @@ impl Notes {
 
     /// A call is behind; it may have made an agent.
     pub(crate) fn pass(&mut self, made: &Option<Made>) -> Result<(), NoMemory>
-        ensures agents { OnOk result (self.new.agents.items ≡ agents_after self.old.event self.old.agents.items made.now) }
+        ensures agents { OnOk result (self.new.agents ≡ agents_after self.old.event self.old.agents made.now) }
         ensures event { self.new.event ≡ self.old.event }
     {
         if let Some(made) = made {
             if let Some(agent) = agent_born(self.event, made) {
-                self.agents.push(agent.number)?;
+                self.agents.push(agent)?;
             }
         }
         Ok(())

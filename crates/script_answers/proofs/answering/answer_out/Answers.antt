@@ -7,20 +7,20 @@ use Rattle.script_text.specs.declared.script.Script.{Script}
 
 pub loop-notes-init : goal.loop-notes-init
 loop-notes-init g c = answering-opens c.args.client c.args.script.now c.args.played.now c.args.gate.now c.requires.opening c.requires.stocked
-    c.new-notes.result.event c.new-notes.result.agents.items (g.K.Sink.written c.args.sink.now) (g.K.Sink.faults c.args.sink.now)
+    c.new-notes.result.event c.new-notes.result.agents (g.K.Sink.written c.args.sink.now) (g.K.Sink.faults c.args.sink.now)
     (ap (λ (r : Played Script). r.failed) c.requires.opening) (c.new-notes.ensures.event ∙ c.event_of.ensures) c.new-notes.ensures.agents
 
 pub returns-in_err-halt-clause-stopped : goal.returns-in_err-halt-clause-stopped
 returns-in_err-halt-clause-stopped g c =
     let so = c.loop-notes.invariant in
     let came = came-failing c.args.client c.args.script.now c.args.played.now c.args.gate.now c.requires.opening c.requires.stocked c.loop-notes.played c.go_round.new.run c.loop-notes.gate c.go_round.new.gate _ so.going c.in_err-halt.ensures.does in
-    λ is. stopped-by c.args.client c.args.script.now c.args.played.now c.args.gate.now c.requires.opening c.requires.stocked c.requires.posted c.loop-notes.played c.loop-notes.gate c.loop-notes.notes.event c.loop-notes.notes.agents.items
+    λ is. stopped-by c.args.client c.args.script.now c.args.played.now c.args.gate.now c.requires.opening c.requires.stocked c.requires.posted c.loop-notes.played c.loop-notes.gate c.loop-notes.notes.event c.loop-notes.notes.agents
     (g.K.Sink.written c.args.sink.now) (g.K.Sink.written c.loop-notes.sink) (g.K.Sink.faults c.args.sink.now) (g.K.Sink.faults c.loop-notes.sink) so
     c.go_round.new.run c.go_round.new.gate came (g.K.Sink.written c.loop-notes.sink) refl
 
 pub returns-in-Some-clause-whole : goal.returns-in-Some-clause-whole
 returns-in-Some-clause-whole g c =
-    whole-by c.args.client c.args.script.now c.args.played.now c.args.gate.now c.requires.opening c.requires.stocked c.requires.posted c.loop-notes.played c.loop-notes.gate c.loop-notes.notes.event c.loop-notes.notes.agents.items
+    whole-by c.args.client c.args.script.now c.args.played.now c.args.gate.now c.requires.opening c.requires.stocked c.requires.posted c.loop-notes.played c.loop-notes.gate c.loop-notes.notes.event c.loop-notes.notes.agents
     (g.K.Sink.written c.args.sink.now) (g.K.Sink.written c.loop-notes.sink) (g.K.Sink.faults c.args.sink.now) (g.K.Sink.faults c.loop-notes.sink) c.loop-notes.invariant
     c.go_round.new.run c.go_round.new.gate c.in-Some.halt c.in_ok-halt.field-0 c.in_ok-halt.ensures.does (c.in_ok-halt.ensures.over ∙ c.in-Some.is)
 
@@ -34,28 +34,28 @@ pub loop-notes-preserved-in-Continue-branch-3 : goal.loop-notes-preserved-in-Con
 loop-notes-preserved-in-Continue-branch-3 g c =
     let none : c.in_ok-halt.field-0 ≡ None = search rules in
     let over = c.in_ok-halt.ensures.over ∙ none in
-    answering-told (event_of c.args.script.now c.args.client) c.args.played.now c.loop-notes.played c.go_round.new.run c.args.gate.now c.loop-notes.gate c.go_round.new.gate c.loop-notes.notes.event c.loop-notes.notes.agents.items
+    answering-told (event_of c.args.script.now c.args.client) c.args.played.now c.loop-notes.played c.go_round.new.run c.args.gate.now c.loop-notes.gate c.go_round.new.gate c.loop-notes.notes.event c.loop-notes.notes.agents
     (g.K.Sink.written c.args.sink.now) (g.K.Sink.written c.loop-notes.sink) (g.K.Sink.faults c.args.sink.now) (g.K.Sink.faults c.loop-notes.sink) c.loop-notes.invariant
     c.in_ok-halt.field-0 c.in_ok-halt.ensures.does over (search rules)
-    c.tell.new.notes.event (told_by c.loop-notes.notes.agents.items c.made.result) c.tell.new.notes.agents.items (g.K.Sink.written c.tell.new.sink) (g.K.Sink.faults c.tell.new.sink) c.tell.ensures.event
-    (ap (told_by c.loop-notes.notes.agents.items) c.made.ensures)
-    (c.in_ok-tell.ensures.agents ∙ ap (agents_after c.loop-notes.notes.event c.loop-notes.notes.agents.items) c.made.ensures)
+    c.tell.new.notes.event (told_by c.loop-notes.notes.agents c.made.result) c.tell.new.notes.agents (g.K.Sink.written c.tell.new.sink) (g.K.Sink.faults c.tell.new.sink) c.tell.ensures.event
+    (ap (told_by c.loop-notes.notes.agents) c.made.ensures)
+    (c.in_ok-tell.ensures.agents ∙ ap (agents_after c.loop-notes.notes.event c.loop-notes.notes.agents) c.made.ensures)
     c.in_ok-tell.ensures.told c.in_ok-tell.ensures.same
 
 pub returns-in_err-tell-clause-cut : goal.returns-in_err-tell-clause-cut
 returns-in_err-tell-clause-cut g c =
     let none : c.in_ok-halt.field-0 ≡ None = search rules in
     let over = c.in_ok-halt.ensures.over ∙ none in
-    λ is. cut-by c.args.client c.args.script.now c.args.played.now c.args.gate.now c.requires.opening c.requires.stocked c.requires.posted c.loop-notes.played c.loop-notes.gate c.loop-notes.notes.event c.loop-notes.notes.agents.items
+    λ is. cut-by c.args.client c.args.script.now c.args.played.now c.args.gate.now c.requires.opening c.requires.stocked c.requires.posted c.loop-notes.played c.loop-notes.gate c.loop-notes.notes.event c.loop-notes.notes.agents
     (g.K.Sink.written c.args.sink.now) (g.K.Sink.written c.loop-notes.sink) (g.K.Sink.faults c.args.sink.now) (g.K.Sink.faults c.loop-notes.sink) c.loop-notes.invariant
     c.go_round.new.run c.go_round.new.gate c.in_ok-halt.field-0 c.in_ok-halt.ensures.does over (search rules)
-    (told_by c.loop-notes.notes.agents.items c.made.result) (g.K.Sink.written c.tell.new.sink) (ap (told_by c.loop-notes.notes.agents.items) c.made.ensures) (c.in_err-tell.ensures.cut (search rules))
+    (told_by c.loop-notes.notes.agents c.made.result) (g.K.Sink.written c.tell.new.sink) (ap (told_by c.loop-notes.notes.agents) c.made.ensures) (c.in_err-tell.ensures.cut (search rules))
 
 pub returns-in_err-tell-clause-stopped : goal.returns-in_err-tell-clause-stopped
 returns-in_err-tell-clause-stopped g c =
     let so = c.loop-notes.invariant in
     let came = came-going c.args.client c.args.script.now c.args.played.now c.args.gate.now c.requires.opening c.requires.stocked c.loop-notes.played c.go_round.new.run c.loop-notes.gate c.go_round.new.gate c.in_ok-halt.field-0 so.going c.in_ok-halt.ensures.does in
-    λ is. stopped-by c.args.client c.args.script.now c.args.played.now c.args.gate.now c.requires.opening c.requires.stocked c.requires.posted c.loop-notes.played c.loop-notes.gate c.loop-notes.notes.event c.loop-notes.notes.agents.items
+    λ is. stopped-by c.args.client c.args.script.now c.args.played.now c.args.gate.now c.requires.opening c.requires.stocked c.requires.posted c.loop-notes.played c.loop-notes.gate c.loop-notes.notes.event c.loop-notes.notes.agents
     (g.K.Sink.written c.args.sink.now) (g.K.Sink.written c.loop-notes.sink) (g.K.Sink.faults c.args.sink.now) (g.K.Sink.faults c.loop-notes.sink) so
     c.go_round.new.run c.go_round.new.gate came (g.K.Sink.written c.tell.new.sink) (c.in_err-tell.ensures.quiet (search rules)).0
 
@@ -69,6 +69,6 @@ pub loop-notes-preserved : goal.loop-notes-preserved
 loop-notes-preserved g c =
     let none : c.in_ok-halt.field-0 ≡ None = search rules in
     let over = c.in_ok-halt.ensures.over ∙ none in
-    answering-still (event_of c.args.script.now c.args.client) c.args.played.now c.loop-notes.played c.go_round.new.run c.args.gate.now c.loop-notes.gate c.go_round.new.gate c.loop-notes.notes.event c.loop-notes.notes.agents.items
+    answering-still (event_of c.args.script.now c.args.client) c.args.played.now c.loop-notes.played c.go_round.new.run c.args.gate.now c.loop-notes.gate c.go_round.new.gate c.loop-notes.notes.event c.loop-notes.notes.agents
     (g.K.Sink.written c.args.sink.now) (g.K.Sink.written c.loop-notes.sink) (g.K.Sink.faults c.args.sink.now) (g.K.Sink.faults c.loop-notes.sink) c.loop-notes.invariant
     c.in_ok-halt.field-0 c.in_ok-halt.ensures.does over (search rules)

@@ -5,7 +5,7 @@ use Rattle.script_answers.proofs.AnswerLaws.{Answering}
 use Rattle.script_answers.proofs.answering.answer_out.Given as goal
 
 abbrev pub invariant-loop-notes : goal.invariant-loop-notes
-invariant-loop-notes g l = Answering (event_of l.script l.client) l.initial.played l.played l.initial.gate l.gate l.notes.event l.notes.agents.items
+invariant-loop-notes g l = Answering (event_of l.script l.client) l.initial.played l.played l.initial.gate l.gate l.notes.event l.notes.agents
     (g.K.Sink.written l.initial.sink) (g.K.Sink.written l.sink) (g.K.Sink.faults l.initial.sink) (g.K.Sink.faults l.sink)
 
 abbrev pub decreases-loop-notes : goal.decreases-loop-notes
