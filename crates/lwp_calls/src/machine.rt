@@ -45,6 +45,7 @@ impl Machine for Pod {
         Pod::call(self, call, effects)
     }
 
+    #[inline(always)]
     fn deliver(&mut self, event: u8, text: Text, effects: &mut Effects) {
         Pod::deliver(self, event, text, effects)
     }

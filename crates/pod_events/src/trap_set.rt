@@ -1,7 +1,9 @@
 // The events that are trapped.
-ghost use Rattle.std.specs.Prelude.{◌≡◌, ◌<◌, false, true, replicate, slice_set, ℕ};
+ghost use Rattle.std.specs.Prelude.{◌≡◌, ◌<◌, IfNone, IfSome, false, true, replicate, slice_set};
+ghost use Rattle.std.specs.Slice.Scan.{HoldsNowhere, IsFirstPlace};
 ghost use Rattle.pod_events.specs.Events.{is_trapped};
 
+use event_marks::{first_marked, no_marks, with_mark};
 use std::marker::Model;
 
 // Events are numbered from 0 to 31, but for that of the reports.
@@ -11,19 +13,20 @@ const EVENTS: usize = 32;
 #[derive(Drop)]
 pub(crate) struct TrapSet {
     flags: [bool; EVENTS],
-    // Where no event ever was, nobody looks at the flags.
-    any: bool,
+    // The same in one word, in which the first is found at one look.
+    marks: u64,
 }
 
 impl Model for TrapSet {
+    ghost use Rattle.event_marks.specs.Marks.{is_marked};
     ghost use Rattle.pod_events.specs.Events.{is_trapped};
-    ghost use Rattle.std.specs.Prelude.{Bool, List, false, ℕ, ◌≡◌};
+    ghost use Rattle.std.specs.Prelude.{Bool, List, ℕ, ◌≡◌};
 
     ghost Value = { List Bool };
 
     ghost view = { λ t. t.flags };
 
-    ghost invariant = { λ t. t.any ≡ false → (e : ℕ) → is_trapped t.flags e ≡ false };
+    ghost invariant = { λ t. (e : ℕ) → is_marked t.marks e ≡ is_trapped t.flags e };
 }
 
 impl TrapSet {
@@ -33,7 +36,7 @@ impl TrapSet {
     {
         TrapSet {
             flags: [false; EVENTS],
-            any: false,
+            marks: no_marks(),
         }
     }
 
@@ -44,11 +47,13 @@ impl TrapSet {
         event < 32 && self.flags[event as usize]
     }
 
-    /// Whether no event is.
-    pub(crate) fn is_empty(&self) -> bool
-        ensures { result ≡ true → (e : ℕ) → is_trapped self.now e ≡ false }
+    /// The first event from `from` on that is trapped, if there is one.
+    pub(crate) fn next(&self, from: u8) -> Option<u8>
+        ensures none { IfNone result (HoldsNowhere (is_trapped self.now) from 32) }
+        ensures below { IfSome result (λ event. event < 32) }
+        ensures first { IfSome result (λ event. IsFirstPlace (is_trapped self.now) from 32 event) }
     {
-        !self.any
+        first_marked(self.marks, from)
     }
 
     /// The event is trapped from now on.
@@ -57,6 +62,6 @@ impl TrapSet {
         ensures { self.new ≡ slice_set self.old event true }
     {
         self.flags[event as usize] = true;
-        self.any = true;
+        self.marks = with_mark(self.marks, event as u8, true);
     }
 }
