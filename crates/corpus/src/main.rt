@@ -1,13 +1,14 @@
 //! The corpus: scripts as a person writes them, with what the program must write of each.
 //!
-//! `data/rows` is a table, a row a line: a name, the file with the script or with the parts of a batch, the file with the text that
-//! is wanted, the status that is wanted, and the program's words. Each row is run through `lwp_serve::top` over streams in memory,
-//! and one line is printed for it: `same`, or else the first line that differs, or the status where all lines are the same.
-//! `compare` of `stored_rows` is proved to say so. What the files hold no contract can say.
+//! `data/rows` is a table, a row a line: a name, the file with the script, with the parts of a batch or with the input of a replay, the
+//! file with the text that is wanted, the status that is wanted, and the program's words. Each row is run through `lwp_serve::top` over
+//! streams in memory, and one line is printed for it: `same`, or else the first line that differs, or the status where all lines are
+//! the same. `compare` of `stored_rows` is proved to say so. What the files hold no contract can say.
 //!
 //! How the text is compared is said by the last part of its file's name:
 //!
-//! - `.trace`, `.report`, `.answers`, `.fault`: it is the whole of what is written, and behind it what is said on standard error;
+//! - `.trace`, `.report`, `.answers`, `.verdict`, `.fault`: it is the whole of what is written, and behind it what is said on standard
+//!   error;
 //! - `.tail`: it is the last lines of that;
 //! - `.damages`: the script is run cut at each length and then with each byte zeroed; the text has, for each, a line with the
 //!   damage and the status, and then the whole text; the status of the row is the greatest of theirs.

@@ -1,6 +1,7 @@
 -- What the program's words ask for.
 use Rattle.script_answers.specs.Answers.{IsAnswers}
 use Rattle.script_batch.specs.Batch.{IsBatch}
+use Rattle.script_checked.specs.Replay.{IsReplay}
 use Rattle.script_run.specs.Live.{IsLive}
 use Rattle.script_plan.specs.Make.{IsMake}
 use Rattle.script_session.specs.Outcome.{outcome_of}
@@ -14,11 +15,11 @@ use Rattle.script_maker.specs.Order.{IsAllowed, order_at}
 use Rattle.script_lines.specs.Words.{number_at}
 use Rattle.std.specs.Prelude.{Bool, List, None, Option, Some, [], bytes_eq, codes, if◌then◌else◌, nat_le, option_map, ℕ, ◌&&◌, ◌∷◌, ◌≡◌, ◌≤◌}
 
--- how many calls a plan or a run allows, where nobody says so
+-- how many calls a plan, a run or a replay allows, where nobody says so
 abbrev pub turns_unsaid : ℕ
 turns_unsaid = 100000
 
--- a number of calls that a plan or a run may allow
+-- a number of calls that a plan, a run or a replay may allow
 abbrev pub is_allowed : ℕ → Bool
 is_allowed n = nat_le 1 n && nat_le n 1000000
 
@@ -38,6 +39,10 @@ is_run word = bytes_eq word (codes "run")
 -- the word of a plan
 abbrev pub is_plan : List ℕ → Bool
 is_plan word = bytes_eq word (codes "plan")
+
+-- the word of a replay
+abbrev pub is_replay : List ℕ → Bool
+is_replay word = bytes_eq word (codes "replay")
 
 -- the word of what is made
 abbrev pub is_make : List ℕ → Bool
@@ -81,18 +86,21 @@ answers_by None turns = None
 answers_by (Some client) None = None
 answers_by (Some client) (Some turns) = Some (command.Answers client turns)
 
--- the command of a word and of a number of calls: `run` or `plan`
+-- the command of a word and of a number of calls: `run`, `plan` or `replay`
 abbrev pub command_by : List ℕ → ℕ → Option Command
-command_by word turns = if is_run word then Some (command.Run turns) else if is_plan word then Some (command.Plan turns) else None
+command_by word turns = if is_run word then Some (command.Run turns)
+    else if is_plan word then Some (command.Plan turns)
+    else if is_replay word then Some (command.Replay turns)
+    else None
 
 -- the same, if there is a number
 abbrev pub command_if : List ℕ → Option ℕ → Option Command
 command_if word None = None
 command_if word (Some turns) = command_by word turns
 
--- the command of these words, if they are one: `run` or `plan`, and behind it perhaps how many calls; or `make`, and what is to be
--- made; or `batch`, how many threads, and behind that perhaps how many calls; or `answers`, which client, and behind that perhaps how
--- many calls
+-- the command of these words, if they are one: `run`, `plan` or `replay`, and behind it perhaps how many calls; or `make`, and what is
+-- to be made; or `batch`, how many threads, and behind that perhaps how many calls; or `answers`, which client, and behind that
+-- perhaps how many calls
 abbrev pub command_of : List (List ℕ) → Option Command
 command_of [] = None
 command_of (word ∷ []) = command_by word turns_unsaid
@@ -109,16 +117,19 @@ command_of (word ∷ seed ∷ threads ∷ lines ∷ other ∷ words) = None
 abbrev pub MayBe : Command → Type 0
 MayBe (command.Run turns) = (1 ≤ turns) × (turns ≤ 1000000)
 MayBe (command.Plan turns) = (1 ≤ turns) × (turns ≤ 1000000)
+MayBe (command.Replay turns) = (1 ≤ turns) × (turns ≤ 1000000)
 MayBe (command.Make order) = IsAllowed order.threads order.lines
 MayBe (command.Batch threads turns) = ((1 ≤ threads) × (threads ≤ 16)) × ((1 ≤ turns) × (turns ≤ 1000000))
 MayBe (command.Answers client turns) = (client ≤ 15) × ((1 ≤ turns) × (turns ≤ 1000000))
 
--- What a session of these words says: a run's or a plan's; or that of what is made, which reads nothing; or that of many scripts, whatever the
--- number of threads; or that of one client; or else that they are no command, and then nothing was read or written.
+-- What a session of these words says: a run's, a plan's or a replay's; or that of what is made, which reads nothing; or that of many
+-- scripts, whatever the number of threads; or that of one client; or else that they are no command, and then nothing was read or
+-- written.
 abbrev pub TopSays : Option Command → Stream → Stream → Session → Type 0
 TopSays None source sink session = (session ≡ outcome_of end.Usage [] 0) × IsQuiet source × IsQuiet sink
 TopSays (Some (command.Run turns)) source sink session = IsLive turns source sink session
 TopSays (Some (command.Plan turns)) source sink session = IsPlan turns source sink session
+TopSays (Some (command.Replay turns)) source sink session = IsReplay turns source sink session
 TopSays (Some (command.Make order)) source sink session = IsQuiet source × IsMake order.seed order.threads order.lines sink session
 TopSays (Some (command.Batch threads turns)) source sink session = IsBatch turns source sink session
 TopSays (Some (command.Answers client turns)) source sink session = IsAnswers client turns source sink session

@@ -1,11 +1,12 @@
 // What the program does, by its words.
 ghost use Rattle.std.specs.Prelude.{◌≡◌, ◌≤◌, IfSome, length, map, string_bytes};
-ghost use Rattle.lwp_serve.specs.Words.{MayBe, TopSays, answers_by, batch_by, client_of, command_by, command_of, is_answers, is_batch, is_make, is_plan, is_run, threads_of, turns_of};
+ghost use Rattle.lwp_serve.specs.Words.{MayBe, TopSays, answers_by, batch_by, client_of, command_by, command_of, is_answers, is_batch, is_make, is_plan, is_replay, is_run, threads_of, turns_of};
 
 use event_gate::PostGate;
 use lwp_types::{Sink, Source};
 use script_answers::answers_main;
 use script_batch::batch_main;
+use script_checked::replay_main;
 use script_maker::{Order, order_at};
 use script_plan::{make_main, plan_main};
 use script_run::run_main;
@@ -15,10 +16,10 @@ use std::alloc::Global;
 use std::sync::Wait;
 use std::thread::Threads;
 
-// How many calls a run or a plan allows, where nobody says so.
+// How many calls are allowed, where nobody says so.
 const TURNS_UNSAID: u64 = 100_000;
 
-// The most calls that they may allow.
+// The most calls that may be allowed.
 const MOST_TURNS: u64 = 1_000_000;
 
 // The most threads that plan many scripts.
@@ -27,12 +28,13 @@ const MOST_THREADS: u32 = 16;
 // The last client that a script may have.
 const LAST_CLIENT: u32 = 15;
 
-/// What is asked for: a run or a plan with so many calls allowed, or a script that is to be made, or a report on many scripts, by so
-/// many threads and with so many calls allowed of each, or what this client is told, with so many calls allowed.
+/// What is asked for: a run or a plan or a replay with so many calls allowed, or a script that is to be made, or a report on many
+/// scripts, by so many threads and with so many calls allowed of each, or what this client is told, with so many calls allowed.
 #[derive(Clone, Copy)]
 pub enum Command {
     Run(u64),
     Plan(u64),
+    Replay(u64),
     Make(Order),
     Batch(u32, u64),
     Answers(u8, u64),
@@ -48,6 +50,12 @@ fn is_plan(word: &[u8]) -> bool
     ensures { result ≡ is_plan word.now }
 {
     word == b"plan".as_slice()
+}
+
+fn is_replay(word: &[u8]) -> bool
+    ensures { result ≡ is_replay word.now }
+{
+    word == b"replay".as_slice()
 }
 
 fn is_make(word: &[u8]) -> bool
@@ -134,6 +142,8 @@ fn command_by(word: &[u8], turns: u64) -> Option<Command>
         Some(Command::Run(turns))
     } else if is_plan(word) {
         Some(Command::Plan(turns))
+    } else if is_replay(word) {
+        Some(Command::Replay(turns))
     } else {
         None
     }
@@ -167,11 +177,13 @@ fn command_of(words: &Vec<String>) -> Option<Command>
     }
 }
 
-/// A session by the program's words, which stand behind its name. The command is `run` or `plan`, which allows 100,000 calls, or
-/// `run TURNS` or `plan TURNS`, which allows as many as this number says, 1 to 1,000,000; or it is `make SEED THREADS LINES`, which
-/// reads nothing, makes the script of these three numbers and sums up its session; or it is `batch THREADS` or `batch THREADS TURNS`,
-/// which reads many scripts and reports on them, by 1 to 16 threads; or it is `answers CLIENT` or `answers CLIENT TURNS`, which does
-/// as a plan and writes what that client is told, in place of the trace. Other words are no command: nothing is read or written then. The gates are for the clients of a run.
+/// A session by the program's words, which stand behind its name. The command is `run`, `plan` or `replay`, which allows 100,000
+/// calls, or one of these and TURNS, which allows as many as this number says, 1 to 1,000,000; or it is `make SEED THREADS LINES`,
+/// which reads nothing, makes the script of these three numbers and sums up its session; or it is `batch THREADS` or `batch THREADS
+/// TURNS`, which reads many scripts and reports on them, by 1 to 16 threads; or it is `answers CLIENT` or `answers CLIENT TURNS`,
+/// which does as a plan and writes what that client is told, in place of the trace. A replay reads a script and a recorded trace, and
+/// writes whether this is a trace of that script. Other words are no command: nothing is read or written then. The gates are for the
+/// clients of a run.
 pub fn top<S: Source, K: Sink, G: PostGate, R: Threads + Wait + Sync>(
     rt: &R,
     alloc: Global,
@@ -188,6 +200,7 @@ pub fn top<S: Source, K: Sink, G: PostGate, R: Threads + Wait + Sync>(
     match command_of(words) {
         Some(Command::Run(turns)) => run_main(rt, alloc, turns, source, sink, gates),
         Some(Command::Plan(turns)) => plan_main(alloc, turns, source, sink),
+        Some(Command::Replay(turns)) => replay_main(alloc, turns, source, sink),
         Some(Command::Make(order)) => {
             make_main(alloc, order.seed, order.threads, order.lines, sink)
         }

@@ -4,11 +4,12 @@
 //! run with all lines of its clients in place, by `plan_main`; where they are `run`, it is run while threads of the system post
 //! these lines, by `run_main`; where they are `make`, nothing is read: a script is made, run in the same way as by `plan`, and
 //! summed up, by `make_main`; where they are `batch`, many scripts are read and run so, and a line of each is written, by
-//! `batch_main`; where they are `answers`, a script is run as by `plan`, and what one client is told is written, by `answers_main`.
-//! Other words are no command, and nothing is read or written then.
+//! `batch_main`; where they are `answers`, a script is run as by `plan`, and what one client is told is written, by `answers_main`;
+//! where they are `replay`, a script and a recorded trace are read, and whether this is a trace of that script is written, by
+//! `replay_main`. Other words are no command, and nothing is read or written then.
 //!
-//! The crate hands on what a program needs besides. It stands on `script_plan`, `script_run`, `script_batch` and
-//! `script_answers`, on the sessions and ends of `script_session`, and on the words that `script_maker` and `script_text` read.
+//! The crate hands on what a program needs besides. It stands on `script_plan`, `script_run`, `script_batch`, `script_answers` and
+//! `script_checked`, on the sessions and ends of `script_session`, and on the words that `script_maker` and `script_text` read.
 #![tactic(auto)]
 
 mod command;
@@ -16,6 +17,7 @@ mod command;
 pub use command::top;
 pub use script_answers::answers_main;
 pub use script_batch::batch_main;
+pub use script_checked::replay_main;
 pub use script_plan::{make_main, plan_main};
 pub use script_program::{ScriptProgram, ThreadBody};
 pub use script_run::{no_gates, run_main};

@@ -255,3 +255,5 @@ answers-ran client turns script sink session end.ReadFault s = s
 answers-ran client turns script sink session (end.Script line reason) s = s
 answers-ran client turns script sink session (end.Input part) s = s
 answers-ran client turns script sink session end.Reported s = s
+answers-ran client turns script sink session end.Same s = s
+answers-ran client turns script sink session (end.Differs line) s = s

@@ -29,6 +29,8 @@ says-none turns source sink (end.Script line why) quiet h = absurd h
 says-none turns source sink end.Stuck quiet h = absurd h
 says-none turns source sink end.Spent quiet h = absurd h
 says-none turns source sink end.Reported quiet h = absurd h
+says-none turns source sink end.Same quiet h = absurd h
+says-none turns source sink (end.Differs line) quiet h = absurd h
 
 -- memory was wanting behind what was read
 pub says-late : (turns : ℕ) (source sink : Stream) → IsQuiet sink → IsFaultless source → IsReadUp 33554433 source.old source.new → BatchSays turns source sink end.NoMemory

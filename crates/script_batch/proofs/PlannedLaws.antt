@@ -32,6 +32,8 @@ run-of turns script sink session (end.Script line reason) o s = absurd (cc o)
 run-of turns script sink session end.NoMemory o s = absurd (cc o)
 run-of turns script sink session (end.Input part) o s = absurd (cc o)
 run-of turns script sink session end.Reported o s = absurd (cc o)
+run-of turns script sink session end.Same o s = absurd (cc o)
+run-of turns script sink session (end.Differs line) o s = absurd (cc o)
 
 -- the session came to its end, and its trace has these bytes
 pub record Ended (turns : ℕ) (script : Script) (bytes : List ℕ) (session : Session) : Type 0 where

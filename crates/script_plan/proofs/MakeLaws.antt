@@ -135,6 +135,8 @@ run-of script sink session (end.Script line reason) o s = absurd (cc o)
 run-of script sink session end.NoMemory o s = absurd (cc o)
 run-of script sink session (end.Input part) o s = absurd (cc o)
 run-of script sink session end.Reported o s = absurd (cc o)
+run-of script sink session end.Same o s = absurd (cc o)
+run-of script sink session (end.Differs line) o s = absurd (cc o)
 
 -- a sink that counts, before and after
 abbrev pub counted : Counting → Counting → Stream
@@ -166,6 +168,8 @@ came-so script sink session end.Spent o s = absurd (cc o)
 came-so script sink session end.Usage o s = absurd s
 came-so script sink session (end.Input part) o s = absurd s
 came-so script sink session end.Reported o s = absurd s
+came-so script sink session end.Same o s = absurd s
+came-so script sink session (end.Differs line) o s = absurd s
 came-so script sink session end.ReadFault o s = absurd s
 came-so script sink session end.WriteFault o s = inr (part-by script sink session s.1.0 s.1.1 s.1.2)
 came-so script sink session (end.Script line reason) o s = absurd s
@@ -229,6 +233,8 @@ says-whole summary told script bytes sink session is written faultless o r =
     by end.NoMemory o s = absurd (cc o)
     by (end.Input part) o s = absurd (cc o)
     by end.Reported o s = absurd (cc o)
+    by end.Same o s = absurd (cc o)
+    by (end.Differs line) o s = absurd (cc o)
 
 -- ---- the summary
 

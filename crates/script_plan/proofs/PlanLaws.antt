@@ -226,3 +226,5 @@ plan-ran turns script sink session end.ReadFault s = s
 plan-ran turns script sink session (end.Script line reason) s = s
 plan-ran turns script sink session (end.Input part) s = s
 plan-ran turns script sink session end.Reported s = s
+plan-ran turns script sink session end.Same s = s
+plan-ran turns script sink session (end.Differs line) s = s

@@ -80,6 +80,8 @@ is_over end.Spent = true
 is_over end.NoMemory = false
 is_over (end.Input part) = false
 is_over end.Reported = false
+is_over end.Same = false
+is_over (end.Differs line) = false
 
 -- it tells of the whole session of the script: of all its calls and takes. Each of them was due; of each client, the lines taken are
 -- its first, in order, and then come those left.

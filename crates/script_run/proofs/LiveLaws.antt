@@ -299,3 +299,5 @@ live-ran turns script sink session end.ReadFault s = s
 live-ran turns script sink session (end.Script line reason) s = s
 live-ran turns script sink session (end.Input part) s = s
 live-ran turns script sink session end.Reported s = s
+live-ran turns script sink session end.Same s = s
+live-ran turns script sink session (end.Differs line) s = s

@@ -62,6 +62,8 @@ IsRanEnd end.ReadFault = ⊥
 IsRanEnd (end.Script line reason) = ⊥
 IsRanEnd (end.Input part) = ⊥
 IsRanEnd end.Reported = ⊥
+IsRanEnd end.Same = ⊥
+IsRanEnd (end.Differs line) = ⊥
 IsRanEnd _ = Unit {0}
 
 pub read-of : (source : Stream) (script : Script) (e : SessionEnd) → IsRead source script → IsRanEnd e → ReadSays source e
@@ -75,6 +77,8 @@ read-of source script end.ReadFault h r = absurd r
 read-of source script (end.Script line reason) h r = absurd r
 read-of source script (end.Input part) h r = absurd r
 read-of source script end.Reported h r = absurd r
+read-of source script end.Same h r = absurd r
+read-of source script (end.Differs line) h r = absurd r
 
 pub says-of : (ran : Script → SessionEnd → Type 0) (source sink : Stream) (session : Session) (script : Script) (e : SessionEnd) → IsRead source script → IsRanEnd e
     → ran script e → EndsBy ran source sink session e
@@ -88,6 +92,8 @@ says-of ran source sink session script end.ReadFault h r s = absurd r
 says-of ran source sink session script (end.Script line reason) h r s = absurd r
 says-of ran source sink session script (end.Input part) h r s = absurd r
 says-of ran source sink session script end.Reported h r s = absurd r
+says-of ran source sink session script end.Same h r s = absurd r
+says-of ran source sink session script (end.Differs line) h r s = absurd r
 
 -- a session of a script that was read
 pub session-of : (ran : Script → SessionEnd → Type 0) (source sink : Stream) (session : Session) (script : Script) → IsRead source script → session.status ≡ status_of session.end
@@ -110,6 +116,8 @@ not-read-by ran source sink end.WriteFault quiet h = absurd h
 not-read-by ran source sink end.Usage quiet h = absurd h
 not-read-by ran source sink (end.Input part) quiet h = absurd h
 not-read-by ran source sink end.Reported quiet h = absurd h
+not-read-by ran source sink end.Same quiet h = absurd h
+not-read-by ran source sink (end.Differs line) quiet h = absurd h
 
 pub not-read : (ran : Script → SessionEnd → Type 0) (source sink : Stream) (e : SessionEnd) (session : Session) → session ≡ outcome_of e [] 0 → IsQuiet sink → IsNotRead source e → IsOf ran source sink session
 not-read ran source sink e session is quiet h = subst (λ (x : Session). IsOf ran source sink x) (sym is) (not-read-by ran source sink e quiet h)

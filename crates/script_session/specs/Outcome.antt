@@ -20,6 +20,8 @@ status_of end.Spent = 105
 status_of end.NoMemory = 106
 status_of (end.Input part) = 108
 status_of end.Reported = 0
+status_of end.Same = 0
+status_of (end.Differs line) = 107
 
 -- a session of this end, with these lines taken and so many calls made
 abbrev pub outcome_of : SessionEnd → List Took → ℕ → Session

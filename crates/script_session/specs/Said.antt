@@ -47,6 +47,8 @@ EndsBy ran source sink session end.NoMemory =
     IsFaultless source × IsUnread sink session ⊎ SourceSays source (λ script. ran script end.NoMemory)
 EndsBy ran source sink session (end.Input part) = ⊥
 EndsBy ran source sink session end.Reported = ⊥
+EndsBy ran source sink session end.Same = ⊥
+EndsBy ran source sink session (end.Differs line) = ⊥
 EndsBy ran source sink session e = SourceSays source (λ script. ran script e)
 
 -- how far each end has read the source: to its end for a script that was run; for bytes that are none, to their end too, unless they
@@ -58,6 +60,8 @@ ReadSays source end.NoMemory = IsReadPart source.old source.new
 ReadSays source (end.Script line reason) = IsReadUp source.old source.new
 ReadSays source (end.Input part) = ⊥
 ReadSays source end.Reported = ⊥
+ReadSays source end.Same = ⊥
+ReadSays source (end.Differs line) = ⊥
 ReadSays source e = IsReadOut source.old source.new
 
 -- what a session says, where it says this of the script that was read

@@ -33,3 +33,5 @@ fault_text end.Spent = []
 fault_text end.NoMemory = codes "lwpserve: no memory\n"
 fault_text (end.Input part) = codes "lwpserve: input part " ++ decimal part ++ codes "\n"
 fault_text end.Reported = []
+fault_text end.Same = []
+fault_text (end.Differs line) = []

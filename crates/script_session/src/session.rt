@@ -89,6 +89,10 @@ pub enum SessionEnd {
     Input { part: u32 },
     /// What many scripts come to was told.
     Reported,
+    /// The recorded bytes are a trace of the script.
+    Same,
+    /// They are none: this is the first line that differs, counted from 1.
+    Differs { line: u64 },
 }
 
 /// A session: the status that the program ends with, how it ended, the lines taken, and how many calls were made.
@@ -115,6 +119,8 @@ pub fn status_of(end: SessionEnd) -> u8
         SessionEnd::NoMemory => 106,
         SessionEnd::Input { .. } => 108,
         SessionEnd::Reported => 0,
+        SessionEnd::Same => 0,
+        SessionEnd::Differs { .. } => 107,
     }
 }
 

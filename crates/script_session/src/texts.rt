@@ -66,7 +66,12 @@ pub fn fault_text(alloc: Global, end: &SessionEnd) -> Result<Vec<u8>, NoMemory>
 {
     let mut out = Vec::new(alloc);
     match *end {
-        SessionEnd::Ended(_) | SessionEnd::Stuck | SessionEnd::Spent | SessionEnd::Reported => {}
+        SessionEnd::Ended(_)
+        | SessionEnd::Stuck
+        | SessionEnd::Spent
+        | SessionEnd::Reported
+        | SessionEnd::Same
+        | SessionEnd::Differs { .. } => {}
         SessionEnd::Usage => add(
             &mut out,
             b"lwpserve: usage: run [TURNS] | plan [TURNS] | make SEED THREADS LINES\n",

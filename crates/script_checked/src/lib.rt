@@ -1,0 +1,19 @@
+//! A script and a recorded trace are read, and what a replay finds is written.
+//!
+//! `replay_main` reads an input: a line that says how many bytes the script has, the script, and behind it what was recorded
+//! (`specs/Input.antt`). It writes that the recorded bytes are a trace of that script, and of how many lines; or which line is the
+//! first that differs, which one was to come there, and which was recorded (`specs/Texts.antt`). Its contract says: the session ends
+//! as the same exactly by what `replay` says of such a trace, or as one that differs, by what it says of such a line; the lines that
+//! it tells as taken, and its calls, are those of the verdict; or its end names what was in the way, and nothing was written then, or
+//! where a write failed the first part of the output (`specs/Replay.antt`). The recorded bytes are read once and not copied.
+//!
+//! The crate stands on the replays of `script_replay`, the reader of `script_text`, the programs of `script_program`, the sessions and
+//! ends of `script_session`, the streams of `whole_streams`, and on what `batch` calls a part of a text.
+#![tactic(auto)]
+
+mod checked;
+mod input;
+mod told;
+
+pub use checked::replay_main;
+pub use input::REPLAY_MAX;
