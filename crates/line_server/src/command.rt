@@ -44,19 +44,12 @@ fn put_of<'t>(key: &'t [u8], behind: &'t [u8]) -> Option<Asked<'t>>
 fn asked_by<'t>(word: &[u8], key: &'t [u8], behind: &'t [u8]) -> Option<Asked<'t>>
     ensures { option_map read result ≡ asked_by word.now key.now behind.now }
 {
-    if word == b"put ".as_slice() {
-        return put_of(key, behind);
+    match word {
+        [b'p', b'u', b't', b' '] => put_of(key, behind),
+        [b'g', b'e', b't', b' '] if behind.is_empty() => Some(Asked::Get { key }),
+        [b'd', b'e', b'l', b' '] if behind.is_empty() => Some(Asked::Del { key }),
+        _ => None,
     }
-    if !behind.is_empty() {
-        return None;
-    }
-    if word == b"get ".as_slice() {
-        return Some(Asked::Get { key });
-    }
-    if word == b"del ".as_slice() {
-        return Some(Asked::Del { key });
-    }
-    None
 }
 
 /// What a text asks for, if it is a command.

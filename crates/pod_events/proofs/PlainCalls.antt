@@ -12,8 +12,8 @@ use Rattle.pod_events.specs.Fates.{births_by, is_plain, victim}
 use Rattle.pod_events.specs.Machine.{called_by, current_of}
 use Rattle.pod_events.specs.Rites.{deaths, mourned, reports_after, rites_said}
 use Rattle.pod_events.specs.Step.{event_step, event_step_by, event_step_if, leads, leads_if, settled_so, with_rites}
-use Rattle.pod_events.specs.Traps.{Trapping, agent_event_of, called, lead, made_as, refused_by, stepped, trap_of}
-use Rattle.std.proofs.Common.{Bool, Err, List, None, Ok, OnErr, OnOk, Option, Result, Some, [], ap, arith, cond, eqb, false, length, not, refl, suc, sym, true, zero, ℕ, ◌&&◌, ◌++◌, ◌∙◌, ◌∷◌, ◌≡◌, ◌≤◌}
+use Rattle.pod_events.specs.Traps.{agent_event_of, called, lead, made_as, refused_by, stepped, trap_of}
+use Rattle.std.proofs.Common.{Bool, Err, List, None, Ok, OnErr, OnOk, Option, Result, Some, [], ap, arith, cond, eqb, false, length, not, refl, sym, true, ℕ, ◌&&◌, ◌++◌, ◌∙◌, ◌≡◌, ◌≤◌}
 use Rattle.std.proofs.lemmas.Bool.{and_parts, eqb-true}
 use Rattle.std.specs.Prelude.{is_none, is_some}
 

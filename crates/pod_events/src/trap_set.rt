@@ -1,5 +1,5 @@
 // The events that are trapped.
-ghost use Rattle.std.specs.Prelude.{◌≡◌, ◌<◌, IfNone, IfSome, false, true, replicate, slice_set};
+ghost use Rattle.std.specs.Prelude.{◌≡◌, ◌<◌, IfNone, IfSome, IsTrue, false, true, replicate, slice_set};
 ghost use Rattle.std.specs.Slice.Scan.{HoldsNowhere, IsFirstPlace};
 ghost use Rattle.pod_events.specs.Events.{is_trapped};
 
@@ -45,6 +45,13 @@ impl TrapSet {
         ensures { result ≡ is_trapped self.now event }
     {
         event < 32 && self.flags[event as usize]
+    }
+
+    /// Whether no event is trapped.
+    pub(crate) fn is_empty(&self) -> bool
+        ensures { IsTrue result → HoldsNowhere (is_trapped self.now) 0 32 }
+    {
+        self.next(0).is_none()
     }
 
     /// The first event from `from` on that is trapped, if there is one.

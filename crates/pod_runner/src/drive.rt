@@ -54,7 +54,8 @@ fn next_due<B: Body, P: Program<B>, G: Gate>(run: &Run<B, P>, gate: &G, from: u8
     None
 }
 
-// Each event in turn may have one line taken.
+// Each event in turn may have one line taken. In a turn in which no line is left, one look tells.
+#[inline(always)]
 fn serve_all<B: Body, P: Program<B>, G: Gate, K: Sink>(
     run: &mut Run<B, P>,
     gate: &mut G,

@@ -267,6 +267,7 @@ impl<B> RowList<B> {
     }
 
     /// Sets what a thread is polled with next.
+    #[inline(always)]
     pub fn answer(&mut self, tid: Tid, answer: &Answer) -> Result<(), NoMemory>
         ensures { OnOk result (self.new ≡ answered tid answer.now self.old) }
     {

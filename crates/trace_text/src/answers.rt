@@ -63,6 +63,7 @@ fn add_bound(out: &mut Vec<u8>, func: Func, arg: u32) -> Result<(), NoMemory>
     add_word_number(out, b" ", arg)
 }
 
+#[inline(never)]
 fn add_negative(out: &mut Vec<u8>, value: i64) -> Result<(), NoMemory>
     ensures { OnOk result (out.new.items ≡ out.old.items ++ signed_decimal value) }
 {
@@ -88,7 +89,9 @@ fn add_refusal(out: &mut Vec<u8>, error: LwpErr) -> Result<(), NoMemory>
     add_word(out, error_name(error))
 }
 
-pub(crate) fn add_answer(out: &mut Vec<u8>, answer: &Answer) -> Result<(), NoMemory>
+// An answer of whatever kind. It stands apart, so that a number, which is what most calls are answered, saves and restores nothing.
+#[inline(never)]
+fn add_any_answer(out: &mut Vec<u8>, answer: &Answer) -> Result<(), NoMemory>
     ensures { OnOk result (out.new.items ≡ out.old.items ++ answer_text answer.now) }
 {
     match answer {
@@ -106,5 +109,15 @@ pub(crate) fn add_answer(out: &mut Vec<u8>, answer: &Answer) -> Result<(), NoMem
         } => add_word_number(out, b" caught ", *pattern),
         Answer::Ids { kind, list } => add_id_list(out, *kind, list),
         Answer::Refused(error) => add_refusal(out, *error),
+    }
+}
+
+#[inline(always)]
+pub(crate) fn add_answer(out: &mut Vec<u8>, answer: &Answer) -> Result<(), NoMemory>
+    ensures { OnOk result (out.new.items ≡ out.old.items ++ answer_text answer.now) }
+{
+    match answer {
+        Answer::Value(value) => add_value(out, *value),
+        _ => add_any_answer(out, answer),
     }
 }

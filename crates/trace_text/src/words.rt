@@ -36,6 +36,7 @@ pub(crate) fn add_byte(out: &mut Vec<u8>, byte: u8) -> Result<(), NoMemory>
 }
 
 // A short word, byte by byte, which costs less than a copy does.
+#[inline(always)]
 pub(crate) fn add_word(out: &mut Vec<u8>, word: &[u8]) -> Result<(), NoMemory>
     ensures { OnOk result (out.new.items ≡ out.old.items ++ word.now) }
 {
@@ -80,10 +81,39 @@ fn add_two_or_three(out: &mut Vec<u8>, n: u64) -> Result<(), NoMemory>
     requires most { n < 1000 }
     ensures { OnOk result (out.new.items ≡ out.old.items ++ decimal n) }
 {
-    out.reserve(3)?;
+    if out.capacity() - out.len() < 3 {
+        return add_digits(out, n);
+    }
     if n >= 100 {
         out.push_reserved(digit(n / 100));
     }
+    out.push_reserved(digit(n / 10 % 10));
+    out.push_reserved(digit(n % 10));
+    Ok(())
+}
+
+// A number of one digit, of two or of three.
+#[tactic(auto, using(std::proofs::lemmas::Fmt::decimal_digit))]
+fn add_up_to_three(out: &mut Vec<u8>, n: u64) -> Result<(), NoMemory>
+    requires { n < 1000 }
+    ensures { OnOk result (out.new.items ≡ out.old.items ++ decimal n) }
+{
+    if n < 10 {
+        return add_byte(out, digit(n));
+    }
+    add_two_or_three(out, n)
+}
+
+// A number of four digits, of five or of six: how many thousands it has, and three digits behind them.
+#[inline(never)]
+fn add_thousands(out: &mut Vec<u8>, n: u64) -> Result<(), NoMemory>
+    requires least { 1000 ≤ n }
+    requires most { n < 1000000 }
+    ensures { OnOk result (out.new.items ≡ out.old.items ++ decimal n) }
+{
+    add_up_to_three(out, n / 1000)?;
+    out.reserve(3)?;
+    out.push_reserved(digit(n / 100 % 10));
     out.push_reserved(digit(n / 10 % 10));
     out.push_reserved(digit(n % 10));
     Ok(())
@@ -96,9 +126,12 @@ fn add_longer(out: &mut Vec<u8>, n: u64) -> Result<(), NoMemory>
     ensures { OnOk result (out.new.items ≡ out.old.items ++ decimal n) }
 {
     if n < 1000 {
-        return add_two_or_three(out, n);
+        add_two_or_three(out, n)
+    } else if n < 1_000_000 {
+        add_thousands(out, n)
+    } else {
+        add_digits(out, n)
     }
-    add_digits(out, n)
 }
 
 /// A number in decimal. It needs no memory but for the bytes so far.

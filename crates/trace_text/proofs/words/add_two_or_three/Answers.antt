@@ -10,9 +10,9 @@ returns c =
     let last = c.push_reserved-3.new.self.items in
     elim c.if-n-ge100.branch [
       | then-n-ge100 w ↦
-          three_behind from last (48 + n / 100) (48 + n / 10 % 10) (48 + n % 10) (cc (c.push_reserved-3.ensures.items, c.digit-3.ensures, c.push_reserved-2.ensures.items, c.digit-2.ensures, ap (λ v. v.items) w.out-is, w.push_reserved.ensures.items, w.digit.ensures, c.reserve.ensures.items))
+          three_behind from last (48 + n / 100) (48 + n / 10 % 10) (48 + n % 10) (cc (c.push_reserved-3.ensures.items, c.digit-3.ensures, c.push_reserved-2.ensures.items, c.digit-2.ensures, ap (λ v. v.items) w.out-is, w.push_reserved.ensures.items, w.digit.ensures))
           ∙ ap (λ ds. from ++ ds) (sym (decimal_of_three n w.if-n-ge100.true c.requires.most))
       | else-n-ge100 w ↦
-          two_behind from last (48 + n / 10 % 10) (48 + n % 10) (cc (c.push_reserved-3.ensures.items, c.digit-3.ensures, c.push_reserved-2.ensures.items, c.digit-2.ensures, ap (λ v. v.items) w.out-is, c.reserve.ensures.items))
+          two_behind from last (48 + n / 10 % 10) (48 + n % 10) (cc (c.push_reserved-3.ensures.items, c.digit-3.ensures, c.push_reserved-2.ensures.items, c.digit-2.ensures, ap (λ v. v.items) w.out-is))
           ∙ ap (λ ds. from ++ ds) (sym (decimal_of_two n c.requires.least w.if-n-ge100.false))
     ]
