@@ -1,8 +1,9 @@
 //! Traces as bytes.
 //!
 //! A trace has a line for each effect of each step, and says behind them how the session ended. `specs/Lines.antt` gives the text
-//! of each: of a call, an answer, a delivery, a death, an end. Numbers are written by the kit's `itoa`, and all lines of a step go
-//! into one buffer, so that a step asks for no memory where the buffer has room.
+//! of each: of a call, an answer, a delivery, a death, an end. Numbers of up to six digits, which are nearly all, are written where
+//! they go, and longer ones by the kit's `itoa`. All lines of a step go into one buffer, so that a step asks for no memory where the
+//! buffer has room.
 //!
 //! The crate stands on the words of `lwp_types`. What scripts and traces write alike, such as flags and patterns, is here too.
 #![tactic(auto)]
