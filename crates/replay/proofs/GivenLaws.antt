@@ -3,16 +3,16 @@ use Rattle.event_gate.proofs.Lines.{same_or}
 use Rattle.pod_events.specs.Events.{EventState}
 use Rattle.lwp_types.specs.declared.call.Line.{Line}
 use Rattle.pod_runner.specs.Over.{events}
-use Rattle.replay.proofs.LineLaws.{common-none, common-some}
+use Rattle.replay.proofs.LineLaws.{agree-equal, agree-shorter, common-none, common-some, count-append}
 use Rattle.replay.proofs.StepLines.{take-tells, tells-same}
 use Rattle.replay.specs.Next.{IsTold, NoneTold, event_in, lowest_in, take_at}
-use Rattle.replay.specs.Recorded.{Agree, IsCommon}
+use Rattle.replay.specs.Recorded.{Agree, IsCommon, line_count}
 use Rattle.replay.specs.Verdict.{first_given, or_else, take_text, tells_take}
 use Rattle.replay.specs.Walk.{ClientsLeft}
 use Rattle.trace_text.specs.Lines.{ended_line}
 use Rattle.std.specs.List.{range_with_len}
 use Rattle.std.specs.Prelude.{Option, nat_eq, not}
-use Rattle.std.proofs.Common.{Bool, List, None, Some, [], ap, append-nil, arith, false, refl, subst, suc, sym, true, zero, ℕ, ⊎_elim, ◌+◌, ◌<◌, ◌∙◌, ◌≡◌, ◌≢◌, ◌≤◌}
+use Rattle.std.proofs.Common.{Bool, List, None, Some, [], ap, append-nil, arith, drop, false, length, refl, subst, suc, sym, take, take-append-drop, true, zero, ℕ, ⊎_elim, ◌++◌, ◌+◌, ◌<◌, ◌∙◌, ◌∷◌, ◌≡◌, ◌≢◌, ◌≤◌}
 use Rattle.std.proofs.lemmas.Bool.{eqb-true}
 
 pub given-none : (f : ℕ → Option (List ℕ)) (a n : ℕ) → ((k : ℕ) → a ≤ k → k < a + n → f k ≡ None) → first_given f (range_with_len a n) ≡ None
@@ -68,6 +68,14 @@ tells-of wanted other exact bytes lines h is = (
     by_none : (b : Bool) → nat_eq lines 0 ≡ b → Agree 1 other exact → not b ≡ true
     by_none true e agree = absurd (common-none wanted other bytes lines h (eqb-true lines 0 e) (subst (λ l. Agree 1 other l) (sym is) agree))
     by_none false e agree = refl
+
+-- it is told where all of it was recorded
+pub tells-front : (wanted other text : List ℕ) → wanted ≡ ended_line text → take (length wanted) other ≡ wanted → Agree 1 other (ended_line text)
+tells-front wanted other text is same =
+    let more = drop (length wanted) other in
+    let whole : other ≡ wanted ++ more = sym (take-append-drop (length wanted) other) ∙ ap (λ l. l ++ more) same in
+    let some : 1 ≤ line_count wanted = omega (arith, ap line_count is, count-append text (10 ∷ [])) in
+    subst (λ l. Agree 1 other l) is (agree-shorter 1 other wanted more some (agree-equal 1 other (wanted ++ more) whole (omega (arith, some, ap line_count whole, count-append wanted more))))
 
 -- where the recorded lines tell of no take, they tell of none of these
 pub none-told : (lines : ClientsLeft) (pod : EventState) (rest : List ℕ) (n : ℕ) → tells_take rest ≡ false → NoneTold lines pod rest n

@@ -9,6 +9,7 @@ pub mod Extends
 pub mod Exits
 pub mod Steps
 pub mod CommonLaws
+pub mod AheadLaws
 pub mod GivenLaws
 pub mod EndLaws
 pub mod FollowLaws

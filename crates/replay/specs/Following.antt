@@ -1,5 +1,5 @@
 -- What is seen of the recorded bytes while they are followed.
-use Rattle.std.specs.Prelude.{List, length, take, ℕ, ◌++◌, ◌∷◌}
+use Rattle.std.specs.Prelude.{List, [], length, take, ℕ, ◌++◌, ◌∷◌, ◌≡◌, ◌⊎◌}
 
 -- what was recorded, how far it was told, of how many lines that is, how often the clock has ticked by then, and what a step has
 -- told since
@@ -18,3 +18,11 @@ front_of f = length f.recorded ∷ f.at ∷ f.lines ∷ f.ticks ∷ f.recorded
 -- that, and then all that was told; so whoever writes more of it is known to leave the front as it was
 abbrev pub told_in : Following → List ℕ
 told_in f = front_of f ++ (take f.at f.recorded ++ f.step)
+
+-- what was recorded doesn't begin with these bytes
+abbrev pub Departs : List ℕ → List ℕ → Type 0
+Departs recorded bytes = take (length bytes) recorded ≡ bytes → ⊥
+
+-- there are none, or else they aren't what was recorded
+abbrev pub IsUnlike : List ℕ → List ℕ → Type 0
+IsUnlike recorded bytes = (bytes ≡ []) ⊎ Departs recorded bytes

@@ -1,36 +1,38 @@
 // A sink for the lines of a run, which are compared with what was recorded.
-ghost use Rattle.std.specs.Prelude.{◌≡◌, ◌<◌, ◌≤◌, ◌++◌, ◌+◌, [], IfOk, OnErr, OnOk, Some, drop, length, take};
+ghost use Rattle.std.specs.Prelude.{◌≡◌, ◌<◌, ◌≤◌, ◌++◌, ◌+◌, [], IfOk, MatchBool, None, OnErr, Some, drop, length, take};
 ghost use Rattle.lwp_types.specs.Streams.{HasCause, appended};
-ghost use Rattle.replay.specs.Following.{told_in};
-ghost use Rattle.replay.specs.Recorded.{IsCommon};
+ghost use Rattle.replay.specs.Following.{Departs, told_in};
+ghost use Rattle.replay.specs.Says.{ComparedBy};
 ghost use Rattle.replay.specs.Walk.{ticks_after};
 
-use crate::compared::{Common, common_lines};
+use crate::compared::{begins_with, line_count};
 use lwp_types::{Failed, NoMemory, Sink};
 use std::alloc::Global;
 use std::marker::Model;
 
 /// What was recorded, how far it was told so far, of how many lines that is, how often the clock has ticked by then, and the lines
-/// that a step has told since.
+/// that a step has told since. Of these, what was recorded behind `at` isn't copied: it is `ahead` bytes, and then come those that
+/// differ from it, if any do. Lines aren't counted before somebody asks.
 #[derive(Drop)]
 pub struct Follower<'b> {
     recorded: &'b [u8],
     at: usize,
-    lines: u64,
+    ahead: usize,
+    unlike: Vec<u8>,
     ticks: u64,
-    step: Vec<u8>,
     faults: u64,
 }
 
 impl<'b> Model for Follower<'b> {
-    ghost use Rattle.std.specs.Prelude.{length, ◌≤◌};
-    ghost use Rattle.replay.specs.Following.{Following};
+    ghost use Rattle.std.specs.Prelude.{drop, length, take, ◌++◌, ◌+◌, ◌≤◌};
+    ghost use Rattle.replay.specs.Following.{Following, IsUnlike};
+    ghost use Rattle.replay.specs.Recorded.{line_count};
 
     ghost Value = { Following };
 
-    ghost view = { λ f. record { recorded = f.recorded.now; at = f.at; lines = f.lines; ticks = f.ticks; step = f.step.items; faults = f.faults } };
+    ghost view = { λ f. record { recorded = f.recorded.now; at = f.at; lines = line_count (take f.at f.recorded.now); ticks = f.ticks; step = take f.ahead (drop f.at f.recorded.now) ++ f.unlike.items; faults = f.faults } };
 
-    ghost invariant = { λ f. (f.at ≤ length f.recorded.now) × (f.lines ≤ f.at) × (f.ticks ≤ 4294967295) };
+    ghost invariant = { λ f. (f.at + f.ahead ≤ length f.recorded.now) × (f.ticks ≤ 4294967295) × IsUnlike (drop f.ahead (drop f.at f.recorded.now)) f.unlike.items };
 }
 
 impl<'b> Follower<'b> {
@@ -41,9 +43,9 @@ impl<'b> Follower<'b> {
         Follower {
             recorded,
             at: 0,
-            lines: 0,
+            ahead: 0,
+            unlike: Vec::new(alloc),
             ticks: 0,
-            step: Vec::new(alloc),
             faults: 0,
         }
     }
@@ -51,10 +53,10 @@ impl<'b> Follower<'b> {
     /// How many lines were told.
     pub fn lines(&self) -> u64
         ensures same { result ≡ self.now.lines }
-        ensures small { result < 9223372036854775808 }
+        ensures small { result + length (drop self.now.at self.now.recorded) < 9223372036854775808 }
     {
-        let _ = self.recorded;
-        self.lines
+        let recorded = self.recorded;
+        line_count(&recorded[..self.at])
     }
 
     /// How often the clock has ticked.
@@ -85,41 +87,27 @@ impl<'b> Follower<'b> {
     }
 
     /// The lines of the step.
-    pub fn step(&self) -> &[u8]
-        ensures { result.now ≡ self.now.step }
-    {
-        self.step.as_slice()
-    }
-
-    /// The lines of the step that were recorded.
-    pub fn common(&self) -> Common
-        ensures common { IsCommon self.now.step (drop self.now.at self.now.recorded) result.bytes result.lines }
-        ensures within { self.now.at ≤ length self.now.recorded }
-        ensures few { self.now.lines ≤ self.now.at }
-        ensures room { self.now.at + result.bytes ≤ length self.now.recorded }
-        ensures small { length self.now.recorded < 9223372036854775808 }
+    pub fn step(&self, alloc: Global) -> Result<Vec<u8>, NoMemory>
+        ensures { IfOk result (λ step. step.items ≡ self.now.step) }
     {
         let recorded = self.recorded;
-        common_lines(self.step(), &recorded[self.at..])
+        let behind = &recorded[self.at..];
+        let mut step = Vec::new(alloc);
+        step.extend_from_slice(&behind[..self.ahead])?;
+        step.extend_from_slice(&self.unlike)?;
+        Ok(step)
     }
 
-    /// The lines of the step, which are so many, were recorded: they were told.
-    pub fn pass(&mut self, lines: u64)
-        requires within { self.old.at + length self.old.step ≤ length self.old.recorded }
-        requires few { lines ≤ length self.old.step }
-        ensures { self.new ≡ record self.old { at = self.old.at + length self.old.step; lines = self.old.lines + lines; step = [] } }
+    /// If the lines of the step were recorded, they are told.
+    pub fn pass(&mut self) -> bool
+        ensures { MatchBool result (ComparedBy self.old self.new None) (Departs (drop self.old.at self.old.recorded) self.old.step × (self.new ≡ self.old)) }
     {
-        self.at += self.step.len();
-        self.lines += lines;
-        self.step.clear();
-    }
-
-    /// Lines that stand behind the last step.
-    pub fn add(&mut self, lines: &[u8]) -> Result<(), NoMemory>
-        ensures { OnOk result (self.new ≡ record self.old { step = self.old.step ++ lines.now }) }
-    {
-        self.step.extend_from_slice(lines)?;
-        Ok(())
+        if !self.unlike.is_empty() {
+            return false;
+        }
+        self.at += self.ahead;
+        self.ahead = 0;
+        true
     }
 }
 
@@ -143,7 +131,12 @@ impl<'b> Sink for Follower<'b> {
         ensures lines { self.new.lines ≡ self.old.lines }
         ensures ticks { self.new.ticks ≡ self.old.ticks }
     {
-        match self.step.extend_from_slice(bytes) {
+        let recorded = self.recorded;
+        if self.unlike.is_empty() && begins_with(&recorded[self.at + self.ahead..], bytes) {
+            self.ahead += bytes.len();
+            return Ok(bytes.len());
+        }
+        match self.unlike.extend_from_slice(bytes) {
             Ok(()) => Ok(bytes.len()),
             Err(_) => {
                 self.faults = self.faults.saturating_add(1);

@@ -1,18 +1,16 @@
 // The recorded lines are followed, step by step.
 ghost use Rattle.pod_runner.specs.Run.{session_of};
 ghost use Rattle.replay.specs.Next.{Goes, NoneTold, ToldBy, ToldOf, lowest_in, take_at, take_in};
-ghost use Rattle.replay.specs.Recorded.{Agree};
-ghost use Rattle.replay.specs.Verdict.{first_given, take_text, tells_take};
-ghost use Rattle.trace_text.specs.Lines.{ended_line};
+ghost use Rattle.replay.specs.Verdict.{first_given};
 ghost use Rattle.std.specs.List.{range_with_len};
-ghost use Rattle.std.specs.Prelude.{IfOk, false, length, option_map, true, ◌<◌, ◌↔◌, ◌≡◌, ◌≤◌};
+ghost use Rattle.std.specs.Prelude.{IfOk, false, length, option_map, ◌<◌, ◌≡◌, ◌≤◌};
 
-use crate::compared::common_lines;
 use crate::posted::Posted;
-use lwp_types::{Body, Effect, Line, NoMemory, Program, Tid};
+use crate::telling::{named_client, take_line, tells_of, tells_take};
+use lwp_types::{Body, Line, NoMemory, Program};
 use pod_runner::{Phase, Run};
 use std::alloc::Global;
-use trace_text::{Halt, trace_line};
+use trace_text::Halt;
 
 // The next line of this client is to be taken.
 #[derive(Clone, Copy)]
@@ -31,44 +29,6 @@ pub(crate) enum Next {
     Over(Halt),
     // A line is to be taken here, and none is told: this one's take was to come.
     Missing(Vec<u8>),
-}
-
-// The line of a take of this line, with its newline, where the clock has ticked so often.
-fn take_line(alloc: Global, ticks: u64, event: u8, line: &Line) -> Result<Vec<u8>, NoMemory>
-    requires { ticks ≤ 4294967295 }
-    ensures { IfOk result (λ out. out.items ≡ ended_line (take_text ticks event line.now)) }
-{
-    if event == 0 {
-        let ticked = Effect::Ticked { now: ticks + 1 };
-        return trace_line(alloc, &ticked, Some(line), &[]);
-    }
-    let delivered = Effect::Delivered {
-        agent: Tid { number: 0 },
-        event,
-    };
-    trace_line(alloc, &delivered, Some(line), &[])
-}
-
-// Whether this tells of a take.
-fn tells_take(rest: &[u8]) -> bool
-    ensures { result ≡ tells_take rest.now }
-{
-    rest.starts_with(b"event ") || rest.starts_with(b"tick ")
-}
-
-// Whether the recorded lines begin with that of the take of this line.
-fn tells_of(
-    alloc: Global,
-    ticks: u64,
-    rest: &[u8],
-    event: u8,
-    line: &Line,
-) -> Result<bool, NoMemory>
-    requires { ticks ≤ 4294967295 }
-    ensures { IfOk result (λ told. told ≡ true ↔ Agree 1 rest.now (ended_line (take_text ticks event line.now))) }
-{
-    let wanted = take_line(alloc, ticks, event, line)?;
-    Ok(common_lines(&wanted, rest).lines != 0)
 }
 
 // The next line of a client, if it can be taken, and the recorded lines tell of it.
@@ -98,6 +58,7 @@ fn told_of<B: Body, P: Program<B>, C: Posted>(
 }
 
 // The client whose next line is taken, as the recorded lines tell.
+#[inline(never)]
 fn told_take<B: Body, P: Program<B>, C: Posted>(
     alloc: Global,
     ticks: u64,
@@ -110,6 +71,15 @@ fn told_take<B: Body, P: Program<B>, C: Posted>(
     requires small { ticks ≤ 4294967295 }
     ensures { IfOk result (λ told. ToldBy (C.lines lines.now) (session_of B.next P.bodies run.now).live.pod rest.now told) }
 {
+    let named = named_client(rest);
+    if named < lines.clients() {
+        if let Some(line) = told_of(alloc, ticks, run, lines, rest, named)? {
+            return Ok(Some(TakeTold {
+                client: named,
+                line,
+            }));
+        }
+    }
     for client in 0..lines.clients() {
         if let Some(line) = told_of(alloc, ticks, run, lines, rest, client)? {
             return Ok(Some(TakeTold { client, line }));
@@ -178,6 +148,7 @@ fn lowest_at<B: Body, P: Program<B>, C: Posted>(
 }
 
 // That of the lowest event that waits and has a line left.
+#[inline(never)]
 fn lowest_take<B: Body, P: Program<B>, C: Posted>(
     alloc: Global,
     ticks: u64,
