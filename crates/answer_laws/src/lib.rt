@@ -1,0 +1,13 @@
+//! What one client of the line server is told: the laws of its session and its store. There is no code here: each function below has
+//! no body, and its clause is the law.
+#![tactic(auto)]
+
+pub mod rows;
+
+ghost use Rattle.answer_laws.specs.Talks.{TalksAreAnswers};
+
+/// A session and a store that talk, whatever else is sent to the store and whoever ends: the accepted replies to the session's client
+/// are a first part of the answers to its lines.
+pub fn every_talk()
+    ensures { TalksAreAnswers }
+{}
