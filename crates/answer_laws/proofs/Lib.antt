@@ -1,2 +1,5 @@
 pub mod AnswerLists
 pub mod TalkLaws
+pub mod Sights
+pub mod Leaving
+pub mod Others

@@ -4,10 +4,17 @@
 
 pub mod rows;
 
+ghost use Rattle.answer_laws.specs.Sights.{OthersLeaveIt};
 ghost use Rattle.answer_laws.specs.Talks.{TalksAreAnswers};
 
 /// A session and a store that talk, whatever else is sent to the store and whoever ends: the accepted replies to the session's client
 /// are a first part of the answers to its lines.
 pub fn every_talk()
     ensures { TalksAreAnswers }
+{}
+
+/// A thread that waits for a reply is left alone by every call of another to whom it hasn't written; and one that waits for a letter
+/// goes on with a letter of the caller, or because whom it waits for has gone.
+pub fn every_call_of_another()
+    ensures { OthersLeaveIt }
 {}
