@@ -1,5 +1,5 @@
 -- Single changes, as another thread sees them.
-use Rattle.answer_laws.specs.Sights.{IsLeft, IsWoken, answer_for, answers_to, going_on, is_attentive, is_heard_of, sight, sight_by, written_to}
+use Rattle.answer_laws.specs.Sights.{IsLeft, IsWoken, answer_for, answers_to, going_on, is_attentive, Hears, sight, sight_by, written_to}
 use Rattle.lwp_types.specs.CountLaws.{count-filter, count_agree, count_found_by}
 use Rattle.lwp_types.specs.Letters.{is_letter_of, is_to, marked_received, received_from, reception_set, senders_to, without_letter}
 use Rattle.lwp_types.specs.State.{Outcome, State, ThreadRow, and_then, block_set, is_number, still, thread_of, with_block}
@@ -70,10 +70,10 @@ answers_push u es e none = answers_append u es (e ∷ []) ∙ ap (λ x. answers_
 
 -- ---- one thread
 
-module _ (u t : ℕ) where
+module _ (u : ℕ) (Fits : Option ℕ → Answer → Type 0) where
   pub data Turn (s : State) (out : Outcome) : Type 0 where
     Left : IsLeft u s out → Turn s out
-    Woken : IsWoken u t s out → Turn s out
+    Woken : IsWoken u Fits s out → Turn s out
 
   -- it is there, and attentive
   pub record Attends (s : State) : Type 0 where
@@ -159,7 +159,7 @@ module _ (u t : ℕ) where
       none false e = refl
 
   -- u itself goes on, with an answer to its wait
-  pub turn_own : (s : State) (was : Attends s) (out : Outcome) (a : Answer) (from : Option ℕ) → was.row.block ≡ block.Receiving from → is_heard_of t from a ≡ true
+  pub turn_own : (s : State) (was : Attends s) (out : Outcome) (a : Answer) (from : Option ℕ) → was.row.block ≡ block.Receiving from → Hears Fits from a
       → out.after.threads ≡ with_block u block.Not s.threads → filter (is_letter_of u) out.after.letters ≡ filter (is_letter_of u) s.letters → out.effects ≡ effect.Answered u a ∷ [] → Turn s out
   turn_own s was out a from waits right threads letters told = Woken (record {
     from = from;
@@ -182,7 +182,7 @@ module _ (u t : ℕ) where
       one false e = absurd (cc)
 
   -- v goes on; if that is u, with an answer to its wait
-  pub turn_waked : (s : State) (was : Attends s) (out : Outcome) (a : Answer) (v : ℕ) → (v ≡ u → (from : Option ℕ) × (was.row.block ≡ block.Receiving from) × (is_heard_of t from a ≡ true))
+  pub turn_waked : (s : State) (was : Attends s) (out : Outcome) (a : Answer) (v : ℕ) → (v ≡ u → (from : Option ℕ) × (was.row.block ≡ block.Receiving from) × Hears Fits from a)
       → out.after.threads ≡ with_block v block.Not s.threads → filter (is_letter_of u) out.after.letters ≡ filter (is_letter_of u) s.letters → out.effects ≡ effect.Answered v a ∷ [] → Turn s out
   turn_waked s was out a v own threads letters told = elim (cases_eq v u) [
     | inl e ↦ turn_own s was out a (own e).0 (own e).1 (own e).2 (threads ∙ ap (λ n. with_block n block.Not s.threads) e) letters (told ∙ ap (λ n. effect.Answered n a ∷ []) e)

@@ -1,9 +1,12 @@
 -- What of a thread others see as it talks, and what a step of another thread does to it.
+use Rattle.lwp_types.specs.Agents.{deliver}
 use Rattle.lwp_types.specs.Choice.{choice}
+use Rattle.lwp_types.specs.Counts.{timers_of}
 use Rattle.lwp_types.specs.Lawful.{Lawful}
-use Rattle.lwp_types.specs.Letters.{is_letter_of, is_to}
+use Rattle.lwp_types.specs.Letters.{is_letter_of, is_to, takes_from}
 use Rattle.lwp_types.specs.State.{Outcome, State, ThreadRow, passes, thread_of}
 use Rattle.lwp_types.specs.Step.{step}
+use Rattle.lwp_types.specs.Unblock.{nonexist}
 use Rattle.lwp_types.specs.declared.call.Answer.{Answer}
 use Rattle.lwp_types.specs.declared.call.Call.{Call}
 use Rattle.lwp_types.specs.declared.call.Effect.{Effect}
@@ -43,27 +46,43 @@ answer_for u _ = None
 abbrev pub answers_to : ℕ → List Effect → List Answer
 answers_to u es = filter_map (answer_for u) es
 
--- who waits so for a letter is answered so by a call of t: it has a letter of t, or whom it names isn't there
-abbrev pub is_heard_of : ℕ → Option ℕ → Answer → Bool
-is_heard_of t from (answer.Letter x text room) = x == t
-is_heard_of t from (answer.Refused error.NonExist) = is_some from
-is_heard_of t from _ = false
+-- who waits so for a letter has heard what fits, or that whom it waits for isn't there
+abbrev pub Hears : (Option ℕ → Answer → Type 0) → Option ℕ → Answer → Type 0
+Hears Fits from heard = Fits from heard ⊎ ((heard ≡ nonexist) × IsTrue (is_some from))
 
 -- nothing of it changes, and it is told nothing
 pub record IsLeft (u : ℕ) (s : State) (out : Outcome) : Type 0 where
   pub same : sight out.after u ≡ sight s u
   pub quiet : answers_to u out.effects ≡ []
 
--- it waited for a letter, and goes on with an answer to that, by a call of t
-pub record IsWoken (u t : ℕ) (s : State) (out : Outcome) : Type 0 where
+-- it waited for a letter, and goes on with the answer to that
+pub record IsWoken (u : ℕ) (Fits : Option ℕ → Answer → Type 0) (s : State) (out : Outcome) : Type 0 where
   pub from : Option ℕ
   pub waited : (sight s u).waits ≡ Some (block.Receiving from)
   pub goes_on : sight out.after u ≡ going_on (sight s u)
   pub heard : Answer
   pub told : answers_to u out.effects ≡ heard ∷ []
-  pub right : is_heard_of t from heard ≡ true
+  pub right : Hears Fits from heard
 
--- ---- the law
+-- who waits so waits for anybody, or for x
+abbrev pub waits_for : ℕ → Option ℕ → Bool
+waits_for x from = takes_from x (block.Receiving from)
+
+-- the letter that t sends to u by this call, as it was sent
+pub record IsSent (t u : ℕ) (c : Call) (from : Option ℕ) (heard : Answer) : Type 0 where
+  pub room : ℕ
+  pub text : List ℕ
+  pub sends : c ≡ call.Send u room text
+  pub letter : heard ≡ answer.Letter t text room
+  pub named : IsTrue (waits_for t from)
+
+-- the letter of an agent, with the text of the line that was taken
+pub record IsDelivered (text : List ℕ) (from : Option ℕ) (heard : Answer) : Type 0 where
+  pub agent : ℕ
+  pub letter : heard ≡ answer.Letter agent text 240
+  pub named : IsTrue (waits_for agent from)
+
+-- ---- the laws
 
 -- it waits for a letter or a reply, or for nothing
 abbrev pub is_attentive : Block → Bool
@@ -86,8 +105,14 @@ Spares s u (call.Destroy v) = ((v == u) ≡ false) × (written_to s u v ≡ 0)
 Spares s u _ = Unit {0}
 
 -- Of a thread that isn't the caller, waits at most for a letter or a reply, has written nothing to the caller, and is spared with
--- those to whom it has written, a call changes nothing and tells it nothing; unless it waits for a letter, and gets one of the caller,
--- or learns that whom it waits for isn't there.
+-- those to whom it has written, a call changes nothing and tells it nothing; unless it waits for a letter, and gets the one that
+-- the caller sends it, or learns that whom it waits for isn't there.
 abbrev pub OthersLeaveIt : Type 0
 OthersLeaveIt = (s : State) → Lawful s None → (t u : ℕ) → choice s ≡ Some t → (t == u) ≡ false → IsTrue (attends s u) → written_to s u t ≡ 0 → (c : Call) → Spares s u c
-    → IsLeft u s (step s c) ⊎ IsWoken u t s (step s c)
+    → IsLeft u s (step s c) ⊎ IsWoken u (IsSent t u c) s (step s c)
+
+-- So it is of each delivery, of a thread that attends and has no timer: nothing of it changes, unless it waits for a letter, and gets
+-- one of an agent.
+abbrev pub DeliveriesLeaveIt : Type 0
+DeliveriesLeaveIt = (s : State) → Lawful s None → (u : ℕ) → IsTrue (attends s u) → timers_of s.timers u ≡ 0 → (e : ℕ) (text : List ℕ)
+    → IsLeft u s (deliver s e text) ⊎ IsWoken u (IsDelivered text) s (deliver s e text)

@@ -4,7 +4,7 @@
 
 pub mod rows;
 
-ghost use Rattle.answer_laws.specs.Sights.{OthersLeaveIt};
+ghost use Rattle.answer_laws.specs.Sights.{DeliveriesLeaveIt, OthersLeaveIt};
 ghost use Rattle.answer_laws.specs.Talks.{TalksAreAnswers};
 
 /// A session and a store that talk, whatever else is sent to the store and whoever ends: the accepted replies to the session's client
@@ -14,7 +14,12 @@ pub fn every_talk()
 {}
 
 /// A thread that waits for a reply is left alone by every call of another to whom it hasn't written; and one that waits for a letter
-/// goes on with a letter of the caller, or because whom it waits for has gone.
+/// goes on with the letter that the caller sends it, or because whom it waits for isn't there.
 pub fn every_call_of_another()
     ensures { OthersLeaveIt }
+{}
+
+/// So it is by every delivery; one that waits for a letter goes on with the text that is delivered, as an agent's letter.
+pub fn every_delivery_to_others()
+    ensures { DeliveriesLeaveIt }
 {}
