@@ -3,3 +3,4 @@ pub mod TalkLaws
 pub mod Sights
 pub mod Leaving
 pub mod Others
+pub mod Replies

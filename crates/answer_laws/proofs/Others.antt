@@ -1,8 +1,8 @@
 -- What a call of another does to a thread that waits for a letter or a reply at most, and has written neither to the caller nor to
 -- whom the call destroys.
 use Rattle.answer_laws.proofs.Leaving.{Ready, end_agent_turn, ready_from, turn_death, turn_exited, turn_from, turn_post, turn_release, turn_replied, turn_suspension, turn_unwind, unless_turn, waking_turn}
-use Rattle.answer_laws.proofs.Sights.{Attends, Away, Turn, Turn.Left, Turn.Woken, answers_append, attends_after, blocked_other, found_other, not_own, pushed_own, received_own, replied_other, rowed, sight_same, turn_plain, turn_still, turn_then, turn_wake}
-use Rattle.answer_laws.specs.Sights.{IsLeft, IsWoken, DeliveriesLeaveIt, IsDelivered, IsSent, OthersLeaveIt, Spares, attends, answers_to, is_attentive, Hears, sight, sight_by}
+use Rattle.answer_laws.proofs.Sights.{Attends, Away, Turn, Turn.Left, Turn.Woken, answers_append, attends_after, blocked_other, found_other, not_own, received_own, replied_other, rowed, sight_same, turn_plain, turn_still, turn_then, turn_wake}
+use Rattle.answer_laws.specs.Sights.{IsLeft, IsWoken, DeliveriesLeaveIt, IsDelivered, IsSent, OthersLeaveIt, Spares, attends, answers_to, is_attentive, sight, sight_by}
 use Rattle.lwp_types.specs.Agents.{deliver, deliver_to, end_agent, event_agents, is_for, message}
 use Rattle.lwp_types.specs.Case.{Case, refused, unanswered, valued, with_zero}
 use Rattle.lwp_types.specs.Choice.{choice}
@@ -13,7 +13,7 @@ use Rattle.lwp_types.specs.FirstLaws.{finds_best}
 use Rattle.lwp_types.specs.First.{IsFirstBest}
 use Rattle.lwp_types.specs.Exits.{caught, leave_frame, notified_by}
 use Rattle.lwp_types.specs.Lawful.{NineParts, is_same_option}
-use Rattle.lwp_types.specs.Letters.{as_answer, as_received, is_letter_of, is_open, marked_received, post, receive_by, takes_from, unreceived, with_holding}
+use Rattle.lwp_types.specs.Letters.{as_answer, is_letter_of, is_open, marked_received, post, receive_by, takes_from, unreceived, with_holding}
 use Rattle.lwp_types.specs.Locks.{entered, is_owned_by_other, requested}
 use Rattle.lwp_types.specs.Marks.{caught_marks, first_frames, found_in, frames, later_frames, searching, with_match}
 use Rattle.lwp_types.specs.Release.{grant, last_lock, next_owner, requests_of, without_lock}
@@ -21,7 +21,7 @@ use Rattle.lwp_types.specs.State.{Outcome, State, ThreadRow, for_each, is_agent,
 use Rattle.lwp_types.specs.Step.{case_of, end_effects, ends, finished, own_effects, step, step_by, step_if}
 use Rattle.lwp_types.specs.Threads.{born}
 use Rattle.lwp_types.specs.Time.{due_threads, is_due, tick, ticked, time_out}
-use Rattle.lwp_types.specs.Unblock.{blocked, blocked_for, is_timer_of, unblock, zero_answer}
+use Rattle.lwp_types.specs.Unblock.{blocked, blocked_for, is_timer_of, zero_answer}
 use Rattle.lwp_types.specs.Waits.{wait_of, waited, waits_on}
 use Rattle.lwp_types.specs.declared.call.Answer.{Answer}
 use Rattle.lwp_types.specs.declared.call.Call.{Call}
@@ -57,6 +57,22 @@ use Rattle.lwp_types.specs.declared.call.Func.TheVariants as func
 use Rattle.lwp_types.specs.declared.call.LwpErr.TheVariants as error
 use Rattle.lwp_types.specs.declared.call.Mode.TheVariants as mode
 use Rattle.lwp_types.specs.declared.rows.Block.TheVariants as block
+
+-- the call itself, the caller's answer and the end tell another nothing
+module _ (u t : ℕ) (other : t ≢ u) where
+  rest_quiet : (o : Option Answer) (after : State) → answers_to u (own_effects t o ++ end_effects after) ≡ []
+  rest_quiet o after = answers_append u (own_effects t o) (end_effects after) ∙ ap (λ xs. xs ++ answers_to u (end_effects after)) (no_own o) ∙ no_end (ends after)
+    where
+      no_own : (o : Option Answer) → answers_to u (own_effects t o) ≡ []
+      no_own None = refl
+      no_own (Some a) = rw (ne_eqb t u other) refl
+
+      no_end : (b : Bool) → answers_to u (cond b (effect.Ended after.status ∷ []) []) ≡ []
+      no_end true = refl
+      no_end false = refl
+
+  pub finished_told : (c : Call) (made : Case) → answers_to u (finished t c made).effects ≡ answers_to u made.others
+  finished_told c made = answers_append u made.others (own_effects t made.own ++ end_effects made.after) ∙ ap (λ xs. answers_to u made.others ++ xs) (rest_quiet made.own made.after) ∙ append-nil (answers_to u made.others)
 
 module _ (u t : ℕ) (Fits : Option ℕ → Answer → Type 0) (s : State) (nine : NineParts s None) (ready : Ready u Fits t s) (x : ThreadRow) (known : thread_of s t ≡ Some x) (other : t ≢ u) where
   abbrev Now : Outcome → Type 0
@@ -252,24 +268,9 @@ module _ (u t : ℕ) (Fits : Option ℕ → Answer → Type 0) (s : State) (nine
   case_turn (call.Trap e) h fits = still_now _ refl refl refl
   case_turn (call.Say text) h fits = still_now _ refl refl refl
 
-  -- the call itself, the caller's answer and the end tell u nothing
-  rest_quiet : (o : Option Answer) (after : State) → answers_to u (own_effects t o ++ end_effects after) ≡ []
-  rest_quiet o after = answers_append u (own_effects t o) (end_effects after) ∙ ap (λ xs. xs ++ answers_to u (end_effects after)) (no_own o) ∙ no_end (ends after)
-    where
-      no_own : (o : Option Answer) → answers_to u (own_effects t o) ≡ []
-      no_own None = refl
-      no_own (Some a) = rw (ne_eqb t u other) refl
-
-      no_end : (b : Bool) → answers_to u (cond b (effect.Ended after.status ∷ []) []) ≡ []
-      no_end true = refl
-      no_end false = refl
-
-  finished_told : (c : Call) (made : Case) → answers_to u (finished t c made).effects ≡ answers_to u made.others
-  finished_told c made = answers_append u made.others (own_effects t made.own ++ end_effects made.after) ∙ ap (λ xs. answers_to u made.others ++ xs) (rest_quiet made.own made.after) ∙ append-nil (answers_to u made.others)
-
   finished_turn : (c : Call) (made : Case) → Its made → IsLeft u s (finished t c made) ⊎ IsWoken u Fits s (finished t c made)
-  finished_turn c made (Left a) = inl (record { same = a.same; quiet = finished_told c made ∙ a.quiet })
-  finished_turn c made (Woken a) = inr (record { from = a.from; waited = a.waited; goes_on = a.goes_on; heard = a.heard; told = finished_told c made ∙ a.told; right = a.right })
+  finished_turn c made (Left a) = inl (record { same = a.same; quiet = finished_told u t other c made ∙ a.quiet })
+  finished_turn c made (Woken a) = inr (record { from = a.from; waited = a.waited; goes_on = a.goes_on; heard = a.heard; told = finished_told u t other c made ∙ a.told; right = a.right })
 
 attends_of : (u : ℕ) (Fits : Option ℕ → Answer → Type 0) (s : State) → attends s u ≡ true → Attends u Fits s
 attends_of u Fits s attentive = by_row (thread_of s u) refl attentive

@@ -1,3 +1,4 @@
 pub mod Talks
 pub mod Rows
 pub mod Sights
+pub mod Replies

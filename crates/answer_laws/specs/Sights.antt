@@ -18,7 +18,6 @@ use Rattle.std.specs.Prelude.{Bool, IsTrue, List, None, Option, Some, [], false,
 use Rattle.lwp_types.specs.declared.call.Answer.TheVariants as answer
 use Rattle.lwp_types.specs.declared.call.Call.TheVariants as call
 use Rattle.lwp_types.specs.declared.call.Effect.TheVariants as effect
-use Rattle.lwp_types.specs.declared.call.LwpErr.TheVariants as error
 use Rattle.lwp_types.specs.declared.rows.Block.TheVariants as block
 
 -- what a thread waits for, if it is there, the marks on its stack, and its letters that aren't replied to

@@ -4,6 +4,7 @@
 
 pub mod rows;
 
+ghost use Rattle.answer_laws.specs.Replies.{EachHasOneLetter, ReceivesAreTheLetters, RepliesAreTheAnswers};
 ghost use Rattle.answer_laws.specs.Sights.{DeliveriesLeaveIt, OthersLeaveIt};
 ghost use Rattle.answer_laws.specs.Talks.{TalksAreAnswers};
 
@@ -22,4 +23,19 @@ pub fn every_call_of_another()
 /// So it is by every delivery; one that waits for a letter goes on with the text that is delivered, as an agent's letter.
 pub fn every_delivery_to_others()
     ensures { DeliveriesLeaveIt }
+{}
+
+/// A thread has one letter at most that isn't replied to.
+pub fn every_sender()
+    ensures { EachHasOneLetter }
+{}
+
+/// A receive that finds a letter is answered it, as it was sent.
+pub fn every_receive()
+    ensures { ReceivesAreTheLetters }
+{}
+
+/// A reply to a letter that was received is what its sender is answered, if it has room for that.
+pub fn every_reply()
+    ensures { RepliesAreTheAnswers }
 {}
