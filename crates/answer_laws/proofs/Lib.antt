@@ -4,3 +4,4 @@ pub mod Sights
 pub mod Leaving
 pub mod Others
 pub mod Replies
+pub mod Events

@@ -12,7 +12,7 @@ use Rattle.lwp_types.specs.Death.{death, destroyed, return_from}
 use Rattle.lwp_types.specs.FirstLaws.{finds_best}
 use Rattle.lwp_types.specs.First.{IsFirstBest}
 use Rattle.lwp_types.specs.Exits.{caught, leave_frame, notified_by}
-use Rattle.lwp_types.specs.Lawful.{NineParts, is_same_option}
+use Rattle.lwp_types.specs.Lawful.{Lawful, NineParts, is_same_option}
 use Rattle.lwp_types.specs.Letters.{as_answer, is_letter_of, is_open, marked_received, post, receive_by, takes_from, unreceived, with_holding}
 use Rattle.lwp_types.specs.Locks.{entered, is_owned_by_other, requested}
 use Rattle.lwp_types.specs.Marks.{caught_marks, first_frames, found_in, frames, later_frames, searching, with_match}
@@ -46,7 +46,7 @@ use Rattle.pod_laws.proofs.MarkMoves.{NineParts-fewer}
 use Rattle.pod_laws.proofs.OnceExits.{of_case}
 use Rattle.pod_laws.proofs.Rows.{find_rowed, number_known}
 use Rattle.pod_laws.proofs.WaitCalls.{Among, all_among, best_among}
-use Rattle.std.proofs.Common.{Bool, List, None, Option, Some, [], ap, append-nil, arith, cond, eqb, false, inl, inr, not, refl, sym, true, ℕ, ◌&&◌, ◌++◌, ◌+◌, ◌-◌, ◌||◌, ◌∙◌, ◌∷◌, ◌≡◌, ◌≢◌, ◌≤◌, ◌⊎◌}
+use Rattle.std.proofs.Common.{Bool, List, None, Option, Some, [], ap, append-nil, arith, cond, eqb, false, inl, inr, not, refl, subst, sym, true, ℕ, ◌&&◌, ◌++◌, ◌+◌, ◌-◌, ◌||◌, ◌∙◌, ◌∷◌, ◌≡◌, ◌≢◌, ◌≤◌, ◌⊎◌}
 use Rattle.std.proofs.lemmas.Bool.{and_from, and_parts, eq-eqb, leb-true, ne_eqb}
 use Rattle.std.specs.List.{count_by, filter, find, list_all}
 use Rattle.std.specs.Prelude.{map, nat_le, option_map, unwrap_or}
@@ -272,35 +272,28 @@ module _ (u t : ℕ) (Fits : Option ℕ → Answer → Type 0) (s : State) (nine
   finished_turn c made (Left a) = inl (record { same = a.same; quiet = finished_told u t other c made ∙ a.quiet })
   finished_turn c made (Woken a) = inr (record { from = a.from; waited = a.waited; goes_on = a.goes_on; heard = a.heard; told = finished_told u t other c made ∙ a.told; right = a.right })
 
-attends_of : (u : ℕ) (Fits : Option ℕ → Answer → Type 0) (s : State) → attends s u ≡ true → Attends u Fits s
+pub attends_of : (u : ℕ) (Fits : Option ℕ → Answer → Type 0) (s : State) → attends s u ≡ true → Attends u Fits s
 attends_of u Fits s attentive = by_row (thread_of s u) refl attentive
   where
     by_row : (o : Option ThreadRow) → thread_of s u ≡ o → passes (λ row. is_attentive row.block) o ≡ true → Attends u Fits s
     by_row None e h = absurd (cc)
     by_row (Some row) e h = record { row = row; known = e; attends = h }
 
-pub others_leave_it : OthersLeaveIt
-unfolding step step_by
-others_leave_it s was t u turn other attentive away c spared = by_choice (choice s) turn
-  where
-    Fits : Option ℕ → Answer → Type 0
-    Fits from heard = IsSent t u c from heard
+-- a step of another, whatever fits
+module _ (u t : ℕ) (Fits : Option ℕ → Answer → Type 0) (s : State) (was : Lawful s None) (turn : choice s ≡ Some t) (apart : t ≢ u) (ready : Ready u Fits t s) where
+  pub step_turn : (c : Call) → Spares s u c → ((room : ℕ) (text : List ℕ) → c ≡ call.Send u room text → (from : Option ℕ) → takes_from t (block.Receiving from) ≡ true → Fits from (answer.Letter t text room)) → IsLeft u s (step s c) ⊎ IsWoken u Fits s (step s c)
+  unfolding step step_by
+  step_turn c spared sent =
+      let run = chosen s was.nine t turn in
+      subst (λ o. IsLeft u s (step_if s c o) ⊎ IsWoken u Fits s (step_if s c o)) (sym turn)
+      (finished_turn u t Fits s was.nine ready run.row run.known apart c (case_of s t c) (case_turn u t Fits s was.nine ready run.row run.known apart c spared sent))
 
+pub others_leave_it : OthersLeaveIt
+others_leave_it s was t u turn other attentive away c spared = step_turn u t (IsSent t u c) s was turn apart (record { attends = attends_of u (IsSent t u c) s attentive; away = away }) c spared
+    (λ room text e from takes. record { room = room; text = text; sends = e; letter = refl; named = takes })
+  where
     apart : t ≢ u
     apart e = let bad : true ≡ false = sym (eq-eqb t u e) ∙ other in cc
-
-    ready : Ready u Fits t s
-    ready = record { attends = attends_of u Fits s attentive; away = away }
-
-    sent : (room : ℕ) (text : List ℕ) → c ≡ call.Send u room text → (from : Option ℕ) → takes_from t (block.Receiving from) ≡ true → Fits from (answer.Letter t text room)
-    sent room text e from takes = record { room = room; text = text; sends = e; letter = refl; named = takes }
-
-    by_choice : (o : Option ℕ) → o ≡ Some t → IsLeft u s (step_if s c o) ⊎ IsWoken u Fits s (step_if s c o)
-    by_choice None e = absurd (cc)
-    by_choice (Some v) e =
-        let same : v ≡ t = cc in
-        let run = chosen s was.nine t turn in
-        rw same (finished_turn u t Fits s was.nine ready run.row run.known apart c (case_of s t c) (case_turn u t Fits s was.nine ready run.row run.known apart c spared sent))
 
 -- ---- deliveries
 
@@ -344,7 +337,7 @@ module _ (u : ℕ) (Fits : Option ℕ → Answer → Type 0) where
       turn_then u Fits s (record { after = holds; effects = effect.Delivered row.number row.event ∷ [] }) (post (message text row)) (Left (record { same = refl; quiet = refl }))
       (turn_post u Fits holds (record { row = here.row; known = here.known; attends = here.attends }) (message text row) (not_it row.number h) (λ e from takes. fits row.number from takes))
 
-  deliver_turn : (s : State) → NineParts s None → Attends u Fits s → timers_of s.timers u ≡ 0 → (e : ℕ) (text : List ℕ) → ((agent : ℕ) (from : Option ℕ) → takes_from agent (block.Receiving from) ≡ true → Fits from (answer.Letter agent text 240)) → Turn u Fits s (deliver s e text)
+  pub deliver_turn : (s : State) → NineParts s None → Attends u Fits s → timers_of s.timers u ≡ 0 → (e : ℕ) (text : List ℕ) → ((agent : ℕ) (from : Option ℕ) → takes_from agent (block.Receiving from) ≡ true → Fits from (answer.Letter agent text 240)) → Turn u Fits s (deliver s e text)
   unfolding deliver
   deliver_turn s nine here none e text fits = by_clock (eqb e 0)
     where

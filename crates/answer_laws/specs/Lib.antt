@@ -2,3 +2,4 @@ pub mod Talks
 pub mod Rows
 pub mod Sights
 pub mod Replies
+pub mod Events

@@ -4,6 +4,7 @@
 
 pub mod rows;
 
+ghost use Rattle.answer_laws.specs.Events.{PodsLeaveIt, TakesLeaveIt};
 ghost use Rattle.answer_laws.specs.Replies.{EachHasOneLetter, ReceivesAreTheLetters, RepliesAreTheAnswers};
 ghost use Rattle.answer_laws.specs.Sights.{DeliveriesLeaveIt, OthersLeaveIt};
 ghost use Rattle.answer_laws.specs.Talks.{TalksAreAnswers};
@@ -38,4 +39,14 @@ pub fn every_receive()
 /// A reply to a letter that was received is what its sender is answered, if it has room for that.
 pub fn every_reply()
     ensures { RepliesAreTheAnswers }
+{}
+
+/// The same of every call in a pod with its own events, with the trap before it and the report behind it.
+pub fn every_call_in_a_pod()
+    ensures { PodsLeaveIt }
+{}
+
+/// And of every line that is taken there.
+pub fn every_take_in_a_pod()
+    ensures { TakesLeaveIt }
 {}
