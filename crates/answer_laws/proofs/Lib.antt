@@ -5,3 +5,4 @@ pub mod Leaving
 pub mod Others
 pub mod Replies
 pub mod Events
+pub mod Lengths

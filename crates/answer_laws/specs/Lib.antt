@@ -3,3 +3,4 @@ pub mod Rows
 pub mod Sights
 pub mod Replies
 pub mod Events
+pub mod Lengths

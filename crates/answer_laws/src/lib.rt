@@ -1,10 +1,24 @@
-//! What one client of the line server is told: the laws of its session and its store. There is no code here: each function below has
-//! no body, and its clause is the law.
+//! What one client of the line server is told: laws of its session and of the store, and of the letters that carry its lines. There is
+//! no code here: each function below has no body, and its clause is the law. So there are no wrong edits either.
+//!
+//! | what is said | law, and where it stands |
+//! |---|---|
+//! | a session and a store that talk, whatever others send to the store and whoever ends: what the client is told is a first part of the answers to its lines | `TalksAreAnswers` (`specs/Talks.antt`) |
+//! | the answers to lines that have room in a letter have room in one | `ShortLinesHaveShortAnswers` (`specs/Lengths.antt`) |
+//! | a sender has one letter at most; whoever receives it is handed it as it was sent; and what is replied to it is what its sender is answered | `EachHasOneLetter`, `ReceivesAreTheLetters`, `RepliesAreTheAnswers` (`specs/Replies.antt`) |
+//! | nobody else touches a thread that waits for a reply, or who waits for a letter but by sending it one | `OthersLeaveIt`, `DeliveriesLeaveIt` (`specs/Sights.antt`), and with traps and reports `PodsLeaveIt`, `TakesLeaveIt` (`specs/Events.antt`) |
+//!
+//! In a talk (`Talk`) the two bodies are polled as they are in a session, and the pod answers them: a reply to the session goes to the
+//! letter that the store has received, and a line comes only to a session that waits for one. What a thread shows to others (`Sight`)
+//! is what it waits for, its marks and its letters.
+//!
+//! It stands on the bodies of `line_server`, on the laws of the machine in `pod_laws`, and on the events of `pod_events`.
 #![tactic(auto)]
 
 pub mod rows;
 
 ghost use Rattle.answer_laws.specs.Events.{PodsLeaveIt, TakesLeaveIt};
+ghost use Rattle.answer_laws.specs.Lengths.{ShortLinesHaveShortAnswers};
 ghost use Rattle.answer_laws.specs.Replies.{EachHasOneLetter, ReceivesAreTheLetters, RepliesAreTheAnswers};
 ghost use Rattle.answer_laws.specs.Sights.{DeliveriesLeaveIt, OthersLeaveIt};
 ghost use Rattle.answer_laws.specs.Talks.{TalksAreAnswers};
@@ -49,4 +63,9 @@ pub fn every_call_in_a_pod()
 /// And of every line that is taken there.
 pub fn every_take_in_a_pod()
     ensures { TakesLeaveIt }
+{}
+
+/// The answers to lines that have room in a letter have room in one.
+pub fn every_answer()
+    ensures { ShortLinesHaveShortAnswers }
 {}
