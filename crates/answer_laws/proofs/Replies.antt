@@ -1,24 +1,27 @@
 -- A letter is received by whom it was sent to, and its sender is answered what that one replies.
-use Rattle.answer_laws.proofs.Others.{finished_told}
-use Rattle.answer_laws.proofs.Sights.{answers_append}
-use Rattle.answer_laws.specs.Replies.{Asks, EachHasOneLetter, IsReceived, IsReplied, ReceivesAreTheLetters, RepliesAreTheAnswers}
+use Rattle.answer_laws.proofs.Others.{attends_of, finished_told}
+use Rattle.answer_laws.proofs.Sights.{Attends, answers_append, blocked_other, left_wake, received_own, without_own}
+use Rattle.answer_laws.specs.Replies.{Asks, EachHasOneLetter, IsReceived, IsReplied, ReadersLeaveTheRest, ReceivesAreTheLetters, RepliesAreTheAnswers, takes_other}
 use Rattle.answer_laws.specs.Sights.{IsLeft, answers_to, going_on, sight, sight_by}
-use Rattle.lwp_types.specs.Case.{Case, Check, answered, is_no_id, refused, unless, with_zero}
+use Rattle.lwp_types.specs.Case.{Case, Check, answered, is_no_id, refused, unanswered, unless, with_zero}
 use Rattle.lwp_types.specs.CountLaws.{one-le}
 use Rattle.lwp_types.specs.FirstLaws.{find-filter}
 use Rattle.lwp_types.specs.Lawful.{Lawful}
 use Rattle.lwp_types.specs.Letters.{as_answer, as_received, is_from, is_letter_of, is_no_source, is_open, is_to, marked_received, receive_by, received_from, reception_set, replied, unreceived, with_holding, without_letter}
 use Rattle.lwp_types.specs.State.{State, ThreadRow, block_set, is_agent, is_id, is_number, is_thread, passes, still, thread_of, with_block}
 use Rattle.lwp_types.specs.Step.{case_of, end_effects, ends, finished, step, step_by, step_if}
-use Rattle.lwp_types.specs.Unblock.{unblock}
+use Rattle.lwp_types.specs.Unblock.{blocked, blocked_for, unblock}
 use Rattle.lwp_types.specs.declared.call.Answer.{Answer}
+use Rattle.lwp_types.specs.declared.call.Call.{Call}
 use Rattle.lwp_types.specs.declared.call.Mode.{Mode}
+use Rattle.lwp_types.specs.declared.rows.Block.{Block}
 use Rattle.lwp_types.specs.declared.rows.Letter.{Letter}
 use Rattle.lwp_types.specs.Counts.{goes_well, is_sending}
 use Rattle.pod_laws.proofs.Checks.{Passed}
 use Rattle.pod_laws.proofs.Chosen.{living}
 use Rattle.pod_laws.proofs.Elements.{all_found, find_passes}
 use Rattle.pod_laws.proofs.LetterMoves.{letters_counted, no_agent}
+use Rattle.pod_laws.proofs.OnceExits.{of_case}
 use Rattle.pod_laws.proofs.Rows.{find_rowed, number_known}
 use Rattle.std.proofs.Common.{Bool, List, None, Option, Some, [], ap, arith, cond, eqb, false, length, not, refl, subst, sym, true, ℕ, ◌&&◌, ◌++◌, ◌<◌, ◌||◌, ◌∙◌, ◌∷◌, ◌≡◌, ◌≢◌, ◌≤◌}
 use Rattle.std.proofs.lemmas.Bool.{and_from, and_parts, eq-eqb, eqb-true, le-ltb, lt-ltb, ne_eqb}
@@ -29,7 +32,12 @@ use Rattle.lwp_types.specs.declared.call.Answer.TheVariants as answer
 use Rattle.lwp_types.specs.declared.call.Call.TheVariants as call
 use Rattle.lwp_types.specs.declared.call.Effect.TheVariants as effect
 use Rattle.lwp_types.specs.declared.call.LwpErr.TheVariants as error
+use Rattle.lwp_types.specs.declared.call.Mode.TheVariants as mode
 use Rattle.lwp_types.specs.declared.rows.Block.TheVariants as block
+
+-- nothing fits
+abbrev Never : Option ℕ → Answer → Type 0
+Never from heard = ⊥
 
 -- ---- checks
 
@@ -228,3 +236,54 @@ pub each_has_one_letter : EachHasOneLetter
 each_has_one_letter s was u lives =
     let who = living s u lives in
     omega (arith, length-filter (is_letter_of u) s.letters, letters_counted s None was.nine u who.row who.known, one-le (is_sending who.row.block))
+
+-- ---- whom u has written to, as it deals with others
+
+module _ (s : State) (t u : ℕ) (apart : t ≢ u) (here : Attends u Never s) where
+  unless_left : (checks : List Check) (otherwise : Case) → IsLeft u s (of_case otherwise) → IsLeft u s (of_case (unless s checks otherwise))
+  unfolding unless
+  unless_left [] otherwise fine = fine
+  unless_left (check ∷ checks) otherwise fine = by_test check.0 (unless_left checks otherwise fine)
+    where
+      by_test : (b : Bool) → IsLeft u s (of_case (unless s checks otherwise)) → IsLeft u s (of_case (cond b (refused s check.1) (unless s checks otherwise)))
+      by_test true rest = record { same = refl; quiet = refl }
+      by_test false rest = rest
+
+  left_replied : (v : ℕ) (text : List ℕ) → v ≢ u → IsLeft u s (replied v text s)
+  left_replied v text other = by_agent (is_agent s v)
+    where
+      by_agent : (b : Bool) → IsLeft u s (cond b (still (record s { letters = without_letter v s.letters; agents = with_holding v false s.agents })) (unblock (answer.Reply text) v (record s { letters = without_letter v s.letters })))
+      by_agent true = record { same = λ i. sight_by (thread_of s u) (without_own u Never v other s.letters i); quiet = refl }
+      by_agent false = left_wake u Never s here _ (answer.Reply text) v other refl (without_own u Never v other s.letters) refl
+
+  blocked_left : (now : State) (b : Block) → now.threads ≡ with_block t b s.threads → now.letters ≡ s.letters → IsLeft u s (record { after = now; effects = [] })
+  blocked_left now b threads letters = record { same = λ i. sight_by ((ap (find (is_number u)) threads ∙ blocked_other u Never s here t b apart) i) (filter (is_letter_of u) (letters i)); quiet = refl }
+
+  left_received : (from : Option ℕ) (how : Mode) (o : Option Letter) → takes_other u o ≡ true → IsLeft u s (of_case (receive_by s t from how o))
+  left_received from how (Some letter) h = record { same = λ i. sight_by (thread_of s u) (received_own u Never letter.from (not_is letter.from h) s.letters i); quiet = refl }
+    where
+      not_is : (n : ℕ) → not (eqb n u) ≡ true → n ≢ u
+      not_is n h e = let bad : false ≡ true = sym (ap not (eq-eqb n u e)) ∙ h in cc
+  left_received from mode.Poll None h = record { same = refl; quiet = refl }
+  left_received from mode.Block None h = blocked_left (blocked s t (block.Receiving from)) (block.Receiving from) refl refl
+  left_received from (mode.Until ticks) None h = by_ticks (eqb ticks 0)
+    where
+      by_ticks : (b : Bool) → IsLeft u s (of_case (cond b (refused s error.Timeout) (unanswered (still (blocked_for s t (block.Receiving from) ticks)))))
+      by_ticks true = record { same = refl; quiet = refl }
+      by_ticks false = blocked_left (blocked_for s t (block.Receiving from) ticks) (block.Receiving from) refl refl
+
+  finished_left : (c : Call) → IsLeft u s (of_case (case_of s t c)) → IsLeft u s (finished t c (case_of s t c))
+  finished_left c left = record { same = left.same; quiet = finished_told u t apart c (case_of s t c) ∙ left.quiet }
+
+pub readers_leave_the_rest : ReadersLeaveTheRest
+unfolding step step_by
+readers_leave_the_rest s t u turn other attentive = record {
+  replies = λ v text h. subst (λ o. IsLeft u s (step_if s (call.Reply v text) o)) (sym turn) (finished_left s t u (differs t other) here (call.Reply v text) (unless_left s t u (differs t other) here _ _ (left_replied s t u (differs t other) here v text (differs v h))));
+  receives = λ from how h. subst (λ o. IsLeft u s (step_if s (call.Recv from how) o)) (sym turn) (finished_left s t u (differs t other) here (call.Recv from how) (unless_left s t u (differs t other) here _ _ (left_received s t u (differs t other) here from how (unreceived s.letters t from) h)));
+}
+  where
+    differs : (n : ℕ) → eqb n u ≡ false → n ≢ u
+    differs n h e = let bad : true ≡ false = sym (eq-eqb n u e) ∙ h in cc
+
+    here : Attends u Never s
+    here = attends_of u Never s attentive

@@ -148,15 +148,18 @@ module _ (u : ℕ) (Fits : Option ℕ → Answer → Type 0) where
   blocked_other s was v b other = rowed (block_set v b) (λ row. refl) s was.row was.known (block_other v b was.row (number_known s.threads u was.row was.known) other) ∙ sym was.known
 
   -- another goes on
-  pub turn_wake : (s : State) → Attends s → (out : Outcome) (a : Answer) (v : ℕ) → v ≢ u → out.after.threads ≡ with_block v block.Not s.threads → filter (is_letter_of u) out.after.letters ≡ filter (is_letter_of u) s.letters → out.effects ≡ effect.Answered v a ∷ [] → Turn s out
-  turn_wake s was out a v other threads letters told = Left (record {
+  pub left_wake : (s : State) → Attends s → (out : Outcome) (a : Answer) (v : ℕ) → v ≢ u → out.after.threads ≡ with_block v block.Not s.threads → filter (is_letter_of u) out.after.letters ≡ filter (is_letter_of u) s.letters → out.effects ≡ effect.Answered v a ∷ [] → IsLeft u s out
+  left_wake s was out a v other threads letters told = record {
     same = λ i. sight_by ((ap (find (is_number u)) threads ∙ blocked_other s was v block.Not other) i) (letters i);
     quiet = ap (answers_to u) told ∙ none (eqb v u) (ne_eqb v u other);
-  })
+  }
     where
       none : (b : Bool) → b ≡ false → filter_map (λ (o : Option Answer). o) (cond b (Some a) None ∷ []) ≡ []
       none true e = absurd (cc)
       none false e = refl
+
+  pub turn_wake : (s : State) → Attends s → (out : Outcome) (a : Answer) (v : ℕ) → v ≢ u → out.after.threads ≡ with_block v block.Not s.threads → filter (is_letter_of u) out.after.letters ≡ filter (is_letter_of u) s.letters → out.effects ≡ effect.Answered v a ∷ [] → Turn s out
+  turn_wake s was out a v other threads letters told = Left (left_wake s was out a v other threads letters told)
 
   -- u itself goes on, with an answer to its wait
   pub turn_own : (s : State) (was : Attends s) (out : Outcome) (a : Answer) (from : Option ℕ) → was.row.block ≡ block.Receiving from → Hears Fits from a

@@ -1,13 +1,13 @@
 -- A letter is received by whom it was sent to, and its sender is answered what that one replies.
-use Rattle.answer_laws.specs.Sights.{IsLeft, answers_to, going_on, sight}
+use Rattle.answer_laws.specs.Sights.{IsLeft, answers_to, attends, going_on, sight}
 use Rattle.lwp_types.specs.Choice.{choice}
 use Rattle.lwp_types.specs.Lawful.{Lawful}
-use Rattle.lwp_types.specs.Letters.{as_answer, as_received, unreceived}
-use Rattle.lwp_types.specs.State.{Outcome, State, is_thread}
+use Rattle.lwp_types.specs.Letters.{as_answer, as_received, is_letter_of, unreceived}
+use Rattle.lwp_types.specs.State.{Outcome, State, is_thread, passes}
 use Rattle.lwp_types.specs.Step.{step}
 use Rattle.lwp_types.specs.declared.call.Mode.{Mode}
 use Rattle.lwp_types.specs.declared.rows.Letter.{Letter}
-use Rattle.std.specs.Prelude.{IsTrue, List, None, Option, Some, [], length, ℕ, ◌<◌, ◌∷◌, ◌≡◌, ◌≤◌}
+use Rattle.std.specs.Prelude.{Bool, IsTrue, List, None, Option, Some, [], false, length, not, ℕ, ◌<◌, ◌==◌, ◌∷◌, ◌≡◌, ◌≤◌}
 use Rattle.lwp_types.specs.declared.call.Answer.TheVariants as answer
 use Rattle.lwp_types.specs.declared.call.Call.TheVariants as call
 
@@ -45,3 +45,15 @@ pub record IsReceived (u t : ℕ) (letter : Letter) (s : State) (out : Outcome) 
 abbrev pub ReceivesAreTheLetters : Type 0
 ReceivesAreTheLetters = (s : State) → Lawful s None → (t u : ℕ) → choice s ≡ Some t → (letter : Letter) → Asks s u t letter → (from : Option ℕ) (how : Mode)
     → unreceived s.letters t from ≡ Some letter → IsReceived u t letter s (step s (call.Recv from how))
+
+-- it doesn't take a letter of u
+abbrev pub takes_other : ℕ → Option Letter → Bool
+takes_other u letter = not (passes (is_letter_of u) letter)
+
+-- Whom u has written to leaves it alone as well, as long as it replies to others, and receives the letters of others or waits for one.
+pub record LeavesTheRest (s : State) (u t : ℕ) : Type 0 where
+  pub replies : (v : ℕ) (text : List ℕ) → (v == u) ≡ false → IsLeft u s (step s (call.Reply v text))
+  pub receives : (from : Option ℕ) (how : Mode) → IsTrue (takes_other u (unreceived s.letters t from)) → IsLeft u s (step s (call.Recv from how))
+
+abbrev pub ReadersLeaveTheRest : Type 0
+ReadersLeaveTheRest = (s : State) → (t u : ℕ) → choice s ≡ Some t → (t == u) ≡ false → IsTrue (attends s u) → LeavesTheRest s u t

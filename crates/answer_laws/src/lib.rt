@@ -5,7 +5,7 @@
 //! |---|---|
 //! | a session and a store that talk, whatever others send to the store and whoever ends: what the client is told is a first part of the answers to its lines | `TalksAreAnswers` (`specs/Talks.antt`) |
 //! | the answers to lines that have room in a letter have room in one | `ShortLinesHaveShortAnswers` (`specs/Lengths.antt`) |
-//! | a sender has one letter at most; whoever receives it is handed it as it was sent; and what is replied to it is what its sender is answered | `EachHasOneLetter`, `ReceivesAreTheLetters`, `RepliesAreTheAnswers` (`specs/Replies.antt`) |
+//! | a sender has one letter at most; whoever receives it is handed it as it was sent; and what is replied to it is what its sender is answered | `EachHasOneLetter`, `ReceivesAreTheLetters`, `RepliesAreTheAnswers`, `ReadersLeaveTheRest` (`specs/Replies.antt`) |
 //! | nobody else touches a thread that waits for a reply, or who waits for a letter but by sending it one | `OthersLeaveIt`, `DeliveriesLeaveIt` (`specs/Sights.antt`), and with traps and reports `PodsLeaveIt`, `TakesLeaveIt` (`specs/Events.antt`) |
 //!
 //! In a talk (`Talk`) the two bodies are polled as they are in a session, and the pod answers them: a reply to the session goes to the
@@ -19,7 +19,7 @@ pub mod rows;
 
 ghost use Rattle.answer_laws.specs.Events.{PodsLeaveIt, TakesLeaveIt};
 ghost use Rattle.answer_laws.specs.Lengths.{ShortLinesHaveShortAnswers};
-ghost use Rattle.answer_laws.specs.Replies.{EachHasOneLetter, ReceivesAreTheLetters, RepliesAreTheAnswers};
+ghost use Rattle.answer_laws.specs.Replies.{EachHasOneLetter, ReadersLeaveTheRest, ReceivesAreTheLetters, RepliesAreTheAnswers};
 ghost use Rattle.answer_laws.specs.Sights.{DeliveriesLeaveIt, OthersLeaveIt};
 ghost use Rattle.answer_laws.specs.Talks.{TalksAreAnswers};
 
@@ -55,7 +55,12 @@ pub fn every_reply()
     ensures { RepliesAreTheAnswers }
 {}
 
-/// The same of every call in a pod with its own events, with the trap before it and the report behind it.
+/// Whom a thread has written to leaves it alone while it replies to others, and receives the letters of others or waits.
+pub fn every_call_of_a_reader()
+    ensures { ReadersLeaveTheRest }
+{}
+
+/// The same of every call of another in a pod with its own events, with the trap before it and the report behind it.
 pub fn every_call_in_a_pod()
     ensures { PodsLeaveIt }
 {}
