@@ -4,3 +4,5 @@ pub mod Sights
 pub mod Replies
 pub mod Events
 pub mod Lengths
+pub mod Clients
+pub mod ClientRows

@@ -8,6 +8,9 @@
 //! | a sender has one letter at most; whoever receives it is handed it as it was sent; and what is replied to it is what its sender is answered | `EachHasOneLetter`, `ReceivesAreTheLetters`, `RepliesAreTheAnswers`, `ReadersLeaveTheRest` (`specs/Replies.antt`) |
 //! | nobody else touches a thread that waits for a reply, or who waits for a letter but by sending it one | `OthersLeaveIt`, `DeliveriesLeaveIt` (`specs/Sights.antt`), and with traps and reports `PodsLeaveIt`, `TakesLeaveIt` (`specs/Events.antt`) |
 //!
+//! What of this the steps of a session tell, `specs/Clients.antt` says: which lines were delivered to an agent, how it was replied to,
+//! and where its session sent; `rows` has two sessions worked out by hand.
+//!
 //! In a talk (`Talk`) the two bodies are polled as they are in a session, and the pod answers them: a reply to the session goes to the
 //! letter that the store has received, and a line comes only to a session that waits for one. What a thread shows to others (`Sight`)
 //! is what it waits for, its marks and its letters.
