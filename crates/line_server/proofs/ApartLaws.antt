@@ -42,10 +42,10 @@ found-other x y t apart (e ∷ es) = by (nat_cmp y e.0) refl (found-other x y t 
     by Greater h later = ap (λ rest. cond (is_eq (nat_cmp x e.0)) (Some e.1) rest) later
 
 -- the table of a sender after its own text, and after another's
-own-table : (x : ℕ) (text : List ℕ) (tables : Tables) → table_of x (tables_after x text tables) ≡ (told text (table_of x tables)).table
+pub own-table : (x : ℕ) (text : List ℕ) (tables : Tables) → table_of x (tables_after x text tables) ≡ (told text (table_of x tables)).table
 own-table x text tables = ap (λ o. unwrap_or o []) (found-own x (told text (table_of x tables)).table tables)
 
-other-table : (x y : ℕ) (text : List ℕ) (tables : Tables) → nat_eq x y ≡ false → table_of x (tables_after y text tables) ≡ table_of x tables
+pub other-table : (x y : ℕ) (text : List ℕ) (tables : Tables) → nat_eq x y ≡ false → table_of x (tables_after y text tables) ≡ table_of x tables
 other-table x y text tables apart = ap (λ o. unwrap_or o []) (found-other x y (told_sender y text tables).table apart tables)
 
 pub apart : (x : ℕ) (tables : Tables) (letters : Letters) → told_among x tables letters ≡ replies (table_of x tables) (texts_of x letters)

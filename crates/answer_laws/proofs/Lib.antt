@@ -1,0 +1,8 @@
+pub mod AnswerLists
+pub mod TalkLaws
+pub mod Sights
+pub mod Leaving
+pub mod Others
+pub mod Replies
+pub mod Events
+pub mod Lengths

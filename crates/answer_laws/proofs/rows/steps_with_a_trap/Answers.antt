@@ -1,0 +1,12 @@
+use Rattle.answer_laws.proofs.rows.steps_with_a_trap.Goals as goal
+use Rattle.std.proofs.Common.{refl}
+use Rattle.std.specs.Fmt.{digits}
+use Rattle.std.specs.Prelude.{[], codes, ◌∷◌}
+
+pub returns-clause-in_turn : goal.returns-clause-in_turn
+unfolding digits
+returns-clause-in_turn c = record { rest = codes "bad" ∷ []; whole = refl }
+
+pub returns-clause-tells : goal.returns-clause-tells
+unfolding digits
+returns-clause-tells c = (refl, refl, refl)

@@ -1,0 +1,47 @@
+-- Steps of two sessions, worked out by hand. The store is thread 1, the client's session 2, and its agent 4.
+use Rattle.answer_laws.specs.Clients.{Step, all_sends_to, delivered_to, replied_to}
+use Rattle.lwp_types.specs.Names.{null_id}
+use Rattle.lwp_types.specs.Unblock.{nonexist, zero_answer}
+use Rattle.lwp_types.specs.declared.call.Effect.{Effect}
+use Rattle.std.specs.Prelude.{Bool, List, None, Some, [], codes, ℕ, ◌∷◌, ◌≡◌}
+use Rattle.lwp_types.specs.declared.call.Answer.TheVariants as answer
+use Rattle.lwp_types.specs.declared.call.Call.TheVariants as call
+use Rattle.lwp_types.specs.declared.call.Effect.TheVariants as effect
+use Rattle.lwp_types.specs.declared.call.Mode.TheVariants as mode
+
+-- a step with no line, and one with a line
+abbrev pub calls : List Effect → Step
+calls es = record { text = None; effects = es }
+
+abbrev pub takes : List ℕ → List Effect → Step
+takes text es = record { text = Some text; effects = es }
+
+-- these lines were delivered to agent 4, thread 2 has replied so to it, and all that it sent went to thread 1, or not
+abbrev pub Tells : List Step → List (List ℕ) → List (List ℕ) → Bool → Type 0
+Tells steps lines replies alone = (delivered_to 4 steps ≡ lines) × (replied_to 2 4 steps ≡ replies) × (all_sends_to 2 1 steps ≡ alone)
+
+-- a client that asks for a key and quits
+abbrev pub asked_and_quit : List Step
+asked_and_quit = calls (effect.Called 2 (call.Agent 1) ∷ effect.Answered 2 (answer.Thread 4) ∷ [])
+    ∷ calls (effect.Called 2 (call.Recv (Some 4) mode.Block) ∷ [])
+    ∷ takes (codes "get k") (effect.Delivered 4 1 ∷ effect.Answered 2 (answer.Letter 4 (codes "get k") 240) ∷ [])
+    ∷ calls (effect.Called 2 (call.Send 1 240 (codes "get k")) ∷ effect.Answered 1 (answer.Letter 2 (codes "get k") 240) ∷ [])
+    ∷ calls (effect.Called 1 (call.Reply 2 (codes "none")) ∷ effect.Answered 2 (answer.Reply (codes "none")) ∷ effect.Answered 1 zero_answer ∷ [])
+    ∷ calls (effect.Called 2 (call.Reply 4 (codes "none")) ∷ effect.Answered 2 zero_answer ∷ [])
+    ∷ calls (effect.Called 2 (call.Recv (Some 4) mode.Block) ∷ [])
+    ∷ takes (codes "quit") (effect.Delivered 4 1 ∷ effect.Answered 2 (answer.Letter 4 (codes "quit") 240) ∷ [])
+    ∷ calls (effect.Called 2 (call.Reply 4 (codes "bye")) ∷ effect.Answered 2 zero_answer ∷ [])
+    ∷ calls (effect.Called 2 call.Return ∷ effect.Died 2 ∷ [])
+    ∷ []
+
+-- a report to the agent, a line of another event that is trapped, a reply behind the trap, a reply to an agent that has gone, and a
+-- Send to another than the store
+abbrev pub trapped_and_gone : List Step
+trapped_and_gone = calls (effect.Called 0 (call.Destroy 7) ∷ effect.Died 7 ∷ effect.Answered 0 zero_answer ∷ effect.Rites 4 7 ∷ effect.Answered 2 (answer.Letter 4 (codes "t7") 240) ∷ [])
+    ∷ takes (codes "get k") (effect.Delivered null_id 5 ∷ [])
+    ∷ calls (effect.Trapped 2 5 ∷ effect.Called 2 (call.Reply 4 (codes "bad")) ∷ effect.Answered 2 zero_answer ∷ [])
+    ∷ takes (codes "what") (effect.Delivered 4 32 ∷ [])
+    ∷ calls (effect.Called 0 (call.Destroy 4) ∷ effect.Answered 2 nonexist ∷ effect.Answered 0 zero_answer ∷ [])
+    ∷ calls (effect.Called 2 (call.Reply 4 (codes "bad")) ∷ effect.Answered 2 nonexist ∷ [])
+    ∷ calls (effect.Called 2 (call.Send 3 240 (codes "get k")) ∷ [])
+    ∷ []

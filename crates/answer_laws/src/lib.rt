@@ -1,0 +1,79 @@
+//! What one client of the line server is told: laws of its session and of the store, and of the letters that carry its lines. There is
+//! no code here: each function below has no body, and its clause is the law. So there are no wrong edits either.
+//!
+//! | what is said | law, and where it stands |
+//! |---|---|
+//! | a session and a store that talk, whatever others send to the store and whoever ends: what the client is told is a first part of the answers to its lines | `TalksAreAnswers` (`specs/Talks.antt`) |
+//! | the answers to lines that have room in a letter have room in one | `ShortLinesHaveShortAnswers` (`specs/Lengths.antt`) |
+//! | a sender has one letter at most; whoever receives it is handed it as it was sent; and what is replied to it is what its sender is answered | `EachHasOneLetter`, `ReceivesAreTheLetters`, `RepliesAreTheAnswers`, `ReadersLeaveTheRest` (`specs/Replies.antt`) |
+//! | nobody else touches a thread that waits for a reply, or who waits for a letter but by sending it one | `OthersLeaveIt`, `DeliveriesLeaveIt` (`specs/Sights.antt`), and with traps and reports `PodsLeaveIt`, `TakesLeaveIt` (`specs/Events.antt`) |
+//!
+//! What of this the steps of a session tell, `specs/Clients.antt` says: which lines were delivered to an agent, how it was replied to,
+//! and where its session sent; `rows` has two sessions worked out by hand.
+//!
+//! In a talk (`Talk`) the two bodies are polled as they are in a session, and the pod answers them: a reply to the session goes to the
+//! letter that the store has received, and a line comes only to a session that waits for one. What a thread shows to others (`Sight`)
+//! is what it waits for, its marks and its letters.
+//!
+//! It stands on the bodies of `line_server`, on the laws of the machine in `pod_laws`, and on the events of `pod_events`.
+#![tactic(auto)]
+
+pub mod rows;
+
+ghost use Rattle.answer_laws.specs.Events.{PodsLeaveIt, TakesLeaveIt};
+ghost use Rattle.answer_laws.specs.Lengths.{ShortLinesHaveShortAnswers};
+ghost use Rattle.answer_laws.specs.Replies.{EachHasOneLetter, ReadersLeaveTheRest, ReceivesAreTheLetters, RepliesAreTheAnswers};
+ghost use Rattle.answer_laws.specs.Sights.{DeliveriesLeaveIt, OthersLeaveIt};
+ghost use Rattle.answer_laws.specs.Talks.{TalksAreAnswers};
+
+/// A session and a store that talk, whatever else is sent to the store and whoever ends: the accepted replies to the session's client
+/// are a first part of the answers to its lines.
+pub fn every_talk()
+    ensures { TalksAreAnswers }
+{}
+
+/// A thread that waits for a reply is left alone by every call of another to whom it hasn't written; and one that waits for a letter
+/// goes on with the letter that the caller sends it, or because whom it waits for isn't there.
+pub fn every_call_of_another()
+    ensures { OthersLeaveIt }
+{}
+
+/// So it is by every delivery; one that waits for a letter goes on with the text that is delivered, as an agent's letter.
+pub fn every_delivery_to_others()
+    ensures { DeliveriesLeaveIt }
+{}
+
+/// A thread has one letter at most that isn't replied to.
+pub fn every_sender()
+    ensures { EachHasOneLetter }
+{}
+
+/// A receive that finds a letter is answered it, as it was sent.
+pub fn every_receive()
+    ensures { ReceivesAreTheLetters }
+{}
+
+/// A reply to a letter that was received is what its sender is answered, if it has room for that.
+pub fn every_reply()
+    ensures { RepliesAreTheAnswers }
+{}
+
+/// Whom a thread has written to leaves it alone while it replies to others, and receives the letters of others or waits.
+pub fn every_call_of_a_reader()
+    ensures { ReadersLeaveTheRest }
+{}
+
+/// The same of every call of another in a pod with its own events, with the trap before it and the report behind it.
+pub fn every_call_in_a_pod()
+    ensures { PodsLeaveIt }
+{}
+
+/// And of every line that is taken there.
+pub fn every_take_in_a_pod()
+    ensures { TakesLeaveIt }
+{}
+
+/// The answers to lines that have room in a letter have room in one.
+pub fn every_answer()
+    ensures { ShortLinesHaveShortAnswers }
+{}

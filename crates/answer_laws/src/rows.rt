@@ -1,0 +1,27 @@
+// Two talks and the steps of two sessions, worked out by hand.
+ghost use Rattle.std.specs.Prelude.{[], codes, false, true, ◌∷◌};
+ghost use Rattle.answer_laws.specs.Clients.{IsAnsweredInTurn};
+ghost use Rattle.answer_laws.specs.ClientRows.{Tells, asked_and_quit, trapped_and_gone};
+ghost use Rattle.answer_laws.specs.Rows.{Comes, answers_of_a, answers_of_b, lines_of_a, lines_of_b, talk_of_a, talk_of_b};
+
+/// A client that asks for what another has put, says what is no command, and quits: the other's key isn't there.
+pub fn apart()
+    ensures { Comes talk_of_a lines_of_a answers_of_a }
+{}
+
+/// A client whose session dies before its second line is replied to.
+pub fn cut_short()
+    ensures { Comes talk_of_b lines_of_b answers_of_b }
+{}
+
+/// A client that asks for a key and quits.
+pub fn steps_of_a_client()
+    ensures in_turn { IsAnsweredInTurn 2 4 asked_and_quit }
+    ensures tells { Tells asked_and_quit (codes "get k" ∷ codes "quit" ∷ []) (codes "none" ∷ codes "bye" ∷ []) true }
+{}
+
+/// A report is a text delivered to the agent, and a trapped line is none; a reply counts behind a trap, and not where it is refused.
+pub fn steps_with_a_trap()
+    ensures in_turn { IsAnsweredInTurn 2 4 trapped_and_gone }
+    ensures tells { Tells trapped_and_gone (codes "t7" ∷ codes "what" ∷ []) (codes "bad" ∷ []) false }
+{}
