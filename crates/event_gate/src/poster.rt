@@ -51,7 +51,7 @@ impl Model for Poster {
 
     ghost Value = { Posting };
 
-    ghost view = { λ s. record { port = s.pass.web; client = s.client; posted = s.pass.me.view.client.posted } };
+    ghost view = { λ s. record { port = s.pass.web; client = s.client; posted = s.pass.me.view.client.posted; announced = s.seat.me.0.announced } };
 
     ghost invariant = { λ s. IsSegPassOf (arc_value s.port).queue s.pass × IsPostersView s.pass.me.view.client s.client s.count × IsAtGauge (arc_value s.port).gauge.shared.table_id s.seat.table_id × (s.seat.me.0.announced ≡ s.count) };
 }
@@ -120,12 +120,13 @@ impl Poster {
             count,
             port: _,
             pass,
-            seat: _,
+            seat,
         } = self;
         PostPass {
             client,
             count,
             pass,
+            seat,
         }
     }
 }
@@ -155,6 +156,7 @@ pub struct PostPass {
     pub(crate) client: u8,
     pub(crate) count: u32,
     pub(crate) pass: Pass,
+    pub(crate) seat: GaugeSeat,
 }
 
 impl Model for PostPass {
@@ -164,7 +166,7 @@ impl Model for PostPass {
 
     ghost Value = { Posting };
 
-    ghost view = { λ s. record { port = s.pass.web; client = s.client; posted = s.pass.me.view.client.posted } };
+    ghost view = { λ s. record { port = s.pass.web; client = s.client; posted = s.pass.me.view.client.posted; announced = s.seat.me.0.announced } };
 
     ghost invariant = { λ s. (s.pass.me.hand ≡ None) × (s.pass.me.spare ≡ None) × IsPostersView s.pass.me.view.client s.client s.count };
 }

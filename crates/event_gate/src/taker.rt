@@ -143,6 +143,7 @@ impl Taker {
             client,
             count,
             pass: other,
+            seat: _,
         } = pass;
         let Taker {
             port,
