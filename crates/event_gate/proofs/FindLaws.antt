@@ -1,10 +1,9 @@
 -- A seat that has as many tickets as the gauge's word says has them all.
-use Rattle.std.proofs.Common.{◌≡◌, ◌≢◌, ℕ, zero, suc, ◌+◌, ◌≤◌, List, [], ◌∷◌, sym, refl, ap, ◌∙◌, arith}
+use Rattle.std.proofs.Common.{◌≡◌, ◌≢◌, ℕ, zero, suc, ◌+◌, ◌<◌, ◌≤◌, ◌^◌, List, [], ◌∷◌, sym, refl, ap, ◌∙◌, arith}
 use mathlib.Core.Option.{some, some-injective, some-ne-none}
 use lib.ListN.{get_elem?}
-use Rattle.atomic_table.specs.Table.{State}
 use Rattle.event_gate.specs.declared.gauge_rule.GaugeView.{GaugeView}
-use Rattle.event_gate.specs.Gauge.{tickets_of, total, HasAll, FindsAreWhole}
+use Rattle.event_gate.specs.Gauge.{tickets_of, total, Glimpse, FindsAreWhole}
 
 -- what one seat has is a part of what all have
 part : (f : GaugeView → ℕ) (views : List GaugeView) (i : ℕ) (v : GaugeView) → get_elem? views i ≡ some v → f v ≤ total f views
@@ -20,11 +19,11 @@ two_parts f (x ∷ xs) zero (suc j) v w n e d = let same : f x ≡ f v = ap f (s
 two_parts f (x ∷ xs) (suc i) zero v w n e d = let same : f x ≡ f w = ap f (some-injective x w d) in let r = part f xs i v e in omega arith
 two_parts f (x ∷ xs) (suc i) (suc j) v w n e d = let r = two_parts f xs i j v w (λ s. n (ap suc s)) e d in omega arith
 
-all_own : (s : State (Unit {0}) GaugeView) (seat : ℕ) (v : GaugeView) → HasAll s seat v → total tickets_of s.views ≡ tickets_of v
-all_own s seat v h = let own = part tickets_of s.views seat v h.at in let e = h.rule.word in let d = h.word in let few = h.fewer in omega (arith, own, e, d, few)
+all_own : (n : ℕ) (own : GaugeView) (g : Glimpse n own) → total tickets_of g.accounts < 2 ^ 64 → total tickets_of g.accounts ≡ tickets_of own
+all_own n own g few = let mine = part tickets_of g.accounts g.seat own g.mine in let e = g.word in let d = g.all in omega (arith, mine, e, d, few)
 
 pub finds_are_whole : FindsAreWhole
 finds_are_whole = record {
-  others = λ s seat v h other w apart at. let all = all_own s seat v h in let two = two_parts tickets_of s.views seat other v w (λ e. apart (sym e)) h.at at in omega (arith, all, two);
-  announced = λ s seat v h. h.rule.each ∙ all_own s seat v h;
+  others = λ n own g few other w apart at. let all = all_own n own g few in let two = two_parts tickets_of g.accounts g.seat other own w (λ e. apart (sym e)) g.mine at in omega (arith, all, two);
+  announced = λ n own g few. g.each ∙ all_own n own g few;
 }

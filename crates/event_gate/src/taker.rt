@@ -3,7 +3,7 @@ ghost use Rattle.std.specs.Prelude.{true, ◌≡◌, ◌↔◌, ◌%◌, ◌^◌
 ghost use Rattle.event_gate.specs.Ends.{TakesLine, FindsNothing, TakesIn, IsTold, IsAllTaken, IsOpen, opened, left_of};
 ghost use Rattle.std.specs.Arc.{arc_value};
 ghost use Rattle.crossbeam_queue.specs.SegTies.{IsSegPassOf};
-ghost use Rattle.event_gate.specs.Gauge.{IsAtGauge, after_find, after_redeem, opening};
+ghost use Rattle.event_gate.specs.Gauge.{Glimpse, IsAtGauge, after_find, after_redeem, opening};
 ghost use Rattle.event_gate.specs.Port.{Sees, Takes};
 
 use crate::gauge::{GaugeSeat, glance, redeem};
@@ -186,7 +186,7 @@ fn next_line<R: Wait>(
     ensures queue { IsSegPassOf port.now.queue pass.new × (pass.new.web ≡ pass.old.web) }
     ensures gauge { seat.new.table_id ≡ seat.old.table_id }
     ensures line { IfSome result (λ x. Takes pass.old.me.view.client x pass.new.me.view.client × (seat.new.me.0 ≡ after_redeem seat.old.me.0)) }
-    ensures nothing { IfNone result ((pass.new.me.view.client ≡ pass.old.me.view.client) × Sees pass.old.me.view.client [] × (seat.new.me.0 ≡ after_find seat.old.me.0 count)) }
+    ensures nothing { IfNone result ((pass.new.me.view.client ≡ pass.old.me.view.client) × Sees pass.old.me.view.client [] × (seat.new.me.0 ≡ after_find seat.old.me.0 count) × Glimpse count seat.old.me.0) }
 {
     for _ in rt.forever() {
         if let Some(sent) = port.queue.pop_as::<Take, R>(rt, pass) {
