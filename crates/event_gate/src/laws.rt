@@ -1,4 +1,5 @@
-// What holds of every gate and of every client's lines. There is no code here: each clause is a law.
+// What holds of every gate, of every client's lines and of every find at a port. There is no code here: each clause is a law.
+ghost use Rattle.event_gate.specs.Gauge.{FindsAreWhole};
 ghost use Rattle.event_gate.specs.History.{ClientsKeepHistory, GatesKeepHistory};
 
 /// Of each event, the lines taken and then those left are the lines that were in place for it.
@@ -9,4 +10,10 @@ pub fn every_gate_history()
 /// So of each client, the lines taken and then those left are what it posts.
 pub fn every_client_history()
     ensures { ClientsKeepHistory }
+{}
+
+/// At a step at which a taker notes that nothing is left, nobody else has a ticket: no post is under way, and no line is
+/// queued, since each brings one. So all posts that were announced and not refused are among the lines taken.
+pub fn every_find()
+    ensures { FindsAreWhole }
 {}

@@ -8,9 +8,13 @@
 //! A port is one queue and the two kinds of ends that it has. Each client has a `Poster`, and the runner has the one `Taker`.
 //! What holds at each step of any of them is the rule of the port (`specs/Port.antt`): what was pushed is what was popped and
 //! then what the queue holds, and each client's part of it is what its poster knows that it has posted. So for every schedule,
-//! once a poster's pass is taken in, its lines taken and then its lines queued are what it posted, in order (`TakesIn`), and a
-//! take answers `None` only where nothing was queued (`FindsNothing`). The crate stands on the words of `lwp_types`, on
-//! `event_marks`, on the kit's `crossbeam_queue` for the queue and on its `atomic_table` for a gauge beside it.
+//! once a poster's pass is taken in, its lines taken and then its lines queued are what it posted, in order (`TakesIn`).
+//!
+//! Beside the queue stands a gauge (`specs/Gauge.antt`), a word that counts tickets. A post draws one before its push, and its
+//! line brings it along; a post that is refused gives it back, and the taker takes it in with the line. A take answers `None`
+//! only where the queue was found empty and then all tickets were the taker's own (`FindsNothing`): so no line was queued at
+//! that step, and no post was under way (`every_find`). The crate stands on the words of `lwp_types`, on `event_marks`, on the
+//! kit's `crossbeam_queue` for the queue and on its `atomic_table` for the gauge.
 #![tactic(auto)]
 
 mod bell;
@@ -26,6 +30,7 @@ mod poster;
 mod posts;
 mod rack;
 mod rule;
+mod sent;
 mod shelf;
 mod taker;
 mod view;
@@ -33,7 +38,7 @@ mod view;
 pub use bell::Bell;
 pub use gate::Gate;
 pub use inlet::Inlet;
-pub use laws::{every_client_history, every_gate_history};
+pub use laws::{every_client_history, every_find, every_gate_history};
 pub use list_gate::ListGate;
 pub use open::open_port;
 pub use poster::{PostPass, PostRefused, Poster};

@@ -1,24 +1,26 @@
 // How a port is made.
-ghost use Rattle.std.specs.Prelude.{◌≡◌, ◌≢◌, false, [], ◌∷◌, ◌++◌, map, AllPairs, IfOk};
+ghost use Rattle.std.specs.Prelude.{◌≡◌, ◌≢◌, false, true, [], ◌∷◌, ◌++◌, map, AllPairs, IfOk, OnOk};
 ghost use Rattle.std.specs.Arc.{arc_value};
 ghost use Rattle.crossbeam_queue.specs.SegTies.{IsSegPassOf};
-ghost use Rattle.event_gate.specs.Port.{is_noted, with_next};
+ghost use Rattle.event_gate.specs.Port.{is_noted, starting, unnamed, with_next};
 ghost use Rattle.event_gate.specs.Gauge.{IsAtGauge};
 ghost use Rattle.event_gate.specs.Ends.{IsOpen, opened, posting};
 
 use crate::gauge::{GaugeSeat, another_seat, open_gauge};
 use crate::port::{Pass, Port};
 use crate::poster::Poster;
-use crate::rule::{Next, Open, Zero};
+use crate::rule::{Name, Next, Open, Start, Zero};
+use crate::sent::Sent;
 use crate::taker::Taker;
 use crossbeam_queue::RuledSegQueue;
-use lwp_types::NoMemory;
+use lwp_types::{Line, NoMemory, Text};
 use std::alloc::{AllocError, Global};
 use std::sync::{Arc, Wait};
 
 // A view is made of views alone, so the number of the next client is counted up in the taker's.
 fn aim(port: &Port, pass: &mut Pass, client: u8)
-    requires { IsSegPassOf port.now.queue pass.old }
+    requires queue { IsSegPassOf port.now.queue pass.old }
+    requires view { pass.old.me.view.client.takes ≡ true }
     ensures queue { IsSegPassOf port.now.queue pass.new × (pass.new.web ≡ pass.old.web) }
     ensures view { pass.new.me.view.client ≡ with_next pass.old.me.view.client client }
 {
@@ -26,6 +28,38 @@ fn aim(port: &Port, pass: &mut Pass, client: u8)
     for _ in 0..client {
         let _ = port.queue.another::<Next>(pass);
     }
+}
+
+// Lets the port know its gauge, by a seat that goes through the queue. Nobody else has a pass yet, so it comes back.
+fn name_port<R: Wait>(
+    rt: &R,
+    port: &Port,
+    pass: &mut Pass,
+    seat: &mut GaugeSeat,
+) -> Result<(), NoMemory>
+    requires gauge { IsAtGauge port.now.gauge.shared.table_id seat.old.table_id }
+    requires queue { IsSegPassOf port.now.queue pass.old }
+    requires view { pass.old.me.view.client ≡ unnamed }
+    ensures gauge { (seat.new.table_id ≡ seat.old.table_id) × (seat.new.me.0 ≡ seat.old.me.0) }
+    ensures queue { IsSegPassOf port.now.queue pass.new }
+    ensures view { OnOk result (pass.new.me.view.client ≡ starting seat.old.table_id) }
+{
+    let ticket = another_seat(&port.gauge, seat);
+    let line = Line {
+        client: 0,
+        seq: 0,
+        text: Text::empty(),
+    };
+    let Ok(()) = port
+        .queue
+        .push_as::<Name, R>(rt, pass, Sent { line, ticket })
+    else {
+        return Err(NoMemory);
+    };
+    let Some(_) = port.queue.pop_as::<Start, R>(rt, pass) else {
+        return Err(NoMemory);
+    };
+    Ok(())
 }
 
 // A poster of one more client.
@@ -37,11 +71,11 @@ fn open_poster(
 ) -> Result<Poster, AllocError>
     requires gauge { IsAtGauge (arc_value port.now).gauge.shared.table_id seat.old.table_id }
     requires queue { IsSegPassOf (arc_value port.now).queue pass.old }
-    requires view { IsOpen pass.old.me.view.client.noted pass.old.me.view.client }
+    requires view { IsOpen seat.old.table_id pass.old.me.view.client.noted pass.old.me.view.client }
     requires new { is_noted client pass.old.me.view.client.noted ≡ false }
     ensures gauge { (seat.new.table_id ≡ seat.old.table_id) × (seat.new.me.0 ≡ seat.old.me.0) }
     ensures queue { IsSegPassOf (arc_value port.now).queue pass.new × (pass.new.web ≡ pass.old.web) }
-    ensures view { IfOk result (λ p. IsOpen (pass.old.me.view.client.noted ++ client ∷ []) pass.new.me.view.client) }
+    ensures view { IfOk result (λ p. IsOpen seat.old.table_id (pass.old.me.view.client.noted ++ client ∷ []) pass.new.me.view.client) }
     ensures poster { IfOk result (λ p. p ≡ posting pass.old.web client) }
 {
     let port = Arc::try_clone(port)?;
@@ -61,11 +95,11 @@ fn open_posters(
 ) -> Result<Vec<Poster>, AllocError>
     requires gauge { IsAtGauge (arc_value port.now).gauge.shared.table_id seat.old.table_id }
     requires queue { IsSegPassOf (arc_value port.now).queue pass.old }
-    requires view { IsOpen [] pass.old.me.view.client }
+    requires view { IsOpen seat.old.table_id [] pass.old.me.view.client }
     requires distinct { AllPairs (λ a b. a ≢ b) clients.now }
     ensures gauge { (seat.new.table_id ≡ seat.old.table_id) × (seat.new.me.0 ≡ seat.old.me.0) }
     ensures queue { IsSegPassOf (arc_value port.now).queue pass.new × (pass.new.web ≡ pass.old.web) }
-    ensures view { IfOk result (λ v. IsOpen clients.now pass.new.me.view.client) }
+    ensures view { IfOk result (λ v. IsOpen seat.old.table_id clients.now pass.new.me.view.client) }
     ensures posters { IfOk result (λ v. v.items ≡ map (posting pass.old.web) clients.now) }
 {
     let mut posters = Vec::new(alloc);
@@ -79,7 +113,7 @@ fn open_posters(
 
 /// A port for this event, and a poster for each client, in order. All memory that the taker ever needs is taken here.
 pub fn open_port<R: Wait>(
-    _rt: &R,
+    rt: &R,
     alloc: Global,
     event: u8,
     clients: &[u8],
@@ -91,6 +125,7 @@ pub fn open_port<R: Wait>(
     let (gauge, mut seat) = open_gauge(alloc)?;
     let (queue, mut pass) = RuledSegQueue::with_rule(alloc)?;
     let port = Arc::new(alloc, Port { queue, gauge })?;
+    name_port(rt, &port, &mut pass, &mut seat)?;
     let posters = open_posters(alloc, &port, &mut pass, &mut seat, clients)?;
     let taker = Taker::new(alloc, event, port, pass, seat, clients)?;
     Ok((taker, posters))

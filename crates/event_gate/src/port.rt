@@ -1,17 +1,17 @@
 // The queue of a port.
 use crate::gauge::Gauge;
 use crate::rule::InPort;
+use crate::sent::Sent;
 use crate::view::View;
 use crossbeam_queue::{RuledSegQueue, SegPass};
-use lwp_types::Line;
 
 /// What a thread may do with a port's queue. It has no bytes.
-pub(crate) type Pass = SegPass<Line, View>;
+pub(crate) type Pass = SegPass<Sent, View>;
 
 /// The queue of a port, which its ends share.
 pub(crate) struct Port {
-    pub(crate) queue: RuledSegQueue<Line, View, InPort>,
-    // How many posts were begun and not refused.
+    pub(crate) queue: RuledSegQueue<Sent, View, InPort>,
+    // How many tickets there are: one for each post that was announced and not refused.
     pub(crate) gauge: Gauge,
 }
 

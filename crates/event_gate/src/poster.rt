@@ -2,13 +2,14 @@
 ghost use Rattle.std.specs.Prelude.{◌≡◌, ◌+◌, ◌<◌, true, length, [], OnOk, IfErr};
 ghost use Rattle.std.specs.Arc.{arc_value};
 ghost use Rattle.crossbeam_queue.specs.SegTies.{IsSegPassOf};
-ghost use Rattle.event_gate.specs.Port.{poster, after_post};
+ghost use Rattle.event_gate.specs.Port.{poster, after_post, name_of, IsTicketed};
 ghost use Rattle.event_gate.specs.Gauge.{IsAtGauge, opening};
 ghost use Rattle.event_gate.specs.Ends.{posting, posted_more};
 
 use crate::gauge::{GaugeSeat, announce, withdraw};
 use crate::port::{Pass, Port};
 use crate::rule::Post;
+use crate::sent::Sent;
 use lwp_types::Line;
 use std::alloc::Global;
 use std::marker::Model;
@@ -20,7 +21,8 @@ pub struct PostRefused {
     pub line: Line,
 }
 
-/// The end of a port that one client posts to. Contracts see the client and the lines that it has posted.
+/// The end of a port that one client posts to. Contracts see the client, the lines that it has posted, and how many posts it
+/// has announced and not taken back.
 pub struct Poster {
     client: u8,
     count: u32,
@@ -51,16 +53,16 @@ impl Model for Poster {
 
     ghost Value = { Posting };
 
-    ghost view = { λ s. record { port = s.pass.web; client = s.client; posted = s.pass.me.view.client.posted } };
+    ghost view = { λ s. record { port = s.pass.web; client = s.client; posted = s.pass.me.view.client.posted; announced = s.seat.me.0.announced } };
 
-    ghost invariant = { λ s. IsSegPassOf (arc_value s.port).queue s.pass × IsPostersView s.pass.me.view.client s.client s.count × IsAtGauge (arc_value s.port).gauge.shared.table_id s.seat.table_id × (s.seat.me.0.announced ≡ s.count) };
+    ghost invariant = { λ s. IsSegPassOf (arc_value s.port).queue s.pass × IsPostersView s.pass.me.view.client s.client s.count × IsAtGauge (arc_value s.port).gauge.shared.table_id s.seat.table_id × (s.seat.me.0.announced ≡ s.count) × (s.pass.me.view.client.gauge.table ≡ s.seat.table_id) };
 }
 
 impl Poster {
     /// The end of a client that has posted nothing.
     pub(crate) fn new(client: u8, port: Arc<Port, Global>, pass: Pass, seat: GaugeSeat) -> Poster
         requires queue { IsSegPassOf (arc_value port).queue pass }
-        requires view { pass.me.view.client ≡ poster client [] }
+        requires view { pass.me.view.client ≡ poster (name_of seat.table_id) client [] }
         requires gauge { IsAtGauge (arc_value port).gauge.shared.table_id seat.table_id × (seat.me.0 ≡ opening) }
         ensures { result ≡ posting pass.web client }
     {
@@ -87,7 +89,8 @@ impl Poster {
         self.count
     }
 
-    /// Posts the client's next line. A line that was refused is not posted.
+    /// Announces the client's next post, and then posts its line. A line that was refused is not posted, and its announcement
+    /// is taken back.
     pub fn post<R: Wait>(&mut self, rt: &R, line: Line) -> Result<(), PostRefused>
         requires client { line.client ≡ self.old.client }
         requires next { line.seq ≡ length self.old.posted }
@@ -102,9 +105,10 @@ impl Poster {
             count,
             ..
         } = self;
-        announce(&port.gauge, seat);
-        if let Err(line) = push_announced(rt, port, pass, seat, line) {
-            withdraw(&port.gauge, seat);
+        let ticket = announce(&port.gauge, seat);
+        if let Err(sent) = push_announced(rt, port, pass, Sent { line, ticket }) {
+            let Sent { line, ticket } = sent;
+            withdraw(&port.gauge, seat, ticket);
             return Err(PostRefused { line });
         }
         *count += 1;
@@ -120,33 +124,28 @@ impl Poster {
             count,
             port: _,
             pass,
-            seat: _,
+            seat,
         } = self;
         PostPass {
             client,
             count,
             pass,
+            seat,
         }
     }
 }
 
-// The one push of a line. Its post was announced before, and so the gauge is never below what was pushed.
-fn push_announced<R: Wait>(
-    rt: &R,
-    port: &Port,
-    pass: &mut Pass,
-    _seat: &GaugeSeat,
-    line: Line,
-) -> Result<(), Line>
+// The one push of a line. It brings the ticket of its announcement, which was made before.
+fn push_announced<R: Wait>(rt: &R, port: &Port, pass: &mut Pass, sent: Sent) -> Result<(), Sent>
     requires queue { IsSegPassOf port.now.queue pass.old }
-    requires announced { _seat.now.me.0.announced ≡ length pass.old.me.view.client.posted + 1 }
+    requires ticket { IsTicketed pass.old.me.view.client.gauge.table sent }
     requires view { pass.old.me.view.client.posts ≡ true }
-    requires line { (line.client ≡ pass.old.me.view.client.client) × (line.seq ≡ length pass.old.me.view.client.posted) × (line.seq < 4294967295) }
+    requires line { (sent.line.client ≡ pass.old.me.view.client.client) × (sent.line.seq ≡ length pass.old.me.view.client.posted) × (sent.line.seq < 4294967295) }
     ensures queue { IsSegPassOf port.now.queue pass.new × (pass.new.web ≡ pass.old.web) }
-    ensures posted { OnOk result (pass.new.me.view.client ≡ after_post pass.old.me.view.client line) }
-    ensures refused { IfErr result (λ x. (x ≡ line) × (pass.new.me.view.client ≡ pass.old.me.view.client)) }
+    ensures posted { OnOk result (pass.new.me.view.client ≡ after_post pass.old.me.view.client sent.line) }
+    ensures refused { IfErr result (λ x. (x ≡ sent) × (pass.new.me.view.client ≡ pass.old.me.view.client)) }
 {
-    port.queue.push_as::<Post, R>(rt, pass, line)
+    port.queue.push_as::<Post, R>(rt, pass, sent)
 }
 
 /// What a client has posted, for good. Contracts see it as its poster.
@@ -155,6 +154,7 @@ pub struct PostPass {
     pub(crate) client: u8,
     pub(crate) count: u32,
     pub(crate) pass: Pass,
+    pub(crate) seat: GaugeSeat,
 }
 
 impl Model for PostPass {
@@ -164,7 +164,7 @@ impl Model for PostPass {
 
     ghost Value = { Posting };
 
-    ghost view = { λ s. record { port = s.pass.web; client = s.client; posted = s.pass.me.view.client.posted } };
+    ghost view = { λ s. record { port = s.pass.web; client = s.client; posted = s.pass.me.view.client.posted; announced = s.seat.me.0.announced } };
 
     ghost invariant = { λ s. (s.pass.me.hand ≡ None) × (s.pass.me.spare ≡ None) × IsPostersView s.pass.me.view.client s.client s.count };
 }

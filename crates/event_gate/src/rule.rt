@@ -1,51 +1,77 @@
 // The rule of a port, and the kinds of step that it allows.
+use crate::sent::Sent;
 use crate::view::View;
 use crossbeam_queue::protocol::{Join, Lesson, Outcome, Protocol, Split};
-use lwp_types::Line;
 
 /// The rule of a port.
 pub struct InPort;
 
-impl Protocol<Line, View> for InPort {
-    ghost use Rattle.event_gate.specs.Port.{IsPorted, opening};
+impl Protocol<Sent, View> for InPort {
+    ghost use Rattle.event_gate.specs.Port.{IsRuled, unnamed};
 
-    ghost holds = { IsPorted };
+    ghost holds = { IsRuled };
 
-    ghost first = { opening };
+    ghost first = { unnamed };
+}
+
+/// A push of a seat, which says which gauge the port has.
+pub struct Name;
+
+impl Outcome<Sent, View> for Name {
+    ghost use Rattle.std.specs.Prelude.{◌≡◌};
+    ghost use Rattle.event_gate.specs.Port.{named};
+
+    ghost then = { λ v x w. w ≡ named x.ticket.table_id };
+}
+
+/// The pop of that seat. Then the port is open.
+pub struct Start;
+
+impl Outcome<Sent, View> for Start {
+    ghost use Rattle.std.specs.Prelude.{◌≡◌};
+    ghost use Rattle.event_gate.specs.Port.{starting};
+
+    ghost then = { λ v x w. w ≡ starting v.gauge.table };
+}
+
+impl Lesson<Sent, View> for Start {
+    ghost use Rattle.std.specs.Prelude.{⊤};
+
+    ghost fact = { λ v items. ⊤ };
 }
 
 /// A push of a line.
 pub struct Post;
 
-impl Outcome<Line, View> for Post {
+impl Outcome<Sent, View> for Post {
     ghost use Rattle.std.specs.Prelude.{◌≡◌};
     ghost use Rattle.event_gate.specs.Port.{after_post};
 
-    ghost then = { λ v x w. w ≡ after_post v x };
+    ghost then = { λ v x w. w ≡ after_post v x.line };
 }
 
 /// A pop that gives a line, or that finds the queue empty.
 pub struct Take;
 
-impl Outcome<Line, View> for Take {
-    ghost use Rattle.event_gate.specs.Port.{Takes};
+impl Outcome<Sent, View> for Take {
+    ghost use Rattle.event_gate.specs.Port.{TakesSent};
 
-    ghost then = { Takes };
+    ghost then = { TakesSent };
 }
 
-impl Lesson<Line, View> for Take {
-    ghost use Rattle.event_gate.specs.Port.{Sees};
+impl Lesson<Sent, View> for Take {
+    ghost use Rattle.event_gate.specs.Port.{SeesSent};
 
-    ghost fact = { Sees };
+    ghost fact = { SeesSent };
 }
 
 /// A look at the queue.
 pub struct Keep;
 
-impl Lesson<Line, View> for Keep {
-    ghost use Rattle.event_gate.specs.Port.{Sees};
+impl Lesson<Sent, View> for Keep {
+    ghost use Rattle.event_gate.specs.Port.{SeesSent};
 
-    ghost fact = { Sees };
+    ghost fact = { SeesSent };
 }
 
 /// The next poster is of client 0.
@@ -80,7 +106,7 @@ impl Split<View> for Open {
 
     ghost left = { after_open };
 
-    ghost right = { λ v. poster v.next [] };
+    ghost right = { λ v. poster v.gauge v.next [] };
 }
 
 /// The taking in of a pass.

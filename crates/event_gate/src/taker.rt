@@ -1,15 +1,16 @@
 // The end of a port that the runner takes from.
-ghost use Rattle.std.specs.Prelude.{true, ◌≡◌, ◌↔◌, ◌∷◌, [], List, IfOk, IfSome, IfNone, IsTrue, IsNone};
+ghost use Rattle.std.specs.Prelude.{true, ◌≡◌, ◌↔◌, ◌%◌, ◌^◌, ◌∷◌, [], List, IfOk, IfSome, IfNone, IsTrue, IsNone};
 ghost use Rattle.event_gate.specs.Ends.{TakesLine, FindsNothing, TakesIn, IsTold, IsAllTaken, IsOpen, opened, left_of};
 ghost use Rattle.std.specs.Arc.{arc_value};
 ghost use Rattle.crossbeam_queue.specs.SegTies.{IsSegPassOf};
-ghost use Rattle.event_gate.specs.Gauge.{IsAtGauge, after_find, opening};
+ghost use Rattle.event_gate.specs.Gauge.{Glimpse, IsAtGauge, after_find, after_redeem, opening};
 ghost use Rattle.event_gate.specs.Port.{Sees, Takes};
 
-use crate::gauge::{GaugeSeat, glance};
+use crate::gauge::{GaugeSeat, glance, redeem};
 use crate::port::{Pass, Port};
 use crate::poster::PostPass;
 use crate::rule::{Keep, Take, TakeIn};
+use crate::sent::Sent;
 use lwp_types::Line;
 use std::alloc::{AllocError, Global};
 use std::marker::Model;
@@ -59,7 +60,7 @@ impl Model for Taker {
 
     ghost view = { λ s. taking s.pass.web s.event s.pass.me.view.client s.seat.me.0 };
 
-    ghost invariant = { λ s. IsSegPassOf (arc_value s.port).queue s.pass × IsTakersView s.pass.me.view.client s.clients.items s.taken.items s.told.items s.posted.items s.count × IsAtGauge (arc_value s.port).gauge.shared.table_id s.seat.table_id };
+    ghost invariant = { λ s. IsSegPassOf (arc_value s.port).queue s.pass × IsTakersView s.pass.me.view.client s.clients.items s.taken.items s.told.items s.posted.items s.count × IsAtGauge (arc_value s.port).gauge.shared.table_id s.seat.table_id × (s.pass.me.view.client.gauge.table ≡ s.seat.table_id) × (s.seat.me.0.tickets ≡ length s.pass.me.view.client.taken) };
 }
 
 impl Taker {
@@ -80,7 +81,7 @@ impl Taker {
         clients: &[u8],
     ) -> Result<Taker, AllocError>
         requires queue { IsSegPassOf (arc_value port).queue pass }
-        requires view { IsOpen clients.now pass.me.view.client }
+        requires view { IsOpen seat.table_id clients.now pass.me.view.client }
         requires gauge { IsAtGauge (arc_value port).gauge.shared.table_id seat.table_id × (seat.me.0 ≡ opening) }
         ensures { IfOk result (λ t. t ≡ opened pass.web event clients.now) }
     {
@@ -113,8 +114,9 @@ impl Taker {
         true
     }
 
-    /// Takes the next line. `None` exactly where a step of this call found that as many lines were taken as posts were
-    /// begun and not refused. A post begins before its push, so the queue was empty at that step.
+    /// Takes the next line. `None` exactly where a step of this call found that all tickets were taken in. A post draws one
+    /// before its push, which its line brings along or which goes back where the post is refused. So at that step no post
+    /// was under way, and each that was announced before and not refused was among the lines taken (`every_find`).
     pub fn take<R: Wait>(&mut self, rt: &R) -> Option<Line>
         ensures line { IfSome result (TakesLine self.old self.new) }
         ensures nothing { IfNone result (FindsNothing self.old self.new) }
@@ -143,6 +145,7 @@ impl Taker {
             client,
             count,
             pass: other,
+            seat: _,
         } = pass;
         let Taker {
             port,
@@ -166,8 +169,8 @@ impl Taker {
     }
 }
 
-// The next line, or the empty find. Where the queue is empty and more posts were begun than lines taken, a post is under
-// way or has just ended, so it looks again.
+// The next line, whose ticket is then taken in, or the empty find. Where the queue is empty and somebody else has a ticket,
+// a post is under way or has just ended, so it looks again.
 fn next_line<R: Wait>(
     rt: &R,
     port: &Port,
@@ -178,13 +181,17 @@ fn next_line<R: Wait>(
     requires queue { IsSegPassOf port.now.queue pass.old }
     requires gauge { IsAtGauge port.now.gauge.shared.table_id seat.old.table_id }
     requires view { pass.old.me.view.client.takes ≡ true }
+    requires named { pass.old.me.view.client.gauge.table ≡ seat.old.table_id }
+    requires own { count ≡ seat.old.me.0.tickets % 2 ^ 64 }
     ensures queue { IsSegPassOf port.now.queue pass.new × (pass.new.web ≡ pass.old.web) }
     ensures gauge { seat.new.table_id ≡ seat.old.table_id }
-    ensures line { IfSome result (λ x. Takes pass.old.me.view.client x pass.new.me.view.client × (seat.new.me.0 ≡ seat.old.me.0)) }
-    ensures nothing { IfNone result ((pass.new.me.view.client ≡ pass.old.me.view.client) × Sees pass.old.me.view.client [] × (seat.new.me.0 ≡ after_find seat.old.me.0 count)) }
+    ensures line { IfSome result (λ x. Takes pass.old.me.view.client x pass.new.me.view.client × (seat.new.me.0 ≡ after_redeem seat.old.me.0)) }
+    ensures nothing { IfNone result ((pass.new.me.view.client ≡ pass.old.me.view.client) × Sees pass.old.me.view.client [] × (seat.new.me.0 ≡ after_find seat.old.me.0 count) × Glimpse count seat.old.me.0) }
 {
     for _ in rt.forever() {
-        if let Some(line) = port.queue.pop_as::<Take, R>(rt, pass) {
+        if let Some(sent) = port.queue.pop_as::<Take, R>(rt, pass) {
+            let Sent { line, ticket } = sent;
+            redeem(&port.gauge, seat, ticket);
             return Some(line);
         }
         if glance(&port.gauge, seat, count) {

@@ -1,6 +1,19 @@
 // What a pass of a port's queue knows. No value of these types is made.
+ghost use base.Fml.{ftrue};
+ghost use Rattle.atomic_table.specs.Seated.{TableId, table_id_coded};
+
 use lwp_types::Line;
 use std::collections::LinkedList;
+use std::marker::Model;
+
+/// Which gauge it is.
+pub struct GaugeName {
+    pub ghost table: { TableId } by { table_id_coded },
+}
+
+impl Model for GaugeName {
+    ghost also_owns = { λ _. ftrue };
+}
 
 /// What a client has posted in all.
 pub struct Told {
@@ -23,4 +36,8 @@ pub struct View {
     pub known: LinkedList<Told>,
     /// The client of the next poster.
     pub next: u8,
+    /// The port isn't open yet.
+    pub opens: bool,
+    /// The gauge of which the lines bring tickets.
+    pub gauge: GaugeName,
 }

@@ -1,7 +1,7 @@
-use Rattle.std.proofs.Common.{◌∙◌, ap, length-set, arith, subst}
+use Rattle.std.proofs.Common.{◌∙◌, ap, length-set, arith}
 use Rattle.event_gate.specs.Shelves.{left_in_all}
-use Rattle.event_gate.proofs.ShelfLaws.{Counts, add_of}
-use Rattle.std.specs.Prelude.{length, ◌≡◌}
+use Rattle.event_gate.proofs.ShelfLaws.{add_of}
+use Rattle.std.specs.Prelude.{length}
 use Rattle.event_gate.proofs.list_gate.ListGate.with_line.Goals as goal
 
 pub overflow_add-index_mut : goal.overflow_add-index_mut
