@@ -53,6 +53,7 @@ fn asked_by<'t>(word: &[u8], key: &'t [u8], behind: &'t [u8]) -> Option<Asked<'t
 }
 
 /// What a text asks for, if it is a command.
+#[inline(always)]
 pub fn command_of(text: &[u8]) -> Option<Asked<'_>>
     ensures { option_map read result ≡ command_of text.now }
 {

@@ -36,6 +36,7 @@ impl Key {
         Key { bytes: cells, len }
     }
 
+    #[inline(always)]
     fn bytes(&self) -> &[u8]
         ensures { result.now ≡ self.now }
     {
@@ -90,6 +91,7 @@ impl Ord for Key {
 
     ghost matches_eq = { λ x y. texts_ties x y };
 
+    #[inline(always)]
     fn cmp(&self, other: &Key) -> Ordering {
         self.bytes().cmp(other.bytes())
     }

@@ -99,6 +99,7 @@ impl Table {
     }
 
     /// Sets what a text is replied to. After `NoMemory` the table and the reply may be anything.
+    #[inline(always)]
     pub fn tell(&mut self, text: &Text, reply: &mut Text) -> Result<(), NoMemory>
         ensures reply { OnOk result (reply.new ≡ (told text.now self.old).reply) }
         ensures after { OnOk result (self.new ≡ (told text.now self.old).table) }

@@ -6,6 +6,7 @@ ghost use Rattle.std.specs.Prelude.{◌≡◌, IsTrue};
 use lwp_types::{Answer, Text};
 
 /// The text of these bytes.
+#[inline(always)]
 pub fn text_of(bytes: &[u8]) -> Text
     requires { IsTrue (is_text bytes.now) }
     ensures { result ≡ bytes.now }
@@ -14,7 +15,7 @@ pub fn text_of(bytes: &[u8]) -> Text
 }
 
 /// Makes it the text of these bytes.
-#[inline(never)]
+#[inline(always)]
 pub fn set_text(text: &mut Text, bytes: &[u8])
     requires { IsTrue (is_text bytes.now) }
     ensures { text.new ≡ bytes.now }

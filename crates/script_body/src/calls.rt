@@ -27,7 +27,7 @@ fn who_id(sender: Tid, env: &Env, who: Who) -> Tid
     }
 }
 
-#[inline(never)]
+#[inline(always)]
 fn exit_call_of(texts: &Texts, sender: Tid, env: &Env, exit: &ExitStmt) -> ExitCall
     ensures { result ≡ exit_call_of texts.now sender env.now exit.now }
 {

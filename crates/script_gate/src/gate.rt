@@ -90,6 +90,7 @@ pub fn stock<'s>(alloc: Global, script: &'s Script) -> Result<ScriptGate<'s>, No
 impl<'s> Gate for ScriptGate<'s> {
     ghost stock = { λ g. g };
 
+    #[inline(always)]
     fn take(&mut self, event: u8) -> Option<Line> {
         let ScriptGate {
             script,

@@ -17,6 +17,7 @@ impl<'s> Body for ThreadBody<'s> {
 
     ghost next = { body_next };
 
+    #[inline(always)]
     fn poll(&mut self, env: &mut Env, got: &Answer, call: &mut Call) -> Result<(), NoMemory> {
         match self {
             ThreadBody::Scripted(body) => body.poll(env, got, call),
