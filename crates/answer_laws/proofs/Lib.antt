@@ -6,3 +6,4 @@ pub mod Others
 pub mod Replies
 pub mod Events
 pub mod Lengths
+mod AgentSights

@@ -6,3 +6,4 @@ pub mod Events
 pub mod Lengths
 pub mod Clients
 pub mod ClientRows
+pub mod Agents

@@ -6,6 +6,7 @@
 //! | a session and a store that talk, whatever others send to the store and whoever ends: what the client is told is a first part of the answers to its lines | `TalksAreAnswers` (`specs/Talks.antt`) |
 //! | the answers to lines that have room in a letter have room in one | `ShortLinesHaveShortAnswers` (`specs/Lengths.antt`) |
 //! | a sender has one letter at most; whoever receives it is handed it as it was sent; and what is replied to it is what its sender is answered | `EachHasOneLetter`, `ReceivesAreTheLetters`, `RepliesAreTheAnswers`, `ReadersLeaveTheRest` (`specs/Replies.antt`) |
+//! | nobody but its owner touches an agent or its letter, unless by destroying one of the two; and of an agent that is destroyed nothing is left | `OthersLeaveAgents`, `DestroyedAgentsAreGone` (`specs/Agents.antt`) |
 //! | nobody else touches a thread that waits for a reply, or who waits for a letter but by sending it one | `OthersLeaveIt`, `DeliveriesLeaveIt` (`specs/Sights.antt`), and with traps and reports `PodsLeaveIt`, `TakesLeaveIt` (`specs/Events.antt`) |
 //!
 //! What of this the steps of a session tell, `specs/Clients.antt` says: which lines were delivered to an agent, how it was replied to,
@@ -20,6 +21,7 @@
 
 pub mod rows;
 
+ghost use Rattle.answer_laws.specs.Agents.{DestroyedAgentsAreGone, OthersLeaveAgents};
 ghost use Rattle.answer_laws.specs.Events.{PodsLeaveIt, TakesLeaveIt};
 ghost use Rattle.answer_laws.specs.Lengths.{ShortLinesHaveShortAnswers};
 ghost use Rattle.answer_laws.specs.Replies.{EachHasOneLetter, ReadersLeaveTheRest, ReceivesAreTheLetters, RepliesAreTheAnswers};
@@ -71,6 +73,16 @@ pub fn every_call_in_a_pod()
 /// And of every line that is taken there.
 pub fn every_take_in_a_pod()
     ensures { TakesLeaveIt }
+{}
+
+/// A call of another than an agent's owner leaves the agent and its letter as they are, unless it destroys one of the two.
+pub fn every_call_beside_an_agent()
+    ensures { OthersLeaveAgents }
+{}
+
+/// Of an agent that is destroyed, neither its row nor its letter is left.
+pub fn every_end_of_an_agent()
+    ensures { DestroyedAgentsAreGone }
 {}
 
 /// The answers to lines that have room in a letter have room in one.
