@@ -48,7 +48,7 @@ use Rattle.lwp_types.specs.declared.call.LwpErr.TheVariants as error
 use Rattle.lwp_types.specs.declared.call.Mode.TheVariants as mode
 use Rattle.lwp_types.specs.declared.rows.Block.TheVariants as block
 
-abbrev seen_by : Option AgentRow → List Letter → AgentSight
+abbrev pub seen_by : Option AgentRow → List Letter → AgentSight
 seen_by row letters = record { row = row; letters = letters }
 
 module _ (a : ℕ) where
@@ -191,7 +191,7 @@ module _ (a : ℕ) where
           by_test true is rest = absurd (omega (arith, e, count-cons (is_letter_of a) l ls, ap one is))
           by_test false is rest = and_from _ _ (ap not is) (rest (omega (arith, e, count-cons (is_letter_of a) l ls)))
 
-  other_of : (x : ℕ) → not (eqb x a) ≡ true → x ≢ a
+  pub other_of : (x : ℕ) → not (eqb x a) ≡ true → x ≢ a
   other_of x h e = let bad : false ≡ true = sym (ap not (eq-eqb x a e)) ∙ h in cc
 
   kept_senders : (v : ℕ) (s : State) → Off v s → Kept s (refuse_senders v s).after
@@ -260,7 +260,7 @@ module _ (a : ℕ) where
 
   -- ---- a letter of another
 
-  kept_post : (s : State) (letter : Letter) → letter.from ≢ a → Kept s (post letter s).after
+  pub kept_post : (s : State) (letter : Letter) → letter.from ≢ a → Kept s (post letter s).after
   kept_post s letter other = kept_cond s (passes (λ row. takes_from letter.from row.block) (thread_of s letter.to)) _ _
       (λ i. seen_by (agent_sight s a).row (pushed_own a Never (as_received letter) other s.letters i))
       (λ i. seen_by (agent_sight s a).row (pushed_own a Never letter other s.letters i))

@@ -7,3 +7,4 @@ pub mod Replies
 pub mod Events
 pub mod Lengths
 mod AgentSights
+mod AgentTexts

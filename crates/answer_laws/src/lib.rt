@@ -21,7 +21,7 @@
 
 pub mod rows;
 
-ghost use Rattle.answer_laws.specs.Agents.{DestroyedAgentsAreGone, OthersLeaveAgents};
+ghost use Rattle.answer_laws.specs.Agents.{DeliveriesPassOthersBy, DeliveriesReachAgents, DestroyedAgentsAreGone, OthersLeaveAgents};
 ghost use Rattle.answer_laws.specs.Events.{PodsLeaveIt, TakesLeaveIt};
 ghost use Rattle.answer_laws.specs.Lengths.{ShortLinesHaveShortAnswers};
 ghost use Rattle.answer_laws.specs.Replies.{EachHasOneLetter, ReadersLeaveTheRest, ReceivesAreTheLetters, RepliesAreTheAnswers};
@@ -83,6 +83,17 @@ pub fn every_call_beside_an_agent()
 /// Of an agent that is destroyed, neither its row nor its letter is left.
 pub fn every_end_of_an_agent()
     ensures { DestroyedAgentsAreGone }
+{}
+
+/// A text that is delivered for an event passes by whoever is no agent of it.
+pub fn every_delivery_beside_an_agent()
+    ensures { DeliveriesPassOthersBy }
+{}
+
+/// A text that is delivered for its event reaches an agent: an owner who waits for its letter by name goes on with it, and one who is
+/// busy has it to receive.
+pub fn every_delivery_to_an_agent()
+    ensures { DeliveriesReachAgents }
 {}
 
 /// The answers to lines that have room in a letter have room in one.
