@@ -128,7 +128,7 @@ deliveries_pass_others_by s was a e text off = by_clock (eqb e 0)
 
 -- ---- its owner
 
-filter_push_in : {X : Type 0} (p : X → Bool) (xs : List X) (x : X) → p x ≡ true → filter p (xs ++ x ∷ []) ≡ filter p xs ++ x ∷ []
+pub filter_push_in : {X : Type 0} (p : X → Bool) (xs : List X) (x : X) → p x ≡ true → filter p (xs ++ x ∷ []) ≡ filter p xs ++ x ∷ []
 filter_push_in p [] x e = rw e refl
 filter_push_in p (y ∷ ys) x e = by_test (p y) (filter_push_in p ys x e)
   where
@@ -225,9 +225,10 @@ module _ (a u : ℕ) (row : AgentRow) (text : List ℕ) (received : Bool) (Own :
           let rest = none_in (is_agent_row a) (λ row. true) rs (omega (arith, few, count-cons (is_agent_row a) r rs, ap one is)) in
           subst (λ r. IsReached a row text received s (and_then (deliver_to text r s) (for_each (deliver_to text) rs)) × Own s (and_then (deliver_to text r s) (for_each (deliver_to text) rs))) same
           (let own = own_one s seen there in
-          let others = kept_all rs rest in
-          (reached_last s (deliver_to text row s) (for_each (deliver_to text) rs) own.0 (passed_others a text rs others (deliver_to text row s).after),
-          own_last s (deliver_to text row s) (for_each (deliver_to text) rs) own.1 (left_all u a after attends_then only_then text rs others y.1 (deliver_to text row s).after (own_waits s (deliver_to text row s) seen own.1))))
+          let others = kept_all rs rest in (
+            reached_last s (deliver_to text row s) (for_each (deliver_to text) rs) own.0 (passed_others a text rs others (deliver_to text row s).after),
+            own_last s (deliver_to text row s) (for_each (deliver_to text) rs) own.1 (left_all u a after attends_then only_then text rs others y.1 (deliver_to text row s).after (own_waits s (deliver_to text row s) seen own.1)),
+          ))
         where
           kept_all : (xs : List AgentRow) → list_all (λ row. not (is_agent_row a row)) (filter (λ row. true) xs) ≡ true → list_all (λ row. not (is_agent_row a row)) xs ≡ true
           kept_all [] h = refl

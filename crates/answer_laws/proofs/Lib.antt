@@ -8,3 +8,4 @@ pub mod Events
 pub mod Lengths
 mod AgentSights
 mod AgentTexts
+mod Owners

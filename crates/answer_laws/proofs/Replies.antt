@@ -82,7 +82,7 @@ module _ {X : Type 0} (p : X → Bool) where
       by_test true e rest = rest
       by_test false e rest = rw e rest
 
-  filter_mapped : (g : X → X) → ((x : X) → p (g x) ≡ p x) → (xs : List X) → filter p (map g xs) ≡ map g (filter p xs)
+  pub filter_mapped : (g : X → X) → ((x : X) → p (g x) ≡ p x) → (xs : List X) → filter p (map g xs) ≡ map g (filter p xs)
   filter_mapped g same [] = refl
   filter_mapped g same (x ∷ xs) = by_test (p x) refl (filter_mapped g same xs)
     where

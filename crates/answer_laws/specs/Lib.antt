@@ -7,3 +7,4 @@ pub mod Lengths
 pub mod Clients
 pub mod ClientRows
 pub mod Agents
+pub mod Owners

@@ -7,6 +7,8 @@
 //! | the answers to lines that have room in a letter have room in one | `ShortLinesHaveShortAnswers` (`specs/Lengths.antt`) |
 //! | a sender has one letter at most; whoever receives it is handed it as it was sent; and what is replied to it is what its sender is answered | `EachHasOneLetter`, `ReceivesAreTheLetters`, `RepliesAreTheAnswers`, `ReadersLeaveTheRest` (`specs/Replies.antt`) |
 //! | nobody but its owner touches an agent or its letter, unless by destroying one of the two; and of an agent that is destroyed nothing is left | `OthersLeaveAgents`, `DestroyedAgentsAreGone` (`specs/Agents.antt`) |
+//! | a text for its event reaches an agent, and passes by whoever is none; its owner is handed it as it was delivered, and a reply to it frees the agent | `DeliveriesReachAgents`, `DeliveriesPassOthersBy` (`specs/Agents.antt`), `OwnersReceive`, `OwnersReply`, `OwnersOfNoneAreRefused` (`specs/Owners.antt`) |
+//! | who sends a letter waits for the reply, and who waits for the letter goes on with it | `SendsAreLetters` (`specs/Owners.antt`) |
 //! | nobody else touches a thread that waits for a reply, or who waits for a letter but by sending it one | `OthersLeaveIt`, `DeliveriesLeaveIt` (`specs/Sights.antt`), and with traps and reports `PodsLeaveIt`, `TakesLeaveIt` (`specs/Events.antt`) |
 //!
 //! What of this the steps of a session tell, `specs/Clients.antt` says: which lines were delivered to an agent, how it was replied to,
@@ -24,6 +26,7 @@ pub mod rows;
 ghost use Rattle.answer_laws.specs.Agents.{DeliveriesPassOthersBy, DeliveriesReachAgents, DestroyedAgentsAreGone, OthersLeaveAgents};
 ghost use Rattle.answer_laws.specs.Events.{PodsLeaveIt, TakesLeaveIt};
 ghost use Rattle.answer_laws.specs.Lengths.{ShortLinesHaveShortAnswers};
+ghost use Rattle.answer_laws.specs.Owners.{OwnersOfNoneAreRefused, OwnersReceive, OwnersReply, SendsAreLetters};
 ghost use Rattle.answer_laws.specs.Replies.{EachHasOneLetter, ReadersLeaveTheRest, ReceivesAreTheLetters, RepliesAreTheAnswers};
 ghost use Rattle.answer_laws.specs.Sights.{DeliveriesLeaveIt, OthersLeaveIt};
 ghost use Rattle.answer_laws.specs.Talks.{TalksAreAnswers};
@@ -94,6 +97,26 @@ pub fn every_delivery_beside_an_agent()
 /// busy has it to receive.
 pub fn every_delivery_to_an_agent()
     ensures { DeliveriesReachAgents }
+{}
+
+/// The owner of an agent that receives by its name is answered a message that it hasn't received, as it was delivered, and waits else.
+pub fn every_receive_of_an_owner()
+    ensures { OwnersReceive }
+{}
+
+/// A reply of an owner to a message that it has received is accepted, if there is room for it; and the agent holds none any more.
+pub fn every_reply_of_an_owner()
+    ensures { OwnersReply }
+{}
+
+/// Who receives by the name of an agent that isn't there, or replies to it, is told so.
+pub fn every_call_to_a_lost_agent()
+    ensures { OwnersOfNoneAreRefused }
+{}
+
+/// Who sends a letter waits for the reply; and who waits for such a letter goes on with it, as it was sent.
+pub fn every_send()
+    ensures { SendsAreLetters }
 {}
 
 /// The answers to lines that have room in a letter have room in one.
