@@ -9,3 +9,4 @@ pub mod Lengths
 mod AgentSights
 mod AgentTexts
 mod Owners
+mod TalkSteps

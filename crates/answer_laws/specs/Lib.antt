@@ -8,3 +8,4 @@ pub mod Clients
 pub mod ClientRows
 pub mod Agents
 pub mod Owners
+pub mod Stands

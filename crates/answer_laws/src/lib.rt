@@ -29,6 +29,7 @@ ghost use Rattle.answer_laws.specs.Lengths.{ShortLinesHaveShortAnswers};
 ghost use Rattle.answer_laws.specs.Owners.{OwnersOfNoneAreRefused, OwnersReceive, OwnersReply, SendsAreLetters};
 ghost use Rattle.answer_laws.specs.Replies.{EachHasOneLetter, ReadersLeaveTheRest, ReceivesAreTheLetters, RepliesAreTheAnswers};
 ghost use Rattle.answer_laws.specs.Sights.{DeliveriesLeaveIt, OthersLeaveIt};
+ghost use Rattle.answer_laws.specs.Stands.{OthersCallsAreEvents};
 ghost use Rattle.answer_laws.specs.Talks.{TalksAreAnswers};
 
 /// A session and a store that talk, whatever else is sent to the store and whoever ends: the accepted replies to the session's client
@@ -117,6 +118,11 @@ pub fn every_call_to_a_lost_agent()
 /// Who sends a letter waits for the reply; and who waits for such a letter goes on with it, as it was sent.
 pub fn every_send()
     ensures { SendsAreLetters }
+{}
+
+/// In a pod that stands as a talk, a call of another is a letter to the store, or the end of the agent, or nothing.
+pub fn every_call_beside_a_talk()
+    ensures { OthersCallsAreEvents }
 {}
 
 /// The answers to lines that have room in a letter have room in one.

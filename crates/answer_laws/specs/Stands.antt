@@ -1,0 +1,124 @@
+-- How a pod stands in which a session and a store talk: the machine's state, and the talk that it comes to.
+use Rattle.answer_laws.specs.Agents.{agent_sight, spares_agent}
+use Rattle.answer_laws.specs.Sights.{answers_to, sight}
+use Rattle.answer_laws.specs.Talks.{Event, Mail, Mail.Nothing, Mail.Received, Mail.Sent, Stand, Stand.AwaitsLetter, Stand.AwaitsReply, Stand.Hears, Stand.IsOver, Talk, talked}
+use Rattle.line_server.specs.declared.session.SessionPlace.{SessionPlace}
+use Rattle.line_server.specs.declared.session.SessionPlace.TheVariants as at
+use Rattle.lwp_types.specs.Choice.{choice}
+use Rattle.lwp_types.specs.Counts.{timers_of}
+use Rattle.lwp_types.specs.Lawful.{Lawful}
+use Rattle.lwp_types.specs.State.{Outcome, State, agent_of, is_id}
+use Rattle.lwp_types.specs.Step.{step}
+use Rattle.lwp_types.specs.Unblock.{nonexist}
+use Rattle.lwp_types.specs.declared.call.Call.{Call}
+use Rattle.lwp_types.specs.declared.call.Answer.{Answer}
+use Rattle.lwp_types.specs.declared.call.Answer.TheVariants as answer
+use Rattle.lwp_types.specs.declared.rows.AgentRow.{AgentRow}
+use Rattle.lwp_types.specs.declared.rows.Block.{Block}
+use Rattle.lwp_types.specs.declared.rows.Block.TheVariants as block
+use Rattle.lwp_types.specs.declared.rows.Letter.{Letter}
+use Rattle.lwp_types.specs.declared.rows.Mark.TheVariants as mark
+use Rattle.std.specs.List.{fold}
+use Rattle.std.specs.Prelude.{Bool, List, None, Option, Some, [], false, true, ℕ, ◌<◌, ◌==◌, ◌∷◌, ◌≡◌, ◌≤◌, ◌⊎◌}
+
+-- what it waits for, who stands so in the talk and receives of such a sender
+abbrev pub block_of : Option ℕ → Stand → Block
+block_of from (Hears x) = block.Not
+block_of from AwaitsLetter = block.Receiving from
+block_of from AwaitsReply = block.Sending
+block_of from IsOver = block.Not
+
+-- a letter with the room of a line
+abbrev pub line_letter : ℕ → ℕ → List ℕ → Bool → Letter
+line_letter from to text received = record { from = from; to = to; text = text; room = 240; received = received }
+
+-- the session's letters
+abbrev pub mail_letters : ℕ → ℕ → Mail → List Letter
+mail_letters s k Nothing = []
+mail_letters s k (Sent text) = line_letter s k text false ∷ []
+mail_letters s k (Received text) = line_letter s k text true ∷ []
+
+-- it waits for a reply exactly if it has a letter, and isn't over
+abbrev pub is_posted : Stand → Mail → Bool
+is_posted (Hears x) Nothing = true
+is_posted AwaitsLetter Nothing = true
+is_posted AwaitsReply (Sent text) = true
+is_posted AwaitsReply (Received text) = true
+is_posted _ _ = false
+
+-- a store that isn't over
+abbrev pub is_reading : Stand → Bool
+is_reading (Hears x) = true
+is_reading AwaitsLetter = true
+is_reading _ = false
+
+-- it has received a line, and not replied to it
+abbrev pub owes : SessionPlace → Stand → Bool
+owes at.Recv (Hears (answer.Letter from text room)) = true
+owes at.Send stand = true
+owes _ _ = false
+
+-- it knows its agent, or is told of it just then
+abbrev pub knows : ℕ → ℕ → SessionPlace → Stand → Bool
+knows a b at.Agent (Hears (answer.Thread c)) = c == a
+knows a b at.Agent _ = false
+knows a b at.Start _ = false
+knows a b _ _ = b == a
+
+-- the agent's letters: none; or a text that waits for the session; or one that it has received and owes a reply to
+pub data AgentLetters (s a : ℕ) (owed : Bool) (waiting : List (List ℕ)) (letters : List Letter) : Type 0 where
+  Idle : owed ≡ false → waiting ≡ [] → letters ≡ [] → AgentLetters s a owed waiting letters
+  Waiting : (text : List ℕ) → owed ≡ false → waiting ≡ text ∷ [] → letters ≡ line_letter a s text false ∷ [] → AgentLetters s a owed waiting letters
+  Owed : (text : List ℕ) → owed ≡ true → waiting ≡ [] → letters ≡ line_letter a s text true ∷ [] → AgentLetters s a owed waiting letters
+
+-- the agent: it isn't made yet; or is there; or is gone
+pub data AgentIs (s a : ℕ) (state : State) (talk : Talk) (waiting : List (List ℕ)) : Type 0 where
+  Unmade : state.births ≤ a → talk.session.place ≡ at.Start → talk.agent_lives ≡ true → waiting ≡ [] → AgentIs s a state talk waiting
+  Made : (row : AgentRow) → agent_of state.agents a ≡ Some row → row.owner ≡ s → talk.agent_lives ≡ true → knows a talk.session.agent talk.session.place talk.client ≡ true
+      → AgentLetters s a (owes talk.session.place talk.client) waiting (agent_sight state a).letters → AgentIs s a state talk waiting
+  Gone : is_id state a ≡ false → a < state.births → talk.agent_lives ≡ false → knows a talk.session.agent talk.session.place talk.client ≡ true → AgentIs s a state talk waiting
+
+-- the session is thread s, the store k, and the agent a; these texts wait for the session
+pub record Stands (s k a : ℕ) (state : State) (talk : Talk) (waiting : List (List ℕ)) : Type 0 where
+  pub client : sight state s ≡ record { waits = Some (block_of (Some a) talk.client); marks = mark.Frame ∷ []; letters = mail_letters s k talk.mail }
+  pub keeper : sight state k ≡ record { waits = Some (block_of None talk.keeper); marks = mark.Frame ∷ []; letters = [] }
+  pub posted : is_posted talk.client talk.mail ≡ true
+  pub reads : is_reading talk.keeper ≡ true
+  pub untimed : timers_of state.timers s ≡ 0
+  pub untimed_keeper : timers_of state.timers k ≡ 0
+  pub agent : AgentIs s a state talk waiting
+
+-- ---- steps
+
+-- what it was answered last, when it was answered z before
+abbrev pub last_heard : Answer → List Answer → Answer
+last_heard z answers = fold (λ before x. x) z answers
+
+-- who goes on in the talk was answered so
+abbrev pub HeardAs : Stand → Answer → Type 0
+HeardAs (Hears x) z = z ≡ x
+HeardAs _ z = Unit {0}
+
+-- it was told what the talk says, if it was before
+abbrev pub IsHeard : Stand → Stand → List Answer → Type 0
+IsHeard before after answers = (z : Answer) → HeardAs before z → HeardAs after (last_heard z answers)
+
+-- what the pod did is some events of the talk
+pub record Becomes (s k a : ℕ) (talk : Talk) (waiting : List (List ℕ)) (out : Outcome) : Type 0 where
+  pub events : List Event
+  pub stands : Stands s k a out.after (talked s a talk events) waiting
+  pub heard : IsHeard talk.client (talked s a talk events).client (answers_to s out.effects)
+  pub heard_keeper : IsHeard talk.keeper (talked s a talk events).keeper (answers_to k out.effects)
+
+-- the session, which has waited for a line, is told that nobody is there, and so it ends
+pub record Leaves (s : ℕ) (talk : Talk) (out : Outcome) : Type 0 where
+  pub client : sight out.after s ≡ record { waits = Some block.Not; marks = mark.Frame ∷ []; letters = [] }
+  pub untimed : timers_of out.after.timers s ≡ 0
+  pub place : talk.client ≡ AwaitsLetter
+  pub told : answers_to s out.effects ≡ nonexist ∷ []
+
+-- A call of another, which destroys neither: it is a letter to the store, or the end of the agent, or nothing.
+abbrev pub OthersCallsAreEvents : Type 0
+OthersCallsAreEvents = (s k a : ℕ) (state : State) → Lawful state None → (talk : Talk) (waiting : List (List ℕ)) → Stands s k a state talk waiting
+    → (t : ℕ) → choice state ≡ Some t → (t == s) ≡ false → (t == k) ≡ false → (s == k) ≡ false → (c : Call) → spares_agent s k c ≡ true → (talk.session.place ≡ at.Start → (step state c).after.births ≤ a)
+    → Becomes s k a talk waiting (step state c) ⊎ Leaves s talk (step state c)
