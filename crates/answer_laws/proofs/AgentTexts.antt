@@ -1,24 +1,25 @@
 -- What a delivery does to an agent and to its owner.
 use Rattle.answer_laws.proofs.AgentSights.{kept_post, other_of, seen_by}
+use Rattle.answer_laws.proofs.Others.{none_all, tids_all}
 use Rattle.answer_laws.proofs.Replies.{Never}
 use Rattle.answer_laws.proofs.Sights.{Attends, answers_append, attends_after, left_wake, pushed_own, sight_same, turn_own, Turn, Turn.Left, Turn.Woken}
 use Rattle.answer_laws.specs.Agents.{AgentSight, DeliveriesPassOthersBy, DeliveriesReachAgents, IsHandedOn, IsPassedBy, IsReached, Reaches, agent_sight, deliveries_to, is_busy, is_delivery_to}
 use Rattle.answer_laws.specs.Sights.{IsLeft, IsWoken, answers_to, going_on, is_attentive, sight, sight_by}
 use Rattle.lwp_types.specs.Agents.{deliver, deliver_to, event_agents, is_for, message}
 use Rattle.lwp_types.specs.CountLaws.{count-append, count-cons, count-filter-le, count_found, one}
-use Rattle.lwp_types.specs.Counts.{has_owner_and_event, is_between}
+use Rattle.lwp_types.specs.Counts.{has_owner_and_event, is_between, timers_of}
 use Rattle.lwp_types.specs.Lawful.{Lawful}
 use Rattle.lwp_types.specs.Letters.{as_answer, as_received, holding_set, is_letter_of, post, takes_from, with_holding}
 use Rattle.lwp_types.specs.State.{Outcome, State, ThreadRow, agent_of, and_then, block_set, for_each, is_agent_row, is_number, is_thread, passes, still, thread_of, with_block}
-use Rattle.lwp_types.specs.Time.{due_threads, tick, ticked, time_out}
-use Rattle.lwp_types.specs.Unblock.{unblock}
+use Rattle.lwp_types.specs.Time.{due_threads, is_due, tick, ticked, time_out}
+use Rattle.lwp_types.specs.Unblock.{is_timer_of, unblock}
 use Rattle.lwp_types.specs.declared.call.Answer.{Answer}
 use Rattle.lwp_types.specs.declared.call.Effect.{Effect}
 use Rattle.lwp_types.specs.declared.rows.AgentRow.{AgentRow}
 use Rattle.lwp_types.specs.declared.rows.Block.{Block}
 use Rattle.lwp_types.specs.declared.rows.Letter.{Letter}
 use Rattle.pod_laws.proofs.Chosen.{living}
-use Rattle.pod_laws.proofs.Elements.{all_found, find_map, find_passes}
+use Rattle.pod_laws.proofs.Elements.{all_filter, all_found, find_map, find_passes}
 use Rattle.pod_laws.proofs.Holding.{agents_once, no_thread}
 use Rattle.pod_laws.proofs.LetterMoves.{no_rows}
 use Rattle.pod_laws.proofs.Numbers.{keys_once}
@@ -106,7 +107,7 @@ others_of a e (r ∷ rs) few off = by_tests (is_agent_row a r) refl (is_for e r)
     by_tests false is true f h rest = and_from _ _ (ap not is) (rest (omega (arith, few, count-cons (is_agent_row a) r rs)) h)
     by_tests false is false f h rest = rest (omega (arith, few, count-cons (is_agent_row a) r rs)) h
 
-found_in : (a e : ℕ) (rows : List AgentRow) (row : AgentRow) → find (is_agent_row a) rows ≡ Some row → is_for e row ≡ true → find (is_agent_row a) (filter (is_for e) rows) ≡ Some row
+pub found_in : (a e : ℕ) (rows : List AgentRow) (row : AgentRow) → find (is_agent_row a) rows ≡ Some row → is_for e row ≡ true → find (is_agent_row a) (filter (is_for e) rows) ≡ Some row
 found_in a e [] row found is = absurd (cc)
 found_in a e (r ∷ rs) row found is = by_tests (is_agent_row a r) refl (is_for e r) refl found (found_in a e rs row)
   where
@@ -136,12 +137,12 @@ filter_push_in p (y ∷ ys) x e = by_test (p y) (filter_push_in p ys x e)
     by_test true rest = ap (λ zs. y ∷ zs) rest
     by_test false rest = rest
 
-record At (s : State) (u : ℕ) (b : Block) : Type 0 where
-  row : ThreadRow
-  known : thread_of s u ≡ Some row
-  waits : row.block ≡ b
+pub record At (s : State) (u : ℕ) (b : Block) : Type 0 where
+  pub row : ThreadRow
+  pub known : thread_of s u ≡ Some row
+  pub waits : row.block ≡ b
 
-at_of : (s : State) (u : ℕ) (b : Block) → (sight s u).waits ≡ Some b → At s u b
+pub at_of : (s : State) (u : ℕ) (b : Block) → (sight s u).waits ≡ Some b → At s u b
 at_of s u b seen = by_row (thread_of s u) refl seen
   where
     by_row : (o : Option ThreadRow) → thread_of s u ≡ o → option_map (λ (row : ThreadRow). row.block) o ≡ Some b → At s u b
@@ -188,6 +189,33 @@ module _ (u : ℕ) where
       let y = and_parts (not (is_agent_row u row)) (list_all (λ row. not (is_agent_row u row)) rows) away in
       let one = left_to text row s b seen attends (other_of u row.number y.0) (only row.number (other_of a row.number x.0)) in
       left_then s (deliver_to text row s) (for_each (deliver_to text) rows) one (left_all a b attends only text rows x.1 y.1 (deliver_to text row s).after (ap (λ x. x.waits) one.same ∙ seen))
+
+-- nor is it touched where the agent that it may wait for isn't reached
+module _ (u : ℕ) (b : Block) (attends : is_attentive b ≡ true) where
+  left_times : (vs : List ℕ) → list_all (λ v. not (eqb v u)) vs ≡ true → (s : State) → (sight s u).waits ≡ Some b → IsLeft u s (for_each time_out vs s)
+  unfolding for_each
+  left_times [] all s seen = record { same = refl; quiet = refl }
+  left_times (v ∷ vs) all s seen =
+      let parts = and_parts (not (eqb v u)) (list_all (λ v. not (eqb v u)) vs) all in
+      let here = at_of s u b seen in
+      let one = left_wake u Never s (record { row = here.row; known = here.known; attends = ap is_attentive here.waits ∙ attends }) (time_out v s) _ v (other_of u v parts.0) refl refl refl in
+      left_then u s (time_out v s) (for_each time_out vs) one (left_times vs parts.1 (time_out v s).after (ap (λ x. x.waits) one.same ∙ seen))
+
+  left_tick : (s : State) → (sight s u).waits ≡ Some b → timers_of s.timers u ≡ 0 → IsLeft u s (tick s)
+  left_tick s seen none = left_then u s (record { after = ticked s; effects = effect.Ticked (s.now + 1) ∷ [] }) (λ now. for_each time_out (due_threads now) now) (record { same = refl; quiet = refl })
+      (left_times (due_threads (ticked s)) (tids_all u Never _ (all_filter _ _ (is_due (s.now + 1)) (λ row kept h. h) s.timers (none_all u Never (is_timer_of u) s.timers none))) (ticked s) seen)
+
+  pub left_deliver : (a : ℕ) → ((n : ℕ) → n ≢ a → takes_from n b ≡ false) → (s : State) → Lawful s None → (sight s u).waits ≡ Some b → timers_of s.timers u ≡ 0 → (e : ℕ) (text : List ℕ) → passes (is_for e) (agent_of s.agents a) ≡ false → IsLeft u s (deliver s e text)
+  unfolding deliver
+  left_deliver a only s was seen none e text off = by_clock (eqb e 0)
+    where
+      here : At s u b
+      here = at_of s u b seen
+
+      by_clock : (c : Bool) → IsLeft u s (cond c (tick s) (for_each (deliver_to text) (event_agents s.agents e) s))
+      by_clock true = left_tick s seen none
+      by_clock false = left_all u a b attends only text (event_agents s.agents e) (others_of a e s.agents (keys_once (λ (row : AgentRow). row.number) s.agents was.nine.numbers.0.1 a) off)
+          (none_in (is_agent_row u) (is_for e) s.agents (no_rows s None was.nine u here.row here.known)) s seen
 
 -- what the text comes to for the agent, and for its owner, who waits so at first and so afterwards
 module _ (a u : ℕ) (row : AgentRow) (text : List ℕ) (received : Bool) (Own : State → Outcome → Type 0) (before after : Block)

@@ -10,3 +10,4 @@ mod AgentSights
 mod AgentTexts
 mod Owners
 mod TalkSteps
+mod TalkTexts

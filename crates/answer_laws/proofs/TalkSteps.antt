@@ -3,7 +3,7 @@ use Rattle.answer_laws.proofs.AgentSights.{destroyed_agents_are_gone, others_lea
 use Rattle.answer_laws.proofs.Others.{others_leave_it}
 use Rattle.answer_laws.specs.Agents.{agent_sight, no_agent, spares_agent}
 use Rattle.answer_laws.specs.Sights.{IsLeft, IsSent, IsWoken, Spares, answers_to, attends, going_on, is_attentive, sight, waits_for, written_to}
-use Rattle.answer_laws.specs.Stands.{AgentIs, AgentIs.Gone, AgentIs.Made, AgentIs.Unmade, AgentLetters, AgentLetters.Idle, AgentLetters.Owed, AgentLetters.Waiting, Becomes, HeardAs, IsHeard, Leaves, OthersCallsAreEvents, Stands, block_of, is_posted, is_reading, knows, last_heard, line_letter, mail_letters, owes}
+use Rattle.answer_laws.specs.Stands.{AgentIs, AgentIs.Gone, AgentIs.Made, AgentIs.Unmade, AgentLetters, AgentLetters.Idle, AgentLetters.Owed, AgentLetters.Waiting, Becomes, HeardAs, IsHeard, Leaves, OthersCallsAreEvents, Stands, block_of, is_placed, is_posted, is_reading, knows, last_heard, line_letter, mail_letters, owes}
 use Rattle.answer_laws.specs.Talks.{Event, Event.AgentEnds, Event.Line, Event.OtherLetter, Mail, Mail.Nothing, Mail.Received, Mail.Sent, Stand, Stand.AwaitsLetter, Stand.AwaitsReply, Stand.Hears, Stand.IsOver, Talk, agent_ends, line_refused, other_comes, talk_on, talked}
 use Rattle.line_server.specs.declared.session.SessionPlace.{SessionPlace}
 use Rattle.line_server.specs.declared.session.SessionPlace.TheVariants as at
@@ -27,7 +27,7 @@ use Rattle.pod_laws.proofs.Fading.{step_fades}
 use Rattle.pod_laws.proofs.Holding.{no_thread}
 use Rattle.pod_laws.proofs.TimerMoves.{no_timer_comes_unasked}
 use Rattle.pod_laws.specs.Timers.{ticks_of, timers_asked, timers_by}
-use Rattle.std.proofs.Common.{Bool, List, None, Option, Some, [], ap, arith, cond, count_by, eqb, false, inl, inr, not, refl, subst, sym, true, ℕ, ◌&&◌, ◌++◌, ◌||◌, ◌<◌, ◌∙◌, ◌∷◌, ◌≡◌, ◌≢◌, ◌≤◌, ◌⊎◌}
+use Rattle.std.proofs.Common.{Bool, List, None, Option, Some, [], ap, append-nil, arith, cond, count_by, eqb, false, inl, inr, not, refl, subst, sym, true, ℕ, ◌&&◌, ◌++◌, ◌||◌, ◌<◌, ◌∙◌, ◌∷◌, ◌≡◌, ◌≢◌, ◌≤◌, ◌⊎◌}
 use Rattle.std.proofs.lemmas.Bool.{and_from, and_parts, cases_eq, eq-eqb, eqb-true, leb-false, leb-true, ltb-true, ne_eqb}
 use Rattle.std.specs.List.{filter, find, fold}
 use Rattle.std.specs.Prelude.{is_none, is_some, nat_le, nat_lt, option_map}
@@ -93,10 +93,10 @@ ends_of call.Agents = Spared (λ st u. tt) (λ a u. refl)
 ends_of (call.Trap e) = Spared (λ st u. tt) (λ a u. refl)
 ends_of (call.Say text) = Spared (λ st u. tt) (λ a u. refl)
 
-apart_of : (m n : ℕ) → eqb m n ≡ false → m ≢ n
+pub apart_of : (m n : ℕ) → eqb m n ≡ false → m ≢ n
 apart_of m n e same = let bad : true ≡ false = sym (eq-eqb m n same) ∙ e in cc
 
-parts_of : (x y : Bool) → (not x && not y) ≡ true → (x ≡ false) × (y ≡ false)
+pub parts_of : (x y : Bool) → (not x && not y) ≡ true → (x ≡ false) × (y ≡ false)
 parts_of true y h = absurd (cc)
 parts_of false true h = absurd (cc)
 parts_of false false h = (refl, refl)
@@ -107,13 +107,13 @@ pub talked_append : (s a : ℕ) (talk : Talk) (xs ys : List Event) → talked s 
 talked_append s a talk [] ys = refl
 talked_append s a talk (x ∷ xs) ys = talked_append s a (talk_on s a talk x) xs ys
 
-attentive : (from : Option ℕ) (stand : Stand) → is_attentive (block_of from stand) ≡ true
+pub attentive : (from : Option ℕ) (stand : Stand) → is_attentive (block_of from stand) ≡ true
 attentive from (Hears x) = refl
 attentive from AwaitsLetter = refl
 attentive from AwaitsReply = refl
 attentive from IsOver = refl
 
-attends_seen : (st : State) (u : ℕ) (b : Block) → (sight st u).waits ≡ Some b → is_attentive b ≡ true → attends st u ≡ true
+pub attends_seen : (st : State) (u : ℕ) (b : Block) → (sight st u).waits ≡ Some b → is_attentive b ≡ true → attends st u ≡ true
 attends_seen st u b seen h = by_row (thread_of st u) seen
   where
     by_row : (o : Option ThreadRow) → option_map (λ (row : ThreadRow). row.block) o ≡ Some b → passes (λ (row : ThreadRow). is_attentive row.block) o ≡ true
@@ -121,20 +121,20 @@ attends_seen st u b seen h = by_row (thread_of st u) seen
     by_row (Some row) e = let is : row.block ≡ b = cc in ap is_attentive is ∙ h
 
 -- who waits for a letter stands so
-awaits : (from other : Option ℕ) (stand : Stand) → block_of from stand ≡ block.Receiving other → (stand ≡ AwaitsLetter) × (other ≡ from)
+pub awaits : (from other : Option ℕ) (stand : Stand) → block_of from stand ≡ block.Receiving other → (stand ≡ AwaitsLetter) × (other ≡ from)
 awaits from other (Hears x) e = absurd (cc)
 awaits from other AwaitsLetter e = (refl, cc e)
 awaits from other AwaitsReply e = absurd (cc)
 awaits from other IsOver e = absurd (cc)
 
 -- its letters are for the store alone
-mail_off : (s k t : ℕ) → t ≢ k → (m : Mail) → count_by (is_to t) (mail_letters s k m) ≡ 0
+pub mail_off : (s k t : ℕ) → t ≢ k → (m : Mail) → count_by (is_to t) (mail_letters s k m) ≡ 0
 mail_off s k t other Nothing = refl
 mail_off s k t other (Sent text) = omega (arith, ap one (ne_eqb k t (λ e. other (sym e))))
 mail_off s k t other (Received text) = omega (arith, ap one (ne_eqb k t (λ e. other (sym e))))
 
 -- whom a live thread awaits by name is there
-awaited_there : (st : State) → Lawful st None → (u a : ℕ) → (sight st u).waits ≡ Some (block.Receiving (Some a)) → is_id st a ≡ true
+pub awaited_there : (st : State) → Lawful st None → (u a : ℕ) → (sight st u).waits ≡ Some (block.Receiving (Some a)) → is_id st a ≡ true
 awaited_there st was u a seen = by_row (thread_of st u) refl seen
   where
     by_block : (row : ThreadRow) (b : Block) → b ≡ block.Receiving (Some a) → is_block_of st row.number b ≡ true → is_id st a ≡ true
@@ -151,43 +151,48 @@ awaited_there st was u a seen = by_row (thread_of st u) refl seen
 -- ---- pieces of what becomes of a talk
 
 -- the store stands so then, and nothing else changes
-record KeeperTo (s k a : ℕ) (talk : Talk) (out : Outcome) : Type 0 where
-  events : List Event
-  keeper : Stand
-  is : talked s a talk events ≡ record talk { keeper = keeper }
-  seen : sight out.after k ≡ record { waits = Some (block_of None keeper); marks = mark.Frame ∷ []; letters = [] }
-  reads : is_reading keeper ≡ true
-  heard : IsHeard talk.keeper keeper (answers_to k out.effects)
+pub record KeeperTo (s k a : ℕ) (talk : Talk) (out : Outcome) : Type 0 where
+  pub events : List Event
+  pub keeper : Stand
+  pub is : talked s a talk events ≡ record talk { keeper = keeper }
+  pub seen : sight out.after k ≡ record { waits = Some (block_of None keeper); marks = mark.Frame ∷ []; letters = [] }
+  pub reads : is_reading keeper ≡ true
+  pub heard : IsHeard talk.keeper keeper (answers_to k out.effects)
 
 -- the session and its agent stand so then, and nothing else changes
-record ClientTo (s k a : ℕ) (talk : Talk) (waiting : List (List ℕ)) (out : Outcome) : Type 0 where
-  events : List Event
-  client : Stand
-  lives : Bool
-  is : (keeper : Stand) → talked s a (record talk { keeper = keeper }) events ≡ record talk { keeper = keeper; client = client; agent_lives = lives }
-  seen : sight out.after s ≡ record { waits = Some (block_of (Some a) client); marks = mark.Frame ∷ []; letters = mail_letters s k talk.mail }
-  posted : is_posted client talk.mail ≡ true
-  agent : AgentIs s a out.after (record talk { client = client; agent_lives = lives }) waiting
-  heard : IsHeard talk.client client (answers_to s out.effects)
+pub record ClientTo (s k a : ℕ) (talk : Talk) (waiting : List (List ℕ)) (out : Outcome) : Type 0 where
+  pub events : List Event
+  pub client : Stand
+  pub lives : Bool
+  pub is : (keeper : Stand) → talked s a (record talk { keeper = keeper }) events ≡ record talk { keeper = keeper; client = client; agent_lives = lives }
+  pub seen : sight out.after s ≡ record { waits = Some (block_of (Some a) client); marks = mark.Frame ∷ []; letters = mail_letters s k talk.mail }
+  pub posted : is_posted client talk.mail ≡ true
+  pub placed : is_placed client talk.session.place ≡ true
+  pub agent : AgentIs s a out.after (record talk { client = client; agent_lives = lives }) waiting
+  pub heard : IsHeard talk.client client (answers_to s out.effects)
 
-agent_as : {s a : ℕ} {st : State} {one two : Talk} {waiting : List (List ℕ)} → two.session ≡ one.session → two.client ≡ one.client → two.agent_lives ≡ one.agent_lives → AgentIs s a st one waiting → AgentIs s a st two waiting
+pub agent_as : {s a : ℕ} {st : State} {one two : Talk} {waiting : List (List ℕ)} → two.session ≡ one.session → two.client ≡ one.client → two.agent_lives ≡ one.agent_lives → AgentIs s a st one waiting → AgentIs s a st two waiting
 agent_as {s} {a} {st} {one} {two} {waiting} e f g (Unmade low place lives none) = Unmade low (ap (λ x. x.place) e ∙ place) (g ∙ lives) none
 agent_as {s} {a} {st} {one} {two} {waiting} e f g (Made row there owns lives known letters) = Made row there owns (g ∙ lives) ((λ i. knows a (e i).agent (e i).place (f i)) ∙ known)
     (subst (λ b. AgentLetters s a b waiting (agent_sight st a).letters) (λ i. owes (sym e i).place (sym f i)) letters)
 agent_as {s} {a} {st} {one} {two} {waiting} e f g (Gone off low lives known) = Gone off low (g ∙ lives) ((λ i. knows a (e i).agent (e i).place (f i)) ∙ known)
 
-becomes : (s k a : ℕ) (talk : Talk) (waiting : List (List ℕ)) (out : Outcome) → timers_of out.after.timers s ≡ 0 → timers_of out.after.timers k ≡ 0 → KeeperTo s k a talk out → ClientTo s k a talk waiting out → Becomes s k a talk waiting out
+pub becomes : (s k a : ℕ) (talk : Talk) (waiting : List (List ℕ)) (out : Outcome) → timers_of out.after.timers s ≡ 0 → timers_of out.after.timers k ≡ 0 → KeeperTo s k a talk out → ClientTo s k a talk waiting out → Becomes s k a talk waiting [] [] out
 becomes s k a talk waiting out timers timers_k one two = record {
   events = one.events ++ two.events;
+  waits = waiting;
   stands = subst (λ x. Stands s k a out.after x waiting) (sym now) (record {
     client = two.seen;
     keeper = one.seen;
     posted = two.posted;
+    placed = two.placed;
     reads = one.reads;
     untimed = timers;
     untimed_keeper = timers_k;
     agent = agent_as refl refl refl two.agent;
   });
+  texts = ap (λ (x : Talk). x.lines ++ waiting) now ∙ sym (append-nil (talk.lines ++ waiting));
+  said = ap (λ (x : Talk). x.told) now ∙ sym (append-nil talk.told);
   heard = subst (λ (x : Talk). IsHeard talk.client x.client (answers_to s out.effects)) (sym now) two.heard;
   heard_keeper = subst (λ (x : Talk). IsHeard talk.keeper x.keeper (answers_to k out.effects)) (sym now) one.heard;
 }
@@ -196,11 +201,11 @@ becomes s k a talk waiting out timers timers_k one two = record {
     now = talked_append s a talk one.events two.events ∙ ap (λ x. talked s a x two.events) one.is ∙ two.is one.keeper
 
 -- nothing is heard
-unheard : (stand : Stand) (answers : List Answer) → answers ≡ [] → IsHeard stand stand answers
+pub unheard : (stand : Stand) (answers : List Answer) → answers ≡ [] → IsHeard stand stand answers
 unheard stand answers none = subst (IsHeard stand stand) (sym none) (λ z h. h)
 
 -- one answer is
-heard_one : (before : Stand) (x : Answer) (answers : List Answer) → answers ≡ x ∷ [] → IsHeard before (Hears x) answers
+pub heard_one : (before : Stand) (x : Answer) (answers : List Answer) → answers ≡ x ∷ [] → IsHeard before (Hears x) answers
 heard_one before x answers one = subst (IsHeard before (Hears x)) (sym one) (λ z h. refl)
 
 -- ---- a letter for the store
@@ -209,7 +214,7 @@ pub other_is : (s a x : ℕ) (text : List ℕ) (room : ℕ) (talk : Talk) → ta
 other_is s a x text room talk waits other = rw (waits, ne_eqb x s other) refl
 
 -- the store is left
-keeper_left : (s k a : ℕ) (st : State) (talk : Talk) (waiting : List (List ℕ)) (out : Outcome) → Stands s k a st talk waiting → IsLeft k st out → KeeperTo s k a talk out
+pub keeper_left : (s k a : ℕ) (st : State) (talk : Talk) (waiting : List (List ℕ)) (out : Outcome) → Stands s k a st talk waiting → IsLeft k st out → KeeperTo s k a talk out
 keeper_left s k a st talk waiting out was left = record {
   events = [];
   keeper = talk.keeper;
@@ -220,7 +225,7 @@ keeper_left s k a st talk waiting out was left = record {
 }
 
 -- or handed a letter of x
-keeper_handed : (s k a : ℕ) (st : State) (talk : Talk) (waiting : List (List ℕ)) (out : Outcome) → Stands s k a st talk waiting → (x : ℕ) (text : List ℕ) (room : ℕ) → x ≢ s → talk.keeper ≡ AwaitsLetter
+pub keeper_handed : (s k a : ℕ) (st : State) (talk : Talk) (waiting : List (List ℕ)) (out : Outcome) → Stands s k a st talk waiting → (x : ℕ) (text : List ℕ) (room : ℕ) → x ≢ s → talk.keeper ≡ AwaitsLetter
     → sight out.after k ≡ going_on (sight st k) → answers_to k out.effects ≡ answer.Letter x text room ∷ [] → KeeperTo s k a talk out
 keeper_handed s k a st talk waiting out was x text room other waits goes told = record {
   events = OtherLetter x text room ∷ [];
@@ -234,7 +239,7 @@ keeper_handed s k a st talk waiting out was x text room other waits goes told = 
 -- ---- the session and its agent
 
 -- the client goes on as it knew
-knows_on : (a b : ℕ) (place : SessionPlace) (x : Answer) → knows a b place AwaitsLetter ≡ true → knows a b place (Hears x) ≡ true
+pub knows_on : (a b : ℕ) (place : SessionPlace) (x : Answer) → knows a b place AwaitsLetter ≡ true → knows a b place (Hears x) ≡ true
 knows_on a b at.Start x h = absurd (cc)
 knows_on a b at.Agent x h = absurd (cc)
 knows_on a b at.Recv x h = h
@@ -244,7 +249,7 @@ knows_on a b at.Bye x h = h
 knows_on a b at.End x h = h
 
 -- nothing of them changes
-client_left : (s k a : ℕ) (st : State) (talk : Talk) (waiting : List (List ℕ)) (out : Outcome) → Stands s k a st talk waiting → IsLeft s st out → AgentIs s a out.after talk waiting → ClientTo s k a talk waiting out
+pub client_left : (s k a : ℕ) (st : State) (talk : Talk) (waiting : List (List ℕ)) (out : Outcome) → Stands s k a st talk waiting → IsLeft s st out → AgentIs s a out.after talk waiting → ClientTo s k a talk waiting out
 client_left s k a st talk waiting out was left agent = record {
   events = [];
   client = talk.client;
@@ -252,6 +257,7 @@ client_left s k a st talk waiting out was left agent = record {
   is = λ keeper. refl;
   seen = left.same ∙ was.client;
   posted = was.posted;
+  placed = was.placed;
   agent = agent;
   heard = unheard talk.client (answers_to s out.effects) left.quiet;
 }
@@ -264,12 +270,12 @@ unrefused AwaitsReply never = refl
 unrefused IsOver never = refl
 
 -- who waits for a line has written nothing
-no_mail : (m : Mail) → is_posted AwaitsLetter m ≡ true → m ≡ Nothing
+pub no_mail : (m : Mail) → is_posted AwaitsLetter m ≡ true → m ≡ Nothing
 no_mail Nothing h = refl
 no_mail (Sent text) h = absurd (cc)
 no_mail (Received text) h = absurd (cc)
 
-posted_on : (x : Answer) (m : Mail) → is_posted AwaitsLetter m ≡ true → is_posted (Hears x) m ≡ true
+pub posted_on : (x : Answer) (m : Mail) → is_posted AwaitsLetter m ≡ true → is_posted (Hears x) m ≡ true
 posted_on x Nothing h = refl
 posted_on x (Sent text) h = absurd (cc)
 posted_on x (Received text) h = absurd (cc)
@@ -296,11 +302,11 @@ unborn_agent n u (row ∷ rows) below high =
     by_test true is less rest = absurd (omega (arith, high, eqb-true row.number u is, ltb-true row.number n less))
     by_test false is less rest = rest
 
-neither : (x y : Bool) → x ≡ false → y ≡ false → (x || y) ≡ false
+pub neither : (x y : Bool) → x ≡ false → y ≡ false → (x || y) ≡ false
 neither true y e f = absurd (cc)
 neither false y e f = f
 
-either_of : (x y : Bool) → (x || y) ≡ false → (x ≡ false) × (y ≡ false)
+pub either_of : (x y : Bool) → (x || y) ≡ false → (x ≡ false) × (y ≡ false)
 either_of true y e = absurd (cc)
 either_of false y e = (refl, e)
 
@@ -309,15 +315,15 @@ unborn_absent st was n high = neither (is_thread st n) (is_agent st n) (unborn_t
 
 -- ---- the session and the agent that it waits for
 
-record IsMade (s a : ℕ) (st : State) (talk : Talk) (waiting : List (List ℕ)) : Type 0 where
-  row : AgentRow
-  there : agent_of st.agents a ≡ Some row
-  owns : row.owner ≡ s
-  lives : talk.agent_lives ≡ true
-  known : knows a talk.session.agent talk.session.place talk.client ≡ true
-  letters : AgentLetters s a (owes talk.session.place talk.client) waiting (agent_sight st a).letters
+pub record IsMade (s a : ℕ) (st : State) (talk : Talk) (waiting : List (List ℕ)) : Type 0 where
+  pub row : AgentRow
+  pub there : agent_of st.agents a ≡ Some row
+  pub owns : row.owner ≡ s
+  pub lives : talk.agent_lives ≡ true
+  pub known : knows a talk.session.agent talk.session.place talk.client ≡ true
+  pub letters : AgentLetters s a (owes talk.session.place talk.client) waiting (agent_sight st a).letters
 
-awaited_made : (s k a : ℕ) (st : State) → Lawful st None → (talk : Talk) (waiting : List (List ℕ)) → Stands s k a st talk waiting → talk.client ≡ AwaitsLetter → IsMade s a st talk waiting
+pub awaited_made : (s k a : ℕ) (st : State) → Lawful st None → (talk : Talk) (waiting : List (List ℕ)) → Stands s k a st talk waiting → talk.client ≡ AwaitsLetter → IsMade s a st talk waiting
 awaited_made s k a st was talk waiting h waits = by_agent h.agent
   where
     there : is_id st a ≡ true
@@ -328,7 +334,7 @@ awaited_made s k a st was talk waiting h waits = by_agent h.agent
     by_agent (Made row there owns lives known letters) = record { row = row; there = there; owns = owns; lives = lives; known = known; letters = letters }
     by_agent (Gone off low lives known) = absurd (let bad : true ≡ false = sym there ∙ off in cc)
 
-unsome : {X : Type 0} {x y : X} → Some x ≡ Some y → x ≡ y
+pub unsome : {X : Type 0} {x y : X} → Some x ≡ Some y → x ≡ y
 unsome {X} {x} {y} e = cc e
 
 -- ---- a call of another
@@ -409,6 +415,7 @@ module _ (s k a : ℕ) (st : State) (was : Lawful st None) (talk : Talk) (waitin
                 is = λ keeper. λ i. record talk { keeper = keeper; client = unrefused talk.client never i; agent_lives = false };
                 seen = left.same ∙ h.client;
                 posted = h.posted;
+                placed = h.placed;
                 agent = Gone off (below_after (made_below (ap is_some m.there))) refl m.known;
                 heard = unheard talk.client (answers_to s out.effects) left.quiet;
               }
@@ -454,28 +461,29 @@ module _ (s k a : ℕ) (st : State) (was : Lawful st None) (talk : Talk) (waitin
                 is = λ keeper. λ i. record talk { keeper = keeper; client = line_refused (w.0 i); agent_lives = false };
                 seen = woken.goes_on ∙ ap going_on h.client;
                 posted = posted_on nonexist talk.mail mail;
+                placed = refl;
                 agent = Gone (ended_off m ended) (below_after (made_below (ap is_some m.there))) refl (knows_on a talk.session.agent talk.session.place nonexist (subst (λ c. knows a talk.session.agent talk.session.place c ≡ true) w.0 m.known));
                 heard = heard_one talk.client nonexist (answers_to s out.effects) (woken.told ∙ ap (λ x. x ∷ []) none.0);
               })
 
-      both : Becomes s k a talk waiting out ⊎ Leaves s talk out
+      both : Becomes s k a talk waiting [] [] out ⊎ Leaves s talk out
       both = by_fate s_fate
         where
-          done : ClientTo s k a talk waiting out → Becomes s k a talk waiting out
+          done : ClientTo s k a talk waiting out → Becomes s k a talk waiting [] [] out
           done to = becomes s k a talk waiting out (timers_after s t_s h.untimed) (timers_after k t_k h.untimed_keeper) keeper_to to
 
-          by_to : ClientTo s k a talk waiting out ⊎ Leaves s talk out → Becomes s k a talk waiting out ⊎ Leaves s talk out
+          by_to : ClientTo s k a talk waiting out ⊎ Leaves s talk out → Becomes s k a talk waiting [] [] out ⊎ Leaves s talk out
           by_to (inl to) = inl (done to)
           by_to (inr leaves) = inr leaves
 
-          by_fate : IsLeft s st out ⊎ IsWoken s (IsSent t s c) st out → Becomes s k a talk waiting out ⊎ Leaves s talk out
+          by_fate : IsLeft s st out ⊎ IsWoken s (IsSent t s c) st out → Becomes s k a talk waiting [] [] out ⊎ Leaves s talk out
           by_fate (inl left) = inl (done (left_to left))
           by_fate (inr woken) = by_to (woken_to woken)
 
 pub others_calls_are_events : OthersCallsAreEvents
 others_calls_are_events s k a st was talk waiting h t turn t_s t_k s_k c spared low = by_end (ends_of c)
   where
-    by_end : Ends c → Becomes s k a talk waiting (step st c) ⊎ Leaves s talk (step st c)
+    by_end : Ends c → Becomes s k a talk waiting [] [] (step st c) ⊎ Leaves s talk (step st c)
     by_end (Spared fine free) = both s k a st was talk waiting h t turn t_s t_k s_k c low (fine st s) (fine st k)
         (λ row there owns. inl (others_leave_agents st was t a row turn there (ap (eqb t) owns ∙ t_s) c (free a row.owner)))
     by_end (Destroys v e) = both s k a st was talk waiting h t turn t_s t_k s_k c low (subst (Spares st s) (sym e) (off.0, written)) (subst (Spares st k) (sym e) (off.1, ap (λ x. count_by (is_to v) x.letters) h.keeper)) fate

@@ -1,5 +1,6 @@
 -- How a pod stands in which a session and a store talk: the machine's state, and the talk that it comes to.
-use Rattle.answer_laws.specs.Agents.{agent_sight, spares_agent}
+use Rattle.answer_laws.specs.Agents.{agent_sight, deliveries_to, spares_agent}
+use Rattle.lwp_types.specs.Agents.{armed, deliver}
 use Rattle.answer_laws.specs.Sights.{answers_to, sight}
 use Rattle.answer_laws.specs.Talks.{Event, Mail, Mail.Nothing, Mail.Received, Mail.Sent, Stand, Stand.AwaitsLetter, Stand.AwaitsReply, Stand.Hears, Stand.IsOver, Talk, talked}
 use Rattle.line_server.specs.declared.session.SessionPlace.{SessionPlace}
@@ -19,7 +20,7 @@ use Rattle.lwp_types.specs.declared.rows.Block.TheVariants as block
 use Rattle.lwp_types.specs.declared.rows.Letter.{Letter}
 use Rattle.lwp_types.specs.declared.rows.Mark.TheVariants as mark
 use Rattle.std.specs.List.{fold}
-use Rattle.std.specs.Prelude.{Bool, List, None, Option, Some, [], false, true, ℕ, ◌<◌, ◌==◌, ◌∷◌, ◌≡◌, ◌≤◌, ◌⊎◌}
+use Rattle.std.specs.Prelude.{Bool, List, None, Option, Some, [], false, replicate, true, ℕ, ◌++◌, ◌<◌, ◌==◌, ◌∷◌, ◌≡◌, ◌≤◌, ◌⊎◌}
 
 -- what it waits for, who stands so in the talk and receives of such a sender
 abbrev pub block_of : Option ℕ → Stand → Block
@@ -45,6 +46,14 @@ is_posted AwaitsLetter Nothing = true
 is_posted AwaitsReply (Sent text) = true
 is_posted AwaitsReply (Received text) = true
 is_posted _ _ = false
+
+-- it waits for a line or a reply only behind such a call
+abbrev pub is_placed : Stand → SessionPlace → Bool
+is_placed AwaitsLetter at.Recv = true
+is_placed AwaitsLetter _ = false
+is_placed AwaitsReply at.Send = true
+is_placed AwaitsReply _ = false
+is_placed _ _ = true
 
 -- a store that isn't over
 abbrev pub is_reading : Stand → Bool
@@ -83,6 +92,7 @@ pub record Stands (s k a : ℕ) (state : State) (talk : Talk) (waiting : List (L
   pub client : sight state s ≡ record { waits = Some (block_of (Some a) talk.client); marks = mark.Frame ∷ []; letters = mail_letters s k talk.mail }
   pub keeper : sight state k ≡ record { waits = Some (block_of None talk.keeper); marks = mark.Frame ∷ []; letters = [] }
   pub posted : is_posted talk.client talk.mail ≡ true
+  pub placed : is_placed talk.client talk.session.place ≡ true
   pub reads : is_reading talk.keeper ≡ true
   pub untimed : timers_of state.timers s ≡ 0
   pub untimed_keeper : timers_of state.timers k ≡ 0
@@ -103,10 +113,14 @@ HeardAs _ z = Unit {0}
 abbrev pub IsHeard : Stand → Stand → List Answer → Type 0
 IsHeard before after answers = (z : Answer) → HeardAs before z → HeardAs after (last_heard z answers)
 
--- what the pod did is some events of the talk
-pub record Becomes (s k a : ℕ) (talk : Talk) (waiting : List (List ℕ)) (out : Outcome) : Type 0 where
+-- what the pod did is some events of the talk; these texts were delivered to the agent, and these replies to it accepted
+pub record Becomes (s k a : ℕ) (talk : Talk) (waiting delivered replies : List (List ℕ)) (out : Outcome) : Type 0 where
   pub events : List Event
-  pub stands : Stands s k a out.after (talked s a talk events) waiting
+  -- the texts that wait for the session then
+  pub waits : List (List ℕ)
+  pub stands : Stands s k a out.after (talked s a talk events) waits
+  pub texts : (talked s a talk events).lines ++ waits ≡ (talk.lines ++ waiting) ++ delivered
+  pub said : (talked s a talk events).told ≡ talk.told ++ replies
   pub heard : IsHeard talk.client (talked s a talk events).client (answers_to s out.effects)
   pub heard_keeper : IsHeard talk.keeper (talked s a talk events).keeper (answers_to k out.effects)
 
@@ -121,4 +135,10 @@ pub record Leaves (s : ℕ) (talk : Talk) (out : Outcome) : Type 0 where
 abbrev pub OthersCallsAreEvents : Type 0
 OthersCallsAreEvents = (s k a : ℕ) (state : State) → Lawful state None → (talk : Talk) (waiting : List (List ℕ)) → Stands s k a state talk waiting
     → (t : ℕ) → choice state ≡ Some t → (t == s) ≡ false → (t == k) ≡ false → (s == k) ≡ false → (c : Call) → spares_agent s k c ≡ true → (talk.session.place ≡ at.Start → (step state c).after.births ≤ a)
-    → Becomes s k a talk waiting (step state c) ⊎ Leaves s talk (step state c)
+    → Becomes s k a talk waiting [] [] (step state c) ⊎ Leaves s talk (step state c)
+
+-- A text that is delivered is a line of the session's agent, or a letter to the store, or nothing.
+abbrev pub DeliveriesAreEvents : Type 0
+DeliveriesAreEvents = (s k a : ℕ) (state : State) → Lawful state None → (talk : Talk) (waiting : List (List ℕ)) → Stands s k a state talk waiting → (s == k) ≡ false
+    → (e : ℕ) (text : List ℕ) → armed state e ≡ true → (talk.session.place ≡ at.Start → (deliver state e text).after.births ≤ a)
+    → Becomes s k a talk waiting (replicate (deliveries_to a (deliver state e text).effects) text) [] (deliver state e text)

@@ -29,7 +29,7 @@ ghost use Rattle.answer_laws.specs.Lengths.{ShortLinesHaveShortAnswers};
 ghost use Rattle.answer_laws.specs.Owners.{OwnersOfNoneAreRefused, OwnersReceive, OwnersReply, SendsAreLetters};
 ghost use Rattle.answer_laws.specs.Replies.{EachHasOneLetter, ReadersLeaveTheRest, ReceivesAreTheLetters, RepliesAreTheAnswers};
 ghost use Rattle.answer_laws.specs.Sights.{DeliveriesLeaveIt, OthersLeaveIt};
-ghost use Rattle.answer_laws.specs.Stands.{OthersCallsAreEvents};
+ghost use Rattle.answer_laws.specs.Stands.{DeliveriesAreEvents, OthersCallsAreEvents};
 ghost use Rattle.answer_laws.specs.Talks.{TalksAreAnswers};
 
 /// A session and a store that talk, whatever else is sent to the store and whoever ends: the accepted replies to the session's client
@@ -123,6 +123,11 @@ pub fn every_send()
 /// In a pod that stands as a talk, a call of another is a letter to the store, or the end of the agent, or nothing.
 pub fn every_call_beside_a_talk()
     ensures { OthersCallsAreEvents }
+{}
+
+/// A text that is delivered there is a line of the session's agent, or a letter to the store, or nothing.
+pub fn every_delivery_in_a_talk()
+    ensures { DeliveriesAreEvents }
 {}
 
 /// The answers to lines that have room in a letter have room in one.
