@@ -11,3 +11,4 @@ mod AgentTexts
 mod Owners
 mod TalkSteps
 mod TalkTexts
+mod StoreSteps

@@ -42,7 +42,7 @@ use Rattle.lwp_types.specs.declared.rows.Block.TheVariants as block
 -- ---- the caller
 
 -- what the caller is told: what is told on the way, and its own answer
-told_itself : (t : ℕ) (c : Call) (made : Case) → answers_to t (finished t c made).effects ≡ answers_to t made.others ++ option_to_list made.own
+pub told_itself : (t : ℕ) (c : Call) (made : Case) → answers_to t (finished t c made).effects ≡ answers_to t made.others ++ option_to_list made.own
 told_itself t c made = answers_append t made.others (own_effects t made.own ++ end_effects made.after) ∙ ap (λ x. answers_to t made.others ++ x) rest
   where
     own : (o : Option Answer) → answers_to t (own_effects t o) ≡ option_to_list o
@@ -57,7 +57,7 @@ told_itself t c made = answers_append t made.others (own_effects t made.own ++ e
     rest = answers_append t (own_effects t made.own) (end_effects made.after) ∙ (λ i. own made.own i ++ no_end (ends made.after) i) ∙ append-nil (option_to_list made.own)
 
 -- what another is told: what is told on the way
-told_other : (u t : ℕ) → t ≢ u → (c : Call) (made : Case) → answers_to u (finished t c made).effects ≡ answers_to u made.others
+pub told_other : (u t : ℕ) → t ≢ u → (c : Call) (made : Case) → answers_to u (finished t c made).effects ≡ answers_to u made.others
 told_other u t other c made = answers_append u made.others (own_effects t made.own ++ end_effects made.after) ∙ ap (λ x. answers_to u made.others ++ x) rest ∙ append-nil (answers_to u made.others)
   where
     own : (o : Option Answer) → answers_to u (own_effects t o) ≡ []
@@ -72,10 +72,10 @@ told_other u t other c made = answers_append u made.others (own_effects t made.o
     rest = answers_append u (own_effects t made.own) (end_effects made.after) ∙ (λ i. own made.own i ++ no_end (ends made.after) i)
 
 -- who is blocked waits so, and nothing else of it changes
-blocked_row : (t : ℕ) (b : Block) (rows : List ThreadRow) (x : ThreadRow) → find (is_number t) rows ≡ Some x → find (is_number t) (with_block t b rows) ≡ Some (record x { block = b })
+pub blocked_row : (t : ℕ) (b : Block) (rows : List ThreadRow) (x : ThreadRow) → find (is_number t) rows ≡ Some x → find (is_number t) (with_block t b rows) ≡ Some (record x { block = b })
 blocked_row t b rows x known = find_rowed (block_set t b) (λ row. refl) rows t ∙ ap (option_map (block_set t b)) known ∙ ap Some (rw (eq-eqb x.number t (number_known rows t x known)) refl)
 
-other_row : (t u : ℕ) (b : Block) (rows : List ThreadRow) → t ≢ u → find (is_number u) (with_block t b rows) ≡ find (is_number u) rows
+pub other_row : (t u : ℕ) (b : Block) (rows : List ThreadRow) → t ≢ u → find (is_number u) (with_block t b rows) ≡ find (is_number u) rows
 other_row t u b rows other = find_rowed (block_set t b) (λ row. refl) rows u ∙ unmoved (find (is_number u) rows) refl
   where
     unmoved : (o : Option ThreadRow) → find (is_number u) rows ≡ o → option_map (block_set t b) o ≡ o

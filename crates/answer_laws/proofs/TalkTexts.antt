@@ -47,7 +47,7 @@ none_kept p (x ∷ xs) none = by_test (p x) refl (none_kept p xs)
     by_test false e rest = rest (omega (arith, none, count-cons p x xs))
 
 -- events that lead to a talk in which the pod stands
-pub becomes_as : (s k a : ℕ) (talk : Talk) (waiting delivered replies : List (List ℕ)) (out : Outcome) (events : List Event) (later : Talk) → talked s a talk events ≡ later → (waits : List (List ℕ)) → Stands s k a out.after later waits
+abbrev pub becomes_as : (s k a : ℕ) (talk : Talk) (waiting delivered replies : List (List ℕ)) (out : Outcome) (events : List Event) (later : Talk) → talked s a talk events ≡ later → (waits : List (List ℕ)) → Stands s k a out.after later waits
     → later.lines ++ waits ≡ (talk.lines ++ waiting) ++ delivered → later.told ≡ talk.told ++ replies → IsHeard talk.client later.client (answers_to s out.effects) → IsHeard talk.keeper later.keeper (answers_to k out.effects)
     → Becomes s k a talk waiting delivered replies out
 becomes_as s k a talk waiting delivered replies out events later now waits stands texts said heard heard_keeper = record {

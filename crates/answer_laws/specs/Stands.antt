@@ -1,26 +1,30 @@
 -- How a pod stands in which a session and a store talk: the machine's state, and the talk that it comes to.
 use Rattle.answer_laws.specs.Agents.{agent_sight, deliveries_to, spares_agent}
 use Rattle.lwp_types.specs.Agents.{armed, deliver}
+use Rattle.answer_laws.specs.Lengths.{is_short}
 use Rattle.answer_laws.specs.Sights.{answers_to, sight}
 use Rattle.answer_laws.specs.Talks.{Event, Mail, Mail.Nothing, Mail.Received, Mail.Sent, Stand, Stand.AwaitsLetter, Stand.AwaitsReply, Stand.Hears, Stand.IsOver, Talk, talked}
 use Rattle.line_server.specs.declared.session.SessionPlace.{SessionPlace}
 use Rattle.line_server.specs.declared.session.SessionPlace.TheVariants as at
+use Rattle.line_server.specs.Stores.{StoreBody, store_next}
 use Rattle.lwp_types.specs.Choice.{choice}
 use Rattle.lwp_types.specs.Counts.{timers_of}
 use Rattle.lwp_types.specs.Lawful.{Lawful}
+use Rattle.lwp_types.specs.Names.{Names}
 use Rattle.lwp_types.specs.State.{Outcome, State, agent_of, is_id}
 use Rattle.lwp_types.specs.Step.{step}
 use Rattle.lwp_types.specs.Unblock.{nonexist}
 use Rattle.lwp_types.specs.declared.call.Call.{Call}
 use Rattle.lwp_types.specs.declared.call.Answer.{Answer}
 use Rattle.lwp_types.specs.declared.call.Answer.TheVariants as answer
+use Rattle.lwp_types.specs.declared.call.Call.TheVariants as call
 use Rattle.lwp_types.specs.declared.rows.AgentRow.{AgentRow}
 use Rattle.lwp_types.specs.declared.rows.Block.{Block}
 use Rattle.lwp_types.specs.declared.rows.Block.TheVariants as block
 use Rattle.lwp_types.specs.declared.rows.Letter.{Letter}
 use Rattle.lwp_types.specs.declared.rows.Mark.TheVariants as mark
 use Rattle.std.specs.List.{fold}
-use Rattle.std.specs.Prelude.{Bool, List, None, Option, Some, [], false, replicate, true, ℕ, ◌++◌, ◌<◌, ◌==◌, ◌∷◌, ◌≡◌, ◌≤◌, ◌⊎◌}
+use Rattle.std.specs.Prelude.{Bool, List, None, Option, Some, [], false, not, replicate, true, ℕ, ◌++◌, ◌<◌, ◌==◌, ◌∷◌, ◌≡◌, ◌≤◌, ◌||◌, ◌⊎◌}
 
 -- what it waits for, who stands so in the talk and receives of such a sender
 abbrev pub block_of : Option ℕ → Stand → Block
@@ -124,6 +128,11 @@ pub record Becomes (s k a : ℕ) (talk : Talk) (waiting delivered replies : List
   pub heard : IsHeard talk.client (talked s a talk events).client (answers_to s out.effects)
   pub heard_keeper : IsHeard talk.keeper (talked s a talk events).keeper (answers_to k out.effects)
 
+-- so it is, and the store's body is this one
+pub record StoreGoesOn (s k a : ℕ) (talk : Talk) (waiting : List (List ℕ)) (body : StoreBody) (out : Outcome) : Type 0 where
+  pub becomes : Becomes s k a talk waiting [] [] out
+  pub body_then : (talked s a talk becomes.events).store ≡ body
+
 -- the session, which has waited for a line, is told that nobody is there, and so it ends
 pub record Leaves (s : ℕ) (talk : Talk) (out : Outcome) : Type 0 where
   pub client : sight out.after s ≡ record { waits = Some block.Not; marks = mark.Frame ∷ []; letters = [] }
@@ -142,3 +151,20 @@ abbrev pub DeliveriesAreEvents : Type 0
 DeliveriesAreEvents = (s k a : ℕ) (state : State) → Lawful state None → (talk : Talk) (waiting : List (List ℕ)) → Stands s k a state talk waiting → (s == k) ≡ false
     → (e : ℕ) (text : List ℕ) → armed state e ≡ true → (talk.session.place ≡ at.Start → (deliver state e text).after.births ≤ a)
     → Becomes s k a talk waiting (replicate (deliveries_to a (deliver state e text).effects) text) [] (deliver state e text)
+
+-- a call that doesn't end its thread
+abbrev pub goes_on_with : Call → Bool
+goes_on_with call.Return = false
+goes_on_with _ = true
+
+-- a reply to the session, if the call is one, is short
+abbrev pub is_short_to : ℕ → Call → Bool
+is_short_to s (call.Reply v text) = not (v == s) || is_short text
+is_short_to s _ = true
+
+-- The store's call, where it is its turn, and it goes on: as the talk says, and a letter with it if there is one.
+abbrev pub StoresCallsAreEvents : Type 0
+StoresCallsAreEvents = (s k a : ℕ) (state : State) → Lawful state None → (talk : Talk) (waiting : List (List ℕ)) → Stands s k a state talk waiting → (s == k) ≡ false
+    → choice state ≡ Some k → (x : Answer) → talk.keeper ≡ Hears x → (names : Names) → goes_on_with (store_next talk.store names x).0 ≡ true → is_short_to s (store_next talk.store names x).0 ≡ true
+    → (talk.session.place ≡ at.Start → (step state (store_next talk.store names x).0).after.births ≤ a)
+    → StoreGoesOn s k a talk waiting (store_next talk.store names x).1 (step state (store_next talk.store names x).0)

@@ -29,7 +29,7 @@ ghost use Rattle.answer_laws.specs.Lengths.{ShortLinesHaveShortAnswers};
 ghost use Rattle.answer_laws.specs.Owners.{OwnersOfNoneAreRefused, OwnersReceive, OwnersReply, SendsAreLetters};
 ghost use Rattle.answer_laws.specs.Replies.{EachHasOneLetter, ReadersLeaveTheRest, ReceivesAreTheLetters, RepliesAreTheAnswers};
 ghost use Rattle.answer_laws.specs.Sights.{DeliveriesLeaveIt, OthersLeaveIt};
-ghost use Rattle.answer_laws.specs.Stands.{DeliveriesAreEvents, OthersCallsAreEvents};
+ghost use Rattle.answer_laws.specs.Stands.{DeliveriesAreEvents, OthersCallsAreEvents, StoresCallsAreEvents};
 ghost use Rattle.answer_laws.specs.Talks.{TalksAreAnswers};
 
 /// A session and a store that talk, whatever else is sent to the store and whoever ends: the accepted replies to the session's client
@@ -128,6 +128,11 @@ pub fn every_call_beside_a_talk()
 /// A text that is delivered there is a line of the session's agent, or a letter to the store, or nothing.
 pub fn every_delivery_in_a_talk()
     ensures { DeliveriesAreEvents }
+{}
+
+/// A call of the store there is what the talk says, and a letter with it if there is one.
+pub fn every_call_of_the_store()
+    ensures { StoresCallsAreEvents }
 {}
 
 /// The answers to lines that have room in a letter have room in one.
