@@ -12,3 +12,4 @@ mod Owners
 mod TalkSteps
 mod TalkTexts
 mod StoreSteps
+mod SessionSteps

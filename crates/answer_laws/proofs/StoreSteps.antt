@@ -88,11 +88,11 @@ module _ (body : StoreBody) where
 
 -- ---- checks and letters
 
-data Checked (s : State) (checks : List Check) (otherwise : Case) : Type 0 where
+pub data Checked (s : State) (checks : List Check) (otherwise : Case) : Type 0 where
   Struck : (e : LwpErr) → unless s checks otherwise ≡ refused s e → Checked s checks otherwise
   Free : Passed checks → unless s checks otherwise ≡ otherwise → Checked s checks otherwise
 
-checked : (s : State) (checks : List Check) (otherwise : Case) → Checked s checks otherwise
+pub checked : (s : State) (checks : List Check) (otherwise : Case) → Checked s checks otherwise
 unfolding unless
 checked s [] otherwise = Free tt refl
 checked s (check ∷ checks) otherwise = by_test check.0 refl (checked s checks otherwise)
@@ -102,7 +102,7 @@ checked s (check ∷ checks) otherwise = by_test check.0 refl (checked s checks 
     by_test false e (Struck why is) = Struck why (rw e is)
     by_test false e (Free passed is) = Free (e, passed) (rw e is)
 
-second_strikes : (s : State) (one two : Check) (rest : List Check) (otherwise : Case) → one.0 ≡ false → two.0 ≡ true → unless s (one ∷ two ∷ rest) otherwise ≡ refused s two.1
+pub second_strikes : (s : State) (one two : Check) (rest : List Check) (otherwise : Case) → one.0 ≡ false → two.0 ≡ true → unless s (one ∷ two ∷ rest) otherwise ≡ refused s two.1
 unfolding unless
 second_strikes s one two rest otherwise e f = rw (e, f) refl
 
@@ -121,11 +121,11 @@ letters_swapped letters q a t = find-filter (λ x. q x && is_letter_of a x) (is_
     swapped false false true = refl
     swapped false false false = refl
 
-deeper : {X : Type 0} (o : Option X) (z x : X) (b : Bool) → b ≡ false → cond b (Some z) o ≡ Some x → o ≡ Some x
+pub deeper : {X : Type 0} (o : Option X) (z x : X) (b : Bool) → b ≡ false → cond b (Some z) o ≡ Some x → o ≡ Some x
 deeper o z x true e f = absurd (cc)
 deeper o z x false e f = f
 
-at_head : {X : Type 0} (o : Option X) (z x : X) (b : Bool) → b ≡ true → cond b (Some z) o ≡ Some x → z ≡ x
+pub at_head : {X : Type 0} (o : Option X) (z x : X) (b : Bool) → b ≡ true → cond b (Some z) o ≡ Some x → z ≡ x
 at_head o z x true e f = cc f
 at_head o z x false e f = absurd (cc)
 
@@ -174,7 +174,7 @@ sends_at AwaitsReply text at.Bye h p = absurd (cc)
 sends_at AwaitsReply text at.End h p = absurd (cc)
 sends_at IsOver text place h p = absurd (cc)
 
-own_is : (s a : ℕ) (text : List ℕ) (talk : Talk) → talk.keeper ≡ AwaitsLetter → talk.mail ≡ Sent text → talked s a talk (OwnLetter ∷ []) ≡ record talk { keeper = Hears (answer.Letter s text 240); mail = Received text }
+pub own_is : (s a : ℕ) (text : List ℕ) (talk : Talk) → talk.keeper ≡ AwaitsLetter → talk.mail ≡ Sent text → talked s a talk (OwnLetter ∷ []) ≡ record talk { keeper = Hears (answer.Letter s text 240); mail = Received text }
 own_is s a text talk w m = rw (w, m) refl
 
 -- a session that sends knows its agent and owes a reply, however it goes on

@@ -38,7 +38,7 @@ record FromAgent (s : ℕ) (text : List ℕ) (from : Option ℕ) (heard : Answer
   away : agent ≢ s
   letter : heard ≡ answer.Letter agent text 240
 
-none_kept : {X : Type 0} (p : X → Bool) (xs : List X) → count_by p xs ≡ 0 → filter p xs ≡ []
+pub none_kept : {X : Type 0} (p : X → Bool) (xs : List X) → count_by p xs ≡ 0 → filter p xs ≡ []
 none_kept p [] none = refl
 none_kept p (x ∷ xs) none = by_test (p x) refl (none_kept p xs)
   where
@@ -60,7 +60,7 @@ becomes_as s k a talk waiting delivered replies out events later now waits stand
   heard_keeper = subst (λ (x : Talk). IsHeard talk.keeper x.keeper (answers_to k out.effects)) (sym now) heard_keeper;
 }
 
-line_is : (s a : ℕ) (text : List ℕ) (talk : Talk) → talk.client ≡ AwaitsLetter → talk.agent_lives ≡ true → talked s a talk (Line text ∷ []) ≡ record talk { client = Hears (answer.Letter a text 240); lines = talk.lines ++ text ∷ [] }
+pub line_is : (s a : ℕ) (text : List ℕ) (talk : Talk) → talk.client ≡ AwaitsLetter → talk.agent_lives ≡ true → talked s a talk (Line text ∷ []) ≡ record talk { client = Hears (answer.Letter a text 240); lines = talk.lines ++ text ∷ [] }
 line_is s a text talk waits lives = rw (waits, lives) refl
 
 placed_recv : (place : SessionPlace) → is_placed AwaitsLetter place ≡ true → place ≡ at.Recv

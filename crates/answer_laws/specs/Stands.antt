@@ -1,11 +1,13 @@
 -- How a pod stands in which a session and a store talk: the machine's state, and the talk that it comes to.
 use Rattle.answer_laws.specs.Agents.{agent_sight, deliveries_to, spares_agent}
 use Rattle.lwp_types.specs.Agents.{armed, deliver}
+use Rattle.answer_laws.specs.Clients.{names_only, replied_in}
 use Rattle.answer_laws.specs.Lengths.{is_short}
 use Rattle.answer_laws.specs.Sights.{answers_to, sight}
 use Rattle.answer_laws.specs.Talks.{Event, Mail, Mail.Nothing, Mail.Received, Mail.Sent, Stand, Stand.AwaitsLetter, Stand.AwaitsReply, Stand.Hears, Stand.IsOver, Talk, talked}
 use Rattle.line_server.specs.declared.session.SessionPlace.{SessionPlace}
 use Rattle.line_server.specs.declared.session.SessionPlace.TheVariants as at
+use Rattle.line_server.specs.Sessions.{SessionBody, session_next}
 use Rattle.line_server.specs.Stores.{StoreBody, store_next}
 use Rattle.lwp_types.specs.Choice.{choice}
 use Rattle.lwp_types.specs.Counts.{timers_of}
@@ -18,6 +20,7 @@ use Rattle.lwp_types.specs.declared.call.Call.{Call}
 use Rattle.lwp_types.specs.declared.call.Answer.{Answer}
 use Rattle.lwp_types.specs.declared.call.Answer.TheVariants as answer
 use Rattle.lwp_types.specs.declared.call.Call.TheVariants as call
+use Rattle.lwp_types.specs.declared.call.LwpErr.{LwpErr}
 use Rattle.lwp_types.specs.declared.rows.AgentRow.{AgentRow}
 use Rattle.lwp_types.specs.declared.rows.Block.{Block}
 use Rattle.lwp_types.specs.declared.rows.Block.TheVariants as block
@@ -133,6 +136,19 @@ pub record StoreGoesOn (s k a : ℕ) (talk : Talk) (waiting : List (List ℕ)) (
   pub becomes : Becomes s k a talk waiting [] [] out
   pub body_then : (talked s a talk becomes.events).store ≡ body
 
+-- so it is, and the session's body is this one
+pub record SessionGoesOn (s k a : ℕ) (talk : Talk) (waiting replies : List (List ℕ)) (body : SessionBody) (out : Outcome) : Type 0 where
+  pub becomes : Becomes s k a talk waiting [] replies out
+  pub body_then : (talked s a talk becomes.events).session ≡ body
+
+-- the session has asked for an agent in vain
+pub record OpensInVain (s : ℕ) (talk : Talk) (out : Outcome) : Type 0 where
+  pub client : sight out.after s ≡ record { waits = Some block.Not; marks = mark.Frame ∷ []; letters = [] }
+  pub untimed : timers_of out.after.timers s ≡ 0
+  pub place : talk.session.place ≡ at.Start
+  pub why : LwpErr
+  pub told : answers_to s out.effects ≡ answer.Refused why ∷ []
+
 -- the session, which has waited for a line, is told that nobody is there, and so it ends
 pub record Leaves (s : ℕ) (talk : Talk) (out : Outcome) : Type 0 where
   pub client : sight out.after s ≡ record { waits = Some block.Not; marks = mark.Frame ∷ []; letters = [] }
@@ -168,3 +184,16 @@ StoresCallsAreEvents = (s k a : ℕ) (state : State) → Lawful state None → (
     → choice state ≡ Some k → (x : Answer) → talk.keeper ≡ Hears x → (names : Names) → goes_on_with (store_next talk.store names x).0 ≡ true → is_short_to s (store_next talk.store names x).0 ≡ true
     → (talk.session.place ≡ at.Start → (step state (store_next talk.store names x).0).after.births ≤ a)
     → StoreGoesOn s k a talk waiting (store_next talk.store names x).1 (step state (store_next talk.store names x).0)
+
+-- a reply is short, if the call is one
+abbrev pub is_short_reply : Call → Bool
+is_short_reply (call.Reply v text) = is_short text
+is_short_reply _ = true
+
+-- The session's call, where it is its turn, and it goes on and sends to nobody but the store: as the talk says, and a letter with it if
+-- there is one; unless it asks for an agent in vain.
+abbrev pub SessionsCallsAreEvents : Type 0
+SessionsCallsAreEvents = (s k a : ℕ) (state : State) → Lawful state None → (talk : Talk) (waiting : List (List ℕ)) → Stands s k a state talk waiting → (s == k) ≡ false
+    → choice state ≡ Some s → (x : Answer) → talk.client ≡ Hears x → (names : Names) → goes_on_with (session_next talk.session names x).0 ≡ true → is_short_reply (session_next talk.session names x).0 ≡ true → names_only k (session_next talk.session names x).0 ≡ true
+    → (talk.session.place ≡ at.Start → (b : ℕ) → answers_to s (step state (session_next talk.session names x).0).effects ≡ answer.Thread b ∷ [] → b ≡ a)
+    → SessionGoesOn s k a talk waiting (replied_in s a (step state (session_next talk.session names x).0).effects) (session_next talk.session names x).1 (step state (session_next talk.session names x).0) ⊎ OpensInVain s talk (step state (session_next talk.session names x).0)

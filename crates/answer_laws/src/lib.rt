@@ -29,7 +29,7 @@ ghost use Rattle.answer_laws.specs.Lengths.{ShortLinesHaveShortAnswers};
 ghost use Rattle.answer_laws.specs.Owners.{OwnersOfNoneAreRefused, OwnersReceive, OwnersReply, SendsAreLetters};
 ghost use Rattle.answer_laws.specs.Replies.{EachHasOneLetter, ReadersLeaveTheRest, ReceivesAreTheLetters, RepliesAreTheAnswers};
 ghost use Rattle.answer_laws.specs.Sights.{DeliveriesLeaveIt, OthersLeaveIt};
-ghost use Rattle.answer_laws.specs.Stands.{DeliveriesAreEvents, OthersCallsAreEvents, StoresCallsAreEvents};
+ghost use Rattle.answer_laws.specs.Stands.{DeliveriesAreEvents, OthersCallsAreEvents, SessionsCallsAreEvents, StoresCallsAreEvents};
 ghost use Rattle.answer_laws.specs.Talks.{TalksAreAnswers};
 
 /// A session and a store that talk, whatever else is sent to the store and whoever ends: the accepted replies to the session's client
@@ -133,6 +133,11 @@ pub fn every_delivery_in_a_talk()
 /// A call of the store there is what the talk says, and a letter with it if there is one.
 pub fn every_call_of_the_store()
     ensures { StoresCallsAreEvents }
+{}
+
+/// So is a call of the session, unless it asks for an agent in vain; and its replies in the talk are those that were accepted.
+pub fn every_call_of_the_session()
+    ensures { SessionsCallsAreEvents }
 {}
 
 /// The answers to lines that have room in a letter have room in one.
