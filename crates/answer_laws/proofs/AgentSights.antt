@@ -1,21 +1,21 @@
 -- What a step of another does to an agent and its letter: nothing.
 use Rattle.answer_laws.proofs.Replies.{Never, filter_none, unless_passed}
-use Rattle.answer_laws.proofs.Sights.{Away, first_other, found_other, pushed_own, received_own, replied_other, without_own}
+use Rattle.answer_laws.proofs.Sights.{Away, found_other, pushed_own, received_own, replied_other, without_own}
 use Rattle.answer_laws.specs.Agents.{AgentSight, DestroyedAgentsAreGone, OthersLeaveAgents, agent_sight, no_agent, spares_agent}
 use Rattle.lwp_types.specs.Agents.{agent_gone, agents_of, belongs_to, end_agent, make_agent, new_agent}
 use Rattle.lwp_types.specs.Case.{Case, Check, refused, unanswered, unless, valued, with_zero}
 use Rattle.lwp_types.specs.Choice.{choice}
-use Rattle.lwp_types.specs.CountLaws.{count-cons, count-filter, count_agree, count_found_and, count_found_by, one}
+use Rattle.lwp_types.specs.CountLaws.{count-cons, count-filter, count_agree, count_found_and, one}
 use Rattle.lwp_types.specs.Counts.{goes_well, is_owners}
 use Rattle.lwp_types.specs.Death.{answer_joiners, bury, death, destroyed, end_agents, refuse_receivers, refuse_sender, refuse_senders, release_all, return_from, run_all_exits, withdraw}
 use Rattle.lwp_types.specs.Exits.{caught, exit_case, leave_frame, notified_by, run_exit, unwind}
 use Rattle.lwp_types.specs.Lawful.{Lawful, NineParts}
-use Rattle.lwp_types.specs.Letters.{as_received, holding_set, is_letter_of, is_open, is_to, mailbox, marked_received, post, receive_by, receivers_of, replied, senders_to, takes_from, unreceived, with_holding, without_letter}
+use Rattle.lwp_types.specs.Letters.{as_received, holding_set, is_letter_of, is_open, is_to, post, receive_by, receivers_of, replied, senders_to, takes_from, unreceived, with_holding, without_letter}
 use Rattle.lwp_types.specs.Locks.{depth_in, entered, exited, is_owned_by_other, requested, with_depth}
 use Rattle.lwp_types.specs.Marks.{caught_marks, exits_of, first_frames, found_in, frames, later_frames, searching, with_match}
 use Rattle.lwp_types.specs.Release.{grant, last_lock, next_owner, release, without_lock}
 use Rattle.lwp_types.specs.State.{Outcome, State, and_then, for_each, in_order, is_agent, is_agent_row, is_id, is_thread, marks_in, passes, still, thread_of}
-use Rattle.lwp_types.specs.Step.{case_of, finished, step, step_by, step_if}
+use Rattle.lwp_types.specs.Step.{case_of, step, step_by, step_if}
 use Rattle.lwp_types.specs.Unblock.{blocked, blocked_for, nonexist, unblock, zero_answer}
 use Rattle.lwp_types.specs.Waits.{condition_of, waited, waking, woken, woken_all}
 use Rattle.lwp_types.specs.declared.call.Call.{Call}
@@ -34,13 +34,12 @@ use Rattle.lwp_types.specs.declared.rows.WaitRow.{WaitRow}
 use Rattle.pod_laws.proofs.Checks.{Passed}
 use Rattle.pod_laws.proofs.Chosen.{chosen, living}
 use Rattle.pod_laws.proofs.Deaths.{unowning}
-use Rattle.pod_laws.proofs.DeathLoops.{Unowning}
 use Rattle.pod_laws.proofs.Elements.{all_found, find_filter_none, find_filter_same, find_map, find_passes, find_push_some, true_of}
 use Rattle.pod_laws.proofs.Holding.{agents_once, no_thread}
-use Rattle.std.proofs.Common.{Bool, List, None, Option, Some, [], ap, append-nil, arith, cond, count_by, eqb, false, not, refl, subst, sym, true, ℕ, ◌&&◌, ◌++◌, ◌-◌, ◌||◌, ◌∙◌, ◌∷◌, ◌≡◌, ◌≢◌}
-use Rattle.std.proofs.lemmas.Bool.{and_from, and_parts, cases_eq, eq-eqb, eqb-true, ne_eqb}
+use Rattle.std.proofs.Common.{Bool, List, None, Option, Some, [], ap, arith, cond, count_by, eqb, false, not, refl, subst, sym, true, ℕ, ◌&&◌, ◌++◌, ◌-◌, ◌||◌, ◌∙◌, ◌∷◌, ◌≡◌, ◌≢◌}
+use Rattle.std.proofs.lemmas.Bool.{and_from, and_parts, eq-eqb, eqb-true, ne_eqb}
 use Rattle.std.specs.List.{filter, find, fold, list_all}
-use Rattle.std.specs.Prelude.{is_none, is_some, map, nat_le, option_map}
+use Rattle.std.specs.Prelude.{is_some, map, nat_le, option_map}
 use Rattle.lwp_types.specs.declared.call.Call.TheVariants as call
 use Rattle.lwp_types.specs.declared.call.ExitCall.TheVariants as exit
 use Rattle.lwp_types.specs.declared.call.Func.TheVariants as func

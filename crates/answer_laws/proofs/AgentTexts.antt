@@ -2,11 +2,11 @@
 use Rattle.answer_laws.proofs.AgentSights.{kept_post, other_of, seen_by}
 use Rattle.answer_laws.proofs.Others.{none_all, tids_all}
 use Rattle.answer_laws.proofs.Replies.{Never}
-use Rattle.answer_laws.proofs.Sights.{Attends, answers_append, attends_after, left_wake, pushed_own, sight_same, turn_own, Turn, Turn.Left, Turn.Woken}
-use Rattle.answer_laws.specs.Agents.{AgentSight, DeliveriesPassOthersBy, DeliveriesReachAgents, IsHandedOn, IsPassedBy, IsReached, Reaches, agent_sight, deliveries_to, is_busy, is_delivery_to}
-use Rattle.answer_laws.specs.Sights.{IsLeft, IsWoken, answers_to, going_on, is_attentive, sight, sight_by}
+use Rattle.answer_laws.proofs.Sights.{Attends, answers_append, left_wake, pushed_own, sight_same}
+use Rattle.answer_laws.specs.Agents.{DeliveriesPassOthersBy, DeliveriesReachAgents, IsHandedOn, IsPassedBy, IsReached, Reaches, agent_sight, deliveries_to, is_busy, is_delivery_to}
+use Rattle.answer_laws.specs.Sights.{IsLeft, answers_to, going_on, is_attentive, sight, sight_by}
 use Rattle.lwp_types.specs.Agents.{deliver, deliver_to, event_agents, is_for, message}
-use Rattle.lwp_types.specs.CountLaws.{count-append, count-cons, count-filter-le, count_found, one}
+use Rattle.lwp_types.specs.CountLaws.{count-append, count-cons, count-filter-le, one}
 use Rattle.lwp_types.specs.Counts.{has_owner_and_event, is_between, timers_of}
 use Rattle.lwp_types.specs.Lawful.{Lawful}
 use Rattle.lwp_types.specs.Letters.{as_answer, as_received, holding_set, is_letter_of, post, takes_from, with_holding}
@@ -14,20 +14,19 @@ use Rattle.lwp_types.specs.State.{Outcome, State, ThreadRow, agent_of, and_then,
 use Rattle.lwp_types.specs.Time.{due_threads, is_due, tick, ticked, time_out}
 use Rattle.lwp_types.specs.Unblock.{is_timer_of, unblock}
 use Rattle.lwp_types.specs.declared.call.Answer.{Answer}
-use Rattle.lwp_types.specs.declared.call.Effect.{Effect}
 use Rattle.lwp_types.specs.declared.rows.AgentRow.{AgentRow}
 use Rattle.lwp_types.specs.declared.rows.Block.{Block}
 use Rattle.lwp_types.specs.declared.rows.Letter.{Letter}
 use Rattle.pod_laws.proofs.Chosen.{living}
 use Rattle.pod_laws.proofs.Elements.{all_filter, all_found, find_map, find_passes}
-use Rattle.pod_laws.proofs.Holding.{agents_once, no_thread}
+use Rattle.pod_laws.proofs.Holding.{no_thread}
 use Rattle.pod_laws.proofs.LetterMoves.{no_rows}
 use Rattle.pod_laws.proofs.Numbers.{keys_once}
-use Rattle.std.proofs.Common.{Bool, List, None, Option, Some, [], ap, append-nil, append_assoc, arith, cond, count_by, eqb, false, not, refl, subst, sym, true, ℕ, ◌&&◌, ◌++◌, ◌+◌, ◌∙◌, ◌∷◌, ◌≡◌, ◌≢◌, ◌≤◌}
+use Rattle.std.proofs.Common.{Bool, List, None, Option, Some, [], ap, append-nil, arith, cond, count_by, eqb, false, not, refl, subst, sym, true, ℕ, ◌++◌, ◌+◌, ◌∙◌, ◌∷◌, ◌≡◌, ◌≢◌, ◌≤◌}
 use Rattle.std.proofs.lemmas.Bool.{and_from, and_parts, eq-eqb, eqb-true, leb-true, ne_eqb}
 use Rattle.pod_laws.proofs.Rows.{find_rowed, number_known}
 use Rattle.std.specs.List.{filter, filter_map, find, list_all}
-use Rattle.std.specs.Prelude.{is_some, nat_le, option_map}
+use Rattle.std.specs.Prelude.{nat_le, option_map}
 use Rattle.lwp_types.specs.declared.call.Answer.TheVariants as answer
 use Rattle.lwp_types.specs.declared.call.Effect.TheVariants as effect
 use Rattle.lwp_types.specs.declared.rows.Block.TheVariants as block

@@ -3,21 +3,19 @@ use Rattle.answer_laws.proofs.AgentSights.{other_of, seen_by}
 use Rattle.answer_laws.proofs.AgentTexts.{filter_push_in}
 use Rattle.answer_laws.proofs.Replies.{Never, filter_mapped, filter_none, unless_passed}
 use Rattle.answer_laws.proofs.Sights.{answers_append, pushed_own, received_own, without_own}
-use Rattle.answer_laws.specs.Agents.{AgentSight, agent_sight}
+use Rattle.answer_laws.specs.Agents.{agent_sight}
 use Rattle.answer_laws.specs.Owners.{IsRefused, IsSentTo, IsTold, OwnerReceives, OwnersOfNoneAreRefused, OwnersReceive, OwnersReply, Sends, SendsAreLetters, letter_sent, sending}
-use Rattle.answer_laws.specs.Sights.{Sight, answers_to, going_on, sight, sight_by}
-use Rattle.lwp_types.specs.Case.{Case, answered, is_no_id, is_no_thread, refused, unanswered, with_zero}
-use Rattle.lwp_types.specs.Choice.{choice}
+use Rattle.answer_laws.specs.Sights.{answers_to, going_on, sight, sight_by}
+use Rattle.lwp_types.specs.Case.{Case, answered, refused, unanswered, with_zero}
 use Rattle.lwp_types.specs.Counts.{goes_well, has_owner_and_event, is_owners}
 use Rattle.lwp_types.specs.FirstLaws.{find-filter}
 use Rattle.lwp_types.specs.Lawful.{Lawful}
-use Rattle.lwp_types.specs.Letters.{as_answer, as_received, holding_set, is_from, is_letter_of, is_no_source, is_open, is_to, marked_received, post, receive, receive_by, received_from, reception_set, replied, takes_from, unreceived, with_holding, without_letter}
+use Rattle.lwp_types.specs.Letters.{as_answer, as_received, holding_set, is_letter_of, is_to, marked_received, post, receive_by, received_from, reception_set, replied, takes_from, with_holding, without_letter}
 use Rattle.lwp_types.specs.State.{State, ThreadRow, block_set, is_agent, is_agent_row, is_id, is_number, is_thread, passes, still, thread_of, with_block}
 use Rattle.lwp_types.specs.Step.{case_of, end_effects, ends, finished, own_effects, step, step_by, step_if}
-use Rattle.lwp_types.specs.Unblock.{blocked, nonexist, unblock, zero_answer}
+use Rattle.lwp_types.specs.Unblock.{blocked, unblock, zero_answer}
 use Rattle.lwp_types.specs.declared.call.Answer.{Answer}
 use Rattle.lwp_types.specs.declared.call.Call.{Call}
-use Rattle.lwp_types.specs.declared.call.Mode.{Mode}
 use Rattle.lwp_types.specs.declared.rows.AgentRow.{AgentRow}
 use Rattle.lwp_types.specs.declared.rows.Block.{Block}
 use Rattle.lwp_types.specs.declared.rows.Letter.{Letter}

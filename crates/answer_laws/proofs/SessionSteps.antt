@@ -6,34 +6,33 @@ use Rattle.answer_laws.proofs.StoreSteps.{Checked, Checked.Free, Checked.Struck,
 use Rattle.answer_laws.proofs.AgentTexts.{At, at_of}
 use Rattle.answer_laws.proofs.TalkSteps.{apart_of, attends_seen, attentive, awaits, either_of, heard_one, neither, talked_append, unborn_absent, unheard, unsome}
 use Rattle.answer_laws.proofs.TalkTexts.{becomes_as, line_is, none_kept}
-use Rattle.answer_laws.specs.Agents.{AgentSight, agent_sight}
+use Rattle.answer_laws.specs.Agents.{agent_sight}
 use Rattle.answer_laws.specs.Clients.{names_only, replied_in, reply_to}
 use Rattle.answer_laws.specs.Lengths.{is_short}
-use Rattle.answer_laws.specs.Owners.{IsSentTo, IsTold, OwnerReceives, Sends, letter_sent, sending}
-use Rattle.answer_laws.specs.Sights.{IsLeft, IsSent, IsWoken, Sight, Spares, answer_for, answers_to, attends, going_on, sight, sight_by, written_to}
-use Rattle.answer_laws.specs.Stands.{AgentIs, AgentIs.Gone, AgentIs.Made, AgentIs.Unmade, AgentLetters, AgentLetters.Idle, AgentLetters.Owed, AgentLetters.Waiting, Becomes, IsHeard, OpensInVain, SessionGoesOn, SessionsCallsAreEvents, Stands, block_of, goes_on_with, is_placed, is_posted, is_reading, is_short_reply, knows, line_letter, mail_letters, owes}
-use Rattle.answer_laws.specs.Talks.{Deed, Event, Event.Line, Event.OwnLetter, Event.SessionTurn, Mail, Mail.Nothing, Mail.Received, Mail.Sent, Stand, Stand.AwaitsLetter, Stand.AwaitsReply, Stand.Hears, Stand.IsOver, Talk, agent_told, deed_of, session_calls, session_turn, talked}
+use Rattle.answer_laws.specs.Owners.{Sends, letter_sent, sending}
+use Rattle.answer_laws.specs.Sights.{IsLeft, IsSent, IsWoken, Sight, Spares, answers_to, going_on, sight}
+use Rattle.answer_laws.specs.Stands.{AgentIs, AgentIs.Gone, AgentIs.Made, AgentIs.Unmade, AgentLetters, AgentLetters.Idle, AgentLetters.Owed, AgentLetters.Waiting, IsHeard, OpensInVain, SessionGoesOn, SessionsCallsAreEvents, Stands, block_of, goes_on_with, is_posted, is_reading, is_short_reply, knows, line_letter, mail_letters, owes}
+use Rattle.answer_laws.specs.Talks.{Event, Event.Line, Event.OwnLetter, Event.SessionTurn, Mail, Mail.Nothing, Mail.Received, Mail.Sent, Stand, Stand.AwaitsLetter, Stand.AwaitsReply, Stand.Hears, Stand.IsOver, Talk, agent_told, deed_of, session_calls, session_turn, talked}
 use Rattle.line_server.specs.Commands.{Command, command_of}
-use Rattle.line_server.specs.Sessions.{SessionBody, session_at, session_by, session_next, session_opened, session_reads, session_received, session_receives, session_replies, session_returns, session_sends, session_told}
+use Rattle.line_server.specs.Sessions.{SessionBody, session_at, session_by, session_next, session_opened, session_received, session_receives, session_replies, session_returns, session_sends, session_told}
 use Rattle.line_server.specs.Tables.{is_quit}
-use Rattle.line_server.specs.Turns.{Turn, after_reply, is_replied, stops}
+use Rattle.line_server.specs.Turns.{Turn, is_replied, stops}
 use Rattle.line_server.specs.declared.session.SessionPlace.{SessionPlace}
 use Rattle.line_server.specs.declared.session.SessionPlace.TheVariants as at
-use Rattle.lwp_types.specs.Agents.{agent_born, make_agent, new_agent}
-use Rattle.lwp_types.specs.Case.{Case, answered, is_at_limit, is_full, is_itself, is_no_thread, refused, unanswered}
+use Rattle.lwp_types.specs.Agents.{agent_born, new_agent}
+use Rattle.lwp_types.specs.Case.{answered, is_at_limit, is_full, is_itself, is_no_thread, refused, unanswered}
 use Rattle.lwp_types.specs.Choice.{choice}
 use Rattle.lwp_types.specs.CountLaws.{count-append, count_and-le, count_not_found}
 use Rattle.lwp_types.specs.Counts.{is_sending, timers_of}
 use Rattle.lwp_types.specs.Lawful.{Lawful}
 use Rattle.lwp_types.specs.Letters.{as_received, is_letter_of, is_to, post, takes_from}
 use Rattle.lwp_types.specs.Names.{Names, id_at}
-use Rattle.lwp_types.specs.State.{Outcome, State, ThreadRow, agent_of, is_agent, is_agent_row, is_id, is_number, is_thread, passes, thread_of}
+use Rattle.lwp_types.specs.State.{State, ThreadRow, agent_of, is_agent, is_agent_row, is_id, is_number, is_thread, passes, thread_of}
 use Rattle.lwp_types.specs.Step.{case_of, finished, step, step_by, step_if}
 use Rattle.lwp_types.specs.Unblock.{blocked, is_timer_of, nonexist, zero_answer}
 use Rattle.lwp_types.specs.declared.call.Answer.{Answer}
 use Rattle.lwp_types.specs.declared.call.Call.{Call}
 use Rattle.lwp_types.specs.declared.call.Effect.{Effect}
-use Rattle.lwp_types.specs.declared.call.LwpErr.{LwpErr}
 use Rattle.lwp_types.specs.declared.rows.AgentRow.{AgentRow}
 use Rattle.lwp_types.specs.declared.rows.Letter.{Letter}
 use Rattle.pod_laws.proofs.Elements.{differ, find_push_new}
@@ -42,10 +41,9 @@ use Rattle.pod_laws.proofs.Fading.{step_fades}
 use Rattle.pod_laws.proofs.TimerMoves.{no_timer_comes_unasked}
 use Rattle.pod_laws.specs.Timers.{timers_asked}
 use Rattle.pod_laws.specs.Waiters.{is_zero, told}
-use Rattle.std.proofs.Common.{Bool, List, None, Option, Some, [], ap, append-nil, arith, cond, count_by, eqb, false, inl, inr, length, not, refl, subst, sym, true, ℕ, ◌&&◌, ◌++◌, ◌<◌, ◌||◌, ◌∙◌, ◌∷◌, ◌≡◌, ◌≢◌, ◌≤◌, ◌⊎◌}
+use Rattle.std.proofs.Common.{Bool, List, None, Option, Some, [], ap, append-nil, arith, cond, count_by, eqb, false, inl, inr, length, refl, subst, sym, true, ℕ, ◌&&◌, ◌++◌, ◌<◌, ◌||◌, ◌∙◌, ◌∷◌, ◌≡◌, ◌≢◌, ◌≤◌, ◌⊎◌}
 use Rattle.std.proofs.lemmas.Bool.{eq-eqb, eqb-true, leb-true, ne_eqb}
-use Rattle.std.specs.List.{filter, filter_map, find, list_all, list_any}
-use Rattle.std.specs.Option.{option_to_list}
+use Rattle.std.specs.List.{filter, list_all, list_any}
 use Rattle.std.specs.Prelude.{codes, is_some, nat_lt}
 use Rattle.lwp_types.specs.declared.call.Answer.TheVariants as answer
 use Rattle.lwp_types.specs.declared.call.Call.TheVariants as call

@@ -8,12 +8,12 @@ use Rattle.answer_laws.proofs.AgentTexts.{At, at_of}
 use Rattle.answer_laws.proofs.TalkTexts.{becomes_as}
 use Rattle.answer_laws.specs.Agents.{agent_sight, spares_agent}
 use Rattle.answer_laws.specs.Lengths.{is_short}
-use Rattle.answer_laws.specs.Replies.{Asks, IsReceived, IsReplied, takes_other}
+use Rattle.answer_laws.specs.Replies.{Asks, IsReplied, takes_other}
 use Rattle.answer_laws.specs.Sights.{IsLeft, Sight, answers_to, attends, going_on, sight, sight_by}
-use Rattle.answer_laws.specs.Stands.{AgentIs, AgentIs.Gone, AgentIs.Made, AgentIs.Unmade, AgentLetters, Becomes, IsHeard, Stands, StoreGoesOn, StoresCallsAreEvents, block_of, goes_on_with, is_placed, is_posted, is_reading, is_short_to, knows, line_letter, mail_letters, owes}
-use Rattle.answer_laws.specs.Talks.{Deed, Deed.Replies, Event, Event.OtherLetter, Event.OwnLetter, Event.StoreTurn, Mail, Mail.Nothing, Mail.Received, Mail.Sent, Stand, Stand.AwaitsLetter, Stand.AwaitsReply, Stand.Hears, Stand.IsOver, Talk, deed_of, reply_answer, session_told, store_calls, store_turn, talked}
-use Rattle.line_server.specs.Stores.{StoreBody, is_invalid, store_by, store_next, store_received, store_receives, store_replied, store_tells, told_sender}
-use Rattle.line_server.specs.Turns.{Turn, after_reply, is_replied, stops}
+use Rattle.answer_laws.specs.Stands.{AgentIs, AgentIs.Gone, AgentIs.Made, AgentIs.Unmade, AgentLetters, IsHeard, Stands, StoreGoesOn, StoresCallsAreEvents, block_of, goes_on_with, is_placed, is_posted, is_reading, is_short_to, knows, line_letter, mail_letters, owes}
+use Rattle.answer_laws.specs.Talks.{Deed.Replies, Event, Event.OtherLetter, Event.OwnLetter, Event.StoreTurn, Mail, Mail.Nothing, Mail.Received, Mail.Sent, Stand, Stand.AwaitsLetter, Stand.AwaitsReply, Stand.Hears, Stand.IsOver, Talk, deed_of, reply_answer, session_told, store_calls, store_turn, talked}
+use Rattle.line_server.specs.Stores.{StoreBody, is_invalid, store_by, store_next, store_received, store_receives}
+use Rattle.line_server.specs.Turns.{Turn, is_replied, stops}
 use Rattle.line_server.specs.declared.session.SessionPlace.{SessionPlace}
 use Rattle.line_server.specs.declared.session.SessionPlace.TheVariants as at
 use Rattle.line_server.specs.declared.store.StorePlace.{StorePlace}
@@ -26,27 +26,25 @@ use Rattle.lwp_types.specs.FirstLaws.{find-filter}
 use Rattle.lwp_types.specs.Lawful.{Lawful}
 use Rattle.lwp_types.specs.Letters.{as_answer, is_letter_of, is_open, is_to, marked_received, receive_by, received_from, replied, unreceived, with_holding, without_letter}
 use Rattle.lwp_types.specs.Names.{Names}
-use Rattle.lwp_types.specs.State.{Outcome, State, agent_of, is_agent, is_id, is_number, is_thread, passes, still, thread_of}
+use Rattle.lwp_types.specs.State.{State, is_agent, is_id, is_thread, passes, still, thread_of}
 use Rattle.lwp_types.specs.Step.{case_of, finished, step, step_by, step_if}
 use Rattle.lwp_types.specs.Unblock.{blocked, is_timer_of, unblock, zero_answer}
 use Rattle.lwp_types.specs.declared.call.Answer.{Answer}
 use Rattle.lwp_types.specs.declared.call.Call.{Call}
 use Rattle.lwp_types.specs.declared.call.LwpErr.{LwpErr}
-use Rattle.lwp_types.specs.declared.rows.AgentRow.{AgentRow}
 use Rattle.lwp_types.specs.declared.rows.Letter.{Letter}
 use Rattle.pod_laws.proofs.Checks.{Passed}
 use Rattle.pod_laws.proofs.Elements.{differ, find_passes}
 use Rattle.pod_laws.proofs.Fading.{step_fades}
 use Rattle.pod_laws.proofs.TimerMoves.{no_timer_comes_unasked}
 use Rattle.pod_laws.specs.Timers.{timers_asked}
-use Rattle.std.proofs.Common.{Bool, List, None, Option, Some, [], ap, append-nil, arith, cond, count_by, eqb, false, length, not, refl, subst, sym, true, ℕ, ◌&&◌, ◌++◌, ◌<◌, ◌||◌, ◌∙◌, ◌∷◌, ◌≡◌, ◌≢◌, ◌≤◌}
+use Rattle.std.proofs.Common.{Bool, List, None, Option, Some, [], ap, append-nil, arith, cond, count_by, eqb, false, length, not, refl, subst, sym, true, ℕ, ◌&&◌, ◌++◌, ◌||◌, ◌∙◌, ◌∷◌, ◌≡◌, ◌≢◌, ◌≤◌}
 use Rattle.std.proofs.lemmas.Bool.{and_parts, eq-eqb, eqb-true, leb-true, ne_eqb}
 use Rattle.std.specs.List.{filter, filter_map, find}
 use Rattle.std.specs.Option.{option_to_list}
 use Rattle.std.specs.Prelude.{is_none, is_some, nat_lt}
 use Rattle.lwp_types.specs.declared.call.Answer.TheVariants as answer
 use Rattle.lwp_types.specs.declared.call.Call.TheVariants as call
-use Rattle.lwp_types.specs.declared.call.Effect.TheVariants as effect
 use Rattle.lwp_types.specs.declared.call.LwpErr.TheVariants as error
 use Rattle.lwp_types.specs.declared.call.Mode.TheVariants as mode
 use Rattle.lwp_types.specs.declared.rows.Block.TheVariants as block

@@ -2,14 +2,14 @@
 use Rattle.answer_laws.proofs.AgentTexts.{At, at_of, deliveries_pass_others_by, deliveries_reach_agents, found_in, left_deliver}
 use Rattle.answer_laws.proofs.Others.{attends_of, deliver_but}
 use Rattle.answer_laws.proofs.Sights.{Turn, Turn.Left, Turn.Woken}
-use Rattle.answer_laws.proofs.TalkSteps.{ClientTo, IsMade, KeeperTo, attends_seen, attentive, awaits, becomes, either_of, heard_one, keeper_handed, keeper_left, knows_on, neither, posted_on, talked_append, unborn_absent, unheard, unsome}
-use Rattle.answer_laws.specs.Agents.{IsHandedOn, IsPassedBy, IsReached, Reaches, agent_sight, deliveries_to, is_busy}
-use Rattle.answer_laws.specs.Sights.{IsLeft, IsWoken, answers_to, going_on, sight}
+use Rattle.answer_laws.proofs.TalkSteps.{IsMade, KeeperTo, attends_seen, attentive, awaits, becomes, either_of, heard_one, keeper_handed, keeper_left, knows_on, neither, posted_on, talked_append, unborn_absent, unheard, unsome}
+use Rattle.answer_laws.specs.Agents.{IsHandedOn, IsReached, Reaches, agent_sight, deliveries_to, is_busy}
+use Rattle.answer_laws.specs.Sights.{IsLeft, answers_to, going_on, sight}
 use Rattle.answer_laws.specs.Stands.{AgentIs, AgentIs.Gone, AgentIs.Made, AgentIs.Unmade, AgentLetters, AgentLetters.Idle, AgentLetters.Owed, AgentLetters.Waiting, Becomes, DeliveriesAreEvents, IsHeard, Stands, block_of, is_placed, is_posted, knows, line_letter, owes}
 use Rattle.answer_laws.specs.Talks.{Event, Event.Line, Stand, Stand.AwaitsLetter, Stand.AwaitsReply, Stand.Hears, Stand.IsOver, Talk, talked}
 use Rattle.line_server.specs.declared.session.SessionPlace.{SessionPlace}
 use Rattle.line_server.specs.declared.session.SessionPlace.TheVariants as at
-use Rattle.lwp_types.specs.Agents.{armed, deliver, event_agents, is_armed, is_for, message}
+use Rattle.lwp_types.specs.Agents.{armed, deliver, event_agents, is_armed, is_for}
 use Rattle.lwp_types.specs.CountLaws.{count-cons, one}
 use Rattle.lwp_types.specs.Counts.{has_owner_and_event, is_between, timers_of}
 use Rattle.lwp_types.specs.Lawful.{Lawful}
@@ -19,18 +19,16 @@ use Rattle.lwp_types.specs.Time.{may_tick}
 use Rattle.lwp_types.specs.Unblock.{is_timer_of, nonexist}
 use Rattle.lwp_types.specs.declared.call.Answer.{Answer}
 use Rattle.lwp_types.specs.declared.rows.AgentRow.{AgentRow}
-use Rattle.lwp_types.specs.declared.rows.Letter.{Letter}
 use Rattle.pod_laws.proofs.Elements.{all_found, differ, find_passes}
 use Rattle.pod_laws.proofs.Fading.{deliver_fades}
 use Rattle.pod_laws.proofs.Holding.{held_counted}
 use Rattle.pod_laws.proofs.LetterMoves.{no_rows}
 use Rattle.pod_laws.proofs.TimerMoves.{no_timer_comes_unasked}
-use Rattle.std.proofs.Common.{Bool, List, None, Option, Some, [], ap, append-nil, arith, cond, count_by, eqb, false, inl, inr, not, refl, subst, sym, true, ℕ, ◌&&◌, ◌++◌, ◌<◌, ◌∙◌, ◌∷◌, ◌≡◌, ◌≢◌, ◌≤◌, ◌⊎◌}
+use Rattle.std.proofs.Common.{Bool, List, None, Option, Some, [], ap, append-nil, arith, cond, count_by, eqb, false, inl, inr, not, refl, subst, sym, true, ℕ, ◌++◌, ◌<◌, ◌∙◌, ◌∷◌, ◌≡◌, ◌≢◌, ◌≤◌, ◌⊎◌}
 use Rattle.std.proofs.lemmas.Bool.{and_parts, eqb-true, leb-true, ne_eqb}
-use Rattle.std.specs.List.{filter, find, list_all}
+use Rattle.std.specs.List.{filter, list_all}
 use Rattle.std.specs.Prelude.{is_some, nat_le, replicate}
 use Rattle.lwp_types.specs.declared.call.Answer.TheVariants as answer
-use Rattle.lwp_types.specs.declared.rows.Block.TheVariants as block
 
 -- the text of an agent that isn't the session
 record FromAgent (s : ℕ) (text : List ℕ) (from : Option ℕ) (heard : Answer) : Type 0 where
@@ -142,8 +140,13 @@ module _ (s k a : ℕ) (st : State) (was : Lawful st None) (talk : Talk) (waitin
     event = eqb-true m.row.event e its
 
     not_clock : eqb e 0 ≡ false
-    not_clock = ne_eqb e 0 (λ z. absurd (omega (arith, z, event, leb-true 1 m.row.event
-        (and_parts (nat_le 1 m.row.event) (nat_le m.row.event 32) (and_parts (is_thread st m.row.owner) (is_between 1 32 m.row.event) (all_found (is_agent_row a) (has_owner_and_event st) st.agents m.row was.nine.owners.2 m.there)).1).0)))
+    not_clock = ne_eqb e 0 (λ z. absurd (omega (
+      arith,
+      z,
+      event,
+      leb-true 1 m.row.event
+          (and_parts (nat_le 1 m.row.event) (nat_le m.row.event 32) (and_parts (is_thread st m.row.owner) (is_between 1 32 m.row.event) (all_found (is_agent_row a) (has_owner_and_event st) st.agents m.row was.nine.owners.2 m.there)).1).0,
+    )))
 
     idle : m.row.holding ≡ false
     idle = by_not m.row.holding (all_found (is_agent_row a) (λ row. not row.holding) (event_agents st.agents e) m.row all (found_in a e st.agents m.row m.there its))

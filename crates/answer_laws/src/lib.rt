@@ -10,13 +10,15 @@
 //! | a text for its event reaches an agent, and passes by whoever is none; its owner is handed it as it was delivered, and a reply to it frees the agent | `DeliveriesReachAgents`, `DeliveriesPassOthersBy` (`specs/Agents.antt`), `OwnersReceive`, `OwnersReply`, `OwnersOfNoneAreRefused` (`specs/Owners.antt`) |
 //! | who sends a letter waits for the reply, and who waits for the letter goes on with it | `SendsAreLetters` (`specs/Owners.antt`) |
 //! | nobody else touches a thread that waits for a reply, or who waits for a letter but by sending it one | `OthersLeaveIt`, `DeliveriesLeaveIt` (`specs/Sights.antt`), and with traps and reports `PodsLeaveIt`, `TakesLeaveIt` (`specs/Events.antt`) |
+//! | in a pod that stands as a talk, each step is some events of the talk: a call of another, a delivery, and the two bodies' own calls; the texts delivered to the agent are its lines, and its accepted replies are those of the talk | `OthersCallsAreEvents`, `DeliveriesAreEvents`, `StoresCallsAreEvents`, `SessionsCallsAreEvents` (`specs/Stands.antt`) |
 //!
 //! What of this the steps of a session tell, `specs/Clients.antt` says: which lines were delivered to an agent, how it was replied to,
 //! and where its session sent; `rows` has two sessions worked out by hand.
 //!
 //! In a talk (`Talk`) the two bodies are polled as they are in a session, and the pod answers them: a reply to the session goes to the
 //! letter that the store has received, and a line comes only to a session that waits for one. What a thread shows to others (`Sight`)
-//! is what it waits for, its marks and its letters.
+//! is what it waits for, its marks and its letters; what an agent shows (`AgentSight`) is its row and its letters. How the two bodies,
+//! their letters and the agent stand in the machine while they talk, `Stands` says.
 //!
 //! It stands on the bodies of `line_server`, on the laws of the machine in `pod_laws`, and on the events of `pod_events`.
 #![tactic(auto)]
