@@ -13,3 +13,4 @@ mod TalkSteps
 mod TalkTexts
 mod StoreSteps
 mod SessionSteps
+mod PodSteps

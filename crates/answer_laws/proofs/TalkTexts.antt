@@ -9,16 +9,17 @@ use Rattle.answer_laws.specs.Stands.{AgentIs, AgentIs.Gone, AgentIs.Made, AgentI
 use Rattle.answer_laws.specs.Talks.{Event, Event.Line, Stand, Stand.AwaitsLetter, Stand.AwaitsReply, Stand.Hears, Stand.IsOver, Talk, talked}
 use Rattle.line_server.specs.declared.session.SessionPlace.{SessionPlace}
 use Rattle.line_server.specs.declared.session.SessionPlace.TheVariants as at
-use Rattle.lwp_types.specs.Agents.{armed, deliver, event_agents, is_armed, is_for}
+use Rattle.lwp_types.specs.Agents.{armed, deliver, deliver_to, event_agents, is_armed, is_for, message}
 use Rattle.lwp_types.specs.CountLaws.{count-cons, one}
 use Rattle.lwp_types.specs.Counts.{has_owner_and_event, is_between, timers_of}
 use Rattle.lwp_types.specs.Lawful.{Lawful}
-use Rattle.lwp_types.specs.Letters.{is_letter_of, takes_from}
-use Rattle.lwp_types.specs.State.{Outcome, State, agent_of, is_agent, is_agent_row, is_empty, is_id, is_thread, passes}
-use Rattle.lwp_types.specs.Time.{may_tick}
-use Rattle.lwp_types.specs.Unblock.{is_timer_of, nonexist}
+use Rattle.lwp_types.specs.Letters.{as_answer, as_received, is_letter_of, post, takes_from, with_holding}
+use Rattle.lwp_types.specs.State.{Outcome, State, ThreadRow, agent_of, and_then, for_each, is_agent, is_agent_row, is_empty, is_id, is_thread, passes, still, thread_of}
+use Rattle.lwp_types.specs.Time.{due_threads, may_tick, tick, ticked, time_out}
+use Rattle.lwp_types.specs.Unblock.{is_timer_of, nonexist, unblock}
 use Rattle.lwp_types.specs.declared.call.Answer.{Answer}
 use Rattle.lwp_types.specs.declared.rows.AgentRow.{AgentRow}
+use Rattle.lwp_types.specs.declared.rows.Letter.{Letter}
 use Rattle.pod_laws.proofs.Elements.{all_found, differ, find_passes}
 use Rattle.pod_laws.proofs.Fading.{deliver_fades}
 use Rattle.pod_laws.proofs.Holding.{held_counted}
@@ -70,6 +71,36 @@ placed_recv at.Reply h = absurd (cc)
 placed_recv at.Bye h = absurd (cc)
 placed_recv at.End h = absurd (cc)
 
+-- a delivery bears nobody
+module _ where
+  births_post : (letter : Letter) (s : State) → (post letter s).after.births ≡ s.births
+  births_post letter s = by_test (passes (λ (row : ThreadRow). takes_from letter.from row.block) (thread_of s letter.to))
+    where
+      by_test : (b : Bool) → (cond b (unblock (as_answer letter) letter.to (record s { letters = s.letters ++ as_received letter ∷ [] })) (still (record s { letters = s.letters ++ letter ∷ [] }))).after.births ≡ s.births
+      by_test true = refl
+      by_test false = refl
+
+  births_each : {A : Type 0} (change : A → State → Outcome) → ((x : A) (s : State) → (change x s).after.births ≡ s.births) → (xs : List A) (s : State) → (for_each change xs s).after.births ≡ s.births
+  unfolding for_each and_then
+  births_each change keeps [] s = refl
+  births_each change keeps (x ∷ xs) s = births_each change keeps xs (change x s).after ∙ keeps x s
+
+  births_to : (text : List ℕ) (row : AgentRow) (s : State) → (deliver_to text row s).after.births ≡ s.births
+  unfolding and_then
+  births_to text row s = births_post (message text row) (record s { agents = with_holding row.number true s.agents })
+
+  births_tick : (s : State) → (tick s).after.births ≡ s.births
+  unfolding and_then
+  births_tick s = births_each time_out (λ v now. refl) (due_threads (ticked s)) (ticked s)
+
+  pub births_deliver : (s : State) (e : ℕ) (text : List ℕ) → (deliver s e text).after.births ≡ s.births
+  unfolding deliver
+  births_deliver s e text = by_clock (eqb e 0)
+    where
+      by_clock : (b : Bool) → (cond b (tick s) (for_each (deliver_to text) (event_agents s.agents e) s)).after.births ≡ s.births
+      by_clock true = births_tick s
+      by_clock false = births_each (deliver_to text) (births_to text) (event_agents s.agents e) s
+
 -- whoever takes a letter of nobody but a
 only_a : (a : ℕ) (stand : Stand) (n : ℕ) → n ≢ a → takes_from n (block_of (Some a) stand) ≡ false
 only_a a (Hears x) n other = refl
@@ -77,8 +108,7 @@ only_a a AwaitsLetter n other = ne_eqb a n (λ e. other (sym e))
 only_a a AwaitsReply n other = refl
 only_a a IsOver n other = refl
 
-module _ (s k a : ℕ) (st : State) (was : Lawful st None) (talk : Talk) (waiting : List (List ℕ)) (h : Stands s k a st talk waiting) (s_k : eqb s k ≡ false) (e : ℕ) (text : List ℕ) (arms : armed st e ≡ true)
-    (low : talk.session.place ≡ at.Start → (deliver st e text).after.births ≤ a) where
+module _ (s k a : ℕ) (st : State) (was : Lawful st None) (talk : Talk) (waiting : List (List ℕ)) (h : Stands s k a st talk waiting) (s_k : eqb s k ≡ false) (e : ℕ) (text : List ℕ) (arms : armed st e ≡ true) where
   abbrev out : Outcome
   out = deliver st e text
 
@@ -109,7 +139,7 @@ module _ (s k a : ℕ) (st : State) (was : Lawful st None) (talk : Talk) (waitin
   gone_after off below = let parts = either_of (is_thread st a) (is_agent st a) off in neither (is_thread out.after a) (is_agent out.after a) ((deliver_fades a st e text).threads below parts.0) ((deliver_fades a st e text).agents below parts.1)
 
   agent_kept : agent_sight out.after a ≡ agent_sight st a → AgentIs s a st talk waiting → AgentIs s a out.after talk waiting
-  agent_kept kept (Unmade below place lives none) = Unmade (low place) place lives none
+  agent_kept kept (Unmade below place lives none) = Unmade (omega (arith, below, births_deliver st e text)) place lives none
   agent_kept kept (Made row there owns lives known letters) = Made row (ap (λ x. x.row) kept ∙ there) owns lives known (subst (λ x. AgentLetters s a (owes talk.session.place talk.client) waiting x.letters) (sym kept) letters)
   agent_kept kept (Gone off below lives known) = Gone (gone_after off below) (omega (arith, below, (deliver_fades a st e text).births)) lives known
 
@@ -261,4 +291,4 @@ module _ (s k a : ℕ) (st : State) (was : Lawful st None) (talk : Talk) (waitin
           by_event false its = passed (ap (passes (is_for e)) is ∙ its)
 
 pub deliveries_are_events : DeliveriesAreEvents
-deliveries_are_events s k a st was talk waiting h s_k e text arms low = delivered s k a st was talk waiting h s_k e text arms low
+deliveries_are_events s k a st was talk waiting h s_k e text arms = delivered s k a st was talk waiting h s_k e text arms

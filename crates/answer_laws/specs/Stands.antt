@@ -1,7 +1,8 @@
 -- How a pod stands in which a session and a store talk: the machine's state, and the talk that it comes to.
 use Rattle.answer_laws.specs.Agents.{agent_sight, deliveries_to, spares_agent}
 use Rattle.lwp_types.specs.Agents.{armed, deliver}
-use Rattle.answer_laws.specs.Clients.{names_only, replied_in}
+use Rattle.answer_laws.specs.Clients.{names_only, replied_in, text_to}
+use Rattle.answer_laws.specs.Events.{machine_of}
 use Rattle.answer_laws.specs.Lengths.{is_short}
 use Rattle.answer_laws.specs.Sights.{answers_to, sight}
 use Rattle.answer_laws.specs.Talks.{Event, Mail, Mail.Nothing, Mail.Received, Mail.Sent, Stand, Stand.AwaitsLetter, Stand.AwaitsReply, Stand.Hears, Stand.IsOver, Talk, talked}
@@ -12,7 +13,7 @@ use Rattle.line_server.specs.Stores.{StoreBody, store_next}
 use Rattle.lwp_types.specs.Choice.{choice}
 use Rattle.lwp_types.specs.Counts.{timers_of}
 use Rattle.lwp_types.specs.Lawful.{Lawful}
-use Rattle.lwp_types.specs.Names.{Names}
+use Rattle.lwp_types.specs.Names.{Names, null_id}
 use Rattle.lwp_types.specs.State.{Outcome, State, agent_of, is_id}
 use Rattle.lwp_types.specs.Step.{step}
 use Rattle.lwp_types.specs.Unblock.{nonexist}
@@ -20,13 +21,16 @@ use Rattle.lwp_types.specs.declared.call.Call.{Call}
 use Rattle.lwp_types.specs.declared.call.Answer.{Answer}
 use Rattle.lwp_types.specs.declared.call.Answer.TheVariants as answer
 use Rattle.lwp_types.specs.declared.call.Call.TheVariants as call
+use Rattle.lwp_types.specs.declared.call.Effect.{Effect}
 use Rattle.lwp_types.specs.declared.call.LwpErr.{LwpErr}
 use Rattle.lwp_types.specs.declared.rows.AgentRow.{AgentRow}
 use Rattle.lwp_types.specs.declared.rows.Block.{Block}
 use Rattle.lwp_types.specs.declared.rows.Block.TheVariants as block
 use Rattle.lwp_types.specs.declared.rows.Letter.{Letter}
 use Rattle.lwp_types.specs.declared.rows.Mark.TheVariants as mark
-use Rattle.std.specs.List.{fold}
+use Rattle.pod_events.specs.Events.{EventState, is_takeable, take_event}
+use Rattle.pod_events.specs.Step.{event_step}
+use Rattle.std.specs.List.{flat_map, fold}
 use Rattle.std.specs.Prelude.{Bool, List, None, Option, Some, [], false, not, replicate, true, ℕ, ◌++◌, ◌<◌, ◌==◌, ◌∷◌, ◌≡◌, ◌≤◌, ◌||◌, ◌⊎◌}
 
 -- what it waits for, who stands so in the talk and receives of such a sender
@@ -165,7 +169,7 @@ OthersCallsAreEvents = (s k a : ℕ) (state : State) → Lawful state None → (
 -- A text that is delivered is a line of the session's agent, or a letter to the store, or nothing.
 abbrev pub DeliveriesAreEvents : Type 0
 DeliveriesAreEvents = (s k a : ℕ) (state : State) → Lawful state None → (talk : Talk) (waiting : List (List ℕ)) → Stands s k a state talk waiting → (s == k) ≡ false
-    → (e : ℕ) (text : List ℕ) → armed state e ≡ true → (talk.session.place ≡ at.Start → (deliver state e text).after.births ≤ a)
+    → (e : ℕ) (text : List ℕ) → armed state e ≡ true
     → Becomes s k a talk waiting (replicate (deliveries_to a (deliver state e text).effects) text) [] (deliver state e text)
 
 -- a call that doesn't end its thread
@@ -197,3 +201,20 @@ SessionsCallsAreEvents = (s k a : ℕ) (state : State) → Lawful state None →
     → choice state ≡ Some s → (x : Answer) → talk.client ≡ Hears x → (names : Names) → goes_on_with (session_next talk.session names x).0 ≡ true → is_short_reply (session_next talk.session names x).0 ≡ true → names_only k (session_next talk.session names x).0 ≡ true
     → (talk.session.place ≡ at.Start → (b : ℕ) → answers_to s (step state (session_next talk.session names x).0).effects ≡ answer.Thread b ∷ [] → b ≡ a)
     → SessionGoesOn s k a talk waiting (replied_in s a (step state (session_next talk.session names x).0).effects) (session_next talk.session names x).1 (step state (session_next talk.session names x).0) ⊎ OpensInVain s talk (step state (session_next talk.session names x).0)
+
+-- ---- the same in a pod with its own events
+
+-- the texts that the agent gets by the effects of a step, with that of a line that was taken, if one was
+abbrev pub texts_in : ℕ → Option (List ℕ) → List Effect → List (List ℕ)
+texts_in a text es = flat_map (text_to a text) es
+
+-- A call of another, with the trap before it and the report behind it: a report is a line of the agent, if that is one of event 32.
+abbrev pub PodsCallsAreEvents : Type 0
+PodsCallsAreEvents = (s k a : ℕ) (es : EventState) → Lawful es.state None → (talk : Talk) (waiting : List (List ℕ)) → Stands s k a es.state talk waiting
+    → (t : ℕ) → choice es.state ≡ Some t → (t == s) ≡ false → (t == k) ≡ false → (s == k) ≡ false → (c : Call) → spares_agent s k c ≡ true → (talk.session.place ≡ at.Start → (event_step es c).after.state.births ≤ a)
+    → Becomes s k a talk waiting (texts_in a None (event_step es c).effects) [] (machine_of (event_step es c)) ⊎ Leaves s talk (machine_of (event_step es c))
+
+-- A line that is taken: it is delivered, or is a trap to be raised. No agent has the number to which a trapped line is delivered.
+abbrev pub TakesAreEvents : Type 0
+TakesAreEvents = (s k a : ℕ) (es : EventState) → Lawful es.state None → (talk : Talk) (waiting : List (List ℕ)) → Stands s k a es.state talk waiting → (s == k) ≡ false → (null_id == a) ≡ false
+    → (e : ℕ) (text : List ℕ) → is_takeable es e ≡ true → Becomes s k a talk waiting (texts_in a (Some text) (take_event es e text).effects) [] (machine_of (take_event es e text))

@@ -31,7 +31,7 @@ ghost use Rattle.answer_laws.specs.Lengths.{ShortLinesHaveShortAnswers};
 ghost use Rattle.answer_laws.specs.Owners.{OwnersOfNoneAreRefused, OwnersReceive, OwnersReply, SendsAreLetters};
 ghost use Rattle.answer_laws.specs.Replies.{EachHasOneLetter, ReadersLeaveTheRest, ReceivesAreTheLetters, RepliesAreTheAnswers};
 ghost use Rattle.answer_laws.specs.Sights.{DeliveriesLeaveIt, OthersLeaveIt};
-ghost use Rattle.answer_laws.specs.Stands.{DeliveriesAreEvents, OthersCallsAreEvents, SessionsCallsAreEvents, StoresCallsAreEvents};
+ghost use Rattle.answer_laws.specs.Stands.{DeliveriesAreEvents, OthersCallsAreEvents, PodsCallsAreEvents, SessionsCallsAreEvents, StoresCallsAreEvents, TakesAreEvents};
 ghost use Rattle.answer_laws.specs.Talks.{TalksAreAnswers};
 
 /// A session and a store that talk, whatever else is sent to the store and whoever ends: the accepted replies to the session's client
@@ -140,6 +140,16 @@ pub fn every_call_of_the_store()
 /// So is a call of the session, unless it asks for an agent in vain; and its replies in the talk are those that were accepted.
 pub fn every_call_of_the_session()
     ensures { SessionsCallsAreEvents }
+{}
+
+/// A call of another in such a pod with its own events, the trap before it and the report behind it among that.
+pub fn every_pod_call_beside_a_talk()
+    ensures { PodsCallsAreEvents }
+{}
+
+/// And a line that is taken there.
+pub fn every_take_in_a_talk()
+    ensures { TakesAreEvents }
 {}
 
 /// The answers to lines that have room in a letter have room in one.
