@@ -7,38 +7,37 @@ use Rattle.answer_laws.proofs.TalkTexts.{births_deliver, deliveries_are_events}
 use Rattle.answer_laws.specs.Agents.{deliveries_to, is_delivery_to, spares_agent}
 use Rattle.answer_laws.specs.Clients.{text_to}
 use Rattle.answer_laws.specs.Events.{machine_of}
-use Rattle.answer_laws.specs.Sights.{IsDelivered, IsLeft, IsWoken, answers_to, sight}
+use Rattle.answer_laws.specs.Sights.{IsDelivered, IsLeft, IsWoken, answers_to}
 use Rattle.answer_laws.specs.Stands.{Becomes, HeardAs, IsHeard, Leaves, PodsCallsAreEvents, Stands, TakesAreEvents, last_heard, texts_in}
-use Rattle.answer_laws.specs.Talks.{Event, Stand, Talk, talked}
+use Rattle.answer_laws.specs.Talks.{Stand, Talk, talked}
+use Rattle.line_server.specs.Sessions.{SessionBody}
+use Rattle.line_server.specs.Stores.{StoreBody}
 use Rattle.line_server.specs.declared.session.SessionPlace.TheVariants as at
 use Rattle.lwp_types.specs.Agents.{armed, deliver}
 use Rattle.lwp_types.specs.Choice.{choice}
 use Rattle.lwp_types.specs.CountLaws.{count-cons, one}
-use Rattle.lwp_types.specs.Counts.{timers_of}
 use Rattle.lwp_types.specs.Lawful.{Lawful}
 use Rattle.lwp_types.specs.Names.{null_id}
 use Rattle.lwp_types.specs.State.{Outcome, State, passes}
 use Rattle.lwp_types.specs.Step.{case_of, end_effects, ends, own_effects, step, step_by, step_if}
-use Rattle.lwp_types.specs.Unblock.{is_timer_of, nonexist}
+use Rattle.lwp_types.specs.Unblock.{is_timer_of}
 use Rattle.lwp_types.specs.declared.call.Answer.{Answer}
 use Rattle.lwp_types.specs.declared.call.Call.{Call}
 use Rattle.lwp_types.specs.declared.call.Effect.{Effect}
 use Rattle.lwp_types.specs.declared.call.LwpErr.{LwpErr}
 use Rattle.pod_events.proofs.Mild.{mild_deliver}
 use Rattle.pod_events.proofs.MildCalls.{case_toll, is_tame, mild_tame}
-use Rattle.pod_events.specs.Events.{EventState, is_takeable, is_trapped, may_trap, passed_on, rites_event, take_event, trap_taken}
+use Rattle.pod_events.specs.Events.{is_trapped, may_trap, passed_on, rites_event, take_event, trap_taken}
 use Rattle.pod_events.specs.Rites.{as_rites, first_reported, report_text, reports_after, rites_said}
 use Rattle.pod_events.specs.Step.{event_step, event_step_by, event_step_if}
 use Rattle.pod_events.specs.Traps.{agent_event_of, but_call, called, is_catch, is_given, made, made_as, notice, refused_by, stepped, trap_made, trap_of, trap_refusal}
-use Rattle.pod_laws.proofs.EveryStep.{Lawful-deliver, Lawful-step}
+use Rattle.pod_laws.proofs.EveryStep.{Lawful-step}
 use Rattle.pod_laws.proofs.TimerMoves.{no_timer_comes_unasked}
-use Rattle.std.proofs.Common.{Bool, List, None, Option, Some, [], ap, append-nil, append_assoc, arith, cond, count_by, drop, eqb, false, inl, inr, not, refl, subst, suc, sym, true, ℕ, ◌&&◌, ◌++◌, ◌+◌, ◌∙◌, ◌∷◌, ◌≡◌, ◌≤◌, ◌⊎◌}
+use Rattle.std.proofs.Common.{Bool, List, None, Option, Some, [], ap, append-nil, append_assoc, arith, cond, drop, eqb, false, inl, inr, not, refl, subst, sym, true, ℕ, ◌&&◌, ◌++◌, ◌+◌, ◌∙◌, ◌∷◌, ◌≡◌, ◌≤◌, ◌⊎◌}
 use Rattle.std.proofs.Math.Numerals.{one-add}
-use Rattle.std.proofs.lemmas.Bool.{and_from, and_parts, ne_eqb}
-use Rattle.std.specs.List.{flat_map, fold, list_all}
-use Rattle.std.specs.Option.{option_to_list}
+use Rattle.std.proofs.lemmas.Bool.{and_from, and_parts}
+use Rattle.std.specs.List.{list_all}
 use Rattle.std.specs.Prelude.{map, nat_lt, replicate}
-use Rattle.lwp_types.specs.declared.call.Answer.TheVariants as answer
 use Rattle.lwp_types.specs.declared.call.Call.TheVariants as call
 use Rattle.lwp_types.specs.declared.call.Effect.TheVariants as effect
 use Rattle.lwp_types.specs.declared.call.LwpErr.TheVariants as error
@@ -149,11 +148,13 @@ but_texts a s c = by_choice (choice s)
 
 module _ (s k a : ℕ) (talk : Talk) (waiting : List (List ℕ)) where
   -- other effects that answer alike
-  becomes_same : (delivered replies : List (List ℕ)) (out : Outcome) (es : List Effect) → answers_to s es ≡ answers_to s out.effects → answers_to k es ≡ answers_to k out.effects → Becomes s k a talk waiting delivered replies out
-      → Becomes s k a talk waiting delivered replies (record { after = out.after; effects = es })
-  becomes_same delivered replies out es same same_k b = record {
+  becomes_same : (session : SessionBody) (store : StoreBody) (delivered replies : List (List ℕ)) (out : Outcome) (es : List Effect) → answers_to s es ≡ answers_to s out.effects → answers_to k es ≡ answers_to k out.effects → Becomes s k a talk session store waiting delivered replies out
+      → Becomes s k a talk session store waiting delivered replies (record { after = out.after; effects = es })
+  becomes_same session store delivered replies out es same same_k b = record {
     events = b.events;
     waits = b.waits;
+    session_then = b.session_then;
+    store_then = b.store_then;
     stands = b.stands;
     texts = b.texts;
     said = b.said;
@@ -172,11 +173,13 @@ module _ (s k a : ℕ) (talk : Talk) (waiting : List (List ℕ)) where
   heard_then before middle after xs ys one two = λ z h. subst (HeardAs after) (sym (heard_append z xs ys)) (two (last_heard z xs) (one z h))
 
   -- one after the other
-  becomes_then : (one_texts two_texts : List (List ℕ)) (one : Outcome) (es : List Effect) (after : State) (b : Becomes s k a talk waiting one_texts [] one)
-      → Becomes s k a (talked s a talk b.events) b.waits two_texts [] (record { after = after; effects = es }) → Becomes s k a talk waiting (one_texts ++ two_texts) [] (record { after = after; effects = one.effects ++ es })
+  becomes_then : (one_texts two_texts : List (List ℕ)) (one : Outcome) (es : List Effect) (after : State) (b : Becomes s k a talk talk.session talk.store waiting one_texts [] one)
+      → Becomes s k a (talked s a talk b.events) (talked s a talk b.events).session (talked s a talk b.events).store b.waits two_texts [] (record { after = after; effects = es }) → Becomes s k a talk talk.session talk.store waiting (one_texts ++ two_texts) [] (record { after = after; effects = one.effects ++ es })
   becomes_then one_texts two_texts one es after b d = record {
     events = b.events ++ d.events;
     waits = d.waits;
+    session_then = ap (λ (x : Talk). x.session) now ∙ d.session_then ∙ b.session_then;
+    store_then = ap (λ (x : Talk). x.store) now ∙ d.store_then ∙ b.store_then;
     stands = subst (λ x. Stands s k a after x d.waits) (sym now) d.stands;
     texts = ap (λ (x : Talk). x.lines ++ d.waits) now ∙ d.texts ∙ ap (λ xs. xs ++ two_texts) b.texts ∙ append_assoc (talk.lines ++ waiting) one_texts two_texts;
     said = ap (λ (x : Talk). x.told) now ∙ d.said ∙ append-nil (talked s a talk b.events).told ∙ b.said;
@@ -205,7 +208,7 @@ module _ (s k a : ℕ) (talk : Talk) (waiting : List (List ℕ)) where
 -- ---- a call of another, before the report
 
 record Micro (s k a : ℕ) (talk : Talk) (waiting : List (List ℕ)) (after : State) (es : List Effect) : Type 0 where
-  comes : Becomes s k a talk waiting [] [] (record { after = after; effects = es }) ⊎ Leaves s talk (record { after = after; effects = es })
+  comes : Becomes s k a talk talk.session talk.store waiting [] [] (record { after = after; effects = es }) ⊎ Leaves s talk (record { after = after; effects = es })
   lawful : Lawful after None
   texts : texts_in a None es ≡ []
 
@@ -221,8 +224,8 @@ module _ (s k a : ℕ) (st : State) (was : Lawful st None) (talk : Talk) (waitin
   after_as : (after : State) (es fs : List Effect) → answers_to s fs ≡ answers_to s es → answers_to k fs ≡ answers_to k es → texts_in a None fs ≡ texts_in a None es → After after es → After after fs
   after_as after es fs same same_k same_texts m = record { comes = by_comes m.comes; lawful = m.lawful; texts = same_texts ∙ m.texts }
     where
-      by_comes : Becomes s k a talk waiting [] [] (record { after = after; effects = es }) ⊎ Leaves s talk (record { after = after; effects = es }) → Becomes s k a talk waiting [] [] (record { after = after; effects = fs }) ⊎ Leaves s talk (record { after = after; effects = fs })
-      by_comes (inl b) = inl (becomes_same s k a talk waiting [] [] (record { after = after; effects = es }) fs same same_k b)
+      by_comes : Becomes s k a talk talk.session talk.store waiting [] [] (record { after = after; effects = es }) ⊎ Leaves s talk (record { after = after; effects = es }) → Becomes s k a talk talk.session talk.store waiting [] [] (record { after = after; effects = fs }) ⊎ Leaves s talk (record { after = after; effects = fs })
+      by_comes (inl b) = inl (becomes_same s k a talk waiting talk.session talk.store [] [] (record { after = after; effects = es }) fs same same_k b)
       by_comes (inr l) = inr (leaves_same s k a talk waiting (record { after = after; effects = es }) fs same l)
 
   after_step : (c : Call) → spares_agent s k c ≡ true → Low (step st c).after → After (step st c).after (step st c).effects
@@ -234,6 +237,8 @@ module _ (s k a : ℕ) (st : State) (was : Lawful st None) (talk : Talk) (waitin
     comes = inl (record {
       events = [];
       waits = waiting;
+      session_then = refl;
+      store_then = refl;
       stands = h;
       texts = sym (append-nil (talk.lines ++ waiting));
       said = sym (append-nil talk.told);
@@ -281,7 +286,7 @@ module _ (s k a : ℕ) (st : State) (was : Lawful st None) (talk : Talk) (waitin
 
   -- and then the report
   abbrev Done : State → List Effect → Type 0
-  Done after es = Becomes s k a talk waiting (texts_in a None es) [] (record { after = after; effects = es }) ⊎ Leaves s talk (record { after = after; effects = es })
+  Done after es = Becomes s k a talk talk.session talk.store waiting (texts_in a None es) [] (record { after = after; effects = es }) ⊎ Leaves s talk (record { after = after; effects = es })
 
   after_said : (after : State) (es : List Effect) (reports : List ℕ) → After after es → Done (rites_said after es reports).state (rites_said after es reports).effects
   after_said after es reports m = by_armed (armed after rites_event) refl reports
@@ -289,8 +294,8 @@ module _ (s k a : ℕ) (st : State) (was : Lawful st None) (talk : Talk) (waitin
       silent : Done after es
       silent = by_comes m.comes
         where
-          by_comes : Becomes s k a talk waiting [] [] (record { after = after; effects = es }) ⊎ Leaves s talk (record { after = after; effects = es }) → Done after es
-          by_comes (inl b) = inl (subst (λ xs. Becomes s k a talk waiting xs [] (record { after = after; effects = es })) (sym m.texts) b)
+          by_comes : Becomes s k a talk talk.session talk.store waiting [] [] (record { after = after; effects = es }) ⊎ Leaves s talk (record { after = after; effects = es }) → Done after es
+          by_comes (inl b) = inl (subst (λ xs. Becomes s k a talk talk.session talk.store waiting xs [] (record { after = after; effects = es })) (sym m.texts) b)
           by_comes (inr l) = inr l
 
       by_armed : (b : Bool) → armed after rites_event ≡ b → (rs : List ℕ) → Done (cond b (first_reported after es rs) (record { state = after; reports = rs; effects = es })).state (cond b (first_reported after es rs) (record { state = after; reports = rs; effects = es })).effects
@@ -314,14 +319,14 @@ module _ (s k a : ℕ) (st : State) (was : Lawful st None) (talk : Talk) (waitin
           texts = texts_append a None es (map (as_rites dead) (deliver after rites_event (report_text dead)).effects)
               ∙ (λ i. m.texts i ++ (reports_told a dead (deliver after rites_event (report_text dead)).effects (tame_deliver after rites_event (report_text dead)) ∙ lines_told a (report_text dead) (deliver after rites_event (report_text dead)).effects (tame_deliver after rites_event (report_text dead))) i)
 
-          by_comes : Becomes s k a talk waiting [] [] (record { after = after; effects = es }) ⊎ Leaves s talk (record { after = after; effects = es })
+          by_comes : Becomes s k a talk talk.session talk.store waiting [] [] (record { after = after; effects = es }) ⊎ Leaves s talk (record { after = after; effects = es })
               → Done (deliver after rites_event (report_text dead)).after (es ++ map (as_rites dead) (deliver after rites_event (report_text dead)).effects)
           by_comes (inl b) =
               let out = deliver after rites_event (report_text dead) in
               let two = deliveries_are_events s k a after m.lawful (talked s a talk b.events) b.waits b.stands s_k rites_event (report_text dead) arms in
               let both = becomes_then s k a talk waiting [] (replicate (deliveries_to a out.effects) (report_text dead)) (record { after = after; effects = es }) out.effects out.after b two in
-              inl (subst (λ xs. Becomes s k a talk waiting xs [] (record { after = out.after; effects = es ++ map (as_rites dead) out.effects })) (sym texts)
-              (becomes_same s k a talk waiting ([] ++ replicate (deliveries_to a out.effects) (report_text dead)) [] (record { after = out.after; effects = es ++ out.effects }) (es ++ map (as_rites dead) out.effects) (same s) (same k) both))
+              inl (subst (λ xs. Becomes s k a talk talk.session talk.store waiting xs [] (record { after = out.after; effects = es ++ map (as_rites dead) out.effects })) (sym texts)
+              (becomes_same s k a talk waiting talk.session talk.store ([] ++ replicate (deliveries_to a out.effects) (report_text dead)) [] (record { after = out.after; effects = es ++ out.effects }) (es ++ map (as_rites dead) out.effects) (same s) (same k) both))
           by_comes (inr l) =
               let out = deliver after rites_event (report_text dead) in
               inr (leaves_same s k a talk waiting (record { after = out.after; effects = es ++ out.effects }) (es ++ map (as_rites dead) out.effects) (same s)
@@ -340,7 +345,7 @@ unfolding event_step event_step_by
 pods_calls_are_events s k a es was talk waiting h t turn t_s t_k s_k c spared low =
     let out = called es.state es.trapped t c es.pending in
     let reports = reports_after es.state out.state es.reports out.effects in
-    subst (λ o. (talk.session.place ≡ at.Start → (event_step_if es c o).after.state.births ≤ a) → Becomes s k a talk waiting (texts_in a None (event_step_if es c o).effects) [] (machine_of (event_step_if es c o)) ⊎ Leaves s talk (machine_of (event_step_if es c o))) (sym turn)
+    subst (λ o. (talk.session.place ≡ at.Start → (event_step_if es c o).after.state.births ≤ a) → Becomes s k a talk talk.session talk.store waiting (texts_in a None (event_step_if es c o).effects) [] (machine_of (event_step_if es c o)) ⊎ Leaves s talk (machine_of (event_step_if es c o))) (sym turn)
     (λ low. after_said s k a es.state was talk waiting h t turn t_s t_k s_k out.state out.effects reports (after_called s k a es.state was talk waiting h t turn t_s t_k s_k es.trapped c spared es.pending
     (low_before s k a es.state was talk waiting h t turn t_s t_k s_k out.state out.effects reports low))) low
 
@@ -352,15 +357,17 @@ takes_are_events s k a es was talk waiting h s_k away e text may = by_trapped (i
     still_told = rw away refl
 
     by_trapped : (b : Bool) → cond b (may_trap es) (nat_lt e rites_event && armed es.state e) ≡ true
-        → Becomes s k a talk waiting (texts_in a (Some text) (cond b (trap_taken es e) (passed_on es (deliver es.state e text))).effects) [] (machine_of (cond b (trap_taken es e) (passed_on es (deliver es.state e text))))
-    by_trapped true may = subst (λ xs. Becomes s k a talk waiting xs [] (machine_of (trap_taken es e))) (sym still_told) (record {
+        → Becomes s k a talk talk.session talk.store waiting (texts_in a (Some text) (cond b (trap_taken es e) (passed_on es (deliver es.state e text))).effects) [] (machine_of (cond b (trap_taken es e) (passed_on es (deliver es.state e text))))
+    by_trapped true may = subst (λ xs. Becomes s k a talk talk.session talk.store waiting xs [] (machine_of (trap_taken es e))) (sym still_told) (record {
       events = [];
       waits = waiting;
+      session_then = refl;
+      store_then = refl;
       stands = h;
       texts = sym (append-nil (talk.lines ++ waiting));
       said = sym (append-nil talk.told);
       heard = λ z x. x;
       heard_keeper = λ z x. x;
     })
-    by_trapped false may = subst (λ xs. Becomes s k a talk waiting xs [] (deliver es.state e text)) (sym (lines_told a text (deliver es.state e text).effects (tame_deliver es.state e text)))
+    by_trapped false may = subst (λ xs. Becomes s k a talk talk.session talk.store waiting xs [] (deliver es.state e text)) (sym (lines_told a text (deliver es.state e text).effects (tame_deliver es.state e text)))
         (deliveries_are_events s k a es.state was talk waiting h s_k e text (and_parts (nat_lt e rites_event) (armed es.state e) may).1)

@@ -11,7 +11,7 @@ use Rattle.answer_laws.specs.Clients.{names_only, replied_in, reply_to}
 use Rattle.answer_laws.specs.Lengths.{is_short}
 use Rattle.answer_laws.specs.Owners.{Sends, letter_sent, sending}
 use Rattle.answer_laws.specs.Sights.{IsLeft, IsSent, IsWoken, Sight, Spares, answers_to, going_on, sight}
-use Rattle.answer_laws.specs.Stands.{AgentIs, AgentIs.Gone, AgentIs.Made, AgentIs.Unmade, AgentLetters, AgentLetters.Idle, AgentLetters.Owed, AgentLetters.Waiting, IsHeard, OpensInVain, SessionGoesOn, SessionsCallsAreEvents, Stands, block_of, goes_on_with, is_posted, is_reading, is_short_reply, knows, line_letter, mail_letters, owes}
+use Rattle.answer_laws.specs.Stands.{AgentIs, AgentIs.Gone, AgentIs.Made, AgentIs.Unmade, AgentLetters, AgentLetters.Idle, AgentLetters.Owed, AgentLetters.Waiting, Becomes, IsHeard, OpensInVain, SessionsCallsAreEvents, Stands, block_of, goes_on_with, is_posted, is_reading, is_short_reply, knows, line_letter, mail_letters, owes}
 use Rattle.answer_laws.specs.Talks.{Event, Event.Line, Event.OwnLetter, Event.SessionTurn, Mail, Mail.Nothing, Mail.Received, Mail.Sent, Stand, Stand.AwaitsLetter, Stand.AwaitsReply, Stand.Hears, Stand.IsOver, Talk, agent_told, deed_of, session_calls, session_turn, talked}
 use Rattle.line_server.specs.Commands.{Command, command_of}
 use Rattle.line_server.specs.Sessions.{SessionBody, session_at, session_by, session_next, session_opened, session_received, session_receives, session_replies, session_returns, session_sends, session_told}
@@ -27,7 +27,7 @@ use Rattle.lwp_types.specs.Counts.{is_sending, timers_of}
 use Rattle.lwp_types.specs.Lawful.{Lawful}
 use Rattle.lwp_types.specs.Letters.{as_received, is_letter_of, is_to, post, takes_from}
 use Rattle.lwp_types.specs.Names.{Names, id_at}
-use Rattle.lwp_types.specs.State.{State, ThreadRow, agent_of, is_agent, is_agent_row, is_id, is_number, is_thread, passes, thread_of}
+use Rattle.lwp_types.specs.State.{Outcome, State, ThreadRow, agent_of, is_agent, is_agent_row, is_id, is_number, is_thread, passes, thread_of}
 use Rattle.lwp_types.specs.Step.{case_of, finished, step, step_by, step_if}
 use Rattle.lwp_types.specs.Unblock.{blocked, is_timer_of, nonexist, zero_answer}
 use Rattle.lwp_types.specs.declared.call.Answer.{Answer}
@@ -52,6 +52,10 @@ use Rattle.lwp_types.specs.declared.call.LwpErr.TheVariants as error
 use Rattle.lwp_types.specs.declared.call.Mode.TheVariants as mode
 use Rattle.lwp_types.specs.declared.rows.Block.TheVariants as block
 use Rattle.lwp_types.specs.declared.rows.Mark.TheVariants as mark
+
+-- the session goes on as this body
+abbrev SessionGoesOn : (s k a : ℕ) → Talk → List (List ℕ) → List (List ℕ) → SessionBody → Outcome → Type 0
+SessionGoesOn s k a talk waiting replies body out = Becomes s k a talk body talk.store waiting [] replies out
 
 -- ---- what a session does
 
@@ -215,13 +219,10 @@ module _ (s k a : ℕ) (st : State) (was : Lawful st None) (talk : Talk) (waitin
 
   -- ---- the whole
 
-  goes : (c : Call) (body : SessionBody) (later : Talk) (events : List Event) → talked s a talk events ≡ later → later.session ≡ body → (waits : List (List ℕ)) → Stands s k a (step st c).after later waits
+  goes : (c : Call) (body : SessionBody) (later : Talk) (events : List Event) → talked s a talk events ≡ later → later.session ≡ body → later.store ≡ talk.store → (waits : List (List ℕ)) → Stands s k a (step st c).after later waits
       → later.lines ++ waits ≡ (talk.lines ++ waiting) ++ [] → later.told ≡ talk.told ++ replied_in s a (step st c).effects → IsHeard talk.client later.client (answers_to s (step st c).effects) → IsHeard talk.keeper later.keeper (answers_to k (step st c).effects)
       → SessionGoesOn s k a talk waiting (replied_in s a (step st c).effects) body (step st c)
-  goes c body later events now its waits stands texts said heard heard_keeper = record {
-    becomes = becomes_as s k a talk waiting [] (replied_in s a (step st c).effects) (step st c) events later now waits stands texts said heard heard_keeper;
-    body_then = ap (λ (x : Talk). x.session) now ∙ its;
-  }
+  goes c body later events now its its_store waits stands texts said heard heard_keeper = becomes_as s k a talk body talk.store waiting [] (replied_in s a (step st c).effects) (step st c) events later now its its_store waits stands texts said heard heard_keeper
 
   gone_after : (c : Call) → is_id st a ≡ false → a < st.births → is_id (step st c).after a ≡ false
   gone_after c off below = let parts = either_of (is_thread st a) (is_agent st a) off in neither (is_thread (step st c).after a) (is_agent (step st c).after a) ((step_fades a st c).threads below parts.0) ((step_fades a st c).agents below parts.1)
@@ -259,7 +260,7 @@ module _ (s k a : ℕ) (st : State) (was : Lawful st None) (talk : Talk) (waitin
       receives_made row there owns lives (Idle owed none letters) =
           let r = (owners_receive st was s a row turn there owns).waits (ap (list_all (λ (l : Letter). l.received)) letters) in
           goes recv (session_at body at.Recv) (record talk { session = session_at body at.Recv; client = AwaitsLetter }) (SessionTurn names ∷ [])
-          (now ∙ ap (λ b. record talk { session = session_at body at.Recv; client = cond b AwaitsLetter (Hears nonexist) }) lives) refl waiting
+          (now ∙ ap (λ b. record talk { session = session_at body at.Recv; client = cond b AwaitsLetter (Hears nonexist) }) lives) refl refl waiting
           (record {
             client = r.itself_then ∙ ap (λ (v : Sight). record v { waits = Some (block.Receiving (Some a)) }) s_seen;
             keeper = left.same ∙ h.keeper;
@@ -275,7 +276,7 @@ module _ (s k a : ℕ) (st : State) (was : Lawful st None) (talk : Talk) (waitin
           let r = (owners_receive st was s a row turn there owns).finds (line_letter a s text false) letters refl in
           goes recv (session_at body at.Recv) (record talk { session = session_at body at.Recv; client = Hears (answer.Letter a text 240); lines = talk.lines ++ text ∷ [] }) (SessionTurn names ∷ Line text ∷ [])
           (talked_append s a talk (SessionTurn names ∷ []) (Line text ∷ []) ∙ ap (λ t. talked s a t (Line text ∷ [])) (now ∙ ap (λ b. record talk { session = session_at body at.Recv; client = cond b AwaitsLetter (Hears nonexist) }) lives)
-          ∙ line_is s a text (record talk { session = session_at body at.Recv; client = AwaitsLetter }) refl lives) refl []
+          ∙ line_is s a text (record talk { session = session_at body at.Recv; client = AwaitsLetter }) refl lives) refl refl []
           (record {
             client = r.itself_then ∙ s_seen;
             keeper = left.same ∙ h.keeper;
@@ -294,7 +295,7 @@ module _ (s k a : ℕ) (st : State) (was : Lawful st None) (talk : Talk) (waitin
       receives_by (Gone off below lives known2) =
           let r = ((owners_of_none_are_refused st s a turn off).0 mode.Block).refused in
           goes recv (session_at body at.Recv) (record talk { session = session_at body at.Recv; client = Hears nonexist }) (SessionTurn names ∷ [])
-          (now ∙ ap (λ b. record talk { session = session_at body at.Recv; client = cond b AwaitsLetter (Hears nonexist) }) lives) refl waiting
+          (now ∙ ap (λ b. record talk { session = session_at body at.Recv; client = cond b AwaitsLetter (Hears nonexist) }) lives) refl refl waiting
           (record {
             client = r.itself_then ∙ s_seen;
             keeper = left.same ∙ h.keeper;
@@ -325,7 +326,7 @@ module _ (s k a : ℕ) (st : State) (was : Lawful st None) (talk : Talk) (waitin
       replies_made row there owns lives (Owed line owed2 none letters) =
           let r = owners_reply st was s a row turn there owns (line_letter a s line true) letters refl text (leb-true (length text) 240 short) in
           goes reply body (record talk { session = body; told = talk.told ++ text ∷ []; client = Hears zero_answer }) (SessionTurn names ∷ [])
-          (now ∙ ap (λ b. cond b (record talk { session = body; told = talk.told ++ text ∷ []; client = Hears zero_answer }) (record talk { session = body; client = Hears nonexist })) lives) refl waiting
+          (now ∙ ap (λ b. cond b (record talk { session = body; told = talk.told ++ text ∷ []; client = Hears zero_answer }) (record talk { session = body; client = Hears nonexist })) lives) refl refl waiting
           (record {
             client = r.itself_then ∙ s_seen;
             keeper = left_reply.same ∙ h.keeper;
@@ -345,7 +346,7 @@ module _ (s k a : ℕ) (st : State) (was : Lawful st None) (talk : Talk) (waitin
       replies_by (Gone off below lives known2) =
           let r = ((owners_of_none_are_refused st s a turn off).1 text).refused in
           goes reply body (record talk { session = body; client = Hears nonexist }) (SessionTurn names ∷ [])
-          (now ∙ ap (λ b. cond b (record talk { session = body; told = talk.told ++ text ∷ []; client = Hears zero_answer }) (record talk { session = body; client = Hears nonexist })) lives) refl waiting
+          (now ∙ ap (λ b. cond b (record talk { session = body; told = talk.told ++ text ∷ []; client = Hears zero_answer }) (record talk { session = body; client = Hears nonexist })) lives) refl refl waiting
           (record {
             client = r.itself_then ∙ s_seen;
             keeper = left_reply.same ∙ h.keeper;
@@ -406,7 +407,7 @@ module _ (s k a : ℕ) (st : State) (was : Lawful st None) (talk : Talk) (waitin
       sends_by IsOver e reads = absurd (cc)
       sends_by (Hears y) e reads =
           let r = sends.kept (k_takes (Hears y) e) in
-          goes send (session_at body at.Send) (record talk { session = session_at body at.Send; mail = Sent text; client = AwaitsReply }) (SessionTurn names ∷ []) now refl waiting
+          goes send (session_at body at.Send) (record talk { session = session_at body at.Send; mail = Sent text; client = AwaitsReply }) (SessionTurn names ∷ []) now refl refl waiting
           (record {
             client = r.sender_then ∙ ap (λ (v : Sight). sending v (letter_sent s k 240 text)) s_seen ∙ ap (λ m. record { waits = Some block.Sending; marks = mark.Frame ∷ []; letters = mail_letters s k m ++ letter_sent s k 240 text ∷ [] }) mail;
             keeper = r.receiver_then ∙ h.keeper;
@@ -421,7 +422,7 @@ module _ (s k a : ℕ) (st : State) (was : Lawful st None) (talk : Talk) (waitin
       sends_by AwaitsLetter e reads =
           let r = sends.handed (k_takes AwaitsLetter e) in
           goes send (session_at body at.Send) (record talk { session = session_at body at.Send; mail = Received text; client = AwaitsReply; keeper = Hears (answer.Letter s text 240) }) (SessionTurn names ∷ OwnLetter ∷ [])
-          (talked_append s a talk (SessionTurn names ∷ []) (OwnLetter ∷ []) ∙ ap (λ t. talked s a t (OwnLetter ∷ [])) now ∙ own_is s a text (record talk { session = session_at body at.Send; mail = Sent text; client = AwaitsReply }) e refl) refl waiting
+          (talked_append s a talk (SessionTurn names ∷ []) (OwnLetter ∷ []) ∙ ap (λ t. talked s a t (OwnLetter ∷ [])) now ∙ own_is s a text (record talk { session = session_at body at.Send; mail = Sent text; client = AwaitsReply }) e refl) refl refl waiting
           (record {
             client = r.sender_then ∙ ap (λ (v : Sight). sending v (as_received (letter_sent s k 240 text))) s_seen ∙ ap (λ m. record { waits = Some block.Sending; marks = mark.Frame ∷ []; letters = mail_letters s k m ++ as_received (letter_sent s k 240 text) ∷ [] }) mail;
             keeper = r.receiver_then ∙ ap going_on h.keeper;
@@ -491,7 +492,7 @@ module _ (s k a : ℕ) (st : State) (was : Lawful st None) (talk : Talk) (waitin
             let told_so : answers_to s (step st ask).effects ≡ answer.Thread st.births ∷ [] = ap (λ out. answers_to s out.effects) (step_is ask ∙ ap (finished s ask) is) ∙ told_itself s ask (answered (agent_born st s e) (answer.Thread st.births)) in
             let born = given st.births told_so in
             inl (goes ask (session_at talk.session at.Agent) (record talk { session = session_at talk.session at.Agent; client = Hears (answer.Thread a) }) (SessionTurn names ∷ [])
-            (now ∙ ap (λ b. record talk { session = session_at talk.session at.Agent; client = Hears (cond b (answer.Thread a) (answer.Refused error.NoRoom)) }) lives) refl waiting
+            (now ∙ ap (λ b. record talk { session = session_at talk.session at.Agent; client = Hears (cond b (answer.Thread a) (answer.Refused error.NoRoom)) }) lives) refl refl waiting
             (record {
               client = ap (λ out. sight out.after s) (step_is ask ∙ ap (finished s ask) is) ∙ s_seen;
               keeper = left_ask.same ∙ h.keeper;

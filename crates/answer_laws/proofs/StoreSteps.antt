@@ -10,7 +10,7 @@ use Rattle.answer_laws.specs.Agents.{agent_sight, spares_agent}
 use Rattle.answer_laws.specs.Lengths.{is_short}
 use Rattle.answer_laws.specs.Replies.{Asks, IsReplied, takes_other}
 use Rattle.answer_laws.specs.Sights.{IsLeft, Sight, answers_to, attends, going_on, sight, sight_by}
-use Rattle.answer_laws.specs.Stands.{AgentIs, AgentIs.Gone, AgentIs.Made, AgentIs.Unmade, AgentLetters, IsHeard, Stands, StoreGoesOn, StoresCallsAreEvents, block_of, goes_on_with, is_placed, is_posted, is_reading, is_short_to, knows, line_letter, mail_letters, owes}
+use Rattle.answer_laws.specs.Stands.{AgentIs, AgentIs.Gone, AgentIs.Made, AgentIs.Unmade, AgentLetters, Becomes, IsHeard, Stands, StoresCallsAreEvents, block_of, goes_on_with, is_placed, is_posted, is_reading, is_short_to, knows, line_letter, mail_letters, owes}
 use Rattle.answer_laws.specs.Talks.{Deed.Replies, Event, Event.OtherLetter, Event.OwnLetter, Event.StoreTurn, Mail, Mail.Nothing, Mail.Received, Mail.Sent, Stand, Stand.AwaitsLetter, Stand.AwaitsReply, Stand.Hears, Stand.IsOver, Talk, deed_of, reply_answer, session_told, store_calls, store_turn, talked}
 use Rattle.line_server.specs.Stores.{StoreBody, is_invalid, store_by, store_next, store_received, store_receives}
 use Rattle.line_server.specs.Turns.{Turn, is_replied, stops}
@@ -26,7 +26,7 @@ use Rattle.lwp_types.specs.FirstLaws.{find-filter}
 use Rattle.lwp_types.specs.Lawful.{Lawful}
 use Rattle.lwp_types.specs.Letters.{as_answer, is_letter_of, is_open, is_to, marked_received, receive_by, received_from, replied, unreceived, with_holding, without_letter}
 use Rattle.lwp_types.specs.Names.{Names}
-use Rattle.lwp_types.specs.State.{State, is_agent, is_id, is_thread, passes, still, thread_of}
+use Rattle.lwp_types.specs.State.{Outcome, State, is_agent, is_id, is_thread, passes, still, thread_of}
 use Rattle.lwp_types.specs.Step.{case_of, finished, step, step_by, step_if}
 use Rattle.lwp_types.specs.Unblock.{blocked, is_timer_of, unblock, zero_answer}
 use Rattle.lwp_types.specs.declared.call.Answer.{Answer}
@@ -49,6 +49,10 @@ use Rattle.lwp_types.specs.declared.call.LwpErr.TheVariants as error
 use Rattle.lwp_types.specs.declared.call.Mode.TheVariants as mode
 use Rattle.lwp_types.specs.declared.rows.Block.TheVariants as block
 use Rattle.lwp_types.specs.declared.rows.Mark.TheVariants as mark
+
+-- the store goes on as this body
+abbrev StoreGoesOn : (s k a : ℕ) → Talk → List (List ℕ) → StoreBody → Outcome → Type 0
+StoreGoesOn s k a talk waiting body out = Becomes s k a talk talk.session body waiting [] [] out
 
 -- ---- what a store does
 
@@ -229,12 +233,9 @@ module _ (s k a : ℕ) (st : State) (was : Lawful st None) (talk : Talk) (waitin
       → (client : Stand) (mail : Mail) → sight (step st c).after s ≡ record { waits = Some (block_of (Some a) client); marks = mark.Frame ∷ []; letters = mail_letters s k mail } → is_posted client mail ≡ true → is_placed client talk.session.place ≡ true
       → (AgentIs s a (step st c).after talk waiting → AgentIs s a (step st c).after (record talk { store = body; keeper = stand; client = client; mail = mail }) waiting) → IsHeard talk.client client (answers_to s (step st c).effects)
       → (events : List Event) → talked s a talk events ≡ record talk { store = body; keeper = stand; client = client; mail = mail } → StoreGoesOn s k a talk waiting body (step st c)
-  goes c body stand heard spared asks low keeps reads kept client mail seen posted placed agent told events now = record {
-    becomes = becomes_as s k a talk waiting [] [] (step st c) events (record talk { store = body; keeper = stand; client = client; mail = mail }) now waiting
-        (record { client = seen; keeper = keeps.seen; posted = posted; placed = placed; reads = reads; untimed = untimed_after c s asks h.untimed; untimed_keeper = untimed_after c k asks h.untimed_keeper; agent = agent (agent_after c spared low h.agent) })
-        (sym (append-nil (talk.lines ++ waiting))) (sym (append-nil talk.told)) told (subst (IsHeard talk.keeper stand) (sym keeps.told) kept);
-    body_then = ap (λ (x : Talk). x.store) now;
-  }
+  goes c body stand heard spared asks low keeps reads kept client mail seen posted placed agent told events now = becomes_as s k a talk talk.session body waiting [] [] (step st c) events (record talk { store = body; keeper = stand; client = client; mail = mail }) now refl refl waiting
+      (record { client = seen; keeper = keeps.seen; posted = posted; placed = placed; reads = reads; untimed = untimed_after c s asks h.untimed; untimed_keeper = untimed_after c k asks h.untimed_keeper; agent = agent (agent_after c spared low h.agent) })
+      (sym (append-nil (talk.lines ++ waiting))) (sym (append-nil talk.told)) told (subst (IsHeard talk.keeper stand) (sym keeps.told) kept)
 
   step_is : (c : Call) → step st c ≡ finished k c (case_of st k c)
   unfolding step step_by

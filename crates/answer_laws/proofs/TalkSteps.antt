@@ -176,10 +176,12 @@ agent_as {s} {a} {st} {one} {two} {waiting} e f g (Made row there owns lives kno
     (subst (λ b. AgentLetters s a b waiting (agent_sight st a).letters) (λ i. owes (sym e i).place (sym f i)) letters)
 agent_as {s} {a} {st} {one} {two} {waiting} e f g (Gone off low lives known) = Gone off low (g ∙ lives) ((λ i. knows a (e i).agent (e i).place (f i)) ∙ known)
 
-pub becomes : (s k a : ℕ) (talk : Talk) (waiting : List (List ℕ)) (out : Outcome) → timers_of out.after.timers s ≡ 0 → timers_of out.after.timers k ≡ 0 → KeeperTo s k a talk out → ClientTo s k a talk waiting out → Becomes s k a talk waiting [] [] out
+pub becomes : (s k a : ℕ) (talk : Talk) (waiting : List (List ℕ)) (out : Outcome) → timers_of out.after.timers s ≡ 0 → timers_of out.after.timers k ≡ 0 → KeeperTo s k a talk out → ClientTo s k a talk waiting out → Becomes s k a talk talk.session talk.store waiting [] [] out
 becomes s k a talk waiting out timers timers_k one two = record {
   events = one.events ++ two.events;
   waits = waiting;
+  session_then = ap (λ (x : Talk). x.session) now;
+  store_then = ap (λ (x : Talk). x.store) now;
   stands = subst (λ x. Stands s k a out.after x waiting) (sym now) (record {
     client = two.seen;
     keeper = one.seen;
@@ -465,24 +467,24 @@ module _ (s k a : ℕ) (st : State) (was : Lawful st None) (talk : Talk) (waitin
                 heard = heard_one talk.client nonexist (answers_to s out.effects) (woken.told ∙ ap (λ x. x ∷ []) none.0);
               })
 
-      both : Becomes s k a talk waiting [] [] out ⊎ Leaves s talk out
+      both : Becomes s k a talk talk.session talk.store waiting [] [] out ⊎ Leaves s talk out
       both = by_fate s_fate
         where
-          done : ClientTo s k a talk waiting out → Becomes s k a talk waiting [] [] out
+          done : ClientTo s k a talk waiting out → Becomes s k a talk talk.session talk.store waiting [] [] out
           done to = becomes s k a talk waiting out (timers_after s t_s h.untimed) (timers_after k t_k h.untimed_keeper) keeper_to to
 
-          by_to : ClientTo s k a talk waiting out ⊎ Leaves s talk out → Becomes s k a talk waiting [] [] out ⊎ Leaves s talk out
+          by_to : ClientTo s k a talk waiting out ⊎ Leaves s talk out → Becomes s k a talk talk.session talk.store waiting [] [] out ⊎ Leaves s talk out
           by_to (inl to) = inl (done to)
           by_to (inr leaves) = inr leaves
 
-          by_fate : IsLeft s st out ⊎ IsWoken s (IsSent t s c) st out → Becomes s k a talk waiting [] [] out ⊎ Leaves s talk out
+          by_fate : IsLeft s st out ⊎ IsWoken s (IsSent t s c) st out → Becomes s k a talk talk.session talk.store waiting [] [] out ⊎ Leaves s talk out
           by_fate (inl left) = inl (done (left_to left))
           by_fate (inr woken) = by_to (woken_to woken)
 
 pub others_calls_are_events : OthersCallsAreEvents
 others_calls_are_events s k a st was talk waiting h t turn t_s t_k s_k c spared low = by_end (ends_of c)
   where
-    by_end : Ends c → Becomes s k a talk waiting [] [] (step st c) ⊎ Leaves s talk (step st c)
+    by_end : Ends c → Becomes s k a talk talk.session talk.store waiting [] [] (step st c) ⊎ Leaves s talk (step st c)
     by_end (Spared fine free) = both s k a st was talk waiting h t turn t_s t_k s_k c low (fine st s) (fine st k)
         (λ row there owns. inl (others_leave_agents st was t a row turn there (ap (eqb t) owns ∙ t_s) c (free a row.owner)))
     by_end (Destroys v e) = both s k a st was talk waiting h t turn t_s t_k s_k c low (subst (Spares st s) (sym e) (off.0, written)) (subst (Spares st k) (sym e) (off.1, ap (λ x. count_by (is_to v) x.letters) h.keeper)) fate

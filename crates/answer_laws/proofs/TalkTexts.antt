@@ -7,6 +7,8 @@ use Rattle.answer_laws.specs.Agents.{IsHandedOn, IsReached, Reaches, agent_sight
 use Rattle.answer_laws.specs.Sights.{IsLeft, answers_to, going_on, sight}
 use Rattle.answer_laws.specs.Stands.{AgentIs, AgentIs.Gone, AgentIs.Made, AgentIs.Unmade, AgentLetters, AgentLetters.Idle, AgentLetters.Owed, AgentLetters.Waiting, Becomes, DeliveriesAreEvents, IsHeard, Stands, block_of, is_placed, is_posted, knows, line_letter, owes}
 use Rattle.answer_laws.specs.Talks.{Event, Event.Line, Stand, Stand.AwaitsLetter, Stand.AwaitsReply, Stand.Hears, Stand.IsOver, Talk, talked}
+use Rattle.line_server.specs.Sessions.{SessionBody}
+use Rattle.line_server.specs.Stores.{StoreBody}
 use Rattle.line_server.specs.declared.session.SessionPlace.{SessionPlace}
 use Rattle.line_server.specs.declared.session.SessionPlace.TheVariants as at
 use Rattle.lwp_types.specs.Agents.{armed, deliver, deliver_to, event_agents, is_armed, is_for, message}
@@ -25,7 +27,7 @@ use Rattle.pod_laws.proofs.Fading.{deliver_fades}
 use Rattle.pod_laws.proofs.Holding.{held_counted}
 use Rattle.pod_laws.proofs.LetterMoves.{no_rows}
 use Rattle.pod_laws.proofs.TimerMoves.{no_timer_comes_unasked}
-use Rattle.std.proofs.Common.{Bool, List, None, Option, Some, [], ap, append-nil, arith, cond, count_by, eqb, false, inl, inr, not, refl, subst, sym, true, ℕ, ◌++◌, ◌<◌, ◌∙◌, ◌∷◌, ◌≡◌, ◌≢◌, ◌≤◌, ◌⊎◌}
+use Rattle.std.proofs.Common.{Bool, List, None, Option, Some, [], ap, append-nil, arith, cond, count_by, eqb, false, inl, inr, not, refl, subst, sym, true, ℕ, ◌++◌, ◌<◌, ◌∙◌, ◌∷◌, ◌≡◌, ◌≢◌, ◌⊎◌}
 use Rattle.std.proofs.lemmas.Bool.{and_parts, eqb-true, leb-true, ne_eqb}
 use Rattle.std.specs.List.{filter, list_all}
 use Rattle.std.specs.Prelude.{is_some, nat_le, replicate}
@@ -46,12 +48,14 @@ none_kept p (x ∷ xs) none = by_test (p x) refl (none_kept p xs)
     by_test false e rest = rest (omega (arith, none, count-cons p x xs))
 
 -- events that lead to a talk in which the pod stands
-abbrev pub becomes_as : (s k a : ℕ) (talk : Talk) (waiting delivered replies : List (List ℕ)) (out : Outcome) (events : List Event) (later : Talk) → talked s a talk events ≡ later → (waits : List (List ℕ)) → Stands s k a out.after later waits
+abbrev pub becomes_as : (s k a : ℕ) (talk : Talk) (session : SessionBody) (store : StoreBody) (waiting delivered replies : List (List ℕ)) (out : Outcome) (events : List Event) (later : Talk) → talked s a talk events ≡ later → later.session ≡ session → later.store ≡ store → (waits : List (List ℕ)) → Stands s k a out.after later waits
     → later.lines ++ waits ≡ (talk.lines ++ waiting) ++ delivered → later.told ≡ talk.told ++ replies → IsHeard talk.client later.client (answers_to s out.effects) → IsHeard talk.keeper later.keeper (answers_to k out.effects)
-    → Becomes s k a talk waiting delivered replies out
-becomes_as s k a talk waiting delivered replies out events later now waits stands texts said heard heard_keeper = record {
+    → Becomes s k a talk session store waiting delivered replies out
+becomes_as s k a talk session store waiting delivered replies out events later now its_session its_store waits stands texts said heard heard_keeper = record {
   events = events;
   waits = waits;
+  session_then = ap (λ (x : Talk). x.session) now ∙ its_session;
+  store_then = ap (λ (x : Talk). x.store) now ∙ its_store;
   stands = subst (λ x. Stands s k a out.after x waits) (sym now) stands;
   texts = ap (λ (x : Talk). x.lines ++ waits) now ∙ texts;
   said = ap (λ (x : Talk). x.told) now ∙ said;
@@ -143,11 +147,11 @@ module _ (s k a : ℕ) (st : State) (was : Lawful st None) (talk : Talk) (waitin
   agent_kept kept (Made row there owns lives known letters) = Made row (ap (λ x. x.row) kept ∙ there) owns lives known (subst (λ x. AgentLetters s a (owes talk.session.place talk.client) waiting x.letters) (sym kept) letters)
   agent_kept kept (Gone off below lives known) = Gone (gone_after off below) (omega (arith, below, (deliver_fades a st e text).births)) lives known
 
-  passed : passes (is_for e) (agent_of st.agents a) ≡ false → Becomes s k a talk waiting (replicate (deliveries_to a out.effects) text) [] out
+  passed : passes (is_for e) (agent_of st.agents a) ≡ false → Becomes s k a talk talk.session talk.store waiting (replicate (deliveries_to a out.effects) text) [] out
   passed off =
       let by = deliveries_pass_others_by st was a e text off in
       let left = left_deliver s (block_of (Some a) talk.client) (attentive (Some a) talk.client) a (only_a a talk.client) st was s_waits h.untimed e text off in
-      subst (λ n. Becomes s k a talk waiting (replicate n text) [] out) (sym by.none)
+      subst (λ n. Becomes s k a talk talk.session talk.store waiting (replicate n text) [] out) (sym by.none)
       (becomes s k a talk waiting out (timers_after s h.untimed) (timers_after k h.untimed_keeper) keeper_to (record {
         events = [];
         client = talk.client;
@@ -216,7 +220,7 @@ module _ (s k a : ℕ) (st : State) (was : Lawful st None) (talk : Talk) (waitin
     lettered received reached = ap (λ x. x.letters) reached.seen ∙ (λ i. silent i ++ record { from = number i; to = m.owns i; text = text; room = 240; received = received } ∷ [])
 
     abbrev Goal : Type 0
-    Goal = Becomes s k a talk waiting (replicate (deliveries_to a out.effects) text) [] out
+    Goal = Becomes s k a talk talk.session talk.store waiting (replicate (deliveries_to a out.effects) text) [] out
 
     -- the session waits for it
     awaited : talk.client ≡ AwaitsLetter → Goal
@@ -224,10 +228,10 @@ module _ (s k a : ℕ) (st : State) (was : Lawful st None) (talk : Talk) (waitin
         let both = reaches.awaited (owner_waits ∙ ap (λ c. Some (block_of (Some a) c)) waits) in
         let handed = subst (λ n. IsHandedOn n a text st out) m.owns both.1 in
         let place = placed_recv talk.session.place (subst (λ c. is_placed c talk.session.place ≡ true) waits h.placed) in
-        subst (λ n. Becomes s k a talk waiting (replicate n text) [] out) (sym both.0.once)
-        (becomes_as s k a talk waiting (text ∷ []) [] out (keeper_to.events ++ Line text ∷ [])
+        subst (λ n. Becomes s k a talk talk.session talk.store waiting (replicate n text) [] out) (sym both.0.once)
+        (becomes_as s k a talk talk.session talk.store waiting (text ∷ []) [] out (keeper_to.events ++ Line text ∷ [])
         (record talk { keeper = keeper_to.keeper; client = Hears (answer.Letter a text 240); lines = talk.lines ++ text ∷ [] })
-        (talked_append s a talk keeper_to.events (Line text ∷ []) ∙ ap (λ x. talked s a x (Line text ∷ [])) keeper_to.is ∙ line_is s a text (record talk { keeper = keeper_to.keeper }) waits m.lives)
+        (talked_append s a talk keeper_to.events (Line text ∷ []) ∙ ap (λ x. talked s a x (Line text ∷ [])) keeper_to.is ∙ line_is s a text (record talk { keeper = keeper_to.keeper }) waits m.lives) refl refl
         []
         (record {
           client = handed.goes_on ∙ ap going_on h.client;
@@ -251,8 +255,8 @@ module _ (s k a : ℕ) (st : State) (was : Lawful st None) (talk : Talk) (waitin
     kept busy =
         let both = reaches.kept (ap is_busy owner_waits ∙ busy) in
         let left = subst (λ n. IsLeft n st out) m.owns both.1 in
-        subst (λ n. Becomes s k a talk waiting (replicate n text) [] out) (sym both.0.once)
-        (becomes_as s k a talk waiting (text ∷ []) [] out keeper_to.events (record talk { keeper = keeper_to.keeper }) keeper_to.is (text ∷ [])
+        subst (λ n. Becomes s k a talk talk.session talk.store waiting (replicate n text) [] out) (sym both.0.once)
+        (becomes_as s k a talk talk.session talk.store waiting (text ∷ []) [] out keeper_to.events (record talk { keeper = keeper_to.keeper }) keeper_to.is refl refl (text ∷ [])
         (record {
           client = left.same ∙ h.client;
           keeper = keeper_to.seen;
@@ -279,14 +283,14 @@ module _ (s k a : ℕ) (st : State) (was : Lawful st None) (talk : Talk) (waitin
   made_of row there (Made row2 there2 owns lives known letters) = record { row = row2; there = there2; owns = owns; lives = lives; known = known; letters = letters }
   made_of row there (Gone off below lives known) = differ (sym (ap is_some there) ∙ (either_of (is_thread st a) (is_agent st a) off).1)
 
-  delivered : Becomes s k a talk waiting (replicate (deliveries_to a out.effects) text) [] out
+  delivered : Becomes s k a talk talk.session talk.store waiting (replicate (deliveries_to a out.effects) text) [] out
   delivered = by_row (agent_of st.agents a) refl
     where
-      by_row : (o : Option AgentRow) → agent_of st.agents a ≡ o → Becomes s k a talk waiting (replicate (deliveries_to a out.effects) text) [] out
+      by_row : (o : Option AgentRow) → agent_of st.agents a ≡ o → Becomes s k a talk talk.session talk.store waiting (replicate (deliveries_to a out.effects) text) [] out
       by_row None is = passed (ap (passes (is_for e)) is)
       by_row (Some row) is = by_event (is_for e row) refl
         where
-          by_event : (b : Bool) → is_for e row ≡ b → Becomes s k a talk waiting (replicate (deliveries_to a out.effects) text) [] out
+          by_event : (b : Bool) → is_for e row ≡ b → Becomes s k a talk talk.session talk.store waiting (replicate (deliveries_to a out.effects) text) [] out
           by_event true its = let m = made_of row is h.agent in reached_so m (let same : row ≡ m.row = unsome (sym is ∙ m.there) in sym (ap (is_for e) same) ∙ its) talk.client refl
           by_event false its = passed (ap (passes (is_for e)) is ∙ its)
 

@@ -124,9 +124,12 @@ HeardAs _ z = Unit {0}
 abbrev pub IsHeard : Stand → Stand → List Answer → Type 0
 IsHeard before after answers = (z : Answer) → HeardAs before z → HeardAs after (last_heard z answers)
 
--- what the pod did is some events of the talk; these texts were delivered to the agent, and these replies to it accepted
-pub record Becomes (s k a : ℕ) (talk : Talk) (waiting delivered replies : List (List ℕ)) (out : Outcome) : Type 0 where
+-- what the pod did is some events of the talk, with these bodies then; these texts were delivered to the agent, and these replies to it
+-- accepted
+pub record Becomes (s k a : ℕ) (talk : Talk) (session : SessionBody) (store : StoreBody) (waiting delivered replies : List (List ℕ)) (out : Outcome) : Type 0 where
   pub events : List Event
+  pub session_then : (talked s a talk events).session ≡ session
+  pub store_then : (talked s a talk events).store ≡ store
   -- the texts that wait for the session then
   pub waits : List (List ℕ)
   pub stands : Stands s k a out.after (talked s a talk events) waits
@@ -134,16 +137,6 @@ pub record Becomes (s k a : ℕ) (talk : Talk) (waiting delivered replies : List
   pub said : (talked s a talk events).told ≡ talk.told ++ replies
   pub heard : IsHeard talk.client (talked s a talk events).client (answers_to s out.effects)
   pub heard_keeper : IsHeard talk.keeper (talked s a talk events).keeper (answers_to k out.effects)
-
--- so it is, and the store's body is this one
-pub record StoreGoesOn (s k a : ℕ) (talk : Talk) (waiting : List (List ℕ)) (body : StoreBody) (out : Outcome) : Type 0 where
-  pub becomes : Becomes s k a talk waiting [] [] out
-  pub body_then : (talked s a talk becomes.events).store ≡ body
-
--- so it is, and the session's body is this one
-pub record SessionGoesOn (s k a : ℕ) (talk : Talk) (waiting replies : List (List ℕ)) (body : SessionBody) (out : Outcome) : Type 0 where
-  pub becomes : Becomes s k a talk waiting [] replies out
-  pub body_then : (talked s a talk becomes.events).session ≡ body
 
 -- the session has asked for an agent in vain
 pub record OpensInVain (s : ℕ) (talk : Talk) (out : Outcome) : Type 0 where
@@ -164,13 +157,13 @@ pub record Leaves (s : ℕ) (talk : Talk) (out : Outcome) : Type 0 where
 abbrev pub OthersCallsAreEvents : Type 0
 OthersCallsAreEvents = (s k a : ℕ) (state : State) → Lawful state None → (talk : Talk) (waiting : List (List ℕ)) → Stands s k a state talk waiting
     → (t : ℕ) → choice state ≡ Some t → (t == s) ≡ false → (t == k) ≡ false → (s == k) ≡ false → (c : Call) → spares_agent s k c ≡ true → (talk.session.place ≡ at.Start → (step state c).after.births ≤ a)
-    → Becomes s k a talk waiting [] [] (step state c) ⊎ Leaves s talk (step state c)
+    → Becomes s k a talk talk.session talk.store waiting [] [] (step state c) ⊎ Leaves s talk (step state c)
 
 -- A text that is delivered is a line of the session's agent, or a letter to the store, or nothing.
 abbrev pub DeliveriesAreEvents : Type 0
 DeliveriesAreEvents = (s k a : ℕ) (state : State) → Lawful state None → (talk : Talk) (waiting : List (List ℕ)) → Stands s k a state talk waiting → (s == k) ≡ false
     → (e : ℕ) (text : List ℕ) → armed state e ≡ true
-    → Becomes s k a talk waiting (replicate (deliveries_to a (deliver state e text).effects) text) [] (deliver state e text)
+    → Becomes s k a talk talk.session talk.store waiting (replicate (deliveries_to a (deliver state e text).effects) text) [] (deliver state e text)
 
 -- a call that doesn't end its thread
 abbrev pub goes_on_with : Call → Bool
@@ -187,7 +180,7 @@ abbrev pub StoresCallsAreEvents : Type 0
 StoresCallsAreEvents = (s k a : ℕ) (state : State) → Lawful state None → (talk : Talk) (waiting : List (List ℕ)) → Stands s k a state talk waiting → (s == k) ≡ false
     → choice state ≡ Some k → (x : Answer) → talk.keeper ≡ Hears x → (names : Names) → goes_on_with (store_next talk.store names x).0 ≡ true → is_short_to s (store_next talk.store names x).0 ≡ true
     → (talk.session.place ≡ at.Start → (step state (store_next talk.store names x).0).after.births ≤ a)
-    → StoreGoesOn s k a talk waiting (store_next talk.store names x).1 (step state (store_next talk.store names x).0)
+    → Becomes s k a talk talk.session (store_next talk.store names x).1 waiting [] [] (step state (store_next talk.store names x).0)
 
 -- a reply is short, if the call is one
 abbrev pub is_short_reply : Call → Bool
@@ -200,7 +193,7 @@ abbrev pub SessionsCallsAreEvents : Type 0
 SessionsCallsAreEvents = (s k a : ℕ) (state : State) → Lawful state None → (talk : Talk) (waiting : List (List ℕ)) → Stands s k a state talk waiting → (s == k) ≡ false
     → choice state ≡ Some s → (x : Answer) → talk.client ≡ Hears x → (names : Names) → goes_on_with (session_next talk.session names x).0 ≡ true → is_short_reply (session_next talk.session names x).0 ≡ true → names_only k (session_next talk.session names x).0 ≡ true
     → (talk.session.place ≡ at.Start → (b : ℕ) → answers_to s (step state (session_next talk.session names x).0).effects ≡ answer.Thread b ∷ [] → b ≡ a)
-    → SessionGoesOn s k a talk waiting (replied_in s a (step state (session_next talk.session names x).0).effects) (session_next talk.session names x).1 (step state (session_next talk.session names x).0) ⊎ OpensInVain s talk (step state (session_next talk.session names x).0)
+    → Becomes s k a talk (session_next talk.session names x).1 talk.store waiting [] (replied_in s a (step state (session_next talk.session names x).0).effects) (step state (session_next talk.session names x).0) ⊎ OpensInVain s talk (step state (session_next talk.session names x).0)
 
 -- ---- the same in a pod with its own events
 
@@ -212,9 +205,9 @@ texts_in a text es = flat_map (text_to a text) es
 abbrev pub PodsCallsAreEvents : Type 0
 PodsCallsAreEvents = (s k a : ℕ) (es : EventState) → Lawful es.state None → (talk : Talk) (waiting : List (List ℕ)) → Stands s k a es.state talk waiting
     → (t : ℕ) → choice es.state ≡ Some t → (t == s) ≡ false → (t == k) ≡ false → (s == k) ≡ false → (c : Call) → spares_agent s k c ≡ true → (talk.session.place ≡ at.Start → (event_step es c).after.state.births ≤ a)
-    → Becomes s k a talk waiting (texts_in a None (event_step es c).effects) [] (machine_of (event_step es c)) ⊎ Leaves s talk (machine_of (event_step es c))
+    → Becomes s k a talk talk.session talk.store waiting (texts_in a None (event_step es c).effects) [] (machine_of (event_step es c)) ⊎ Leaves s talk (machine_of (event_step es c))
 
 -- A line that is taken: it is delivered, or is a trap to be raised. No agent has the number to which a trapped line is delivered.
 abbrev pub TakesAreEvents : Type 0
 TakesAreEvents = (s k a : ℕ) (es : EventState) → Lawful es.state None → (talk : Talk) (waiting : List (List ℕ)) → Stands s k a es.state talk waiting → (s == k) ≡ false → (null_id == a) ≡ false
-    → (e : ℕ) (text : List ℕ) → is_takeable es e ≡ true → Becomes s k a talk waiting (texts_in a (Some text) (take_event es e text).effects) [] (machine_of (take_event es e text))
+    → (e : ℕ) (text : List ℕ) → is_takeable es e ≡ true → Becomes s k a talk talk.session talk.store waiting (texts_in a (Some text) (take_event es e text).effects) [] (machine_of (take_event es e text))

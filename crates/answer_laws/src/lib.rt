@@ -10,7 +10,7 @@
 //! | a text for its event reaches an agent, and passes by whoever is none; its owner is handed it as it was delivered, and a reply to it frees the agent | `DeliveriesReachAgents`, `DeliveriesPassOthersBy` (`specs/Agents.antt`), `OwnersReceive`, `OwnersReply`, `OwnersOfNoneAreRefused` (`specs/Owners.antt`) |
 //! | who sends a letter waits for the reply, and who waits for the letter goes on with it | `SendsAreLetters` (`specs/Owners.antt`) |
 //! | nobody else touches a thread that waits for a reply, or who waits for a letter but by sending it one | `OthersLeaveIt`, `DeliveriesLeaveIt` (`specs/Sights.antt`), and with traps and reports `PodsLeaveIt`, `TakesLeaveIt` (`specs/Events.antt`) |
-//! | in a pod that stands as a talk, each step is some events of the talk: a call of another, a delivery, and the two bodies' own calls; the texts delivered to the agent are its lines, and its accepted replies are those of the talk | `OthersCallsAreEvents`, `DeliveriesAreEvents`, `StoresCallsAreEvents`, `SessionsCallsAreEvents` (`specs/Stands.antt`) |
+//! | in a pod that stands as a talk, each step is some events of the talk, and the two bodies are those of the talk: a call of another, a delivery, the store's call and the session's; the texts delivered to the agent are its lines, and its accepted replies those of the talk | `OthersCallsAreEvents`, `DeliveriesAreEvents`, `StoresCallsAreEvents`, `SessionsCallsAreEvents`, and with traps and reports `PodsCallsAreEvents`, `TakesAreEvents` (`specs/Stands.antt`) |
 //!
 //! What of this the steps of a session tell, `specs/Clients.antt` says: which lines were delivered to an agent, how it was replied to,
 //! and where its session sent; `rows` has two sessions worked out by hand.
