@@ -310,7 +310,7 @@ module _ (s k a : ℕ) (st : State) (was : Lawful st None) (talk : Talk) (waitin
 
     -- ---- it replies
 
-    module _ (body : SessionBody) (text : List ℕ) (later_so : (y : Answer) → Then a false body (Hears y)) (owed : owes talk.session.place (Hears x) ≡ true) (short : is_short text ≡ true) (now : talked s a talk (SessionTurn names ∷ []) ≡ agent_told (record talk { session = body }) text) where
+    module _ (body : SessionBody) (text : List ℕ) (later_so : (y : Answer) → Then a false body (Hears y)) (owed : owes talk.session.place (Hears x) ≡ true) (short : talk.agent_lives ≡ true → is_short text ≡ true) (now : talked s a talk (SessionTurn names ∷ []) ≡ agent_told (record talk { session = body }) text) where
       abbrev reply : Call
       reply = call.Reply a text
 
@@ -324,7 +324,7 @@ module _ (s k a : ℕ) (st : State) (was : Lawful st None) (talk : Talk) (waitin
       replies_made row there owns lives (Idle free none letters) = differ (sym owed ∙ sym owed_is ∙ free)
       replies_made row there owns lives (Waiting line free some letters) = differ (sym owed ∙ sym owed_is ∙ free)
       replies_made row there owns lives (Owed line owed2 none letters) =
-          let r = owners_reply st was s a row turn there owns (line_letter a s line true) letters refl text (leb-true (length text) 240 short) in
+          let r = owners_reply st was s a row turn there owns (line_letter a s line true) letters refl text (leb-true (length text) 240 (short lives)) in
           goes reply body (record talk { session = body; told = talk.told ++ text ∷ []; client = Hears zero_answer }) (SessionTurn names ∷ [])
           (now ∙ ap (λ b. cond b (record talk { session = body; told = talk.told ++ text ∷ []; client = Hears zero_answer }) (record talk { session = body; client = Hears nonexist })) lives) refl refl waiting
           (record {
@@ -438,7 +438,7 @@ module _ (s k a : ℕ) (st : State) (was : Lawful st None) (talk : Talk) (waitin
     -- ---- every call of it that knows its agent
 
     abbrev Goes : Turn SessionBody → Type 0
-    Goes does = (talked s a talk (SessionTurn names ∷ []) ≡ session_calls a (record talk { session = does.1 }) (deed_of does.0)) → goes_on_with does.0 ≡ true → is_short_reply does.0 ≡ true → names_only k does.0 ≡ true
+    Goes does = (talked s a talk (SessionTurn names ∷ []) ≡ session_calls a (record talk { session = does.1 }) (deed_of does.0)) → goes_on_with does.0 ≡ true → (talk.agent_lives ≡ true → is_short_reply does.0 ≡ true) → names_only k does.0 ≡ true
         → SessionGoesOn s k a talk waiting (replied_in s a (step st does.0).effects) does.1 (step st does.0)
 
     goes_so : (does : Turn SessionBody) → SessionDoes a (owes talk.session.place (Hears x)) does → Goes does

@@ -316,7 +316,7 @@ module _ (s k a : ℕ) (st : State) (was : Lawful st None) (talk : Talk) (waitin
     -- ---- it replies
 
     module _ (v : ℕ) (text : List ℕ) (now : (refusal : Option LwpErr) → talked s a talk (StoreTurn refusal names ∷ []) ≡ store_calls s refusal (record talk { store = body }) (Replies v text))
-        (low : talk.session.place ≡ at.Start → (step st (call.Reply v text)).after.births ≤ a) (short : is_short_to s (call.Reply v text) ≡ true) where
+        (low : talk.session.place ≡ at.Start → (step st (call.Reply v text)).after.births ≤ a) (short : (sent : List ℕ) → talk.mail ≡ Received sent → is_short_to s (call.Reply v text) ≡ true) where
       abbrev reply : Call
       reply = call.Reply v text
 
@@ -404,7 +404,7 @@ module _ (s k a : ℕ) (st : State) (was : Lawful st None) (talk : Talk) (waitin
             asks = record { lives = ap is_some s_row.known; from = refl; to = refl; letters = letters_are (Received sent) e }
 
             fits : length text ≤ 240
-            fits = leb-true (length text) 240 (by_test (eqb v s) (eq-eqb v s same) short)
+            fits = leb-true (length text) 240 (by_test (eqb v s) (eq-eqb v s same) (short sent e))
               where
                 by_test : (b : Bool) → b ≡ true → (not b || is_short text) ≡ true → is_short text ≡ true
                 by_test true e h = h
@@ -440,7 +440,7 @@ module _ (s k a : ℕ) (st : State) (was : Lawful st None) (talk : Talk) (waitin
 
   module _ (names : Names) where
     abbrev Goes : Turn StoreBody → Type 0
-    Goes does = ((refusal : Option LwpErr) → talked s a talk (StoreTurn refusal names ∷ []) ≡ store_calls s refusal (record talk { store = does.1 }) (deed_of does.0)) → goes_on_with does.0 ≡ true → is_short_to s does.0 ≡ true
+    Goes does = ((refusal : Option LwpErr) → talked s a talk (StoreTurn refusal names ∷ []) ≡ store_calls s refusal (record talk { store = does.1 }) (deed_of does.0)) → goes_on_with does.0 ≡ true → ((sent : List ℕ) → talk.mail ≡ Received sent → is_short_to s does.0 ≡ true)
         → (talk.session.place ≡ at.Start → (step st does.0).after.births ≤ a) → StoreGoesOn s k a talk waiting does.1 (step st does.0)
 
     goes_so : (does : Turn StoreBody) → StoreDoes does → Goes does

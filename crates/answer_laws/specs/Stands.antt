@@ -175,10 +175,11 @@ abbrev pub is_short_to : ℕ → Call → Bool
 is_short_to s (call.Reply v text) = not (v == s) || is_short text
 is_short_to s _ = true
 
--- The store's call, where it is its turn, and it goes on: as the talk says, and a letter with it if there is one.
+-- The store's call, where it is its turn, it goes on, and its reply to a letter of the session is short: as the talk says, and a letter
+-- with it if there is one.
 abbrev pub StoresCallsAreEvents : Type 0
 StoresCallsAreEvents = (s k a : ℕ) (state : State) → Lawful state None → (talk : Talk) (waiting : List (List ℕ)) → Stands s k a state talk waiting → (s == k) ≡ false
-    → choice state ≡ Some k → (x : Answer) → talk.keeper ≡ Hears x → (names : Names) → goes_on_with (store_next talk.store names x).0 ≡ true → is_short_to s (store_next talk.store names x).0 ≡ true
+    → choice state ≡ Some k → (x : Answer) → talk.keeper ≡ Hears x → (names : Names) → goes_on_with (store_next talk.store names x).0 ≡ true → ((sent : List ℕ) → talk.mail ≡ Received sent → is_short_to s (store_next talk.store names x).0 ≡ true)
     → (talk.session.place ≡ at.Start → (step state (store_next talk.store names x).0).after.births ≤ a)
     → Becomes s k a talk talk.session (store_next talk.store names x).1 waiting [] [] (step state (store_next talk.store names x).0)
 
@@ -187,11 +188,11 @@ abbrev pub is_short_reply : Call → Bool
 is_short_reply (call.Reply v text) = is_short text
 is_short_reply _ = true
 
--- The session's call, where it is its turn, and it goes on and sends to nobody but the store: as the talk says, and a letter with it if
--- there is one; unless it asks for an agent in vain.
+-- The session's call, where it is its turn, it goes on, its reply to its agent is short, and it sends to nobody but the store: as the
+-- talk says, and a letter with it if there is one; unless it asks for an agent in vain.
 abbrev pub SessionsCallsAreEvents : Type 0
 SessionsCallsAreEvents = (s k a : ℕ) (state : State) → Lawful state None → (talk : Talk) (waiting : List (List ℕ)) → Stands s k a state talk waiting → (s == k) ≡ false
-    → choice state ≡ Some s → (x : Answer) → talk.client ≡ Hears x → (names : Names) → goes_on_with (session_next talk.session names x).0 ≡ true → is_short_reply (session_next talk.session names x).0 ≡ true → names_only k (session_next talk.session names x).0 ≡ true
+    → choice state ≡ Some s → (x : Answer) → talk.client ≡ Hears x → (names : Names) → goes_on_with (session_next talk.session names x).0 ≡ true → (talk.agent_lives ≡ true → is_short_reply (session_next talk.session names x).0 ≡ true) → names_only k (session_next talk.session names x).0 ≡ true
     → (talk.session.place ≡ at.Start → (b : ℕ) → answers_to s (step state (session_next talk.session names x).0).effects ≡ answer.Thread b ∷ [] → b ≡ a)
     → Becomes s k a talk (session_next talk.session names x).1 talk.store waiting [] (replied_in s a (step state (session_next talk.session names x).0).effects) (step state (session_next talk.session names x).0) ⊎ OpensInVain s talk (step state (session_next talk.session names x).0)
 
