@@ -34,7 +34,7 @@ use Rattle.lwp_types.specs.declared.call.LwpErr.TheVariants as error
 use Rattle.lwp_types.specs.declared.rows.Block.TheVariants as block
 
 -- a report answers as the delivery that it is
-rites_same : (u dead : ℕ) (es : List Effect) → answers_to u (map (as_rites dead) es) ≡ answers_to u es
+pub rites_same : (u dead : ℕ) (es : List Effect) → answers_to u (map (as_rites dead) es) ≡ answers_to u es
 rites_same u dead [] = refl
 rites_same u dead (e ∷ es) = answers_append u (as_rites dead e ∷ []) (map (as_rites dead) es) ∙ (λ i. one_same e i ++ rites_same u dead es i) ∙ sym (answers_append u (e ∷ []) es)
   where
@@ -64,7 +64,7 @@ module _ (u : ℕ) (Fits : Option ℕ → Answer → Type 0) (s : State) where
   of_turn out (Woken a) = inr a
 
 -- without its call a step answers alike
-but_same : (u : ℕ) (s : State) (c : Call) → answers_to u (drop 1 (step s c).effects) ≡ answers_to u (step s c).effects
+pub but_same : (u : ℕ) (s : State) (c : Call) → answers_to u (drop 1 (step s c).effects) ≡ answers_to u (step s c).effects
 unfolding step step_by
 but_same u s c = by_choice (choice s)
   where

@@ -6,3 +6,11 @@ pub mod Others
 pub mod Replies
 pub mod Events
 pub mod Lengths
+mod AgentSights
+mod AgentTexts
+mod Owners
+mod TalkSteps
+mod TalkTexts
+mod StoreSteps
+mod SessionSteps
+mod PodSteps

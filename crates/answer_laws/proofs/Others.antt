@@ -307,7 +307,7 @@ module _ (u : ℕ) (Fits : Option ℕ → Answer → Type 0) where
       let one = turn x s parts.0 here in
       turn_then u Fits s (change x s) (for_each change xs) one (turn_all p change turn xs parts.1 (change x s).after (attends_after u Fits s (change x s) here one))
 
-  none_all : {A : Type 0} (p : A → Bool) (xs : List A) → count_by p xs ≡ 0 → list_all (λ x. not (p x)) xs ≡ true
+  pub none_all : {A : Type 0} (p : A → Bool) (xs : List A) → count_by p xs ≡ 0 → list_all (λ x. not (p x)) xs ≡ true
   none_all p [] none = refl
   none_all p (x ∷ xs) none = by_test (p x) refl (none_all p xs)
     where
@@ -322,7 +322,7 @@ module _ (u : ℕ) (Fits : Option ℕ → Answer → Type 0) where
   timed_out_turn : (v : ℕ) (s : State) → not (eqb v u) ≡ true → Attends u Fits s → Turn u Fits s (time_out v s)
   timed_out_turn v s h here = turn_wake u Fits s here (time_out v s) _ v (not_it v h) refl refl refl
 
-  tids_all : (rows : List TimerRow) → list_all (λ row. not (is_timer_of u row)) rows ≡ true → list_all (λ v. not (eqb v u)) (map (λ (row : TimerRow). row.tid) rows) ≡ true
+  pub tids_all : (rows : List TimerRow) → list_all (λ row. not (is_timer_of u row)) rows ≡ true → list_all (λ v. not (eqb v u)) (map (λ (row : TimerRow). row.tid) rows) ≡ true
   tids_all [] all = refl
   tids_all (row ∷ rows) all = let parts = and_parts (not (is_timer_of u row)) (list_all (λ row. not (is_timer_of u row)) rows) all in and_from _ _ parts.0 (tids_all rows parts.1)
 
@@ -344,6 +344,32 @@ module _ (u : ℕ) (Fits : Option ℕ → Answer → Type 0) where
       by_clock : (b : Bool) → Turn u Fits s (cond b (tick s) (for_each (deliver_to text) (event_agents s.agents e) s))
       by_clock true = tick_turn s none here
       by_clock false = turn_all (λ row. not (is_agent_row u row)) (deliver_to text) (delivered_turn text fits) (event_agents s.agents e) (all_filter _ _ (is_for e) (λ row kept h. h) s.agents (none_all (is_agent_row u) s.agents (no_rows s None nine u here.row here.known))) s here
+
+-- the same, where v is no agent of the list
+module _ (u v : ℕ) (Fits : Option ℕ → Answer → Type 0) where
+  delivered_but : (text : List ℕ) → ((agent : ℕ) → agent ≢ v → (from : Option ℕ) → takes_from agent (block.Receiving from) ≡ true → Fits from (answer.Letter agent text 240)) → (row : AgentRow) (s : State) → (not (is_agent_row u row) && not (is_agent_row v row)) ≡ true → Attends u Fits s → Turn u Fits s (deliver_to text row s)
+  delivered_but text fits row s h here =
+      let parts = and_parts (not (is_agent_row u row)) (not (is_agent_row v row)) h in
+      let holds = record s { agents = with_holding row.number true s.agents } in
+      turn_then u Fits s (record { after = holds; effects = effect.Delivered row.number row.event ∷ [] }) (post (message text row)) (Left (record { same = refl; quiet = refl }))
+      (turn_post u Fits holds (record { row = here.row; known = here.known; attends = here.attends }) (message text row) (not_it u Fits row.number parts.0) (λ e from takes. fits row.number (not_it v Fits row.number parts.1) from takes))
+
+  both_all : (p q : AgentRow → Bool) (rows : List AgentRow) → list_all p rows ≡ true → list_all q rows ≡ true → list_all (λ row. p row && q row) rows ≡ true
+  both_all p q [] x y = refl
+  both_all p q (row ∷ rows) x y =
+      let one = and_parts (p row) (list_all p rows) x in
+      let two = and_parts (q row) (list_all q rows) y in
+      and_from _ _ (and_from _ _ one.0 two.0) (both_all p q rows one.1 two.1)
+
+  pub deliver_but : (s : State) → NineParts s None → Attends u Fits s → count_by (is_agent_row v) s.agents ≡ 0 → timers_of s.timers u ≡ 0 → (e : ℕ) (text : List ℕ) → ((agent : ℕ) → agent ≢ v → (from : Option ℕ) → takes_from agent (block.Receiving from) ≡ true → Fits from (answer.Letter agent text 240)) → Turn u Fits s (deliver s e text)
+  unfolding deliver
+  deliver_but s nine here apart none e text fits = by_clock (eqb e 0)
+    where
+      by_clock : (b : Bool) → Turn u Fits s (cond b (tick s) (for_each (deliver_to text) (event_agents s.agents e) s))
+      by_clock true = tick_turn u Fits s none here
+      by_clock false = turn_all u Fits (λ row. not (is_agent_row u row) && not (is_agent_row v row)) (deliver_to text) (delivered_but text fits) (event_agents s.agents e)
+          (all_filter _ _ (is_for e) (λ row kept h. h) s.agents (both_all (λ row. not (is_agent_row u row)) (λ row. not (is_agent_row v row)) s.agents
+          (none_all u Fits (is_agent_row u) s.agents (no_rows s None nine u here.row here.known)) (none_all u Fits (is_agent_row v) s.agents apart))) s here
 
 pub deliveries_leave_it : DeliveriesLeaveIt
 deliveries_leave_it s was u attentive none e text = by_turn (deliver_turn u (IsDelivered text) s was.nine (attends_of u (IsDelivered text) s attentive) none e text (λ agent from takes. record { agent = agent; letter = refl; named = takes }))

@@ -36,12 +36,12 @@ use Rattle.lwp_types.specs.declared.call.Mode.TheVariants as mode
 use Rattle.lwp_types.specs.declared.rows.Block.TheVariants as block
 
 -- nothing fits
-abbrev Never : Option ℕ → Answer → Type 0
+abbrev pub Never : Option ℕ → Answer → Type 0
 Never from heard = ⊥
 
 -- ---- checks
 
-unless_passed : (s : State) (checks : List Check) (otherwise : Case) → Passed checks → unless s checks otherwise ≡ otherwise
+pub unless_passed : (s : State) (checks : List Check) (otherwise : Case) → Passed checks → unless s checks otherwise ≡ otherwise
 unfolding unless
 unless_passed s [] otherwise h = refl
 unless_passed s (check ∷ checks) otherwise h = by_test check.0 h.0 (unless_passed s checks otherwise h.1)
@@ -50,7 +50,7 @@ unless_passed s (check ∷ checks) otherwise h = by_test check.0 h.0 (unless_pas
     by_test true e rest = absurd (cc)
     by_test false e rest = rest
 
-unless_struck : (s : State) (before : List Check) (check : Check) (otherwise : Case) → Passed before → check.0 ≡ true → unless s (before ++ check ∷ []) otherwise ≡ refused s check.1
+pub unless_struck : (s : State) (before : List Check) (check : Check) (otherwise : Case) → Passed before → check.0 ≡ true → unless s (before ++ check ∷ []) otherwise ≡ refused s check.1
 unfolding unless
 unless_struck s [] check otherwise h e = by_test check.0 e
   where
@@ -74,7 +74,7 @@ module _ {X : Type 0} (p : X → Bool) where
       by_test true h rest = cc h
       by_test false h rest = rest h
 
-  filter_none : (xs : List X) → filter p (filter (λ x. not (p x)) xs) ≡ []
+  pub filter_none : (xs : List X) → filter p (filter (λ x. not (p x)) xs) ≡ []
   filter_none [] = refl
   filter_none (x ∷ xs) = by_test (p x) refl (filter_none xs)
     where
@@ -82,7 +82,7 @@ module _ {X : Type 0} (p : X → Bool) where
       by_test true e rest = rest
       by_test false e rest = rw e rest
 
-  filter_mapped : (g : X → X) → ((x : X) → p (g x) ≡ p x) → (xs : List X) → filter p (map g xs) ≡ map g (filter p xs)
+  pub filter_mapped : (g : X → X) → ((x : X) → p (g x) ≡ p x) → (xs : List X) → filter p (map g xs) ≡ map g (filter p xs)
   filter_mapped g same [] = refl
   filter_mapped g same (x ∷ xs) = by_test (p x) refl (filter_mapped g same xs)
     where

@@ -6,3 +6,6 @@ pub mod Events
 pub mod Lengths
 pub mod Clients
 pub mod ClientRows
+pub mod Agents
+pub mod Owners
+pub mod Stands

@@ -6,24 +6,32 @@
 //! | a session and a store that talk, whatever others send to the store and whoever ends: what the client is told is a first part of the answers to its lines | `TalksAreAnswers` (`specs/Talks.antt`) |
 //! | the answers to lines that have room in a letter have room in one | `ShortLinesHaveShortAnswers` (`specs/Lengths.antt`) |
 //! | a sender has one letter at most; whoever receives it is handed it as it was sent; and what is replied to it is what its sender is answered | `EachHasOneLetter`, `ReceivesAreTheLetters`, `RepliesAreTheAnswers`, `ReadersLeaveTheRest` (`specs/Replies.antt`) |
+//! | nobody but its owner touches an agent or its letter, unless by destroying one of the two; and of an agent that is destroyed nothing is left | `OthersLeaveAgents`, `DestroyedAgentsAreGone` (`specs/Agents.antt`) |
+//! | a text for its event reaches an agent, and passes by whoever is none; its owner is handed it as it was delivered, and a reply to it frees the agent | `DeliveriesReachAgents`, `DeliveriesPassOthersBy` (`specs/Agents.antt`), `OwnersReceive`, `OwnersReply`, `OwnersOfNoneAreRefused` (`specs/Owners.antt`) |
+//! | who sends a letter waits for the reply, and who waits for the letter goes on with it | `SendsAreLetters` (`specs/Owners.antt`) |
 //! | nobody else touches a thread that waits for a reply, or who waits for a letter but by sending it one | `OthersLeaveIt`, `DeliveriesLeaveIt` (`specs/Sights.antt`), and with traps and reports `PodsLeaveIt`, `TakesLeaveIt` (`specs/Events.antt`) |
+//! | in a pod that stands as a talk, each step is some events of the talk, and the two bodies are those of the talk: a call of another, a delivery, the store's call and the session's; the texts delivered to the agent are its lines, and its accepted replies those of the talk | `OthersCallsAreEvents`, `DeliveriesAreEvents`, `StoresCallsAreEvents`, `SessionsCallsAreEvents`, and with traps and reports `PodsCallsAreEvents`, `TakesAreEvents` (`specs/Stands.antt`) |
 //!
 //! What of this the steps of a session tell, `specs/Clients.antt` says: which lines were delivered to an agent, how it was replied to,
 //! and where its session sent; `rows` has two sessions worked out by hand.
 //!
 //! In a talk (`Talk`) the two bodies are polled as they are in a session, and the pod answers them: a reply to the session goes to the
 //! letter that the store has received, and a line comes only to a session that waits for one. What a thread shows to others (`Sight`)
-//! is what it waits for, its marks and its letters.
+//! is what it waits for, its marks and its letters; what an agent shows (`AgentSight`) is its row and its letters. How the two bodies,
+//! their letters and the agent stand in the machine while they talk, `Stands` says.
 //!
 //! It stands on the bodies of `line_server`, on the laws of the machine in `pod_laws`, and on the events of `pod_events`.
 #![tactic(auto)]
 
 pub mod rows;
 
+ghost use Rattle.answer_laws.specs.Agents.{DeliveriesPassOthersBy, DeliveriesReachAgents, DestroyedAgentsAreGone, OthersLeaveAgents};
 ghost use Rattle.answer_laws.specs.Events.{PodsLeaveIt, TakesLeaveIt};
 ghost use Rattle.answer_laws.specs.Lengths.{ShortLinesHaveShortAnswers};
+ghost use Rattle.answer_laws.specs.Owners.{OwnersOfNoneAreRefused, OwnersReceive, OwnersReply, SendsAreLetters};
 ghost use Rattle.answer_laws.specs.Replies.{EachHasOneLetter, ReadersLeaveTheRest, ReceivesAreTheLetters, RepliesAreTheAnswers};
 ghost use Rattle.answer_laws.specs.Sights.{DeliveriesLeaveIt, OthersLeaveIt};
+ghost use Rattle.answer_laws.specs.Stands.{DeliveriesAreEvents, OthersCallsAreEvents, PodsCallsAreEvents, SessionsCallsAreEvents, StoresCallsAreEvents, TakesAreEvents};
 ghost use Rattle.answer_laws.specs.Talks.{TalksAreAnswers};
 
 /// A session and a store that talk, whatever else is sent to the store and whoever ends: the accepted replies to the session's client
@@ -71,6 +79,77 @@ pub fn every_call_in_a_pod()
 /// And of every line that is taken there.
 pub fn every_take_in_a_pod()
     ensures { TakesLeaveIt }
+{}
+
+/// A call of another than an agent's owner leaves the agent and its letter as they are, unless it destroys one of the two.
+pub fn every_call_beside_an_agent()
+    ensures { OthersLeaveAgents }
+{}
+
+/// Of an agent that is destroyed, neither its row nor its letter is left.
+pub fn every_end_of_an_agent()
+    ensures { DestroyedAgentsAreGone }
+{}
+
+/// A text that is delivered for an event passes by whoever is no agent of it.
+pub fn every_delivery_beside_an_agent()
+    ensures { DeliveriesPassOthersBy }
+{}
+
+/// A text that is delivered for its event reaches an agent: an owner who waits for its letter by name goes on with it, and one who is
+/// busy has it to receive.
+pub fn every_delivery_to_an_agent()
+    ensures { DeliveriesReachAgents }
+{}
+
+/// The owner of an agent that receives by its name is answered a message that it hasn't received, as it was delivered, and waits else.
+pub fn every_receive_of_an_owner()
+    ensures { OwnersReceive }
+{}
+
+/// A reply of an owner to a message that it has received is accepted, if there is room for it; and the agent holds none any more.
+pub fn every_reply_of_an_owner()
+    ensures { OwnersReply }
+{}
+
+/// Who receives by the name of an agent that isn't there, or replies to it, is told so.
+pub fn every_call_to_a_lost_agent()
+    ensures { OwnersOfNoneAreRefused }
+{}
+
+/// Who sends a letter waits for the reply; and who waits for such a letter goes on with it, as it was sent.
+pub fn every_send()
+    ensures { SendsAreLetters }
+{}
+
+/// In a pod that stands as a talk, a call of another is a letter to the store, or the end of the agent, or nothing.
+pub fn every_call_beside_a_talk()
+    ensures { OthersCallsAreEvents }
+{}
+
+/// A text that is delivered there is a line of the session's agent, or a letter to the store, or nothing.
+pub fn every_delivery_in_a_talk()
+    ensures { DeliveriesAreEvents }
+{}
+
+/// A call of the store there is what the talk says, and a letter with it if there is one.
+pub fn every_call_of_the_store()
+    ensures { StoresCallsAreEvents }
+{}
+
+/// So is a call of the session, unless it asks for an agent in vain; and its replies in the talk are those that were accepted.
+pub fn every_call_of_the_session()
+    ensures { SessionsCallsAreEvents }
+{}
+
+/// A call of another in such a pod with its own events, the trap before it and the report behind it among that.
+pub fn every_pod_call_beside_a_talk()
+    ensures { PodsCallsAreEvents }
+{}
+
+/// And a line that is taken there.
+pub fn every_take_in_a_talk()
+    ensures { TakesAreEvents }
 {}
 
 /// The answers to lines that have room in a letter have room in one.

@@ -1,0 +1,373 @@
+-- What others do to a session and a store that talk, in a pod with its own events.
+use Rattle.answer_laws.proofs.Events.{but_same, rites_same}
+use Rattle.answer_laws.proofs.Others.{deliveries_leave_it}
+use Rattle.answer_laws.proofs.Sights.{answers_append}
+use Rattle.answer_laws.proofs.TalkSteps.{attends_seen, others_calls_are_events, talked_append, unheard}
+use Rattle.answer_laws.proofs.TalkTexts.{births_deliver, deliveries_are_events}
+use Rattle.answer_laws.specs.Agents.{deliveries_to, is_delivery_to, spares_agent}
+use Rattle.answer_laws.specs.Clients.{text_to}
+use Rattle.answer_laws.specs.Events.{machine_of}
+use Rattle.answer_laws.specs.Sights.{IsDelivered, IsLeft, IsWoken, answers_to}
+use Rattle.answer_laws.specs.Stands.{Becomes, HeardAs, IsHeard, Leaves, PodsCallsAreEvents, Stands, TakesAreEvents, last_heard, texts_in}
+use Rattle.answer_laws.specs.Talks.{Stand, Talk, talked}
+use Rattle.line_server.specs.Sessions.{SessionBody}
+use Rattle.line_server.specs.Stores.{StoreBody}
+use Rattle.line_server.specs.declared.session.SessionPlace.TheVariants as at
+use Rattle.lwp_types.specs.Agents.{armed, deliver}
+use Rattle.lwp_types.specs.Choice.{choice}
+use Rattle.lwp_types.specs.CountLaws.{count-cons, one}
+use Rattle.lwp_types.specs.Lawful.{Lawful}
+use Rattle.lwp_types.specs.Names.{null_id}
+use Rattle.lwp_types.specs.State.{Outcome, State, passes}
+use Rattle.lwp_types.specs.Step.{case_of, end_effects, ends, own_effects, step, step_by, step_if}
+use Rattle.lwp_types.specs.Unblock.{is_timer_of}
+use Rattle.lwp_types.specs.declared.call.Answer.{Answer}
+use Rattle.lwp_types.specs.declared.call.Call.{Call}
+use Rattle.lwp_types.specs.declared.call.Effect.{Effect}
+use Rattle.lwp_types.specs.declared.call.LwpErr.{LwpErr}
+use Rattle.pod_events.proofs.Mild.{mild_deliver}
+use Rattle.pod_events.proofs.MildCalls.{case_toll, is_tame, mild_tame}
+use Rattle.pod_events.specs.Events.{is_trapped, may_trap, passed_on, rites_event, take_event, trap_taken}
+use Rattle.pod_events.specs.Rites.{as_rites, first_reported, report_text, reports_after, rites_said}
+use Rattle.pod_events.specs.Step.{event_step, event_step_by, event_step_if}
+use Rattle.pod_events.specs.Traps.{agent_event_of, but_call, called, is_catch, is_given, made, made_as, notice, refused_by, stepped, trap_made, trap_of, trap_refusal}
+use Rattle.pod_laws.proofs.EveryStep.{Lawful-step}
+use Rattle.pod_laws.proofs.TimerMoves.{no_timer_comes_unasked}
+use Rattle.std.proofs.Common.{Bool, List, None, Option, Some, [], ap, append-nil, append_assoc, arith, cond, drop, eqb, false, inl, inr, not, refl, subst, sym, true, ℕ, ◌&&◌, ◌++◌, ◌+◌, ◌∙◌, ◌∷◌, ◌≡◌, ◌≤◌, ◌⊎◌}
+use Rattle.std.proofs.Math.Numerals.{one-add}
+use Rattle.std.proofs.lemmas.Bool.{and_from, and_parts}
+use Rattle.std.specs.List.{list_all}
+use Rattle.std.specs.Prelude.{map, nat_lt, replicate}
+use Rattle.lwp_types.specs.declared.call.Call.TheVariants as call
+use Rattle.lwp_types.specs.declared.call.Effect.TheVariants as effect
+use Rattle.lwp_types.specs.declared.call.LwpErr.TheVariants as error
+use Rattle.lwp_types.specs.declared.rows.Block.TheVariants as block
+
+-- ---- texts
+
+texts_append : (a : ℕ) (text : Option (List ℕ)) (xs ys : List Effect) → texts_in a text (xs ++ ys) ≡ texts_in a text xs ++ texts_in a text ys
+texts_append a text [] ys = refl
+texts_append a text (x ∷ xs) ys = ap (λ zs. text_to a text x ++ zs) (texts_append a text xs ys) ∙ sym (append_assoc (text_to a text x) (texts_in a text xs) (texts_in a text ys))
+
+-- one text more
+replicate_more : (text : List ℕ) (n : ℕ) (b : Bool) → cond b (text ∷ []) [] ++ replicate n text ≡ replicate (one b + n) text
+replicate_more text n true = ap (λ m. replicate m text) (sym (one-add n))
+replicate_more text n false = let same : n ≡ one false + n = omega arith in ap (λ m. replicate m text) same
+
+module _ (a : ℕ) where
+  -- without a line, nothing but a report is a text
+  none_told : (es : List Effect) → list_all is_tame es ≡ true → texts_in a None es ≡ []
+  none_told [] tame = refl
+  none_told (e ∷ es) tame = let parts = and_parts (is_tame e) (list_all is_tame es) tame in by_effect e parts.0 (none_told es parts.1)
+    where
+      by_test : (b : Bool) → cond {A = List (List ℕ)} b [] [] ++ texts_in a None es ≡ texts_in a None es
+      by_test true = refl
+      by_test false = refl
+
+      by_effect : (e : Effect) → is_tame e ≡ true → texts_in a None es ≡ [] → texts_in a None (e ∷ es) ≡ []
+      by_effect (effect.Called t c) h rest = absurd (cc)
+      by_effect (effect.Answered t x) h rest = rest
+      by_effect (effect.Exited t reg c x) h rest = rest
+      by_effect (effect.Died t) h rest = rest
+      by_effect (effect.Delivered b e) h rest = by_test (eqb b a) ∙ rest
+      by_effect (effect.Ticked now) h rest = rest
+      by_effect (effect.Ended status) h rest = absurd (cc)
+      by_effect (effect.Trapped t e) h rest = absurd (cc)
+      by_effect (effect.Rites b d) h rest = absurd (cc)
+
+  -- a line is one as often as it was delivered
+  lines_told : (text : List ℕ) (es : List Effect) → list_all is_tame es ≡ true → texts_in a (Some text) es ≡ replicate (deliveries_to a es) text
+  lines_told text [] tame = refl
+  lines_told text (e ∷ es) tame = let parts = and_parts (is_tame e) (list_all is_tame es) tame in by_effect e parts.0 (lines_told text es parts.1)
+    where
+      same : (e : Effect) → deliveries_to a (e ∷ es) ≡ one (is_delivery_to a e) + deliveries_to a es
+      same e = count-cons (is_delivery_to a) e es
+
+      uncounted : (e : Effect) → is_delivery_to a e ≡ false → deliveries_to a (e ∷ es) ≡ deliveries_to a es
+      uncounted e none = omega (arith, count-cons (is_delivery_to a) e es, ap one none)
+
+      by_effect : (e : Effect) → is_tame e ≡ true → texts_in a (Some text) es ≡ replicate (deliveries_to a es) text → texts_in a (Some text) (e ∷ es) ≡ replicate (deliveries_to a (e ∷ es)) text
+      by_effect (effect.Called t c) h rest = absurd (cc)
+      by_effect (effect.Answered t x) h rest = rest ∙ ap (λ n. replicate n text) (sym (uncounted (effect.Answered t x) refl))
+      by_effect (effect.Exited t reg c x) h rest = rest ∙ ap (λ n. replicate n text) (sym (uncounted (effect.Exited t reg c x) refl))
+      by_effect (effect.Died t) h rest = rest ∙ ap (λ n. replicate n text) (sym (uncounted (effect.Died t) refl))
+      by_effect (effect.Delivered b e) h rest = ap (λ zs. cond (eqb b a) (text ∷ []) [] ++ zs) rest ∙ replicate_more text (deliveries_to a es) (eqb b a) ∙ ap (λ n. replicate n text) (sym (same (effect.Delivered b e)))
+      by_effect (effect.Ticked now) h rest = rest ∙ ap (λ n. replicate n text) (sym (uncounted (effect.Ticked now) refl))
+      by_effect (effect.Ended status) h rest = absurd (cc)
+      by_effect (effect.Trapped t e) h rest = absurd (cc)
+      by_effect (effect.Rites b d) h rest = absurd (cc)
+
+  -- and so is a report
+  reports_told : (dead : ℕ) (es : List Effect) → list_all is_tame es ≡ true → texts_in a None (map (as_rites dead) es) ≡ texts_in a (Some (report_text dead)) es
+  reports_told dead [] tame = refl
+  reports_told dead (e ∷ es) tame = let parts = and_parts (is_tame e) (list_all is_tame es) tame in by_effect e parts.0 (reports_told dead es parts.1)
+    where
+      by_effect : (e : Effect) → is_tame e ≡ true → texts_in a None (map (as_rites dead) es) ≡ texts_in a (Some (report_text dead)) es → texts_in a None (map (as_rites dead) (e ∷ es)) ≡ texts_in a (Some (report_text dead)) (e ∷ es)
+      by_effect (effect.Called t c) h rest = absurd (cc)
+      by_effect (effect.Answered t x) h rest = rest
+      by_effect (effect.Exited t reg c x) h rest = rest
+      by_effect (effect.Died t) h rest = rest
+      by_effect (effect.Delivered b e) h rest = ap (λ zs. cond (eqb b a) (report_text dead ∷ []) [] ++ zs) rest
+      by_effect (effect.Ticked now) h rest = rest
+      by_effect (effect.Ended status) h rest = absurd (cc)
+      by_effect (effect.Trapped t e) h rest = absurd (cc)
+      by_effect (effect.Rites b d) h rest = absurd (cc)
+
+tame_deliver : (s : State) (e : ℕ) (text : List ℕ) → list_all is_tame (deliver s e text).effects ≡ true
+tame_deliver s e text = mild_tame (deliver s e text).effects (mild_deliver s e text).tells
+
+-- a call of the machine delivers no text
+step_texts : (a : ℕ) (s : State) (c : Call) → texts_in a None (step s c).effects ≡ []
+unfolding step step_by
+step_texts a s c = by_choice (choice s)
+  where
+    own_none : (t : ℕ) (o : Option Answer) → texts_in a None (own_effects t o) ≡ []
+    own_none t None = refl
+    own_none t (Some x) = refl
+
+    end_none : (st : State) (b : Bool) → texts_in a None (cond b (effect.Ended st.status ∷ []) []) ≡ []
+    end_none st true = refl
+    end_none st false = refl
+
+    by_choice : (o : Option ℕ) → texts_in a None (step_if s c o).effects ≡ []
+    by_choice None = refl
+    by_choice (Some t) =
+        let made = case_of s t c in
+        texts_append a None made.others (own_effects t made.own ++ end_effects made.after) ∙ ap (λ zs. zs ++ texts_in a None (own_effects t made.own ++ end_effects made.after)) (none_told a made.others (case_toll s t c).tame)
+        ∙ texts_append a None (own_effects t made.own) (end_effects made.after) ∙ (λ i. own_none t made.own i ++ end_none made.after (ends made.after) i)
+
+but_texts : (a : ℕ) (s : State) (c : Call) → texts_in a None (drop 1 (step s c).effects) ≡ texts_in a None (step s c).effects
+unfolding step step_by
+but_texts a s c = by_choice (choice s)
+  where
+    by_choice : (o : Option ℕ) → texts_in a None (drop 1 (step_if s c o).effects) ≡ texts_in a None (step_if s c o).effects
+    by_choice None = refl
+    by_choice (Some t) = refl
+
+-- ---- what becomes of a talk
+
+module _ (s k a : ℕ) (talk : Talk) (waiting : List (List ℕ)) where
+  -- other effects that answer alike
+  becomes_same : (session : SessionBody) (store : StoreBody) (delivered replies : List (List ℕ)) (out : Outcome) (es : List Effect) → answers_to s es ≡ answers_to s out.effects → answers_to k es ≡ answers_to k out.effects → Becomes s k a talk session store waiting delivered replies out
+      → Becomes s k a talk session store waiting delivered replies (record { after = out.after; effects = es })
+  becomes_same session store delivered replies out es same same_k b = record {
+    events = b.events;
+    waits = b.waits;
+    session_then = b.session_then;
+    store_then = b.store_then;
+    stands = b.stands;
+    texts = b.texts;
+    said = b.said;
+    heard = subst (IsHeard talk.client (talked s a talk b.events).client) (sym same) b.heard;
+    heard_keeper = subst (IsHeard talk.keeper (talked s a talk b.events).keeper) (sym same_k) b.heard_keeper;
+  }
+
+  leaves_same : (out : Outcome) (es : List Effect) → answers_to s es ≡ answers_to s out.effects → Leaves s talk out → Leaves s talk (record { after = out.after; effects = es })
+  leaves_same out es same l = record { client = l.client; untimed = l.untimed; place = l.place; told = same ∙ l.told }
+
+  heard_append : (z : Answer) (xs ys : List Answer) → last_heard z (xs ++ ys) ≡ last_heard (last_heard z xs) ys
+  heard_append z [] ys = refl
+  heard_append z (x ∷ xs) ys = heard_append x xs ys
+
+  heard_then : (before middle after : Stand) (xs ys : List Answer) → IsHeard before middle xs → IsHeard middle after ys → IsHeard before after (xs ++ ys)
+  heard_then before middle after xs ys one two = λ z h. subst (HeardAs after) (sym (heard_append z xs ys)) (two (last_heard z xs) (one z h))
+
+  -- one after the other
+  becomes_then : (one_texts two_texts : List (List ℕ)) (one : Outcome) (es : List Effect) (after : State) (b : Becomes s k a talk talk.session talk.store waiting one_texts [] one)
+      → Becomes s k a (talked s a talk b.events) (talked s a talk b.events).session (talked s a talk b.events).store b.waits two_texts [] (record { after = after; effects = es }) → Becomes s k a talk talk.session talk.store waiting (one_texts ++ two_texts) [] (record { after = after; effects = one.effects ++ es })
+  becomes_then one_texts two_texts one es after b d = record {
+    events = b.events ++ d.events;
+    waits = d.waits;
+    session_then = ap (λ (x : Talk). x.session) now ∙ d.session_then ∙ b.session_then;
+    store_then = ap (λ (x : Talk). x.store) now ∙ d.store_then ∙ b.store_then;
+    stands = subst (λ x. Stands s k a after x d.waits) (sym now) d.stands;
+    texts = ap (λ (x : Talk). x.lines ++ d.waits) now ∙ d.texts ∙ ap (λ xs. xs ++ two_texts) b.texts ∙ append_assoc (talk.lines ++ waiting) one_texts two_texts;
+    said = ap (λ (x : Talk). x.told) now ∙ d.said ∙ append-nil (talked s a talk b.events).told ∙ b.said;
+    heard = subst (IsHeard talk.client (talked s a talk (b.events ++ d.events)).client) (sym (answers_append s one.effects es))
+        (subst (λ (x : Talk). IsHeard talk.client x.client (answers_to s one.effects ++ answers_to s es)) (sym now) (heard_then talk.client (talked s a talk b.events).client (talked s a (talked s a talk b.events) d.events).client (answers_to s one.effects) (answers_to s es) b.heard d.heard));
+    heard_keeper = subst (IsHeard talk.keeper (talked s a talk (b.events ++ d.events)).keeper) (sym (answers_append k one.effects es))
+        (subst (λ (x : Talk). IsHeard talk.keeper x.keeper (answers_to k one.effects ++ answers_to k es)) (sym now) (heard_then talk.keeper (talked s a talk b.events).keeper (talked s a (talked s a talk b.events) d.events).keeper (answers_to k one.effects) (answers_to k es) b.heard_keeper d.heard_keeper));
+  }
+    where
+      now : talked s a talk (b.events ++ d.events) ≡ talked s a (talked s a talk b.events) d.events
+      now = talked_append s a talk b.events d.events
+
+  -- a text behind it leaves the session that ends
+  leaves_then : (one : Outcome) → Lawful one.after None → (e : ℕ) (text : List ℕ) → Leaves s talk one → Leaves s talk (record { after = (deliver one.after e text).after; effects = one.effects ++ (deliver one.after e text).effects })
+  leaves_then one was e text l = by_fate (deliveries_leave_it one.after was s (attends_seen one.after s block.Not (ap (λ x. x.waits) l.client) refl) l.untimed e text)
+    where
+      by_fate : IsLeft s one.after (deliver one.after e text) ⊎ IsWoken s (IsDelivered text) one.after (deliver one.after e text) → Leaves s talk (record { after = (deliver one.after e text).after; effects = one.effects ++ (deliver one.after e text).effects })
+      by_fate (inl left) = record {
+        client = left.same ∙ l.client;
+        untimed = omega (arith, l.untimed, (no_timer_comes_unasked one.after (is_timer_of s)).delivered e text);
+        place = l.place;
+        told = answers_append s one.effects (deliver one.after e text).effects ∙ (λ i. l.told i ++ left.quiet i);
+      }
+      by_fate (inr woken) = absurd (let bad : Some block.Not ≡ Some (block.Receiving woken.from) = ap (λ x. x.waits) (sym l.client) ∙ woken.waited in cc)
+
+-- ---- a call of another, before the report
+
+record Micro (s k a : ℕ) (talk : Talk) (waiting : List (List ℕ)) (after : State) (es : List Effect) : Type 0 where
+  comes : Becomes s k a talk talk.session talk.store waiting [] [] (record { after = after; effects = es }) ⊎ Leaves s talk (record { after = after; effects = es })
+  lawful : Lawful after None
+  texts : texts_in a None es ≡ []
+
+module _ (s k a : ℕ) (st : State) (was : Lawful st None) (talk : Talk) (waiting : List (List ℕ)) (h : Stands s k a st talk waiting) (t : ℕ) (turn : choice st ≡ Some t)
+    (t_s : eqb t s ≡ false) (t_k : eqb t k ≡ false) (s_k : eqb s k ≡ false) where
+  abbrev After : State → List Effect → Type 0
+  After after es = Micro s k a talk waiting after es
+
+  -- no birth passes the agent's number while that isn't made
+  abbrev Low : State → Type 0
+  Low after = talk.session.place ≡ at.Start → after.births ≤ a
+
+  after_as : (after : State) (es fs : List Effect) → answers_to s fs ≡ answers_to s es → answers_to k fs ≡ answers_to k es → texts_in a None fs ≡ texts_in a None es → After after es → After after fs
+  after_as after es fs same same_k same_texts m = record { comes = by_comes m.comes; lawful = m.lawful; texts = same_texts ∙ m.texts }
+    where
+      by_comes : Becomes s k a talk talk.session talk.store waiting [] [] (record { after = after; effects = es }) ⊎ Leaves s talk (record { after = after; effects = es }) → Becomes s k a talk talk.session talk.store waiting [] [] (record { after = after; effects = fs }) ⊎ Leaves s talk (record { after = after; effects = fs })
+      by_comes (inl b) = inl (becomes_same s k a talk waiting talk.session talk.store [] [] (record { after = after; effects = es }) fs same same_k b)
+      by_comes (inr l) = inr (leaves_same s k a talk waiting (record { after = after; effects = es }) fs same l)
+
+  after_step : (c : Call) → spares_agent s k c ≡ true → Low (step st c).after → After (step st c).after (step st c).effects
+  after_step c spared low = record { comes = others_calls_are_events s k a st was talk waiting h t turn t_s t_k s_k c spared low; lawful = Lawful-step st was c; texts = step_texts a st c }
+
+  -- a call that the machine doesn't see
+  after_none : (c : Call) (x : Answer) → After st (effect.Called t c ∷ effect.Answered t x ∷ [])
+  after_none c x = record {
+    comes = inl (record {
+      events = [];
+      waits = waiting;
+      session_then = refl;
+      store_then = refl;
+      stands = h;
+      texts = sym (append-nil (talk.lines ++ waiting));
+      said = sym (append-nil talk.told);
+      heard = unheard talk.client (answers_to s (effect.Called t c ∷ effect.Answered t x ∷ [])) (rw t_s refl);
+      heard_keeper = unheard talk.keeper (answers_to k (effect.Called t c ∷ effect.Answered t x ∷ [])) (rw t_k refl);
+    });
+    lawful = was;
+    texts = refl;
+  }
+
+  after_but : (c : Call) → After (step st c).after (step st c).effects → After (but_call (step st c)).after (but_call (step st c)).effects
+  after_but c m = after_as (step st c).after (step st c).effects (drop 1 (step st c).effects) (but_same s st c) (but_same k st c) (but_texts a st c) m
+
+  after_trapped : (e : ℕ) (after : State) (es : List Effect) → After after es → After after (effect.Trapped t e ∷ es)
+  after_trapped e after es m = after_as after es (effect.Trapped t e ∷ es) refl refl refl m
+
+  module _ (trapped : List Bool) (c : Call) (spared : spares_agent s k c ≡ true) where
+    after_made : Low (made st trapped t c).state → After (made st trapped t c).state (made st trapped t c).effects
+    after_made = by_trap (trap_of c)
+      where
+        by_refusal : (e : ℕ) (o : Option LwpErr) → Low (trap_made st trapped t c e o).state → After (trap_made st trapped t c e o).state (trap_made st trapped t c e o).effects
+        by_refusal e None low = after_none c _
+        by_refusal e (Some why) low = after_none c _
+
+        by_agent : (b : Bool) → Low (cond b (refused_by st trapped t c error.InUse) (stepped trapped (step st c))).state → After (cond b (refused_by st trapped t c error.InUse) (stepped trapped (step st c))).state (cond b (refused_by st trapped t c error.InUse) (stepped trapped (step st c))).effects
+        by_agent true low = after_none c _
+        by_agent false low = after_step c spared low
+
+        by_trap : (o : Option ℕ) → Low (made_as st trapped t c o).state → After (made_as st trapped t c o).state (made_as st trapped t c o).effects
+        by_trap None low = by_agent (passes (is_trapped trapped) (agent_event_of c)) low
+        by_trap (Some e) low = by_refusal e (trap_refusal st trapped e) low
+
+    after_called : (pending : Option ℕ) → Low (called st trapped t c pending).state → After (called st trapped t c pending).state (called st trapped t c pending).effects
+    after_called None low = after_made low
+    after_called (Some e) low = by_given (passes is_given (notice st t e)) (passes is_catch (notice st t e)) low
+      where
+        by_given : (b d : Bool)
+            → Low (cond b (made st trapped t c) (cond d (stepped trapped (but_call (step st (call.ExcNotify e)))) (stepped trapped (but_call (step st (call.Destroy t)))))).state
+            → After
+            (cond b (made st trapped t c) (cond d (stepped trapped (but_call (step st (call.ExcNotify e)))) (stepped trapped (but_call (step st (call.Destroy t)))))).state
+            (effect.Trapped t e ∷ (cond b (made st trapped t c) (cond d (stepped trapped (but_call (step st (call.ExcNotify e)))) (stepped trapped (but_call (step st (call.Destroy t)))))).effects)
+        by_given true d low = after_trapped e _ _ (after_made low)
+        by_given false true low = after_trapped e _ _ (after_but (call.ExcNotify e) (after_step (call.ExcNotify e) refl low))
+        by_given false false low = after_trapped e _ _ (after_but (call.Destroy t) (after_step (call.Destroy t) (and_from _ _ (ap not t_s) (ap not t_k)) low))
+
+  -- and then the report
+  abbrev Done : State → List Effect → Type 0
+  Done after es = Becomes s k a talk talk.session talk.store waiting (texts_in a None es) [] (record { after = after; effects = es }) ⊎ Leaves s talk (record { after = after; effects = es })
+
+  after_said : (after : State) (es : List Effect) (reports : List ℕ) → After after es → Done (rites_said after es reports).state (rites_said after es reports).effects
+  after_said after es reports m = by_armed (armed after rites_event) refl reports
+    where
+      silent : Done after es
+      silent = by_comes m.comes
+        where
+          by_comes : Becomes s k a talk talk.session talk.store waiting [] [] (record { after = after; effects = es }) ⊎ Leaves s talk (record { after = after; effects = es }) → Done after es
+          by_comes (inl b) = inl (subst (λ xs. Becomes s k a talk talk.session talk.store waiting xs [] (record { after = after; effects = es })) (sym m.texts) b)
+          by_comes (inr l) = inr l
+
+      by_armed : (b : Bool) → armed after rites_event ≡ b → (rs : List ℕ) → Done (cond b (first_reported after es rs) (record { state = after; reports = rs; effects = es })).state (cond b (first_reported after es rs) (record { state = after; reports = rs; effects = es })).effects
+      by_armed true arms [] = silent
+      by_armed false arms rs = silent
+      by_armed true arms (dead ∷ later) = by_comes m.comes
+        where
+          text : List ℕ
+          text = report_text dead
+
+          sent : Outcome
+          sent = deliver after rites_event (report_text dead)
+
+          said : List Effect
+          said = map (as_rites dead) (deliver after rites_event (report_text dead)).effects
+
+          same : (u : ℕ) → answers_to u (es ++ map (as_rites dead) (deliver after rites_event (report_text dead)).effects) ≡ answers_to u (es ++ (deliver after rites_event (report_text dead)).effects)
+          same u = answers_append u es (map (as_rites dead) (deliver after rites_event (report_text dead)).effects) ∙ ap (λ x. answers_to u es ++ x) (rites_same u dead (deliver after rites_event (report_text dead)).effects) ∙ sym (answers_append u es (deliver after rites_event (report_text dead)).effects)
+
+          texts : texts_in a None (es ++ map (as_rites dead) (deliver after rites_event (report_text dead)).effects) ≡ [] ++ replicate (deliveries_to a (deliver after rites_event (report_text dead)).effects) (report_text dead)
+          texts = texts_append a None es (map (as_rites dead) (deliver after rites_event (report_text dead)).effects)
+              ∙ (λ i. m.texts i ++ (reports_told a dead (deliver after rites_event (report_text dead)).effects (tame_deliver after rites_event (report_text dead)) ∙ lines_told a (report_text dead) (deliver after rites_event (report_text dead)).effects (tame_deliver after rites_event (report_text dead))) i)
+
+          by_comes : Becomes s k a talk talk.session talk.store waiting [] [] (record { after = after; effects = es }) ⊎ Leaves s talk (record { after = after; effects = es })
+              → Done (deliver after rites_event (report_text dead)).after (es ++ map (as_rites dead) (deliver after rites_event (report_text dead)).effects)
+          by_comes (inl b) =
+              let out = deliver after rites_event (report_text dead) in
+              let two = deliveries_are_events s k a after m.lawful (talked s a talk b.events) b.waits b.stands s_k rites_event (report_text dead) arms in
+              let both = becomes_then s k a talk waiting [] (replicate (deliveries_to a out.effects) (report_text dead)) (record { after = after; effects = es }) out.effects out.after b two in
+              inl (subst (λ xs. Becomes s k a talk talk.session talk.store waiting xs [] (record { after = out.after; effects = es ++ map (as_rites dead) out.effects })) (sym texts)
+              (becomes_same s k a talk waiting talk.session talk.store ([] ++ replicate (deliveries_to a out.effects) (report_text dead)) [] (record { after = out.after; effects = es ++ out.effects }) (es ++ map (as_rites dead) out.effects) (same s) (same k) both))
+          by_comes (inr l) =
+              let out = deliver after rites_event (report_text dead) in
+              inr (leaves_same s k a talk waiting (record { after = out.after; effects = es ++ out.effects }) (es ++ map (as_rites dead) out.effects) (same s)
+              (leaves_then s k a talk waiting (record { after = after; effects = es }) m.lawful rites_event (report_text dead) l))
+
+  low_before : (after : State) (es : List Effect) (reports : List ℕ) → Low (rites_said after es reports).state → Low after
+  low_before after es reports low place = by_armed (armed after rites_event) reports (low place)
+    where
+      by_armed : (b : Bool) (rs : List ℕ) → (cond b (first_reported after es rs) (record { state = after; reports = rs; effects = es })).state.births ≤ a → after.births ≤ a
+      by_armed true [] below = below
+      by_armed false rs below = below
+      by_armed true (dead ∷ later) below = omega (arith, below, births_deliver after rites_event (report_text dead))
+
+pub pods_calls_are_events : PodsCallsAreEvents
+unfolding event_step event_step_by
+pods_calls_are_events s k a es was talk waiting h t turn t_s t_k s_k c spared low =
+    let out = called es.state es.trapped t c es.pending in
+    let reports = reports_after es.state out.state es.reports out.effects in
+    subst (λ o. (talk.session.place ≡ at.Start → (event_step_if es c o).after.state.births ≤ a) → Becomes s k a talk talk.session talk.store waiting (texts_in a None (event_step_if es c o).effects) [] (machine_of (event_step_if es c o)) ⊎ Leaves s talk (machine_of (event_step_if es c o))) (sym turn)
+    (λ low. after_said s k a es.state was talk waiting h t turn t_s t_k s_k out.state out.effects reports (after_called s k a es.state was talk waiting h t turn t_s t_k s_k es.trapped c spared es.pending
+    (low_before s k a es.state was talk waiting h t turn t_s t_k s_k out.state out.effects reports low))) low
+
+pub takes_are_events : TakesAreEvents
+unfolding take_event
+takes_are_events s k a es was talk waiting h s_k away e text may = by_trapped (is_trapped es.trapped e) may
+  where
+    still_told : texts_in a (Some text) (effect.Delivered null_id e ∷ []) ≡ []
+    still_told = rw away refl
+
+    by_trapped : (b : Bool) → cond b (may_trap es) (nat_lt e rites_event && armed es.state e) ≡ true
+        → Becomes s k a talk talk.session talk.store waiting (texts_in a (Some text) (cond b (trap_taken es e) (passed_on es (deliver es.state e text))).effects) [] (machine_of (cond b (trap_taken es e) (passed_on es (deliver es.state e text))))
+    by_trapped true may = subst (λ xs. Becomes s k a talk talk.session talk.store waiting xs [] (machine_of (trap_taken es e))) (sym still_told) (record {
+      events = [];
+      waits = waiting;
+      session_then = refl;
+      store_then = refl;
+      stands = h;
+      texts = sym (append-nil (talk.lines ++ waiting));
+      said = sym (append-nil talk.told);
+      heard = λ z x. x;
+      heard_keeper = λ z x. x;
+    })
+    by_trapped false may = subst (λ xs. Becomes s k a talk talk.session talk.store waiting xs [] (deliver es.state e text)) (sym (lines_told a text (deliver es.state e text).effects (tame_deliver es.state e text)))
+        (deliveries_are_events s k a es.state was talk waiting h s_k e text (and_parts (nat_lt e rites_event) (armed es.state e) may).1)
