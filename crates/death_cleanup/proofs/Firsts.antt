@@ -1,76 +1,25 @@
 -- The oldest of those that are noted is the oldest of all.
 use Rattle.death_cleanup.proofs.Living.{later-absent}
-use Rattle.death_cleanup.proofs.Notes.{looked, named-by}
-use Rattle.death_cleanup.specs.Named.{NameNote, all_noted, covers, is_wait, kind_name, least_of, older, waits_at}
+use Rattle.death_cleanup.proofs.Notes.{looked, named-by, noted-left}
+use Rattle.death_cleanup.proofs.Orders.{AreOrdered-removed, any-place, any-removed, before-not, before-says, ordered-at}
+use Rattle.death_cleanup.specs.Named.{AreOrdered, HasNoWaiter, HasWaiter, IsGap, all_noted, covers, few_waits, is_on, is_wait, kind_name, waits_at}
 use Rattle.death_cleanup.specs.Waits.{first_waiting, waits_for}
 use Rattle.death_cleanup.specs.declared.rows.Awaited.{Awaited}
 use Rattle.death_cleanup.specs.declared.rows.Kind.{Kind}
 use Rattle.death_cleanup.specs.declared.rows.NamedWait.{NamedWait}
 use Rattle.lwp_types.specs.State.{passes}
 use Rattle.stale_ids.specs.Register.{AreRising, value_of}
-use Rattle.std.proofs.Common.{Bool, List, None, Option, Some, [], ap, arith, cond, eqb, false, inl, inr, refl, sym, true, ℕ, ◌&&◌, ◌<◌, ◌||◌, ◌∙◌, ◌∷◌, ◌≡◌, ◌≤◌, ◌⊎◌}
-use Rattle.std.proofs.lemmas.Bool.{and_parts, cases_eq, cases_order, eq-eqb, eqb-true, ltb-false, ltb-true, ne_eqb}
-use Rattle.std.specs.List.{AllByRecursion, find, list_any}
-use Rattle.std.specs.Prelude.{nat_lt, option_map}
+use Rattle.std.proofs.Common.{Bool, List, None, Option, Some, [], ap, arith, cond, eqb, false, get_or, inl, inr, length, refl, sym, true, ℕ, ◌+◌, ◌<◌, ◌∙◌, ◌∷◌, ◌≡◌, ◌≤◌, ◌⊎◌}
+use Rattle.std.proofs.lemmas.Bool.{and_parts, cases_eq, cases_lt, cases_order, eq-eqb, eqb-true, ne_eqb}
+use Rattle.std.proofs.lemmas.List.Edits.{get_or-remove_above, get_or-remove_below, length-remove}
+use Rattle.std.specs.List.{AllByRecursion, find, list_any, remove}
+use Rattle.std.specs.Prelude.{option_map}
 
 -- one was found, and it isn't younger than n
 pub record AtMost (o : Option ℕ) (n : ℕ) : Type 0 where
   pub found : ℕ
   pub is : o ≡ Some found
   pub low : found ≤ n
-
-at-self : (n : ℕ) → AtMost (Some n) n
-at-self n = record { found = n; is = refl; low = omega arith }
-
-older-some : (n : ℕ) (o : Option ℕ) → AtMost (older n o) n
-older-some n None = at-self n
-older-some n (Some m) = by_test (nat_lt m n) refl
-  where
-    by_test : (c : Bool) → nat_lt m n ≡ c → AtMost (cond c (Some m) (Some n)) n
-    by_test true e = record { found = m; is = refl; low = omega (arith, ltb-true m n e) }
-    by_test false e = at-self n
-
-older-keeps : (n k : ℕ) (o : Option ℕ) → AtMost o k → AtMost (older n o) k
-older-keeps n k None h = absurd (let no : None ≡ Some h.found = h.is in cc)
-older-keeps n k (Some m) h = let same : m ≡ h.found = (let e : Some m ≡ Some h.found = h.is in cc) in by_test (nat_lt m n) refl same
-  where
-    by_test : (c : Bool) → nat_lt m n ≡ c → m ≡ h.found → AtMost (cond c (Some m) (Some n)) k
-    by_test true e same = record { found = m; is = refl; low = omega (arith, same, h.low) }
-    by_test false e same = record { found = n; is = refl; low = omega (arith, same, h.low, ltb-false m n e) }
-
-module _ (q : ℕ → Bool) (t : ℕ) where
-  older-passes : (n m : ℕ) (o : Option ℕ) → q n ≡ true → ((k : ℕ) → o ≡ Some k → q k ≡ true) → older n o ≡ Some m → q m ≡ true
-  older-passes n m None here others h = let same : n ≡ m = cc in rw (sym same) here
-  older-passes n m (Some k) here others h = by_test (nat_lt k n) h
-    where
-      by_test : (c : Bool) → cond c (Some k) (Some n) ≡ Some m → q m ≡ true
-      by_test true e = let same : k ≡ m = cc in rw (sym same) (others k refl)
-      by_test false e = let same : n ≡ m = cc in rw (sym same) here
-
-  -- the oldest passes
-  least-passes : (waits : List NamedWait) (m : ℕ) → least_of q t waits ≡ Some m → q m ≡ true
-  least-passes [] m h = absurd (cc)
-  least-passes (w ∷ waits) m h = by_test (eqb w.of t && q w.tid) refl h (λ k e. least-passes waits k e)
-    where
-      by_test : (c : Bool) → (eqb w.of t && q w.tid) ≡ c → cond c (older w.tid (least_of q t waits)) (least_of q t waits) ≡ Some m → ((k : ℕ) → least_of q t waits ≡ Some k → q k ≡ true) → q m ≡ true
-      by_test true e h later = older-passes w.tid m (least_of q t waits) (and_parts (eqb w.of t) (q w.tid) e).1 later h
-      by_test false e h later = later m h
-
-  -- whoever is noted and passes isn't older
-  least-most : (n : ℕ) → q n ≡ true → (waits : List NamedWait) → list_any (is_wait n t) waits ≡ true → AtMost (least_of q t waits) n
-  least-most n passes [] h = absurd (cc)
-  least-most n passes (w ∷ waits) h = by_here (is_wait n t w) refl h (λ later. least-most n passes waits later)
-    where
-      by_test : (c : Bool) → AtMost (least_of q t waits) n → AtMost (cond c (older w.tid (least_of q t waits)) (least_of q t waits)) n
-      by_test true rest = older-keeps w.tid n (least_of q t waits) rest
-      by_test false rest = rest
-
-      by_here : (c : Bool) → is_wait n t w ≡ c → (c || list_any (is_wait n t) waits) ≡ true → (list_any (is_wait n t) waits ≡ true → AtMost (least_of q t waits) n) → AtMost (cond (eqb w.of t && q w.tid) (older w.tid (least_of q t waits)) (least_of q t waits)) n
-      by_here true e h later =
-          let both = and_parts (eqb w.tid n) (eqb w.of t) e in
-          let same : w.tid ≡ n = eqb-true w.tid n both.0 in
-          rw (both.1, same, passes) (older-some n (least_of q t waits))
-      by_here false e h later = by_test (eqb w.of t && q w.tid) (later h)
 
 -- what stands first among the living, if one passes that isn't younger than any that passes
 first-is : (p : Kind → Bool) (o : Option ℕ) (living : List (ℕ × Kind)) → AreRising living → ((m : ℕ) → o ≡ Some m → passes p (value_of m living) ≡ true)
@@ -104,14 +53,108 @@ first-is p o (live ∷ living) rising sound most = by_test (p live.1) refl (λ l
         at.is ∙ ap (λ n. Some n) (by_order at.found e (sound at.found at.is) at.low (cases_order at.found live.0))
     by_test false e later = later (λ m is. elsewhere m e (sound m is) (cases_eq live.0 m)) (λ n k is here. most n k (rw (ne_eqb live.0 n (λ same. later_number n k is same)) is) here)
 
--- the oldest of the waits that are noted, where all are noted
-pub noted-first : (what : Awaited) (t : ℕ) (note : NameNote) (living : List (ℕ × Kind)) → AreRising living → note.crowded ≡ false → all_noted note living ≡ true
-    → least_of (waits_at what t living) t note.waits ≡ first_waiting what t living
-noted-first what t note living rising few all = first-is (waits_for what t) (least_of (waits_at what t living) t note.waits) living rising
-    (λ m is. least-passes (waits_at what t living) t note.waits m is)
-    (λ n k is here. least-most (waits_at what t living) t n (rw is here) note.waits (noted n k is here))
-  where
-    noted : (n : ℕ) (k : Kind) → value_of n living ≡ Some k → waits_for what t k ≡ true → list_any (is_wait n t) note.waits ≡ true
-    noted n k is here =
-        let covered : covers note n (kind_name k) ≡ true = looked (λ m l. covers note m (kind_name l)) living all n k is in
-        (rw (named-by what t k here, few) at covered)
+-- all that stand before this place don't wait for t so, and those from it on are for t or for younger ones
+pub record Reached (what : Awaited) (t : ℕ) (living : List (ℕ × Kind)) (waits : List NamedWait) (at : ℕ) : Type 0 where
+  pub ordered : AreOrdered waits
+  pub noted : all_noted (few_waits waits) living ≡ true
+  pub within : at ≤ length waits
+  pub passed : (j : ℕ) (d : NamedWait) → j < at → (get_or waits j d).of ≡ t → waits_at what t living (get_or waits j d).tid ≡ false
+  pub ahead : (j : ℕ) (d : NamedWait) → at ≤ j → j < length waits → t ≤ (get_or waits j d).of
+
+-- where those for t begin
+pub reached-start : (what : Awaited) (t : ℕ) (living : List (ℕ × Kind)) (waits : List NamedWait) (at : ℕ) → AreOrdered waits → all_noted (few_waits waits) living ≡ true → IsGap t 0 waits at → Reached what t living waits at
+reached-start what t living waits at ordered noted gap = record {
+  ordered = ordered;
+  noted = noted;
+  within = gap.within;
+  passed = λ j d lt same. absurd (let says = before-says (get_or waits j d) t 0 (gap.below j d lt) in let low : (get_or waits j d).tid < 0 = says.1 same in omega (arith, low));
+  ahead = λ j d ge lt. (before-not (get_or waits j d) t 0 (gap.above j d ge lt)).0;
+}
+
+module _ (what : Awaited) (t : ℕ) (living : List (ℕ × Kind)) (rising : AreRising living) (waits : List NamedWait) (at : ℕ) (reached : Reached what t living waits at) where
+  -- whoever waits for t so is noted from this place on
+  noted-ahead : (n : ℕ) (k : Kind) (d : NamedWait) → value_of n living ≡ Some k → waits_for what t k ≡ true → record { place : ℕ; from : at ≤ place; within : place < length waits; tid : (get_or waits place d).tid ≡ n; of : (get_or waits place d).of ≡ t }
+  noted-ahead n k d is here =
+      let covered : covers (few_waits waits) n (kind_name k) ≡ true = looked (λ m l. covers (few_waits waits) m (kind_name l)) living reached.noted n k is in
+      let some : list_any (is_wait n t) waits ≡ true = (rw (named-by what t k here) at covered) in
+      let there = any-place (is_wait n t) waits d some in
+      let both = and_parts (eqb (get_or waits there.place d).tid n) (eqb (get_or waits there.place d).of t) there.passes in
+      let tid = eqb-true _ _ both.0 in
+      let of = eqb-true _ _ both.1 in
+      record {
+        place = there.place;
+        from = elim (cases_lt there.place at) [
+          | inl before ↦
+              let off : waits_at what t living (get_or waits there.place d).tid ≡ false = reached.passed there.place d before of in
+              let on : waits_at what t living n ≡ true = rw is here in
+              let no : false ≡ true = sym off ∙ ap (waits_at what t living) tid ∙ on in
+              absurd (cc)
+          | inr from ↦ from
+        ];
+        within = there.within;
+        tid = tid;
+        of = of;
+      }
+
+  -- nobody is found where those for t end
+  pub reached-none : HasNoWaiter t waits at → None ≡ first_waiting what t living
+  reached-none none = first-is (waits_for what t) None living rising (λ m is. absurd (cc)) (λ n k is here. absurd (
+      let d : NamedWait = record { tid = 0; of = 0 } in
+      let ahead = noted-ahead n k d is here in
+      let first : at < length waits = omega (arith, ahead.from, ahead.within) in
+      let least : t ≤ (get_or waits at d).of = reached.ahead at d (omega arith) first in
+      elim (cases_lt at ahead.place) [
+        | inl later ↦ none d first (omega (arith, least, (ordered-at waits at ahead.place d reached.ordered later ahead.within).of, ahead.of))
+        | inr same ↦ none d first (ap (λ i. (get_or waits i d).of) (let e : at ≡ ahead.place = omega (arith, same, ahead.from) in e) ∙ ahead.of)
+      ]))
+
+  -- else the one there, if it waits so
+  pub reached-first : (w : NamedWait) → HasWaiter t w waits at → waits_at what t living w.tid ≡ true → Some w.tid ≡ first_waiting what t living
+  reached-first w here waits-so = first-is (waits_for what t) (Some w.tid) living rising (λ m is. let same : w.tid ≡ m = cc in ap (waits_at what t living) (sym same) ∙ waits-so) (λ n k is passes.
+      let ahead = noted-ahead n k w is passes in
+      record {
+        found = w.tid;
+        is = refl;
+        low = elim (cases_lt at ahead.place) [
+          | inl later ↦
+              let order = ordered-at waits at ahead.place w reached.ordered later ahead.within in
+              let own : (get_or waits at w).tid ≡ w.tid = ap (λ (v : NamedWait). v.tid) (here.here w) in
+              let of : (get_or waits at w).of ≡ (get_or waits ahead.place w).of = ap (λ (v : NamedWait). v.of) (here.here w) ∙ here.of ∙ sym ahead.of in
+              omega (arith, order.tid of, own, ahead.tid)
+          | inr same ↦
+              let e : at ≡ ahead.place = omega (arith, same, ahead.from) in
+              let tids : w.tid ≡ n = sym (ap (λ (v : NamedWait). v.tid) (here.here w)) ∙ ap (λ i. (get_or waits i w).tid) e ∙ ahead.tid in
+              omega (arith, tids)
+        ];
+      })
+
+  module _ (w : NamedWait) (here : HasWaiter t w waits at) (idle : waits_at what t living w.tid ≡ false) where
+    -- one that waits for something else of t is passed
+    pub reached-next : Reached what t living waits (at + 1)
+    reached-next = record {
+      ordered = reached.ordered;
+      noted = reached.noted;
+      within = omega (arith, here.within);
+      passed = λ j d lt same. elim (cases_lt j at) [
+        | inl before ↦ reached.passed j d before same
+        | inr from ↦
+            let e : j ≡ at = omega (arith, lt, from) in
+            ap (λ i. waits_at what t living (get_or waits i d).tid) e ∙ ap (λ (v : NamedWait). waits_at what t living v.tid) (here.here d) ∙ idle
+      ];
+      ahead = λ j d ge lt. reached.ahead j d (omega (arith, ge)) lt;
+    }
+
+    -- one that waits no longer goes
+    pub reached-less : is_on living w ≡ false → Reached what t living (remove waits at) at
+    reached-less off = record {
+      ordered = AreOrdered-removed waits at here.within reached.ordered;
+      noted = noted-left waits (remove waits at) w living rising off (λ n x other some. any-removed (is_wait n x) waits at w here.within (ap (is_wait n x) (here.here w) ∙ other) some) reached.noted;
+      within = omega (arith, length-remove waits at here.within, here.within);
+      passed = λ j d lt same.
+          let e = get_or-remove_below waits at d j lt here.within in
+          ap (λ (v : NamedWait). waits_at what t living v.tid) e ∙ reached.passed j d lt (ap (λ (v : NamedWait). v.of) (sym e) ∙ same);
+      ahead = λ j d ge lt.
+          let e = get_or-remove_above waits at d j ge here.within in
+          let low = reached.ahead (j + 1) d (omega (arith, ge)) (omega (arith, lt, length-remove waits at here.within)) in
+          omega (arith, low, ap (λ (v : NamedWait). v.of) e);
+    }

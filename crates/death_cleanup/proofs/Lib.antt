@@ -25,3 +25,4 @@ pub mod Notices
 pub mod Exiting
 pub mod Leaving
 pub mod Example
+pub mod Orders

@@ -1,7 +1,7 @@
 -- The note of those that wait by name, as the living change.
-use Rattle.death_cleanup.proofs.Living.{drop-some, later-absent}
+use Rattle.death_cleanup.proofs.Living.{later-absent}
 use Rattle.death_cleanup.specs.Moves.{block_set, kind_marked, kind_set, stack_set}
-use Rattle.death_cleanup.specs.Named.{NameNote, added, added_if, all_noted, block_name, covers, is_on, is_wait, kind_name}
+use Rattle.death_cleanup.specs.Named.{NameNote, all_noted, block_name, covers, few_waits, is_on, is_wait, kind_name}
 use Rattle.death_cleanup.specs.Waits.{block_waits, waits_for}
 use Rattle.death_cleanup.specs.declared.rows.Awaited.{Awaited}
 use Rattle.death_cleanup.specs.declared.rows.Awaited.TheVariants as awaited
@@ -13,10 +13,9 @@ use Rattle.lwp_types.specs.declared.rows.Block.TheVariants as block
 use Rattle.lwp_types.specs.declared.rows.Mark.{Mark}
 use Rattle.pod_laws.proofs.Elements.{all_filter, all_map, all_push, all_weaker}
 use Rattle.stale_ids.specs.Register.{AreRising, value_of, without}
-use Rattle.std.proofs.Common.{Bool, List, None, Option, Some, [], ap, cond, drop, eqb, false, inl, inr, map, not, refl, sym, true, ℕ, ◌+◌, ◌++◌, ◌||◌, ◌∙◌, ◌∷◌, ◌≡◌, ◌⊎◌}
+use Rattle.std.proofs.Common.{Bool, List, None, Option, Some, [], ap, cond, eqb, false, inl, inr, map, not, refl, sym, true, ℕ, ◌++◌, ◌||◌, ◌∙◌, ◌∷◌, ◌≡◌, ◌⊎◌}
 use Rattle.std.proofs.lemmas.Bool.{and_from, and_parts, cases_eq, eq-eqb, eqb-true, ne_eqb, or_right}
-use Rattle.std.specs.List.{filter, list_all, list_any, slice_get}
-use Rattle.std.specs.Prelude.{length, nat_lt}
+use Rattle.std.specs.List.{filter, list_all, list_any}
 
 module _ (note : NameNote) where
   abbrev noted_live : ℕ × Kind → Bool
@@ -125,51 +124,29 @@ noted-pruned note living rising all = all_looked (λ n k. covers (record note { 
 pub noted-more : (note more : NameNote) (living : List (ℕ × Kind)) → ((n : ℕ) (o : Option ℕ) → covers note n o ≡ true → covers more n o ≡ true) → all_noted note living ≡ true → all_noted more living ≡ true
 noted-more note more living grows all = all_weaker (λ (live : ℕ × Kind). covers note live.0 (kind_name live.1)) (λ live. covers more live.0 (kind_name live.1)) (λ live h. grows live.0 (kind_name live.1) h) living all
 
-module _ {X : Type 0} (p : X → Bool) where
-  any_before : (xs : List X) (x : X) → list_any p xs ≡ true → list_any p (xs ++ x ∷ []) ≡ true
-  any_before [] x h = absurd (cc)
-  any_before (y ∷ xs) x h = by_here (p y) h (λ later. any_before xs x later)
-    where
-      by_here : (c : Bool) → (c || list_any p xs) ≡ true → (list_any p xs ≡ true → list_any p (xs ++ x ∷ []) ≡ true) → (c || list_any p (xs ++ x ∷ [])) ≡ true
-      by_here true h later = refl
-      by_here false h later = later h
+-- the same of the waits that are noted
+pub noted-grown : (waits more : List NamedWait) (c : Bool) → ((n x : ℕ) → list_any (is_wait n x) waits ≡ true → list_any (is_wait n x) more ≡ true) → (n : ℕ) (o : Option ℕ) → covers (record { waits = waits; crowded = c }) n o ≡ true → covers (record { waits = more; crowded = c }) n o ≡ true
+noted-grown waits more c grows n None h = refl
+noted-grown waits more true grows n (Some x) h = refl
+noted-grown waits more false grows n (Some x) h = grows n x h
 
-  any_last : (xs : List X) (x : X) → p x ≡ true → list_any p (xs ++ x ∷ []) ≡ true
-  any_last [] x h = rw h refl
-  any_last (y ∷ xs) x h = or_right (p y) _ (any_last xs x h)
+-- a crowded note has all
+pub covers-crowded : (waits : List NamedWait) (n : ℕ) (o : Option ℕ) → covers (record { waits = waits; crowded = true }) n o ≡ true
+covers-crowded waits n None = refl
+covers-crowded waits n (Some x) = refl
 
--- one wait more
-module _ (note : NameNote) (t x : ℕ) where
-  pub added-kept : (n : ℕ) (o : Option ℕ) → covers note n o ≡ true → covers (added note t x) n o ≡ true
-  added-kept n None h = refl
-  added-kept n (Some y) h = by_room (nat_lt (length note.waits) 16)
-    where
-      by_crowd : (c : Bool) → (c || list_any (is_wait n y) note.waits) ≡ true → (c || list_any (is_wait n y) (note.waits ++ record { tid = t; of = x } ∷ [])) ≡ true
-      by_crowd true h = refl
-      by_crowd false h = any_before (is_wait n y) note.waits (record { tid = t; of = x }) h
-
-      by_room : (c : Bool) → covers (cond c (record note { waits = note.waits ++ record { tid = t; of = x } ∷ [] }) (record note { crowded = true })) n (Some y) ≡ true
-      by_room true = by_crowd note.crowded h
-      by_room false = refl
-
-  pub added-noted : covers (added note t x) t (Some x) ≡ true
-  added-noted = by_room (nat_lt (length note.waits) 16)
-    where
-      by_room : (c : Bool) → covers (cond c (record note { waits = note.waits ++ record { tid = t; of = x } ∷ [] }) (record note { crowded = true })) t (Some x) ≡ true
-      by_room true = or_right note.crowded _ (any_last (is_wait t x) note.waits (record { tid = t; of = x }) (and_from (eqb t t) (eqb x x) (eq-eqb t t refl) (eq-eqb x x refl)))
-      by_room false = refl
-
-module _ (note : NameNote) (t : ℕ) where
-  pub added-if-kept : (by_name : Option ℕ) (n : ℕ) (o : Option ℕ) → covers note n o ≡ true → covers (added_if note t by_name) n o ≡ true
-  added-if-kept None n o h = h
-  added-if-kept (Some x) n o h = added-kept note t x n o h
-
-  pub added-if-noted : (by_name : Option ℕ) → covers (added_if note t by_name) t by_name ≡ true
-  added-if-noted None = refl
-  added-if-noted (Some x) = added-noted note t x
-
--- the oldest of those that are gone over is noted before the others
-pub noted-onto : (note : NameNote) (living : List (ℕ × Kind)) (i n : ℕ) (k : Kind) → slice_get living i ≡ Some (n, k) → all_noted note (drop (i + 1) living) ≡ true
-    → all_noted (added_if note n (kind_name k)) (drop i living) ≡ true
-noted-onto note living i n k is later = rw (drop-some living i (n, k) is)
-    (and_from _ _ (added-if-noted note n (kind_name k)) (noted-more note (added_if note n (kind_name k)) (drop (i + 1) living) (added-if-kept note n (kind_name k)) later))
+-- a wait that goes on no longer is left out
+pub noted-left : (waits less : List NamedWait) (w : NamedWait) (living : List (ℕ × Kind)) → AreRising living → is_on living w ≡ false → ((n x : ℕ) → is_wait n x w ≡ false → list_any (is_wait n x) waits ≡ true → list_any (is_wait n x) less ≡ true) → all_noted (few_waits waits) living ≡ true → all_noted (few_waits less) living ≡ true
+noted-left waits less w living rising off others all = all_looked (λ n k. covers (few_waits less) n (kind_name k)) living rising (λ n k is. by_name n k is (kind_name k) refl (looked (λ m l. covers (few_waits waits) m (kind_name l)) living all n k is))
+  where
+    by_name : (n : ℕ) (k : Kind) → value_of n living ≡ Some k → (o : Option ℕ) → kind_name k ≡ o → covers (few_waits waits) n o ≡ true → covers (few_waits less) n o ≡ true
+    by_name n k is None e h = refl
+    by_name n k is (Some x) e h = others n x (by_test (is_wait n x w) refl) h
+      where
+        by_test : (c : Bool) → is_wait n x w ≡ c → is_wait n x w ≡ false
+        by_test false other = other
+        by_test true same =
+            let both = and_parts (eqb w.tid n) (eqb w.of x) same in
+            let on : is_on living w ≡ true = rw (eqb-true w.tid n both.0, is, e, eqb-true w.of x both.1) (eq-eqb x x refl) in
+            let no : false ≡ true = sym off ∙ on in
+            absurd (cc)

@@ -1,5 +1,7 @@
 -- Whoever waits for a thread or an agent that ends goes on.
 use Rattle.death_cleanup.proofs.Draining.{Draining, done, fewer, first_room, goes_on}
+use Rattle.death_cleanup.proofs.Keeping.{InStep-noted}
+use Rattle.death_cleanup.specs.Named.{NameNote, all_noted}
 use Rattle.death_cleanup.proofs.Fronts.{Front, waiting_first, waiting_none}
 use Rattle.death_cleanup.specs.Comes.{CameTo}
 use Rattle.death_cleanup.specs.Ties.{HasLawfulThreads}
@@ -62,6 +64,10 @@ module _ (what : Awaited) (t : ℕ) where
       ap (λ rows. passes (λ (row : ThreadRow). not (is_not_blocked row.block)) (find (is_number u) rows)) (sym has.threads) ∙ ap (passes (λ (row : ThreadRow). not (is_not_blocked row.block))) who.known ∙ waits who.row.block (alone what t who.row.block who.passes)
 
   module _ (start : Parts) (before : List Effect) (parts : Parts) (after : List Effect) (h : Draining HasLawfulThreads list change 0 start before parts after) where
+    -- another note, which has all that wait by name
+    pub noted-on : (named : NameNote) → all_noted named parts.ids.live ≡ true → Draining HasLawfulThreads list change 0 start before (record parts { named = named }) after
+    noted-on named noted = record { keeps = h.keeps; step = InStep-noted parts h.step named noted; dying = h.dying; state = h.state; effects = h.effects; room = h.room }
+
     module _ (u : ℕ) (found : first_waiting what t parts.ids.live ≡ Some u) where
       first : Front (list (state_of parts)) u
       first = waiting_first what t parts.last_prio parts.sched.threads parts.ids.live u found

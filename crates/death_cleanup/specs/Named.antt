@@ -8,8 +8,8 @@ use Rattle.lwp_types.specs.State.{passes}
 use Rattle.lwp_types.specs.declared.rows.Block.{Block}
 use Rattle.lwp_types.specs.declared.rows.Block.TheVariants as block
 use Rattle.stale_ids.specs.Register.{value_of}
-use Rattle.std.specs.List.{list_all, list_any}
-use Rattle.std.specs.Prelude.{Bool, List, None, Option, Some, [], false, if◌then◌else◌, length, nat_lt, true, ℕ, ◌&&◌, ◌++◌, ◌==◌, ◌||◌, ◌∷◌}
+use Rattle.std.specs.List.{AllByRecursion, list_all, list_any}
+use Rattle.std.specs.Prelude.{Bool, List, None, Option, Some, [], false, length, nat_lt, slice_index_or, true, ℕ, ◌&&◌, ◌<◌, ◌==◌, ◌||◌, ◌∷◌, ◌≡◌, ◌≢◌, ◌≤◌}
 
 -- of whom a thread waits by name for its death or a letter
 abbrev pub block_name : Block → Option ℕ
@@ -30,22 +30,13 @@ pub record NameNote : Type 0 where
   pub waits : List NamedWait
   pub crowded : Bool
 
--- how many waits are noted
-abbrev pub most_noted : ℕ
-most_noted = 16
-
 -- nobody waits by name
 abbrev pub no_names : NameNote
 no_names = record { waits = []; crowded = false }
 
--- thread t waits for x; where there is no room the note is crowded
-abbrev pub added : NameNote → ℕ → ℕ → NameNote
-added note t x = if nat_lt (length note.waits) most_noted then record note { waits = note.waits ++ record { tid = t; of = x } ∷ [] } else record note { crowded = true }
-
--- the same, if it waits by name
-abbrev pub added_if : NameNote → ℕ → Option ℕ → NameNote
-added_if note t None = note
-added_if note t (Some x) = added note t x
+-- a note that isn't crowded
+abbrev pub few_waits : List NamedWait → NameNote
+few_waits waits = record { waits = waits; crowded = false }
 
 -- it is the wait of thread n for x
 abbrev pub is_wait : ℕ → ℕ → NamedWait → Bool
@@ -75,16 +66,34 @@ is_on living wait = passes (λ k. is_named wait.of (kind_name k)) (value_of wait
 abbrev pub waits_at : Awaited → ℕ → List (ℕ × Kind) → ℕ → Bool
 waits_at what t living n = passes (waits_for what t) (value_of n living)
 
--- the older of the two
-abbrev pub older : ℕ → Option ℕ → Option ℕ
-older n None = Some n
-older n (Some m) = if nat_lt m n then Some m else Some n
+-- ---- how the waits stand
 
--- the older of this one, if it waits for t and passes, and of another
-abbrev pub older_of : (ℕ → Bool) → ℕ → NamedWait → Option ℕ → Option ℕ
-older_of q t wait o = if wait.of == t && q wait.tid then older wait.tid o else o
+-- the wait stands before that of thread n for x
+abbrev pub is_before : ℕ → ℕ → NamedWait → Bool
+is_before x n wait = nat_lt wait.of x || (wait.of == x && nat_lt wait.tid n)
 
--- the oldest of those that wait for t and pass
-abbrev pub least_of : (ℕ → Bool) → ℕ → List NamedWait → Option ℕ
-least_of q t [] = None
-least_of q t (wait ∷ waits) = older_of q t wait (least_of q t waits)
+-- it is for one that is older, or for the same one and of a thread that isn't younger
+pub record IsBefore (wait later : NamedWait) : Type 0 where
+  pub of : wait.of ≤ later.of
+  pub tid : wait.of ≡ later.of → wait.tid ≤ later.tid
+
+-- each stands before those behind it
+abbrev pub AreOrdered : List NamedWait → Type 0
+AreOrdered [] = Unit {0}
+AreOrdered (wait ∷ waits) = AllByRecursion (IsBefore wait) waits × AreOrdered waits
+
+-- the waits before this place stand before that of thread n for x, and the others don't
+pub record IsGap (x n : ℕ) (waits : List NamedWait) (i : ℕ) : Type 0 where
+  pub within : i ≤ length waits
+  pub below : (j : ℕ) (d : NamedWait) → j < i → is_before x n (slice_index_or waits j d) ≡ true
+  pub above : (j : ℕ) (d : NamedWait) → i ≤ j → j < length waits → is_before x n (slice_index_or waits j d) ≡ false
+
+-- this wait for x stands there
+pub record HasWaiter (x : ℕ) (wait : NamedWait) (waits : List NamedWait) (i : ℕ) : Type 0 where
+  pub within : i < length waits
+  pub here : (d : NamedWait) → slice_index_or waits i d ≡ wait
+  pub of : wait.of ≡ x
+
+-- no wait for x stands there
+abbrev pub HasNoWaiter : ℕ → List NamedWait → ℕ → Type 0
+HasNoWaiter x waits i = (d : NamedWait) → i < length waits → (slice_index_or waits i d).of ≢ x

@@ -8,7 +8,6 @@ ghost use Rattle.death_cleanup.specs.View.{state_of};
 ghost use Rattle.pod_laws.proofs.DeathEnds.{Forgotten};
 
 use crate::frames::run_all_exits;
-use crate::named::refresh;
 use crate::parts::{Parts, set_block};
 use crate::rows::Awaited;
 use crate::waiters::{dismiss, end_agents, refuse_senders, release_all};
@@ -30,7 +29,6 @@ fn withdraw(parts: &mut Parts, tid: Tid)
     parts.conds.forget(tid);
     parts.mons.forget(tid);
     parts.mail.forget(tid);
-    refresh(&mut parts.named, &parts.ids);
 }
 
 // A death is told. It stands apart, so that nobody else makes room for this effect.

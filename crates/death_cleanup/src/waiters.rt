@@ -6,7 +6,6 @@ ghost use Rattle.lwp_types.specs.Death.{end_agents, refuse_senders, release_all}
 ghost use Rattle.lwp_types.specs.State.{is_agent, is_thread};
 ghost use Rattle.death_cleanup.specs.Comes.{CameTo, HasRoom};
 ghost use Rattle.death_cleanup.specs.Moves.{agent_over};
-ghost use Rattle.death_cleanup.specs.Named.{all_noted};
 ghost use Rattle.death_cleanup.specs.Ties.{HasLawfulThreads, InStep, LawfulParts};
 ghost use Rattle.death_cleanup.specs.View.{state_of};
 ghost use Rattle.death_cleanup.specs.Waits.{dismissed, first_waiting};
@@ -28,8 +27,8 @@ pub fn nth_of(ids: &Registry<Kind>, i: usize) -> (Tid, &Kind)
     (Tid { number }, kind)
 }
 
-// The oldest of the living that waits for this of the thread or agent, found by going over all of them.
-fn first_of_all(ids: &Registry<Kind>, what: Awaited, tid: Tid) -> Option<Tid>
+/// The oldest of the living that waits for this of the thread or agent, found by going over all of them.
+pub fn first_of_all(ids: &Registry<Kind>, what: Awaited, tid: Tid) -> Option<Tid>
     ensures { result ≡ first_waiting what tid ids.now.live }
 {
     for i in 0..ids.len() {
@@ -41,17 +40,6 @@ fn first_of_all(ids: &Registry<Kind>, what: Awaited, tid: Tid) -> Option<Tid>
     None
 }
 
-// The same, found among those that are noted as waiting by name, unless they are too many.
-fn first_waiting(parts: &Parts, what: Awaited, tid: Tid) -> Option<Tid>
-    requires { IsTrue (all_noted parts.now.named parts.now.ids.live) }
-    ensures { result ≡ first_waiting what tid parts.now.ids.live }
-{
-    if parts.named.is_crowded() {
-        return first_of_all(&parts.ids, what, tid);
-    }
-    parts.named.first(&parts.ids, what, tid)
-}
-
 /// Whoever waits for this of the thread or agent goes on, in the order of birth.
 pub fn dismiss(parts: &mut Parts, what: Awaited, tid: Tid, effects: &mut Effects)
     requires threads { HasLawfulThreads (state_of parts.old) }
@@ -59,7 +47,7 @@ pub fn dismiss(parts: &mut Parts, what: Awaited, tid: Tid, effects: &mut Effects
     requires room { HasRoom effects.old (dismissed what tid (state_of parts.old)) 0 }
     ensures came { CameTo parts.old parts.new effects.old effects.new (dismissed what tid (state_of parts.old)) }
 {
-    while let Some(other) = first_waiting(parts, what, tid) {
+    while let Some(other) = parts.named.first(&parts.ids, what, tid) {
         wake_done(parts, other, what.answer(), effects);
     }
 }

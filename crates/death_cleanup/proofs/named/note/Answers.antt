@@ -1,5 +1,5 @@
-use Rattle.death_cleanup.proofs.Notes.{added-kept, added-noted, noted-block, noted-more}
-use Rattle.death_cleanup.proofs.named.note.Goals.{else-len-ge-MOST_NOTED, then-len-ge-MOST_NOTED}
+use Rattle.death_cleanup.proofs.Notes.{noted-block, noted-more}
+use Rattle.death_cleanup.proofs.named.note.Goals.{else-len-named, then-len-named}
 use Rattle.death_cleanup.proofs.named.note.Goals as goal
 use Rattle.death_cleanup.specs.Named.{all_noted, block_name}
 use Rattle.std.proofs.Common.{None, Some, refl, sym, true, ◌∙◌, ◌≡◌}
@@ -13,14 +13,13 @@ returns-in_default c =
 pub returns-then-has : goal.returns-then-has
 returns-then-has c =
     let name : block_name c.args.why.now ≡ Some c.in-Some.of = sym c.name_of.ensures ∙ c.in-Some.is in
-    noted-block c.args.named.now c.args.tid c.args.why.now (rw name (or_right _ _ (sym c.has.ensures ∙ c.if-has.true))) c.args.ids.now.live c.requires
+    noted-block c.args.named.now c.args.tid c.args.why.now (rw name (or_right _ _ (c.has.ensures c.if-has.true))) c.args.ids.now.live c.requires
 
 pub returns : goal.returns
 returns c =
     let name : block_name c.args.why.now ≡ Some c.in-Some.of = sym c.name_of.ensures ∙ c.in-Some.is in
-    let before : all_noted c.if-len-ge-MOST_NOTED.named c.args.ids.now.live ≡ true = elim c.if-len-ge-MOST_NOTED.branch [
-      | then-len-ge-MOST_NOTED w ↦ rw w.named-is w.prune.ensures
-      | else-len-ge-MOST_NOTED w ↦ rw w.named-is c.requires
+    let before : all_noted c.if-len-named.named c.args.ids.now.live ≡ true = elim c.if-len-named.branch [
+      | then-len-named w ↦ rw w.named-is w.prune.ensures
+      | else-len-named w ↦ rw w.named-is c.requires
     ] in
-    rw c.add.ensures (noted-block _ c.args.tid c.args.why.now (rw name (added-noted c.if-len-ge-MOST_NOTED.named c.args.tid c.in-Some.of)) c.args.ids.now.live
-    (noted-more c.if-len-ge-MOST_NOTED.named _ c.args.ids.now.live (added-kept c.if-len-ge-MOST_NOTED.named c.args.tid c.in-Some.of) before))
+    noted-block _ c.args.tid c.args.why.now (rw name c.add.ensures.noted) c.args.ids.now.live (noted-more c.if-len-named.named _ c.args.ids.now.live c.add.ensures.kept before)

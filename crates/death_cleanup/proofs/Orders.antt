@@ -1,0 +1,155 @@
+-- How the waits that are noted stand.
+use Rattle.death_cleanup.specs.Named.{AreOrdered, IsBefore, IsGap, is_before}
+use Rattle.death_cleanup.specs.declared.rows.NamedWait.{NamedWait}
+use Rattle.std.proofs.Common.{Bool, List, [], ap, arith, cond, eqb, false, get_or, inl, inr, length, refl, suc, sym, true, zero, ℕ, ◌&&◌, ◌<◌, ◌∙◌, ◌∷◌, ◌≡◌, ◌≤◌, ◌||◌}
+use Rattle.std.proofs.lemmas.Bool.{cases_lt, eq-eqb, eqb-true, le-ltb, lt-ltb, ltb-false, ltb-true, or_right}
+use Rattle.std.specs.List.{AllByRecursion, filter, insert, list_any, remove}
+use Rattle.std.specs.List.Sorted.{IsPartitionedBy}
+use Rattle.std.specs.Prelude.{nat_lt}
+
+-- ---- what stands before what
+
+pub before-holds : (w : NamedWait) (x n : ℕ) → w.of ≤ x → (w.of ≡ x → w.tid < n) → is_before x n w ≡ true
+before-holds w x n low younger = elim (cases_lt w.of x) [
+  | inl less ↦ rw (lt-ltb w.of x less) refl
+  | inr more ↦
+      let same : w.of ≡ x = omega (arith, low, more) in
+      rw (le-ltb w.of x more, eq-eqb w.of x same, lt-ltb w.tid n (younger same)) refl
+]
+
+pub before-says : (w : NamedWait) (x n : ℕ) → is_before x n w ≡ true → (w.of ≤ x) × (w.of ≡ x → w.tid < n)
+before-says w x n is = by_less (nat_lt w.of x) refl is
+  where
+    by_same : (c : Bool) → eqb w.of x ≡ c → (c && nat_lt w.tid n) ≡ true → (w.of ≤ x) × (w.of ≡ x → w.tid < n)
+    by_same true e h = (omega (arith, eqb-true w.of x e), λ same. ltb-true w.tid n h)
+    by_same false e h = absurd (cc)
+
+    by_less : (c : Bool) → nat_lt w.of x ≡ c → (c || (eqb w.of x && nat_lt w.tid n)) ≡ true → (w.of ≤ x) × (w.of ≡ x → w.tid < n)
+    by_less true e h = (let less = ltb-true w.of x e in omega (arith, less), λ same. absurd (omega (arith, same, ltb-true w.of x e)))
+    by_less false e h = by_same (eqb w.of x) refl h
+
+pub before-not : (w : NamedWait) (x n : ℕ) → is_before x n w ≡ false → (x ≤ w.of) × (w.of ≡ x → n ≤ w.tid)
+before-not w x n is = by_less (nat_lt w.of x) refl is
+  where
+    by_less : (c : Bool) → nat_lt w.of x ≡ c → (c || (eqb w.of x && nat_lt w.tid n)) ≡ false → (x ≤ w.of) × (w.of ≡ x → n ≤ w.tid)
+    by_less true e h = absurd (cc)
+    by_less false e h = (ltb-false w.of x e, λ same. ltb-false w.tid n (rw (eq-eqb w.of x same) at h))
+
+pub before-down : (v w : NamedWait) (x n : ℕ) → IsBefore v w → is_before x n w ≡ true → is_before x n v ≡ true
+before-down v w x n order later =
+    let says = before-says w x n later in
+    before-holds v x n (omega (arith, order.of, says.0)) (λ same.
+    let is : w.of ≡ x = omega (arith, same, order.of, says.0) in
+    omega (arith, order.tid (omega (arith, same, is)), says.1 is))
+
+-- ---- waits in order
+
+all-at : (P : NamedWait → Type 0) (ws : List NamedWait) (i : ℕ) (d : NamedWait) → i < length ws → AllByRecursion P ws → P (get_or ws i d)
+all-at P [] i d within all = absurd (omega arith)
+all-at P (w ∷ ws) zero d within all = all.0
+all-at P (w ∷ ws) (suc i) d within all = all-at P ws i d (omega arith) all.1
+
+pub ordered-at : (ws : List NamedWait) (i j : ℕ) (d : NamedWait) → AreOrdered ws → i < j → j < length ws → IsBefore (get_or ws i d) (get_or ws j d)
+ordered-at [] i j d ordered lt within = absurd (omega arith)
+ordered-at (w ∷ ws) zero zero d ordered lt within = absurd (omega arith)
+ordered-at (w ∷ ws) zero (suc j) d ordered lt within = all-at (IsBefore w) ws j d (omega arith) ordered.0
+ordered-at (w ∷ ws) (suc i) zero d ordered lt within = absurd (omega arith)
+ordered-at (w ∷ ws) (suc i) (suc j) d ordered lt within = ordered-at ws i j d ordered.1 (omega arith) (omega arith)
+
+all-kept : (P : NamedWait → Type 0) (keep : NamedWait → Bool) (ws : List NamedWait) → AllByRecursion P ws → AllByRecursion P (filter keep ws)
+all-kept P keep [] all = tt
+all-kept P keep (w ∷ ws) all = by_test (keep w) (all-kept P keep ws all.1)
+  where
+    by_test : (c : Bool) → AllByRecursion P (filter keep ws) → AllByRecursion P (cond c (w ∷ filter keep ws) (filter keep ws))
+    by_test true rest = (all.0, rest)
+    by_test false rest = rest
+
+pub AreOrdered-kept : (keep : NamedWait → Bool) (ws : List NamedWait) → AreOrdered ws → AreOrdered (filter keep ws)
+AreOrdered-kept keep [] ordered = tt
+AreOrdered-kept keep (w ∷ ws) ordered = by_test (keep w) (AreOrdered-kept keep ws ordered.1)
+  where
+    by_test : (c : Bool) → AreOrdered (filter keep ws) → AreOrdered (cond c (w ∷ filter keep ws) (filter keep ws))
+    by_test true rest = (all-kept (IsBefore w) keep ws ordered.0, rest)
+    by_test false rest = rest
+
+all-removed : (P : NamedWait → Type 0) (ws : List NamedWait) (i : ℕ) → i < length ws → AllByRecursion P ws → AllByRecursion P (remove ws i)
+all-removed P [] i within all = absurd (omega arith)
+all-removed P (w ∷ ws) zero within all = all.1
+all-removed P (w ∷ ws) (suc i) within all = (all.0, all-removed P ws i (omega arith) all.1)
+
+pub AreOrdered-removed : (ws : List NamedWait) (i : ℕ) → i < length ws → AreOrdered ws → AreOrdered (remove ws i)
+AreOrdered-removed [] i within ordered = absurd (omega arith)
+AreOrdered-removed (w ∷ ws) zero within ordered = ordered.1
+AreOrdered-removed (w ∷ ws) (suc i) within ordered = (all-removed (IsBefore w) ws i (omega arith) ordered.0, AreOrdered-removed ws i (omega arith) ordered.1)
+
+all-inserted : (P : NamedWait → Type 0) (ws : List NamedWait) (i : ℕ) (v : NamedWait) → i ≤ length ws → AllByRecursion P ws → P v → AllByRecursion P (insert ws i v)
+all-inserted P ws zero v within all own = (own, all)
+all-inserted P [] (suc i) v within all own = absurd (omega arith)
+all-inserted P (w ∷ ws) (suc i) v within all own = (all.0, all-inserted P ws i v (omega arith) all.1 own)
+
+all-from : (P : NamedWait → Type 0) (ws : List NamedWait) → ((j : ℕ) (d : NamedWait) → j < length ws → P (get_or ws j d)) → AllByRecursion P ws
+all-from P [] each = tt
+all-from P (w ∷ ws) each = (each 0 w (omega arith), all-from P ws (λ j d lt. each (suc j) d (omega arith)))
+
+pub AreOrdered-inserted : (ws : List NamedWait) (i : ℕ) (v : NamedWait) → AreOrdered ws → IsGap v.of v.tid ws i → AreOrdered (insert ws i v)
+AreOrdered-inserted ws zero v ordered gap = (
+  all-from (IsBefore v) ws (λ j d lt. let not = before-not (get_or ws j d) v.of v.tid (gap.above j d (omega arith) lt) in record { of = not.0; tid = λ same. not.1 (sym same) }),
+  ordered,
+)
+AreOrdered-inserted [] (suc i) v ordered gap = absurd (omega (arith, gap.within))
+AreOrdered-inserted (w ∷ ws) (suc i) v ordered gap =
+    let says = before-says w v.of v.tid (gap.below 0 w (omega arith)) in (
+      all-inserted (IsBefore w) ws i v (omega (arith, gap.within)) ordered.0 (record { of = says.0; tid = λ same. let less = says.1 same in omega (arith, less) }),
+      AreOrdered-inserted ws i v ordered.1 (record {
+        within = omega (arith, gap.within);
+        below = λ j d lt. gap.below (suc j) d (omega arith);
+        above = λ j d ge lt. gap.above (suc j) d (omega arith) (omega arith);
+      }),
+    )
+
+-- ---- whether a wait stands there
+
+pub record Stands (p : NamedWait → Bool) (ws : List NamedWait) (d : NamedWait) : Type 0 where
+  pub place : ℕ
+  pub within : place < length ws
+  pub passes : p (get_or ws place d) ≡ true
+
+pub any-place : (p : NamedWait → Bool) (ws : List NamedWait) (d : NamedWait) → list_any p ws ≡ true → Stands p ws d
+any-place p [] d some = absurd (cc)
+any-place p (w ∷ ws) d some = by_test (p w) refl some (any-place p ws d)
+  where
+    by_test : (c : Bool) → p w ≡ c → (c || list_any p ws) ≡ true → (list_any p ws ≡ true → Stands p ws d) → Stands p (w ∷ ws) d
+    by_test true is some rest = record { place = 0; within = omega arith; passes = is }
+    by_test false is some rest =
+        let later = rest some in
+        record { place = suc later.place; within = omega (arith, later.within); passes = later.passes }
+
+pub any-removed : (p : NamedWait → Bool) (ws : List NamedWait) (i : ℕ) (d : NamedWait) → i < length ws → p (get_or ws i d) ≡ false → list_any p ws ≡ true → list_any p (remove ws i) ≡ true
+any-removed p [] i d within other some = absurd (omega arith)
+any-removed p (w ∷ ws) zero d within other some = (rw other at some)
+any-removed p (w ∷ ws) (suc i) d within other some = by_test (p w) some (any-removed p ws i d (omega arith) other)
+  where
+    by_test : (c : Bool) → (c || list_any p ws) ≡ true → (list_any p ws ≡ true → list_any p (remove ws i) ≡ true) → (c || list_any p (remove ws i)) ≡ true
+    by_test true some rest = refl
+    by_test false some rest = rest some
+
+pub any-inserted : (p : NamedWait → Bool) (ws : List NamedWait) (i : ℕ) (v : NamedWait) → i ≤ length ws → list_any p ws ≡ true → list_any p (insert ws i v) ≡ true
+any-inserted p ws zero v within some = or_right (p v) _ some
+any-inserted p [] (suc i) v within some = absurd (omega arith)
+any-inserted p (w ∷ ws) (suc i) v within some = by_test (p w) some (any-inserted p ws i v (omega arith))
+  where
+    by_test : (c : Bool) → (c || list_any p ws) ≡ true → (list_any p ws ≡ true → list_any p (insert ws i v) ≡ true) → (c || list_any p (insert ws i v)) ≡ true
+    by_test true some rest = refl
+    by_test false some rest = rest some
+
+pub own-inserted : (p : NamedWait → Bool) (ws : List NamedWait) (i : ℕ) (v : NamedWait) → i ≤ length ws → p v ≡ true → list_any p (insert ws i v) ≡ true
+own-inserted p ws zero v within own = rw own refl
+own-inserted p [] (suc i) v within own = absurd (omega arith)
+own-inserted p (w ∷ ws) (suc i) v within own = or_right (p w) _ (own-inserted p ws i v (omega arith) own)
+
+-- what `partition_point` asks
+pub parted : (ws : List NamedWait) (x n : ℕ) → AreOrdered ws → IsPartitionedBy (is_before x n) ws
+parted ws x n ordered i j d le within passes = elim (cases_lt i j) [
+  | inl less ↦ before-down (get_or ws i d) (get_or ws j d) x n (ordered-at ws i j d ordered less within) passes
+  | inr more ↦ ap (λ k. is_before x n (get_or ws k d)) (let e : i ≡ j = omega (arith, le, more) in e) ∙ passes
+]
