@@ -124,6 +124,7 @@ fn make_places(parts: &mut Parts) -> Result<(), NoMemory>
     parts.sched.reserve(count)?;
     parts.mail.reserve(count + agents)?;
     parts.mons.reserve(count)?;
+    parts.named.reserve(count)?;
     parts.conds.reserve(count)
 }
 
