@@ -1,3 +1,4 @@
 pub mod ConditionTable
 pub mod Machine
 pub mod Waits
+pub mod Kept

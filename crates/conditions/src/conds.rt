@@ -40,11 +40,14 @@ impl Drop for Conds {
 impl Model for Conds {
     ghost use Rattle.std.specs.Prelude.{map};
     ghost use Rattle.conditions.specs.ConditionTable.{ConditionTable};
+    ghost use Rattle.conditions.specs.Kept.{IsKept};
     ghost use Rattle.conditions.specs.Waits.{wait_in};
 
     ghost Value = { ConditionTable };
 
     ghost view = { λ s. record { conditions = s.rows.items; births = s.births; limit = s.limit; waits = map wait_in s.waits.waiting; places = s.waits.places } };
+
+    ghost invariant = { λ s. IsKept s.rows.items s.births };
 }
 
 impl Conds {

@@ -1,23 +1,42 @@
 // The live conditions, in birth order.
-ghost use Rattle.std.specs.Prelude.{◌≡◌, IfOk};
+ghost use Rattle.std.specs.Prelude.{◌≡◌, count_by, IfNone, IfOk, IfSome};
+ghost use Rattle.conditions.specs.Kept.{AreRising, IsAt};
 ghost use Rattle.lwp_types.specs.Locks.{without_conditions_of};
-ghost use Rattle.lwp_types.specs.Waits.{condition_numbers, condition_of, without_condition};
+ghost use Rattle.lwp_types.specs.Waits.{condition_numbers, condition_of, is_condition, without_condition};
 
 use lwp_types::{Cid, CondRow, IdList, Mid, NoMemory};
 use std::alloc::Global;
 
+// Where the condition stands. Numbers are given in birth order, so they rise.
+fn place_of(rows: &[CondRow], cond: Cid) -> Option<usize>
+    requires { AreRising rows.now }
+    ensures none { IfNone result (count_by (is_condition cond) rows.now ≡ 0) }
+    ensures some { IfSome result (IsAt cond rows.now) }
+{
+    let at = rows.partition_point(|row| row.number.number < cond.number);
+    match rows.get(at) {
+        Some(row) if row.number == cond => Some(at),
+        _ => None,
+    }
+}
+
 // The row of the condition, if it is live.
 pub fn row_of(rows: &[CondRow], cond: Cid) -> Option<CondRow>
+    requires { AreRising rows.now }
     ensures { result ≡ condition_of rows.now cond }
 {
-    rows.iter().copied().find(|row| row.number == cond)
+    let at = place_of(rows, cond)?;
+    Some(rows[at])
 }
 
 // Takes the condition out.
 pub fn take_out(rows: &mut Vec<CondRow>, cond: Cid)
+    requires { AreRising rows.old.items }
     ensures { rows.new.items ≡ without_condition cond rows.old.items }
 {
-    rows.retain(|row| row.number != cond);
+    if let Some(at) = place_of(rows, cond) {
+        rows.remove(at);
+    }
 }
 
 // Takes all conditions of the monitor out.

@@ -5,6 +5,7 @@ use Rattle.lwp_types.specs.Locks.{depth_set, with_depth}
 use Rattle.lwp_types.specs.Release.{is_lock, is_owned_by, last_lock, lock_of, locks_on, without_lock}
 use Rattle.lwp_types.specs.State.{times_in}
 use Rattle.lwp_types.specs.declared.rows.Lock.{Lock}
+use Rattle.monitors.proofs.LiveLaws.{All-without, AreRising-push, AreRising-without, born-push}
 use Rattle.monitors.proofs.Room.{length-locks-le, length-locks-lt}
 use Rattle.monitors.specs.Kept.{IsKept}
 use Rattle.monitors.specs.MonitorTable.{MonitorTable, destroyed, freed, is_free, is_live, next_request, with_grant}
@@ -40,10 +41,10 @@ module _ (s : MonitorTable) (m : ℕ) where
 module _ {s : MonitorTable} {lock_room : ℕ} (was : IsKept s lock_room) where
   -- the same locks of the same monitors, whoever waits
   pub kept_requests : (rs : List EntryRequest) → IsKept (record s { requests = rs }) lock_room
-  kept_requests rs = record { held_once = was.held_once; held_live = was.held_live; locks_fit = was.locks_fit }
+  kept_requests rs = record { held_once = was.held_once; held_live = was.held_live; locks_fit = was.locks_fit; rising = was.rising; born = was.born }
 
   kept_locks : (locks : List Lock) → ((m : ℕ) → locks_on locks m ≤ 1) → ((m : ℕ) → locks_on locks m ≤ times_in s.monitors m) → IsKept (record s { locks = locks }) lock_room
-  kept_locks locks once live = record { held_once = once; held_live = live; locks_fit = was.locks_fit }
+  kept_locks locks once live = record { held_once = once; held_live = live; locks_fit = was.locks_fit; rising = was.rising; born = was.born }
 
   pub length-kept_locks : length s.locks ≤ length s.monitors
   length-kept_locks = length-locks-le s.locks s.monitors was.held_once was.held_live
@@ -52,15 +53,17 @@ module _ {s : MonitorTable} {lock_room : ℕ} (was : IsKept s lock_room) where
   pub is_live-held : (m : ℕ) → is_free s m ≡ false → is_live s m ≡ true
   is_live-held m taken = any_counted (λ k. eqb k m) s.monitors (omega (arith, held_not_free s m taken, was.held_live m))
 
-  pub IsKept-created : (births room : ℕ) → length s.monitors + 1 ≤ room → IsKept (record s { monitors = s.monitors ++ s.births ∷ []; births = births }) room
-  IsKept-created births room more = record {
+  pub IsKept-created : (births room : ℕ) → s.births < births → length s.monitors + 1 ≤ room → IsKept (record s { monitors = s.monitors ++ s.births ∷ []; births = births }) room
+  IsKept-created births room later more = record {
     held_once = was.held_once;
     held_live = λ m. omega (arith, was.held_live m, count-push (λ k. eqb k m) s.monitors s.births);
     locks_fit = omega (arith, more, length_push s.monitors s.births);
+    rising = AreRising-push s.monitors s.births was.rising was.born;
+    born = born-push s.monitors s.births births was.born later;
   }
 
   pub IsKept-roomier : (room : ℕ) → length s.monitors ≤ room → IsKept s room
-  IsKept-roomier room more = record { held_once = was.held_once; held_live = was.held_live; locks_fit = more }
+  IsKept-roomier room more = record { held_once = was.held_once; held_live = was.held_live; locks_fit = more; rising = was.rising; born = was.born }
 
   pub IsKept-destroyed : (m : ℕ) → is_free s m ≡ true → IsKept (destroyed s m) lock_room
   IsKept-destroyed m free = record {
@@ -70,6 +73,8 @@ module _ {s : MonitorTable} {lock_room : ℕ} (was : IsKept s lock_room) where
       | inr differs ↦ omega (arith, was.held_live k, times-without_other m k s.monitors differs)
     ];
     locks_fit = omega (arith, was.locks_fit, length-failed (λ k. eqb k m) s.monitors);
+    rising = AreRising-without m s.monitors was.rising;
+    born = All-without (λ k. k < s.births) m s.monitors was.born;
   }
 
   pub IsKept-freed : (m : ℕ) → IsKept (freed s m) lock_room
@@ -126,4 +131,4 @@ module _ {s : MonitorTable} {lock_room : ℕ} (was : IsKept s lock_room) where
     IsKept-granted r next =
         let its : r.mon ≡ m = eqb-true r.mon m (best_passes (λ r. r.prio) (λ r. eqb r.mon m) s.requests r next) in
         let taken = IsKept-taken (record { mon = r.mon; owner = r.tid; depth = r.depth }) its in
-        record { held_once = taken.held_once; held_live = taken.held_live; locks_fit = was.locks_fit }
+        record { held_once = taken.held_once; held_live = taken.held_live; locks_fit = was.locks_fit; rising = was.rising; born = was.born }

@@ -1,4 +1,5 @@
 pub mod KeptLemmas
+pub mod LiveLaws
 pub mod Room
 pub mod Machine
 pub mod Lines

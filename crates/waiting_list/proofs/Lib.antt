@@ -1,2 +1,5 @@
-pub mod LevelLaws
+pub mod KeyLaws
+pub mod EntryLaws
+pub mod FilingLaws
+pub mod KeptLaws
 pub mod LineLaws

@@ -5,7 +5,8 @@
 //! What they wait for is a number, of a monitor or of a condition. The crate stands on `lwp_types` alone.
 #![tactic(auto)]
 
-mod levels;
+mod filing;
+mod keys;
 mod line;
 mod rows;
 

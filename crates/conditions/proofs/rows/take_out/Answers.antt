@@ -1,8 +1,9 @@
+use Rattle.conditions.proofs.RowLaws.{without_found, without_none}
 use Rattle.conditions.proofs.rows.take_out.Goals as goal
-use Rattle.lwp_types.specs.Waits.{is_condition}
-use Rattle.std.proofs.Common.{not, rules}
-use Rattle.std.proofs.lemmas.Fn.{filter_same}
+use Rattle.std.proofs.Common.{sym, ◌∙◌}
 
--- the closure answers whether it is another condition
-pub returns : goal.returns
-returns c = filter_same _ (λ row. not (is_condition c.args.cond row)) _ (λ x b f' k. (search rules, search rules)) _ _ c.retain.ensures.filtered
+pub returns-in-Some : goal.returns-in-Some
+returns-in-Some c = c.remove.ensures.items ∙ without_found c.args.rows.now.items c.args.cond c.in-Some.at c.requires (rw c.deref.ensures.value at c.in-Some.ensures.some)
+
+pub returns-in_default : goal.returns-in_default
+returns-in_default c = sym (without_none c.args.rows.now.items c.args.cond (rw c.deref.ensures.value at c.in_default.ensures.none))

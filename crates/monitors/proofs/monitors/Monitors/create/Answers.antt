@@ -13,7 +13,7 @@ invariant_of-self-in_err-push c =
 pub invariant_of-self-2 : goal.invariant_of-self-2
 invariant_of-self-2 c =
     rw (c.in_ok-push.ensures.items, c.reserve.ensures.items)
-    (IsKept-created c.self.invariant _ _ (omega (arith, length-kept_locks c.self.invariant, c.in_ok-reserve.ensures.ok, c.reserve.ensures.len)))
+    (IsKept-created c.self.invariant _ _ (omega arith) (omega (arith, length-kept_locks c.self.invariant, c.in_ok-reserve.ensures.ok, c.reserve.ensures.len)))
 
 pub returns-clause-value : goal.returns-clause-value
 returns-clause-value c = search rules

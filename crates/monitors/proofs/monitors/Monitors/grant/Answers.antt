@@ -33,7 +33,7 @@ invariant_of-self c =
     let next = c.in_ok-next.next in
     let its = eqb-true next.what c.args.mon (best_passes (λ w. w.prio) (is_for c.args.mon) c.self.inside.requests.waiting next (sym (rw c.mon.view_is at c.in_ok-next.ensures))) in
     let kept = IsKept-taken c.self.invariant c.args.mon (rw (← c.self.view_is) at c.requires.live) (rw (← c.self.view_is) at c.requires.free) (record { mon = next.what; owner = next.tid; depth = next.depth }) its in
-    rw (c.push_reserved.ensures.items, c.push_reserved.ensures.capacity) (record { held_once = kept.held_once; held_live = kept.held_live; locks_fit = kept.locks_fit })
+    rw (c.push_reserved.ensures.items, c.push_reserved.ensures.capacity) (record { held_once = kept.held_once; held_live = kept.held_live; locks_fit = kept.locks_fit; rising = kept.rising; born = kept.born })
 
 pub returns-clause-value : goal.returns-clause-value
 returns-clause-value c =

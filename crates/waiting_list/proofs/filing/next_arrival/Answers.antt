@@ -1,0 +1,27 @@
+use Rattle.std.proofs.Common.{ap, arith, length, refl}
+use Rattle.waiting_list.proofs.FilingLaws.{below-numbered, last_is_most, length-numbered, rising-numbered, waits-numbered}
+use Rattle.waiting_list.proofs.filing.next_arrival.Goals as goal
+
+pub returns-then-last-lt18446744073709551615-clause-later : goal.returns-then-last-lt18446744073709551615-clause-later
+returns-then-last-lt18446744073709551615-clause-later c =
+    last_is_most c.args.entries.now.items _ c.in-Some.entry.now c.requires.indexed.rising (omega (arith, c.in-Some.ensures.variant.0 refl, c.args.entries.now.ok.0)) c.in-Some.ensures.lookup
+
+pub file-requires-clause-ranks_fit : goal.file-requires-clause-ranks_fit
+file-requires-clause-ranks_fit c = rw c.renumber.ensures.items (omega (arith, length-numbered 0 c.args.entries.now.items, c.requires.ranks_fit))
+
+pub file-requires-clause-threads_fit : goal.file-requires-clause-threads_fit
+file-requires-clause-threads_fit c = rw c.renumber.ensures.items (omega (arith, length-numbered 0 c.args.entries.now.items, c.requires.threads_fit))
+
+pub returns-clause-same : goal.returns-clause-same
+returns-clause-same c = rw c.renumber.ensures.items (waits-numbered 0 c.args.entries.now.items)
+
+pub returns-clause-indexed : goal.returns-clause-indexed
+returns-clause-indexed c = record {
+  rising = rw c.renumber.ensures.items (rising-numbered 0 c.args.entries.now.items);
+  ranked = c.file.ensures.ranked;
+  known = c.file.ensures.known;
+}
+
+pub returns-clause-later : goal.returns-clause-later
+returns-clause-later c =
+    rw c.renumber.ensures.items (below-numbered c.len.result 0 c.args.entries.now.items (omega (arith, c.len.ensures, c.renumber.new.entries.ok.0, ap length c.renumber.ensures.items, length-numbered 0 c.args.entries.now.items)))

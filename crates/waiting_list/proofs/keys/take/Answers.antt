@@ -1,0 +1,30 @@
+use Rattle.lwp_types.specs.CountLaws.{one}
+use Rattle.std.proofs.Common.{ap, arith}
+use Rattle.std.proofs.lemmas.List.Edits.{length-remove}
+use Rattle.std.proofs.lemmas.List.Sums.{sum_by-remove}
+use Rattle.waiting_list.proofs.KeyLaws.{IsSorted-remove, key_there, within_there}
+use Rattle.waiting_list.proofs.LineLaws.{if_taken}
+use Rattle.waiting_list.proofs.keys.take.Goals as goal
+use Rattle.waiting_list.specs.Keys.{is_key}
+
+pub returns-clause-sorted : goal.returns-clause-sorted
+returns-clause-sorted c =
+    let ks = c.args.keys.now.items in
+    let at = within_there c.args.key ks c.place_of-at.result c.requires.sorted c.place_of-at.ensures c.requires.there in
+    let gone = if_taken _ _ _ (c.remove.ensures.succeeds c.args.key (omega (arith, at))) c.remove.ensures.items in
+    rw gone (IsSorted-remove ks c.place_of-at.result c.requires.sorted)
+
+pub returns-clause-counts : goal.returns-clause-counts
+returns-clause-counts c =
+    let ks = c.args.keys.now.items in
+    let at = within_there c.args.key ks c.place_of-at.result c.requires.sorted c.place_of-at.ensures c.requires.there in
+    let gone = if_taken _ _ _ (c.remove.ensures.succeeds c.args.key (omega (arith, at))) c.remove.ensures.items in
+    let here = key_there c.args.key ks c.place_of-at.result c.requires.sorted c.place_of-at.ensures c.requires.there in
+    λ k. rw gone (omega (arith, sum_by-remove (λ l. one (is_key k l)) ks c.place_of-at.result c.args.key at, ap (λ l. one (is_key k l)) here))
+
+pub returns-clause-len : goal.returns-clause-len
+returns-clause-len c =
+    let ks = c.args.keys.now.items in
+    let at = within_there c.args.key ks c.place_of-at.result c.requires.sorted c.place_of-at.ensures c.requires.there in
+    let gone = if_taken _ _ _ (c.remove.ensures.succeeds c.args.key (omega (arith, at))) c.remove.ensures.items in
+    rw gone (omega (arith, length-remove ks c.place_of-at.result at))
