@@ -1,6 +1,7 @@
 // What the statements of a script call. A call is set where the last one lay.
 ghost use Rattle.std.specs.Prelude.{◌≡◌, ◌<◌, ◌≤◌, ◌^◌, length, option_map};
 ghost use Rattle.lwp_types.specs.declared.call.Call.TheVariants as call_kind;
+ghost use Rattle.lwp_types.specs.declared.call.ExitCall.TheVariants as exit_kind;
 ghost use Rattle.script_text.specs.Script.{proc_places, text_at};
 ghost use Rattle.script_body.specs.Calls.{who_id, exit_call_of, plain_call, lock_call, thread_call, call_of};
 
@@ -27,34 +28,7 @@ fn who_id(sender: Tid, env: &Env, who: Who) -> Tid
     }
 }
 
-#[inline(always)]
-fn exit_call_of(texts: &Texts, sender: Tid, env: &Env, exit: &ExitStmt) -> ExitCall
-    ensures { result ≡ exit_call_of texts.now sender env.now exit.now }
-{
-    match exit {
-        ExitStmt::MonExit { mon } => ExitCall::MonExit { mon: env.mon(*mon) },
-        ExitStmt::MonBreak { mon } => ExitCall::MonBreak { mon: env.mon(*mon) },
-        ExitStmt::Notify { cond } => ExitCall::Notify {
-            cond: env.cond(*cond),
-        },
-        ExitStmt::Broadcast { cond } => ExitCall::Broadcast {
-            cond: env.cond(*cond),
-        },
-        ExitStmt::Reply { to, text } => ExitCall::Reply {
-            to: who_id(sender, env, *to),
-            text: texts.get(*text as usize),
-        },
-        ExitStmt::Resume { who } => ExitCall::Resume {
-            tid: who_id(sender, env, *who),
-        },
-        ExitStmt::SetExit { code } => ExitCall::SetExit { code: *code },
-        ExitStmt::Note { text } => ExitCall::Note {
-            text: texts.get(*text as usize),
-        },
-    }
-}
-
-// A letter. What has room for a text stands apart, here and in the three below, so that the other calls clear none.
+// A letter. What has room for a text stands apart, here and in the four below, so that the other calls clear none.
 #[inline(never)]
 fn set_send(texts: &Texts, to: Tid, room: u8, place: u32, call: &mut Call)
     ensures { call.new ≡ call_kind.Send to room (text_at texts.now place) }
@@ -85,13 +59,54 @@ fn set_say(texts: &Texts, place: u32, call: &mut Call)
     };
 }
 
+// A note that an exit procedure makes, and a reply that it gives.
+#[inline(never)]
+fn set_note(texts: &Texts, place: u32, call: &mut Call)
+    ensures { call.new ≡ call_kind.OnExit (exit_kind.Note (text_at texts.now place)) }
+{
+    *call = Call::OnExit {
+        call: ExitCall::Note {
+            text: texts.get(place as usize),
+        },
+    };
+}
+
+#[inline(never)]
+fn set_late_reply(texts: &Texts, to: Tid, place: u32, call: &mut Call)
+    ensures { call.new ≡ call_kind.OnExit (exit_kind.Reply to (text_at texts.now place)) }
+{
+    *call = Call::OnExit {
+        call: ExitCall::Reply {
+            to,
+            text: texts.get(place as usize),
+        },
+    };
+}
+
+// An exit procedure; those with a text are set where the call lies.
 #[inline(never)]
 fn set_on_exit(texts: &Texts, sender: Tid, env: &Env, exit: &ExitStmt, call: &mut Call)
     ensures { call.new ≡ call_kind.OnExit (exit_call_of texts.now sender env.now exit.now) }
 {
-    *call = Call::OnExit {
-        call: exit_call_of(texts, sender, env, exit),
+    let exit = match exit {
+        ExitStmt::Note { text } => return set_note(texts, *text, call),
+        ExitStmt::Reply { to, text } => {
+            return set_late_reply(texts, who_id(sender, env, *to), *text, call);
+        }
+        ExitStmt::MonExit { mon } => ExitCall::MonExit { mon: env.mon(*mon) },
+        ExitStmt::MonBreak { mon } => ExitCall::MonBreak { mon: env.mon(*mon) },
+        ExitStmt::Notify { cond } => ExitCall::Notify {
+            cond: env.cond(*cond),
+        },
+        ExitStmt::Broadcast { cond } => ExitCall::Broadcast {
+            cond: env.cond(*cond),
+        },
+        ExitStmt::Resume { who } => ExitCall::Resume {
+            tid: who_id(sender, env, *who),
+        },
+        ExitStmt::SetExit { code } => ExitCall::SetExit { code: *code },
     };
+    *call = Call::OnExit { call: exit };
 }
 
 // A statement that names nothing.
