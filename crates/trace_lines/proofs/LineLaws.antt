@@ -11,11 +11,11 @@ use Rattle.lwp_types.specs.declared.call.IdKind.TheVariants as kind
 use Rattle.lwp_types.specs.declared.call.Line.{Line}
 use Rattle.lwp_types.specs.declared.call.LwpErr.{LwpErr}
 use Rattle.lwp_types.specs.declared.call.LwpErr.TheVariants as error
-use Rattle.std.proofs.Common.{Bool, List, None, Option, Some, [], ap, arith, codes, cond, eqb, false, length, length-append, refl, suc, sym, true, ℕ, ◌++◌, ◌-◌, ◌<◌, ◌∙◌, ◌∷◌, ◌≡◌, ◌≤◌, ◌^◌, drop}
+use Rattle.std.proofs.Common.{Bool, List, None, Option, Some, [], ap, arith, codes, cond, eqb, false, length, length-append, refl, subst, suc, sym, true, ℕ, ◌++◌, ◌-◌, ◌<◌, ◌∙◌, ◌∷◌, ◌≡◌, ◌≤◌, ◌^◌, drop}
 use Rattle.std.proofs.lemmas.Bool.{eqb-false, eqb-true}
-use Rattle.std.specs.Fmt.{decimal}
+use Rattle.std.specs.Fmt.{decimal, digits}
 use Rattle.std.specs.Prelude.{IsTrue, bytes_eq, negsuc, not, pos}
-use Rattle.trace_lines.proofs.WordLaws.{EndsDigits, behind_again, id_again, id_alone, id_is_word, not_number, not_number_on, number_again, number_alone, number_is_word, rest_again, who_again, who_alone, whole_alone}
+use Rattle.trace_lines.proofs.WordLaws.{EndsDigits, behind_again, id_again, id_alone, not_number, not_number_on, number_again, number_alone, number_is_word, rest_again, who_again, who_alone, whole_alone}
 use Rattle.trace_lines.specs.Entries.{also_told, call_entry, entry_of, event_told, exited, gain_of, id_of, is_suspended, posted, rites_told, target_of, thread_entry, tick_told, trap_told, verb_of, who_of}
 use Rattle.trace_lines.specs.Told.{AlsoIsRead, AnswersAreRead, CallsAreRead, DeathsAreRead, EndsAreRead, EventsAreRead, ExitsAreRead, IsAnswer, IsPrinted, RitesAreRead, TicksAreRead, TrapsAreRead, exit_target, exit_verb, gain_told, is_outcome, is_refused, suspended_told, target_told, verb_told}
 use Rattle.trace_lines.specs.Words.{ends, reach, rest, starts, word}
@@ -273,17 +273,21 @@ refusal error.NoWait = (omega arith, refl)
 ended : (xs s : List ℕ) → 4 ≤ length s → ends (codes " = 0") (xs ++ s) ≡ ends (codes " = 0") s
 ended xs s le = ap (λ l. bytes_eq l (codes " = 0")) (past xs s 4 le)
 
+done : (xs : List ℕ) → not (ends (codes " = 0") (xs ++ answer_text (answer.Value (pos 0)))) ≡ false
+unfolding digits
+done xs = ap not (ended xs (codes " = 0") (omega arith))
+
 outcome : (xs : List ℕ) (a : Answer) → IsTrue (is_outcome a) → not (ends (codes " = 0") (xs ++ answer_text a)) ≡ is_refused a
-outcome xs (answer.Value (pos n)) h = rw (eqb-true n 0 h, ended xs (codes " = 0") (omega arith)) refl
-outcome xs (answer.Value (negsuc n)) h = absurd h
-outcome xs (answer.Thread u) h = absurd h
-outcome xs (answer.Monitor m) h = absurd h
-outcome xs (answer.Cond c) h = absurd h
-outcome xs (answer.Letter from text room) h = absurd h
-outcome xs (answer.Reply text) h = absurd h
-outcome xs (answer.Bound func arg) h = absurd h
-outcome xs (answer.Caught depth mark p) h = absurd h
-outcome xs (answer.Ids k ids) h = absurd h
+outcome xs (answer.Value (pos n)) h = subst (λ m. not (ends (codes " = 0") (xs ++ answer_text (answer.Value (pos m)))) ≡ false) (sym (eqb-true n 0 h)) (done xs)
+outcome xs (answer.Value (negsuc n)) h = absurd (cc)
+outcome xs (answer.Thread u) h = absurd (cc)
+outcome xs (answer.Monitor m) h = absurd (cc)
+outcome xs (answer.Cond c) h = absurd (cc)
+outcome xs (answer.Letter from text room) h = absurd (cc)
+outcome xs (answer.Reply text) h = absurd (cc)
+outcome xs (answer.Bound func arg) h = absurd (cc)
+outcome xs (answer.Caught depth mark p) h = absurd (cc)
+outcome xs (answer.Ids k ids) h = absurd (cc)
 outcome xs (answer.Refused e) h = let r = refusal e in rw (ended xs (answer_text (answer.Refused e)) r.0, r.1) refl
 
 -- an id with an answer behind it

@@ -1,6 +1,6 @@
 -- What a line of a trace tells.
 use Rattle.lwp_types.specs.Names.{null_id}
-use Rattle.std.specs.Prelude.{Bool, List, None, Option, Some, bytes_eq, codes, drop, false, if◌then◌else◌, not, true, unwrap_or, ℕ, ◌&&◌, ◌||◌}
+use Rattle.std.specs.Prelude.{Bool, List, None, Option, Some, bytes_eq, codes, drop, false, if◌then◌else◌, not, unwrap_or, ℕ, ◌||◌}
 use Rattle.trace_lines.specs.Words.{behind, ends, number, rest, starts, whole_number, word}
 use Rattle.trace_lines.specs.declared.entry.Entry.{Entry}
 use Rattle.trace_lines.specs.declared.entry.Entry.TheVariants as entry
