@@ -9,14 +9,16 @@ use Rattle.lwp_types.specs.declared.call.ExitCall.TheVariants as exit
 use Rattle.lwp_types.specs.declared.call.Flags.{Flags}
 use Rattle.lwp_types.specs.declared.call.IdKind.TheVariants as kind
 use Rattle.lwp_types.specs.declared.call.Line.{Line}
-use Rattle.std.proofs.Common.{Bool, List, None, Option, Some, [], ap, arith, codes, cond, eqb, false, length, refl, sym, true, ℕ, ◌&&◌, ◌++◌, ◌<◌, ◌∙◌, ◌∷◌, ◌≡◌, ◌≤◌, ◌^◌, drop}
+use Rattle.lwp_types.specs.declared.call.LwpErr.{LwpErr}
+use Rattle.lwp_types.specs.declared.call.LwpErr.TheVariants as error
+use Rattle.std.proofs.Common.{Bool, List, None, Option, Some, [], ap, arith, codes, cond, eqb, false, length, length-append, refl, subst, suc, sym, true, ℕ, ◌++◌, ◌-◌, ◌<◌, ◌∙◌, ◌∷◌, ◌≡◌, ◌≤◌, ◌^◌, drop}
 use Rattle.std.proofs.lemmas.Bool.{eqb-false, eqb-true}
-use Rattle.std.specs.Fmt.{decimal}
-use Rattle.std.specs.Prelude.{negsuc, pos}
-use Rattle.trace_lines.proofs.WordLaws.{EndsDigits, behind_again, id_again, id_alone, id_is_word, not_number, not_number_on, number_again, number_alone, number_is_word, rest_again, who_again, who_alone, whole_alone}
-use Rattle.trace_lines.specs.Entries.{also_told, call_entry, entry_of, event_told, exit_entry, gain_of, id_of, is_suspended, posted, rites_told, shows, thread_entry, tick_told, trap_told, who_of}
-use Rattle.trace_lines.specs.Told.{AlsoIsRead, AnswersAreRead, CallsAreRead, DeathsAreRead, EndsAreRead, EventsAreRead, ExitsAreRead, IsAnswer, IsPrinted, RitesAreRead, TicksAreRead, TrapsAreRead, exit_target, exit_verb, gain_told, is_refused, suspended_told, target_told, verb_told}
-use Rattle.trace_lines.specs.Words.{reach, rest, starts}
+use Rattle.std.specs.Fmt.{decimal, digits}
+use Rattle.std.specs.Prelude.{IsTrue, bytes_eq, negsuc, not, pos}
+use Rattle.trace_lines.proofs.WordLaws.{EndsDigits, behind_again, id_again, id_alone, not_number, not_number_on, number_again, number_alone, number_is_word, rest_again, who_again, who_alone, whole_alone}
+use Rattle.trace_lines.specs.Entries.{also_told, call_entry, entry_of, event_told, exited, gain_of, id_of, is_suspended, posted, rites_told, target_of, thread_entry, tick_told, trap_told, verb_of, who_of}
+use Rattle.trace_lines.specs.Told.{AlsoIsRead, AnswersAreRead, CallsAreRead, DeathsAreRead, EndsAreRead, EventsAreRead, ExitsAreRead, IsAnswer, IsPrinted, RitesAreRead, TicksAreRead, TrapsAreRead, exit_target, exit_verb, gain_told, is_outcome, is_refused, suspended_told, target_told, verb_told}
+use Rattle.trace_lines.specs.Words.{ends, reach, rest, starts, word}
 use Rattle.trace_lines.specs.declared.entry.Entry.TheVariants as entry
 use Rattle.trace_lines.specs.declared.entry.Gain.TheVariants as gain
 use Rattle.trace_lines.specs.declared.entry.Verb.TheVariants as verb
@@ -45,7 +47,7 @@ created : (procs : List (List ℕ)) (number prio : ℕ) (flags : Flags) → reac
 created procs number prio flags one lt =
     rw (rest_again (proc_text procs number) (decimal prio ++ (codes " " ++ flags_text flags)) one, rest_again (decimal prio) (flags_text flags) (number_is_word prio (omega (arith, lt)))) (flags_again flags.suspended flags.nolastrites flags.server)
 
-said : (t : ℕ) (text : List ℕ) → call_entry t (codes "say" ++ spaced text) ≡ Some (entry.Called t verb.Other null_id false)
+said : (t : ℕ) (text : List ℕ) → call_entry t (codes "say" ++ spaced text) ≡ Some (entry.Called t verb.Say null_id false)
 said t [] = refl
 said t (b ∷ bs) = refl
 
@@ -250,25 +252,47 @@ headed (answer.Caught depth mark p) = refl
 headed (answer.Ids k ids) = refl
 headed (answer.Refused e) = refl
 
-refused : (a : Answer) → starts (codes "! ") (drop 1 (answer_text a)) ≡ is_refused a
-refused (answer.Value v) = refl
-refused (answer.Thread u) = refl
-refused (answer.Monitor m) = refl
-refused (answer.Cond c) = refl
-refused (answer.Letter from text room) = refl
-refused (answer.Reply text) = refl
-refused (answer.Bound func arg) = refl
-refused (answer.Caught depth mark p) = refl
-refused (answer.Ids k ids) = refl
-refused (answer.Refused e) = refl
+-- what becomes of an exit procedure stands at the end of its line
+past : (xs s : List ℕ) (k : ℕ) → k ≤ length s → drop (length (xs ++ s) - k) (xs ++ s) ≡ drop (length s - k) s
+past [] s k le = refl
+past (x ∷ xs) s k le =
+    let more : length (x ∷ (xs ++ s)) - k ≡ suc (length (xs ++ s) - k) = omega (arith, le, length-append xs s) in
+    rw more (past xs s k le)
 
--- an id with an answer behind it: the id, and whether the answer is a refusal
-named : (b m : ℕ) (a : Answer) → eqb b 32 ≡ false → m ≤ null_id
-    → (id_of (id_text (b ∷ []) m ++ answer_text a) ≡ m) × (starts (codes "! ") (rest (id_text (b ∷ []) m ++ answer_text a)) ≡ is_refused a)
-named b m a other le = (
-  id_again b m (answer_text a) le (begins a),
-  ap (λ l. starts (codes "! ") (rest (id_text (b ∷ []) m ++ l))) (headed a) ∙ ap (starts (codes "! ")) (rest_again (id_text (b ∷ []) m) (drop 1 (answer_text a)) (id_is_word b m other le)) ∙ refused a,
-)
+refusal : (e : LwpErr) → (4 ≤ length (answer_text (answer.Refused e))) × (ends (codes " = 0") (answer_text (answer.Refused e)) ≡ false)
+refusal error.NoError = (omega arith, refl)
+refusal error.NonExist = (omega arith, refl)
+refusal error.Timeout = (omega arith, refl)
+refusal error.InUse = (omega arith, refl)
+refusal error.InvalidArg = (omega arith, refl)
+refusal error.NoRoom = (omega arith, refl)
+refusal error.NotOwned = (omega arith, refl)
+refusal error.IllPrio = (omega arith, refl)
+refusal error.NoWait = (omega arith, refl)
+
+ended : (xs s : List ℕ) → 4 ≤ length s → ends (codes " = 0") (xs ++ s) ≡ ends (codes " = 0") s
+ended xs s le = ap (λ l. bytes_eq l (codes " = 0")) (past xs s 4 le)
+
+done : (xs : List ℕ) → not (ends (codes " = 0") (xs ++ answer_text (answer.Value (pos 0)))) ≡ false
+unfolding digits
+done xs = ap not (ended xs (codes " = 0") (omega arith))
+
+outcome : (xs : List ℕ) (a : Answer) → IsTrue (is_outcome a) → not (ends (codes " = 0") (xs ++ answer_text a)) ≡ is_refused a
+outcome xs (answer.Value (pos n)) h = subst (λ m. not (ends (codes " = 0") (xs ++ answer_text (answer.Value (pos m)))) ≡ false) (sym (eqb-true n 0 h)) (done xs)
+outcome xs (answer.Value (negsuc n)) h = absurd (cc)
+outcome xs (answer.Thread u) h = absurd (cc)
+outcome xs (answer.Monitor m) h = absurd (cc)
+outcome xs (answer.Cond c) h = absurd (cc)
+outcome xs (answer.Letter from text room) h = absurd (cc)
+outcome xs (answer.Reply text) h = absurd (cc)
+outcome xs (answer.Bound func arg) h = absurd (cc)
+outcome xs (answer.Caught depth mark p) h = absurd (cc)
+outcome xs (answer.Ids k ids) h = absurd (cc)
+outcome xs (answer.Refused e) h = let r = refusal e in rw (ended xs (answer_text (answer.Refused e)) r.0, r.1) refl
+
+-- an id with an answer behind it
+named : (b m : ℕ) (a : Answer) → m ≤ null_id → id_of (id_text (b ∷ []) m ++ answer_text a) ≡ m
+named b m a le = id_again b m (answer_text a) le (begins a)
 
 -- nobody's own call: no thread is `self`
 named_who : (m : ℕ) (l : List ℕ) → m ≤ null_id → EndsDigits l → who_of null_id (thread_text m ++ l) ≡ m
@@ -278,21 +302,37 @@ named_who m l le e = by_null (eqb m null_id) refl
     by_null true h = sym (eqb-true m null_id h)
     by_null false h = let fits : m < 2 ^ 64 = omega (arith, eqb-false m null_id h) in rw (number_again m l fits e) refl
 
-noted : (reg : ℕ) (text : List ℕ) (a : Answer) → exit_entry (Some reg) (32 ∷ ((codes "note" ++ spaced text) ++ answer_text a)) ≡ Some (entry.Exited reg verb.Other null_id false)
-noted reg [] a = rw (headed a) refl
-noted reg (b ∷ bs) a = refl
+noted : (text : List ℕ) (a : Answer) → verb_of (word ((codes "note" ++ spaced text) ++ answer_text a)) ≡ Some verb.Other
+noted [] a = rw (headed a) refl
+noted (b ∷ bs) a = refl
 
-ran : (reg : ℕ) (x : ExitCall) (a : Answer) → exit_target x ≤ null_id
-    → exit_entry (Some reg) (32 ∷ (exit_text None x ++ answer_text a)) ≡ Some (entry.Exited reg (exit_verb x) (exit_target x) (shows (exit_verb x) && is_refused a))
-ran reg (exit.MonExit m) a h = let n = named 109 m a refl h in rw (n.0, n.1) refl
-ran reg (exit.MonBreak m) a h = let n = named 109 m a refl h in rw (n.0, n.1) refl
-ran reg (exit.Notify c) a h = refl
-ran reg (exit.Broadcast c) a h = refl
-ran reg (exit.Reply u text) a h = refl
-ran reg (exit.Resume t) a h = let n = named 116 t a refl h in rw (named_who t (answer_text a) h (begins a), n.1) refl
-ran reg (exit.SetExit code) a h = refl
-ran reg (exit.Note text) a h = noted reg text a
+exit_named : (x : ExitCall) (a : Answer) → verb_of (word (exit_text None x ++ answer_text a)) ≡ Some (exit_verb x)
+exit_named (exit.MonExit m) a = refl
+exit_named (exit.MonBreak m) a = refl
+exit_named (exit.Notify c) a = refl
+exit_named (exit.Broadcast c) a = refl
+exit_named (exit.Reply u text) a = refl
+exit_named (exit.Resume t) a = refl
+exit_named (exit.SetExit code) a = refl
+exit_named (exit.Note text) a = noted text a
+
+exit_targets : (x : ExitCall) (a : Answer) → exit_target x ≤ null_id → target_of (exit_verb x) null_id (rest (exit_text None x ++ answer_text a)) ≡ exit_target x
+exit_targets (exit.MonExit m) a h = named 109 m a h
+exit_targets (exit.MonBreak m) a h = named 109 m a h
+exit_targets (exit.Notify c) a h = refl
+exit_targets (exit.Broadcast c) a h = refl
+exit_targets (exit.Reply u text) a h = refl
+exit_targets (exit.Resume t) a h = named_who t (answer_text a) h (begins a)
+exit_targets (exit.SetExit code) a h = refl
+exit_targets (exit.Note text) a h = refl
+
+ran : (reg : ℕ) (x : ExitCall) (a : Answer) → exit_target x ≤ null_id → IsTrue (is_outcome a)
+    → exited reg (exit_text None x ++ answer_text a) (verb_of (word (exit_text None x ++ answer_text a))) ≡ Some (entry.Exited reg (exit_verb x) (exit_target x) (is_refused a))
+ran reg x a h o =
+    ap (exited reg (exit_text None x ++ answer_text a)) (exit_named x a)
+    ∙ ap (λ n. Some (entry.Exited reg (exit_verb x) n (not (ends (codes " = 0") (exit_text None x ++ answer_text a))))) (exit_targets x a h)
+    ∙ ap (λ r. Some (entry.Exited reg (exit_verb x) (exit_target x) r)) (outcome (exit_text None x) a o)
 
 pub exited_again : (procs : List (List ℕ)) (took : Option Line) (t reg : ℕ) (x : ExitCall) (a : Answer) → ExitsAreRead procs took t reg x a
-exited_again procs took t reg x a lt h =
-    rw (number_again reg (32 ∷ (exit_text None x ++ answer_text a)) lt refl, behind_again reg (32 ∷ (exit_text None x ++ answer_text a)) lt refl) (ran reg x a h)
+exited_again procs took t reg x a lt h o =
+    rw (number_again reg (32 ∷ (exit_text None x ++ answer_text a)) lt refl, behind_again reg (32 ∷ (exit_text None x ++ answer_text a)) lt refl) (ran reg x a h o)

@@ -1,7 +1,7 @@
 -- What a line of a trace tells.
 use Rattle.lwp_types.specs.Names.{null_id}
-use Rattle.std.specs.Prelude.{Bool, List, None, Option, Some, bytes_eq, codes, drop, false, if◌then◌else◌, true, unwrap_or, ℕ, ◌&&◌, ◌||◌}
-use Rattle.trace_lines.specs.Words.{behind, number, rest, starts, whole_number, word}
+use Rattle.std.specs.Prelude.{Bool, List, None, Option, Some, bytes_eq, codes, drop, false, if◌then◌else◌, not, unwrap_or, ℕ, ◌||◌}
+use Rattle.trace_lines.specs.Words.{behind, ends, number, rest, starts, whole_number, word}
 use Rattle.trace_lines.specs.declared.entry.Entry.{Entry}
 use Rattle.trace_lines.specs.declared.entry.Entry.TheVariants as entry
 use Rattle.trace_lines.specs.declared.entry.Gain.{Gain}
@@ -32,6 +32,7 @@ monitor_verb w =
     else if bytes_eq w (codes "wait") then Some verb.Wait
     else if bytes_eq w (codes "agent") then Some verb.Agent
     else if bytes_eq w (codes "onexit") then Some verb.OnExit
+    else if bytes_eq w (codes "say") then Some verb.Say
     else None
 
 -- words of calls that don't
@@ -48,8 +49,7 @@ is_list w = bytes_eq w (codes "senders") || bytes_eq w (codes "receivers") || by
 abbrev pub is_mark : List ℕ → Bool
 is_mark w = bytes_eq w (codes "notify") || bytes_eq w (codes "broadcast") || bytes_eq w (codes "cvsend") || bytes_eq w (codes "call")
     || bytes_eq w (codes "return") || bytes_eq w (codes "handle") || bytes_eq w (codes "unhandle") || bytes_eq w (codes "raise")
-    || bytes_eq w (codes "excnotify") || bytes_eq w (codes "bound") || bytes_eq w (codes "uniqpatt") || bytes_eq w (codes "say")
-    || bytes_eq w (codes "note")
+    || bytes_eq w (codes "excnotify") || bytes_eq w (codes "bound") || bytes_eq w (codes "uniqpatt") || bytes_eq w (codes "note")
 
 -- the first of these that there is
 abbrev pub either : Option Verb → Option Verb → Option Verb
@@ -76,6 +76,7 @@ abbrev pub target_of : Verb → ℕ → List ℕ → ℕ
 target_of verb.Create me text = null_id
 target_of verb.OnExit me text = null_id
 target_of verb.Sleep me text = null_id
+target_of verb.Say me text = null_id
 target_of verb.Other me text = null_id
 target_of verb.Agent me text = unwrap_or (number text) null_id
 target_of verb.Destroy me text = who_of me text
@@ -128,7 +129,7 @@ abbrev pub answer_entry : ℕ → List ℕ → Option Entry
 answer_entry tid text =
     if starts (codes " = ") text then Some (entry.Answered tid (gain_of (drop 3 text)))
     else if starts (codes " ! ") text then Some (entry.Answered tid gain.Refused)
-    else if starts (codes " caught ") text then Some (entry.Answered tid gain.Other)
+    else if starts (codes " caught ") text then Some (entry.Answered tid gain.Caught)
     else if bytes_eq text (codes " dies") then Some (entry.Died tid)
     else if starts (codes " trap ") text then trap_entry tid (drop 6 text)
     else None
@@ -138,21 +139,15 @@ abbrev pub thread_entry : Option ℕ → List ℕ → Option Entry
 thread_entry None text = None
 thread_entry (Some tid) text = if starts (codes ": ") text then call_entry tid (drop 2 text) else answer_entry tid text
 
--- which results of exit procedures show
-abbrev pub shows : Verb → Bool
-shows verb.MonExit = true
-shows verb.MonBreak = true
-shows verb.Resume = true
-shows _ = false
-
+-- an exit procedure, and what became of it: it was refused, unless its line ends with a 0
 abbrev pub exited : ℕ → List ℕ → Option Verb → Option Entry
 exited reg text None = None
-exited reg text (Some v) = Some (entry.Exited reg v (target_of v null_id text) (shows v && starts (codes "! ") (rest text)))
+exited reg text (Some v) = Some (entry.Exited reg v (target_of v null_id (rest text)) (not (ends (codes " = 0") text)))
 
 -- the line of an exit procedure, behind its number
 abbrev pub exit_entry : Option ℕ → List ℕ → Option Entry
 exit_entry None text = None
-exit_entry (Some reg) text = if starts (codes " ") text then exited reg (rest (drop 1 text)) (verb_of (word (drop 1 text))) else None
+exit_entry (Some reg) text = if starts (codes " ") text then exited reg (drop 1 text) (verb_of (word (drop 1 text))) else None
 
 abbrev pub numbered : ℕ → Option ℕ → Option (ℕ × ℕ)
 numbered client None = None

@@ -9,8 +9,8 @@ use Rattle.lwp_types.specs.declared.call.ExitCall.{ExitCall}
 use Rattle.lwp_types.specs.declared.call.ExitCall.TheVariants as exit
 use Rattle.lwp_types.specs.declared.call.Line.{Line}
 use Rattle.std.specs.Fmt.{decimal}
-use Rattle.std.specs.Prelude.{Bool, List, None, Option, Some, codes, false, length, negsuc, pos, ℤ, true, ℕ, ◌&&◌, ◌++◌, ◌<◌, ◌≡◌, ◌≤◌, ◌^◌}
-use Rattle.trace_lines.specs.Entries.{entry_of, shows}
+use Rattle.std.specs.Prelude.{Bool, IsTrue, List, None, Option, Some, codes, false, length, negsuc, pos, ℤ, true, ℕ, ◌++◌, ◌<◌, ◌==◌, ◌≡◌, ◌≤◌, ◌^◌}
+use Rattle.trace_lines.specs.Entries.{entry_of}
 use Rattle.trace_lines.specs.Words.{reach}
 use Rattle.trace_lines.specs.declared.entry.Entry.TheVariants as entry
 use Rattle.trace_lines.specs.declared.entry.Gain.{Gain}
@@ -36,6 +36,7 @@ verb_told (call.MonBreak m) = verb.MonBreak
 verb_told (call.Wait c) = verb.Wait
 verb_told (call.Agent e) = verb.Agent
 verb_told (call.OnExit x) = verb.OnExit
+verb_told (call.Say text) = verb.Say
 verb_told _ = verb.Other
 
 abbrev pub somebody : Option ℕ → ℕ
@@ -87,6 +88,7 @@ gain_told (answer.Value v) = value_told v
 gain_told (answer.Thread t) = gain.Thread t
 gain_told (answer.Letter from text room) = gain.Letter from
 gain_told (answer.Reply text) = gain.Reply
+gain_told (answer.Caught depth mark p) = gain.Caught
 gain_told (answer.Refused e) = gain.Refused
 gain_told _ = gain.Other
 
@@ -122,10 +124,16 @@ abbrev pub is_refused : Answer → Bool
 is_refused (answer.Refused e) = true
 is_refused _ = false
 
--- an exit procedure is read back, with what becomes of it where that shows
+-- what becomes of an exit procedure: it is done, or refused
+abbrev pub is_outcome : Answer → Bool
+is_outcome (answer.Value (pos n)) = n == 0
+is_outcome (answer.Refused e) = true
+is_outcome _ = false
+
+-- an exit procedure is read back, with what becomes of it
 abbrev pub ExitsAreRead : List (List ℕ) → Option Line → ℕ → ℕ → ExitCall → Answer → Type 0
-ExitsAreRead procs took t reg x a = reg < 2 ^ 64 → exit_target x ≤ null_id
-    → entry_of (line_text procs took (effect.Exited t reg x a)) ≡ Some (entry.Exited reg (exit_verb x) (exit_target x) (shows (exit_verb x) && is_refused a))
+ExitsAreRead procs took t reg x a = reg < 2 ^ 64 → exit_target x ≤ null_id → IsTrue (is_outcome a)
+    → entry_of (line_text procs took (effect.Exited t reg x a)) ≡ Some (entry.Exited reg (exit_verb x) (exit_target x) (is_refused a))
 
 -- a line that was taken is read back
 abbrev pub EventsAreRead : List (List ℕ) → Line → ℕ → ℕ → Type 0

@@ -1,12 +1,16 @@
 -- Words and numbers in a line.
 use Rattle.std.specs.Char.{is_ascii_digit}
-use Rattle.std.specs.Prelude.{Bool, List, None, Option, Some, [], drop, false, if◌then◌else◌, length, nat_lt, suc, take, true, ℕ, ◌*◌, ◌+◌, ◌-◌, ◌==◌, ◌^◌, ◌&&◌, ◌∷◌}
+use Rattle.std.specs.Prelude.{Bool, List, None, Option, Some, [], bytes_eq, drop, false, if◌then◌else◌, length, nat_lt, suc, take, true, ℕ, ◌*◌, ◌+◌, ◌-◌, ◌==◌, ◌^◌, ◌&&◌, ◌∷◌}
 
 -- whether these bytes stand in front
 abbrev pub starts : List ℕ → List ℕ → Bool
 starts [] line = true
 starts (p ∷ ps) [] = false
 starts (p ∷ ps) (b ∷ bs) = (p == b) && starts ps bs
+
+-- whether these bytes stand at the end
+abbrev pub ends : List ℕ → List ℕ → Bool
+ends w line = bytes_eq (drop (length line - length w) line) w
 
 -- how many bytes come before the first that is `c`: all, where none is
 abbrev pub reach : ℕ → List ℕ → ℕ

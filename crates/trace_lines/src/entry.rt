@@ -21,6 +21,7 @@ pub enum Verb {
     Wait,
     Agent,
     OnExit,
+    Say,
     /// Any other call.
     Other,
 }
@@ -34,6 +35,8 @@ pub enum Gain {
     /// A letter, and who has sent it.
     Letter(u64),
     Reply,
+    /// An exception was caught.
+    Caught,
     Refused,
     /// Any other answer.
     Other,
@@ -54,7 +57,7 @@ pub enum Entry {
         tid: u64,
         gain: Gain,
     },
-    /// An exit procedure has run.
+    /// An exit procedure has run, and was refused or not.
     Exited {
         reg: u64,
         verb: Verb,

@@ -19,4 +19,4 @@ pub use laws::{
     exited_again, only_also, ticked_again,
 };
 pub use reading::entry_of;
-pub use words::{reach, skip, whole_number};
+pub use words::{reach, rest, skip, whole_number, word};

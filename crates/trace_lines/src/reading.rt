@@ -1,10 +1,10 @@
 // What a line tells.
 ghost use Rattle.std.specs.Prelude.{◌≡◌, ◌&&◌, bytes_eq};
-ghost use Rattle.trace_lines.specs.Entries.{also_entry, answer_entry, call_entry, entry_of, event_entry, exit_entry, exited, gain_of, id_of, is_closing, is_list, is_mark, is_quiet, is_suspended, monitor_verb, plain_verb, posted, posted_by, rites_entry, shows, target_of, thread_entry, thread_verb, tick_entry, trap_entry, verb_of, who_of};
+ghost use Rattle.trace_lines.specs.Entries.{also_entry, answer_entry, call_entry, entry_of, event_entry, exit_entry, exited, gain_of, id_of, is_closing, is_list, is_mark, is_quiet, is_suspended, monitor_verb, plain_verb, posted, posted_by, rites_entry, target_of, thread_entry, thread_verb, tick_entry, trap_entry, verb_of, who_of};
 ghost use Rattle.trace_lines.specs.Words.{behind, number, rest, word};
 
 use crate::entry::{Entry, Gain, NOBODY, Verb};
-use crate::words::{behind, number, rest, skip, starts, whole_number, word};
+use crate::words::{behind, ends, number, rest, skip, starts, whole_number, word};
 
 // Whether a word is this.
 #[inline]
@@ -55,6 +55,8 @@ fn monitor_verb(word: &[u8]) -> Option<Verb>
         Some(Verb::Agent)
     } else if is(word, b"onexit") {
         Some(Verb::OnExit)
+    } else if is(word, b"say") {
+        Some(Verb::Say)
     } else {
         None
     }
@@ -107,7 +109,6 @@ fn is_mark(word: &[u8]) -> bool
         || is(word, b"excnotify")
         || is(word, b"bound")
         || is(word, b"uniqpatt")
-        || is(word, b"say")
         || is(word, b"note")
 }
 
@@ -166,7 +167,7 @@ fn target_of(verb: Verb, me: u64, text: &[u8]) -> u64
     ensures { result ≡ target_of verb me text.now }
 {
     match verb {
-        Verb::Create | Verb::OnExit | Verb::Sleep | Verb::Other => NOBODY,
+        Verb::Create | Verb::OnExit | Verb::Sleep | Verb::Say | Verb::Other => NOBODY,
         Verb::Agent => event_of(text),
         Verb::Destroy | Verb::Suspend | Verb::Resume | Verb::Join | Verb::Send | Verb::Receive =>
             who_of(me, text),
@@ -234,7 +235,7 @@ fn answer_entry(tid: u64, text: &[u8]) -> Option<Entry>
         return Some(Entry::Answered { tid, gain });
     }
     if starts(b" caught ", text) {
-        let gain = Gain::Other;
+        let gain = Gain::Caught;
         return Some(Entry::Answered { tid, gain });
     }
     if text == b" dies".as_slice() {
@@ -259,30 +260,9 @@ fn thread_entry(text: &[u8]) -> Option<Entry>
     }
 }
 
-fn shows(verb: Verb) -> bool
-    ensures { result ≡ shows verb }
-{
-    match verb {
-        Verb::MonExit | Verb::MonBreak | Verb::Resume => true,
-        Verb::Create
-        | Verb::Destroy
-        | Verb::Suspend
-        | Verb::Join
-        | Verb::Sleep
-        | Verb::Send
-        | Verb::Receive
-        | Verb::Enter
-        | Verb::CondEnter
-        | Verb::Wait
-        | Verb::Agent
-        | Verb::OnExit
-        | Verb::Other => false,
-    }
-}
-
-// What an exit procedure has done.
+// What an exit procedure has done: it was refused, unless its line ends with a 0.
 fn exit_call(reg: u64, text: &[u8]) -> Option<Entry>
-    ensures { result ≡ exited reg (rest text.now) (verb_of (word text.now)) }
+    ensures { result ≡ exited reg text.now (verb_of (word text.now)) }
 {
     let verb = verb_of(word(text))?;
     let names = rest(text);
@@ -290,7 +270,7 @@ fn exit_call(reg: u64, text: &[u8]) -> Option<Entry>
         reg,
         verb,
         target: target_of(verb, NOBODY, names),
-        refused: shows(verb) && starts(b"! ", rest(names)),
+        refused: !ends(b" = 0", text),
     })
 }
 

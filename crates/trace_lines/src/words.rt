@@ -1,6 +1,6 @@
 // Words and numbers in a line.
 ghost use Rattle.std.specs.Prelude.{◌≡◌, ◌≤◌, drop, length};
-ghost use Rattle.trace_lines.specs.Words.{behind, digits, number, reach, rest, starts, value_of, whole_number, word};
+ghost use Rattle.trace_lines.specs.Words.{behind, digits, ends, number, reach, rest, starts, value_of, whole_number, word};
 
 /// Whether these bytes stand in front.
 pub(crate) fn starts(front: &[u8], line: &[u8]) -> bool
@@ -15,6 +15,13 @@ pub(crate) fn starts(front: &[u8], line: &[u8]) -> bool
         }
     }
     true
+}
+
+/// Whether these bytes stand at the end.
+pub(crate) fn ends(back: &[u8], line: &[u8]) -> bool
+    ensures { result ≡ ends back.now line.now }
+{
+    skip(line.len().saturating_sub(back.len()), line) == back
 }
 
 /// How many bytes come before the first that is `byte`; all, where none is.
@@ -55,14 +62,14 @@ pub fn skip(count: usize, line: &[u8]) -> &[u8]
 }
 
 /// The first word.
-pub(crate) fn word(line: &[u8]) -> &[u8]
+pub fn word(line: &[u8]) -> &[u8]
     ensures { result.now ≡ word line.now }
 {
     &line[..reach(b' ', line)]
 }
 
 /// What stands behind the first word and a space.
-pub(crate) fn rest(line: &[u8]) -> &[u8]
+pub fn rest(line: &[u8]) -> &[u8]
     ensures { result.now ≡ rest line.now }
 {
     skip(reach(b' ', line) + 1, line)

@@ -1,3 +1,4 @@
+mod EachLaws
 pub mod PageLaws
 pub mod TitleLaws
 pub mod Readings

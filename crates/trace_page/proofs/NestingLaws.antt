@@ -1,17 +1,19 @@
 -- The elements of a page are closed: what each of its parts makes of a reader.
 use Rattle.lwp_types.specs.Names.{null_id}
-use Rattle.std.proofs.Common.{List, [], ap, eqb, refl, true, ℕ, ◌%◌, ◌++◌, ◌∷◌, ◌≡◌}
+use Rattle.std.proofs.Common.{List, [], ap, eqb, refl, suc, true, zero, ℕ, ◌%◌, ◌*◌, ◌++◌, ◌+◌, ◌/◌, ◌∷◌, ◌≡◌}
+use Rattle.trace_lines.specs.declared.entry.Gain.{Gain}
+use Rattle.trace_lines.specs.declared.entry.Gain.TheVariants as gain
 use Rattle.std.specs.Fmt.{decimal}
 use Rattle.std.specs.List.{list_all}
 use Rattle.std.specs.Prelude.{IsTrue, codes}
 use Rattle.trace_page.proofs.Readings.{Brings, Keeps, Plain, both, in_value, keeps_each, keeps_either, none, number, on, text_keeps}
 use Rattle.trace_page.proofs.TitleLaws.{texts_are_plain}
-use Rattle.trace_page.specs.Frame.{colours, end_text, event_open, event_words, head, head_key, head_style, height_open, key_marks, key_waits, layout, marks, more_closed, more_open, more_text, name_closed, name_text, name_words, names_closed, names_open, names_text, page_closed, patterns, signs, size_closed, size_text, tail, waits, ways, width_open}
+use Rattle.trace_page.specs.Frame.{around, beyond, colours, each_text, end_text, event_open, event_words, head, head_key, head_style, height_of, height_open, key_marks, key_waits, layout, marks, more_closed, more_open, more_text, name_closed, name_text, name_words, names_closed, names_open, names_text, number_text, numbers_closed, numbers_open, numbers_text, page_closed, patterns, procedure_of, procedure_words, script, sheet_closed, sheet_names, sheet_numbers, sheet_open, sheet_row, sheet_text, sheets_text, signs, size_closed, size_open, size_text, strip_closed, strip_open, strip_text, tail, tenth, tenths, waits, ways, width_of}
 use Rattle.trace_page.specs.Frame as frame
 use Rattle.trace_page.specs.Nesting.{Outside, Quoted, at, is_closed, is_nested, read, read_on}
 use Rattle.trace_page.specs.Page.{groups, page, shown, told_all, told_line}
 use Rattle.trace_page.specs.Scene.{Seen, need_of, opening}
-use Rattle.trace_page.specs.Shapes.{arrow_text, band_text, bar_text, class_text, clock_text, closed, closing_text, due_text, escaped, event_text, group_closed, group_open, group_text, held_text, label_closed, label_text, letter_text, line_text, move_text, named_text, number_text, path_text, posted_text, rect_text, shape_text, shapes_text, sign_open, tag_text, tick_text, title_text, trap_text, use_open, use_text, value_text, wait_class, wait_text, waits_text, wanted_text, way_class, x_of, y_of}
+use Rattle.trace_page.specs.Shapes.{arrow_text, band_text, bar_text, class_text, clock_text, closed, closing_text, due_text, escaped, event_text, group_closed, group_open, group_text, held_text, label_closed, label_text, letter_text, line_text, move_text, named_text, path_text, posted_text, rect_text, rule_text, said_text, shape_text, shapes_text, sign_of, sign_open, tag_text, tick_text, title_text, trap_text, use_open, use_text, value_text, wait_class, wait_text, waits_text, wanted_text, way_class, x_of, y_of}
 use Rattle.trace_page.specs.Steps.{finished, is_shown}
 use Rattle.trace_page.specs.Titles.{is_plain}
 use Rattle.trace_page.specs.declared.scene.Kind.{Kind}
@@ -144,16 +146,27 @@ line_keeps text = text_keeps (record { plain = texts_are_plain text })
 number_keeps : (n : ℕ) → Keeps (decimal n)
 number_keeps n = text_keeps (number n)
 
-number_text_keeps : (s : Seen) (at : Moment) → Keeps (number_text s at)
-unfolding number_text
-number_text_keeps s at = keeps_either (eqb (at.call % 10) 0) (record {
-  keeps = λ names.
-      on (label_opens (record { plain = refl }) (x_of s at) 12 names) (on ((number_keeps at.call).keeps _) (on (label_closes names) ((use_keeps (record { plain = refl }) (x_of s at) 16).keeps names)));
-}) none
+rule_keeps : (s : Seen) (at : Moment) → Keeps (rule_text s at)
+unfolding rule_text
+rule_keeps s at = keeps_either (eqb (at.call % 10) 0) (use_keeps (record { plain = refl }) (x_of s at) 0) none
 
 tick_keeps : (s : Seen) (tid : ℕ) (at : Moment) → Keeps (tick_text s tid at)
 unfolding tick_text
-tick_keeps s tid at = both (use_keeps (record { plain = refl }) (x_of s at) (y_of s tid)) (number_text_keeps s at)
+tick_keeps s tid at = both (use_keeps (record { plain = refl }) (x_of s at) (y_of s tid)) (rule_keeps s at)
+
+sign_is_plain : (g : Gain) → Plain (sign_of g)
+unfolding sign_of
+sign_is_plain gain.Refused = record { plain = refl }
+sign_is_plain gain.Caught = record { plain = refl }
+sign_is_plain (gain.Value n) = record { plain = refl }
+sign_is_plain (gain.Thread n) = record { plain = refl }
+sign_is_plain (gain.Letter n) = record { plain = refl }
+sign_is_plain gain.Reply = record { plain = refl }
+sign_is_plain gain.Other = record { plain = refl }
+
+said_keeps : (s : Seen) (tid : ℕ) (at : Moment) → Keeps (said_text s tid at)
+unfolding said_text
+said_keeps s tid at = label_keeps (record { plain = refl }) _ _ (line_keeps s.words)
 
 wait_is_plain : (n : Need) → Plain (wait_class n)
 unfolding wait_class
@@ -260,6 +273,8 @@ due_keeps s lane at = label_keeps (record { plain = refl }) _ _ (waits_keep (nee
 shape_keeps : (s : Seen) (line : List ℕ) (x : Shape) → Keeps (shape_text s line x)
 unfolding shape_text
 shape_keeps s line (shape.Tick tid at) = tick_keeps s tid at
+shape_keeps s line (shape.Answer tid g at) = use_keeps (sign_is_plain g) _ _
+shape_keeps s line (shape.Said tid at) = said_keeps s tid at
 shape_keeps s line (shape.Wait lane to) = wait_keeps s lane to
 shape_keeps s line (shape.Bar span to) = bar_keeps s span.kind span to
 shape_keeps s line (shape.Arrow way from left to at) = arrow_keeps s way from left to at
@@ -312,8 +327,11 @@ in_style = codes "style" ∷ codes "head" ∷ codes "html" ∷ []
 abbrev in_body : List (List ℕ)
 in_body = codes "body" ∷ codes "html" ∷ []
 
+abbrev in_page : List (List ℕ)
+in_page = codes "div" ∷ in_body
+
 abbrev in_picture : List (List ℕ)
-in_picture = codes "svg" ∷ codes "div" ∷ in_body
+in_picture = codes "g" ∷ codes "svg" ∷ in_page
 
 opening_brings : Brings (at Outside []) frame.opening (at Outside in_style)
 unfolding read read_on frame.opening
@@ -373,9 +391,14 @@ event_words_keep : (event : ℕ) → Keeps (event_words event)
 unfolding event_words
 event_words_keep event = keeps_either (eqb event 0) none (both event_open_keeps (number_keeps event))
 
-name_words_keep : (lane : Lane) → Keeps (name_words lane)
+procedure_words_keep : (name : List ℕ) → Keeps (procedure_words name)
+unfolding procedure_words
+procedure_words_keep [] = none
+procedure_words_keep (b ∷ bs) = both (words (codes " ") refl) (line_keeps (b ∷ bs))
+
+name_words_keep : (s : Seen) (lane : Lane) → Keeps (name_words s lane)
 unfolding name_words
-name_words_keep lane = both (words (codes "t") refl) (both (number_keeps lane.id) (event_words_keep lane.event))
+name_words_keep s lane = both (words (codes "t") refl) (both (number_keeps lane.id) (both (event_words_keep lane.event) (procedure_words_keep (procedure_of lane.id s.names))))
 
 name_closes : (names : List (List ℕ)) → Brings (at Outside (codes "text" ∷ names)) name_closed (at Outside names)
 unfolding read read_on name_closed
@@ -383,24 +406,99 @@ name_closes names = record { so = refl }
 
 name_keeps : (s : Seen) (lane : Lane) → Keeps (name_text s lane)
 unfolding name_text
-name_keeps s lane = record { keeps = λ names. on (label_opens (record { plain = refl }) _ _ names) (on ((name_words_keep lane).keeps _) (name_closes names)) }
+name_keeps s lane = record { keeps = λ names. on (label_opens (record { plain = refl }) _ _ names) (on ((name_words_keep s lane).keeps _) (name_closes names)) }
 
 names_open_brings : Brings (at Outside in_picture) names_open (at Outside in_picture)
 unfolding read read_on names_open
 names_open_brings = record { so = refl }
 
-names_closed_brings : Brings (at Outside in_picture) names_closed (at Outside in_body)
+names_closed_brings : Brings (at Outside in_picture) names_closed (at Outside in_page)
 unfolding read read_on names_closed
 names_closed_brings = record { so = refl }
 
-names_bring : (s : Seen) → Brings (at Outside in_picture) (names_text s) (at Outside in_body)
+names_bring : (s : Seen) → Brings (at Outside in_picture) (names_text s) (at Outside in_page)
 unfolding names_text
 names_bring s = on names_open_brings (on ((keeps_each (λ lane. name_text s lane) (name_keeps s) s.lanes).keeps _) names_closed_brings)
 
+each_keeps : (f : ℕ → List ℕ) → ((n : ℕ) → Keeps (f n)) → (n count : ℕ) → Keeps (each_text f n count)
+each_keeps f h n zero = none
+each_keeps f h n (suc count) = both (h n) (each_keeps f h (n + 1) count)
+
+call_number_keeps : (s : Seen) (n : ℕ) → Keeps (number_text s n)
+unfolding number_text
+call_number_keeps s n = record { keeps = λ names. on (label_opens (record { plain = refl }) _ _ names) (on ((number_keeps (tenth s n)).keeps _) (name_closes names)) }
+
+numbers_open_brings : Brings (at Outside in_page) numbers_open (at Outside in_picture)
+unfolding read read_on numbers_open
+numbers_open_brings = record { so = refl }
+
+numbers_closed_brings : Brings (at Outside in_picture) numbers_closed (at Outside in_body)
+unfolding read read_on numbers_closed
+numbers_closed_brings = record { so = refl }
+
+numbers_bring : (s : Seen) → Brings (at Outside in_page) (numbers_text s) (at Outside in_body)
+unfolding numbers_text
+numbers_bring s = on numbers_open_brings (on ((each_keeps (number_text s) (call_number_keeps s) 0 (tenths s)).keeps _) numbers_closed_brings)
+
+-- the strip
+strip_opens : (names : List (List ℕ)) → Brings (at Outside names) strip_open (at (Quoted 39) (codes "svg" ∷ names))
+unfolding read read_on strip_open
+strip_opens names = record { so = refl }
+
+strip_closes : (names : List (List ℕ)) → Brings (at (Quoted 39) (codes "svg" ∷ names)) strip_closed (at Outside names)
+unfolding read read_on strip_closed
+strip_closes names = record { so = refl }
+
+space_goes : Goes (codes " ")
+unfolding read read_on
+space_goes = record { goes = λ names. record { so = refl } }
+
+strip_keeps : (s : Seen) → Keeps (strip_text s)
+unfolding strip_text
+strip_keeps s = record {
+  keeps = λ names.
+      let inside : List (List ℕ) = codes "svg" ∷ names in
+      on (strip_opens names) (on ((digits_go (width_of s)).goes inside) (on (space_goes.goes inside) (on ((digits_go (height_of s)).goes inside) (strip_closes names))));
+}
+
+-- the sheets
+sheet_opens : (names : List (List ℕ)) → Brings (at Outside names) sheet_open (at (Quoted 39) (codes "svg" ∷ codes "svg" ∷ names))
+unfolding read read_on sheet_open
+sheet_opens names = record { so = refl }
+
+sheet_names_bring : (names : List (List ℕ)) → Brings (at (Quoted 39) (codes "svg" ∷ codes "svg" ∷ names)) sheet_names (at (Quoted 39) (codes "svg" ∷ codes "svg" ∷ names))
+unfolding read read_on sheet_names
+sheet_names_bring names = record { so = refl }
+
+sheet_numbers_bring : (names : List (List ℕ)) → Brings (at (Quoted 39) (codes "svg" ∷ codes "svg" ∷ names)) sheet_numbers (at (Quoted 39) (codes "svg" ∷ codes "svg" ∷ names))
+unfolding read read_on sheet_numbers
+sheet_numbers_bring names = record { so = refl }
+
+sheet_closes : (names : List (List ℕ)) → Brings (at (Quoted 39) (codes "svg" ∷ codes "svg" ∷ names)) sheet_closed (at Outside names)
+unfolding read read_on sheet_closed
+sheet_closes names = record { so = refl }
+
+sheet_keeps : (y x : ℕ) → Keeps (sheet_text y x)
+unfolding sheet_text
+sheet_keeps y x = record {
+  keeps = λ names.
+      let inside : List (List ℕ) = codes "svg" ∷ codes "svg" ∷ names in
+      on (sheet_opens names) (on ((digits_go x).goes inside) (on (space_goes.goes inside) (on ((digits_go y).goes inside)
+      (on (sheet_names_bring names) (on ((digits_go y).goes inside) (on (sheet_numbers_bring names) (on ((digits_go x).goes inside) (sheet_closes names))))))));
+}
+
+sheets_keep : (s : Seen) → Keeps (sheets_text s)
+sheets_keep s = each_keeps (sheet_row (width_of s / 960 + 1)) (λ row. each_keeps (λ column. sheet_text (704 * row) (960 * column)) (λ column. sheet_keeps (704 * row) (960 * column)) 0 (width_of s / 960 + 1)) 0 (height_of s / 704 + 1)
+
+-- the script
+script_keeps : (names : List (List ℕ)) → Brings (at Outside names) script (at Outside names)
+unfolding read read_on script
+script_keeps names = record { so = refl }
+
 -- the size stands in a style of its own
-width_opens : Brings (at Outside in_body) width_open (at Outside (codes "style" ∷ in_body))
-unfolding read read_on width_open
-width_opens = record { so = refl }
+size_opens : Brings (at Outside in_body) size_open (at Outside (codes "style" ∷ in_body))
+unfolding read read_on size_open
+size_opens = record { so = refl }
 
 height_open_keeps : Keeps height_open
 unfolding height_open
@@ -412,7 +510,7 @@ size_closes = record { so = refl }
 
 size_brings : (s : Seen) → Brings (at Outside in_body) (size_text s) (at Outside in_body)
 unfolding size_text
-size_brings s = on width_opens (on ((number_keeps _).keeps _) (on (height_open_keeps.keeps _) (on ((number_keeps _).keeps _) size_closes)))
+size_brings s = on size_opens (on ((number_keeps _).keeps _) (on (height_open_keeps.keeps _) (on ((number_keeps _).keeps _) size_closes)))
 
 more_opens : (names : List (List ℕ)) → Brings (at Outside names) more_open (at Outside (codes "p" ∷ names))
 unfolding read read_on more_open
@@ -434,9 +532,17 @@ page_closes : Brings (at Outside in_body) page_closed (at Outside [])
 unfolding read read_on page_closed
 page_closes = record { so = refl }
 
+around_brings : (s : Seen) → Brings (at Outside in_picture) (around s) (at Outside in_body)
+unfolding around
+around_brings s = on ((end_keeps s).keeps _) (on (names_bring s) (on (numbers_bring s) (size_brings s)))
+
+beyond_brings : (s : Seen) → Brings (at Outside in_body) (beyond s) (at Outside in_body)
+unfolding beyond
+beyond_brings s = on ((strip_keeps s).keeps _) (on ((more_keeps s).keeps _) (on ((sheets_keep s).keeps _) (script_keeps in_body)))
+
 tail_brings : (s : Seen) → Brings (at Outside in_picture) (tail s) (at Outside [])
 unfolding tail
-tail_brings s = on ((end_keeps s).keeps _) (on (names_bring s) (on (size_brings s) (on ((more_keeps s).keeps _) page_closes)))
+tail_brings s = on (around_brings s) (on (beyond_brings s) page_closes)
 
 page_brings : (base last : ℕ) (lines : List (List ℕ)) → Brings (at Outside []) (page base last lines) (at Outside [])
 page_brings base last lines = on head_brings (on ((groups_keep (opening base last) lines).keeps _) (tail_brings (finished (told_all (opening base last) lines))))

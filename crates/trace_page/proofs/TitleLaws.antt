@@ -1,5 +1,5 @@
 -- Each line is a title, and texts are plain.
-use Rattle.std.proofs.Common.{Bool, List, None, Option, Some, [], ap, cond, eqb, false, length, ltb, refl, true, ℕ, ◌∙◌, ◌∷◌, ◌≡◌}
+use Rattle.std.proofs.Common.{Bool, List, None, Option, Some, [], ap, cond, eqb, false, length, ltb, refl, sym, true, ℕ, ◌∙◌, ◌∷◌, ◌≡◌}
 use Rattle.std.specs.List.{list_all}
 use Rattle.std.proofs.lemmas.List.Folds.{list_all-append}
 use Rattle.trace_lines.specs.Entries.{entry_of}
@@ -9,12 +9,13 @@ use Rattle.trace_lines.specs.declared.entry.Gain.{Gain}
 use Rattle.trace_lines.specs.declared.entry.Gain.TheVariants as gain
 use Rattle.trace_lines.specs.declared.entry.Verb.{Verb}
 use Rattle.trace_lines.specs.declared.entry.Verb.TheVariants as verb
-use Rattle.trace_page.specs.Page.{told_all, told_by, told_line}
-use Rattle.trace_page.specs.Scene.{Seen, lane_of, opened, opening, place}
+use Rattle.trace_page.specs.Page.{noted_by, told_all, told_by, told_line}
+use Rattle.trace_page.specs.Scene.{Seen, drawn, lane_of, opened, opening, place, put}
 use Rattle.trace_page.specs.Shapes.{escaped, escaped_byte}
-use Rattle.trace_page.specs.Steps.{carried, created, done, exited, given_up, granted, is_past, is_shown, met, met_thread, parked, set, settled, told, with_agent}
+use Rattle.trace_page.specs.Steps.{carried, created, done, exited, given_up, granted, is_past, is_shown, met, met_thread, named, noted, parked, room, said, set, settled, spoken, told, with_agent}
 use Rattle.trace_page.specs.Titles.{LinesAreTitles, TextsArePlain, is_plain, titles}
 use Rattle.trace_page.specs.declared.scene.Lane.{Lane}
+use Rattle.trace_page.specs.declared.scene.Shape.TheVariants as shape
 
 -- ---- the first call that is drawn stays
 
@@ -45,13 +46,15 @@ base_given tid verb.MonExit s = refl
 base_given tid verb.MonBreak s = refl
 base_given tid verb.Agent s = refl
 base_given tid verb.OnExit s = refl
+base_given tid verb.Say s = refl
 base_given tid verb.Other s = refl
 
 base_created : (lane : Lane) (g : Gain) (s : Seen) → (created lane g s).base ≡ s.base
-base_created lane (gain.Thread u) s = base_parked lane.suspended u _ ∙ base_met u 0 _ s
+base_created lane (gain.Thread u) s = base_parked lane.suspended u _ ∙ base_met u 0 _ (named u s)
 base_created lane (gain.Value n) s = refl
 base_created lane (gain.Letter n) s = refl
 base_created lane gain.Reply s = refl
+base_created lane gain.Caught s = refl
 base_created lane gain.Refused s = refl
 base_created lane gain.Other s = refl
 
@@ -60,6 +63,7 @@ base_agent lane (gain.Thread u) s = base_met u lane.target lane.id s
 base_agent lane (gain.Value n) s = refl
 base_agent lane (gain.Letter n) s = refl
 base_agent lane gain.Reply s = refl
+base_agent lane gain.Caught s = refl
 base_agent lane gain.Refused s = refl
 base_agent lane gain.Other s = refl
 
@@ -68,6 +72,7 @@ base_set lane (gain.Value n) s = refl
 base_set lane (gain.Thread u) s = refl
 base_set lane (gain.Letter n) s = refl
 base_set lane gain.Reply s = refl
+base_set lane gain.Caught s = refl
 base_set lane gain.Refused s = refl
 base_set lane gain.Other s = refl
 
@@ -87,6 +92,7 @@ base_granted lane verb.Join g s = refl
 base_granted lane verb.Sleep g s = refl
 base_granted lane verb.Send g s = refl
 base_granted lane verb.Receive g s = refl
+base_granted lane verb.Say g s = refl
 base_granted lane verb.Other g s = refl
 
 base_settled : (lane : Lane) (g : Gain) (s : Seen) → (settled lane g s).base ≡ s.base
@@ -95,6 +101,7 @@ base_settled lane (gain.Value n) s = base_granted lane lane.verb (gain.Value n) 
 base_settled lane (gain.Thread n) s = base_granted lane lane.verb (gain.Thread n) s
 base_settled lane (gain.Letter n) s = base_granted lane lane.verb (gain.Letter n) s
 base_settled lane gain.Reply s = base_granted lane lane.verb gain.Reply s
+base_settled lane gain.Caught s = base_granted lane lane.verb gain.Caught s
 base_settled lane gain.Other s = base_granted lane lane.verb gain.Other s
 
 base_carried : (tid : ℕ) (v : Verb) (target : ℕ) (s : Seen) → (carried tid v target s).base ≡ s.base
@@ -113,15 +120,42 @@ base_carried tid verb.CondEnter target s = refl
 base_carried tid verb.Wait target s = refl
 base_carried tid verb.Agent target s = refl
 base_carried tid verb.OnExit target s = refl
+base_carried tid verb.Say target s = refl
 base_carried tid verb.Other target s = refl
 
 base_exited : (reg : ℕ) (v : Verb) (target : ℕ) (refused : Bool) (s : Seen) → (exited reg v target refused s).base ≡ s.base
 base_exited reg v target true s = refl
 base_exited reg v target false s = base_carried _ v target _
 
+base_said : (tid : ℕ) (s : Seen) → (said tid s).base ≡ s.base
+base_said tid s = by (ltb s.time.call (lane_of s tid).clear)
+  where
+    by : (b : Bool) → (cond b s (drawn (shape.Said tid s.time) (put (record (lane_of s tid) { clear = room s }) s))).base ≡ s.base
+    by true = refl
+    by false = refl
+
+base_spoken : (tid : ℕ) (v : Verb) (s : Seen) → (spoken tid v s).base ≡ s.base
+base_spoken tid verb.Say s = base_said tid s
+base_spoken tid verb.Wait s = refl
+base_spoken tid verb.Create s = refl
+base_spoken tid verb.Destroy s = refl
+base_spoken tid verb.Suspend s = refl
+base_spoken tid verb.Resume s = refl
+base_spoken tid verb.Join s = refl
+base_spoken tid verb.Sleep s = refl
+base_spoken tid verb.Send s = refl
+base_spoken tid verb.Receive s = refl
+base_spoken tid verb.Enter s = refl
+base_spoken tid verb.CondEnter s = refl
+base_spoken tid verb.MonExit s = refl
+base_spoken tid verb.MonBreak s = refl
+base_spoken tid verb.Agent s = refl
+base_spoken tid verb.OnExit s = refl
+base_spoken tid verb.Other s = refl
+
 base_done : (e : Entry) (s : Seen) → (done e s).base ≡ s.base
 unfolding done
-base_done (entry.Called tid v target suspended) s = base_given tid v _ ∙ base_met tid 0 _ _
+base_done (entry.Called tid v target suspended) s = base_given tid v _ ∙ base_spoken tid v _ ∙ base_met tid 0 _ _
 base_done (entry.Answered tid g) s = base_settled (lane_of (met_thread tid s) tid) g _ ∙ base_met tid 0 _ s
 base_done (entry.Exited reg v target refused) s = base_exited reg v target refused s
 base_done (entry.Died tid) s = base_met tid 0 _ s
@@ -140,13 +174,25 @@ base_told e s = by (is_past e s)
     by true = refl
     by false = base_done e (record s { shapes = [] })
 
+base_noted : (e : Entry) (l : List ℕ) (s : Seen) → (noted e l s).base ≡ s.base
+base_noted (entry.Called tid v target suspended) l s = refl
+base_noted (entry.Answered tid g) l s = refl
+base_noted (entry.Exited reg v target refused) l s = refl
+base_noted (entry.Died tid) l s = refl
+base_noted (entry.Event event client seq) l s = refl
+base_noted (entry.Also agent) l s = refl
+base_noted (entry.Tick now client seq) l s = refl
+base_noted (entry.Trapped tid event) l s = refl
+base_noted (entry.Rites agent dead) l s = refl
+base_noted entry.Closing l s = refl
+
 base_line : (l : List ℕ) (s : Seen) → (told_line l s).base ≡ s.base
 unfolding told_line
 base_line l s = by (entry_of l)
   where
-    by : (o : Option Entry) → (told_by o s).base ≡ s.base
+    by : (o : Option Entry) → (told_by o (noted_by o l s)).base ≡ s.base
     by None = refl
-    by (Some e) = base_told e s
+    by (Some e) = base_told e (noted e l s) ∙ base_noted e l s
 
 -- ---- once there is more, there is
 
@@ -158,13 +204,25 @@ more_told e s h = by s.more refl
     by false g = refl
     by true g = (rw g at h)
 
+more_noted : (e : Entry) (l : List ℕ) (s : Seen) → (noted e l s).more ≡ s.more
+more_noted (entry.Called tid v target suspended) l s = refl
+more_noted (entry.Answered tid g) l s = refl
+more_noted (entry.Exited reg v target refused) l s = refl
+more_noted (entry.Died tid) l s = refl
+more_noted (entry.Event event client seq) l s = refl
+more_noted (entry.Also agent) l s = refl
+more_noted (entry.Tick now client seq) l s = refl
+more_noted (entry.Trapped tid event) l s = refl
+more_noted (entry.Rites agent dead) l s = refl
+more_noted entry.Closing l s = refl
+
 more_line : (l : List ℕ) (s : Seen) → (told_line l s).more ≡ false → s.more ≡ false
 unfolding told_line
 more_line l s h = by (entry_of l) h
   where
-    by : (o : Option Entry) → (told_by o s).more ≡ false → s.more ≡ false
+    by : (o : Option Entry) → (told_by o (noted_by o l s)).more ≡ false → s.more ≡ false
     by None g = g
-    by (Some e) g = more_told e s g
+    by (Some e) g = sym (more_noted e l s) ∙ more_told e (noted e l s) g
 
 more_all : (s : Seen) (ls : List (List ℕ)) → (told_all s ls).more ≡ false → s.more ≡ false
 more_all s [] m = m

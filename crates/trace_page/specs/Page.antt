@@ -5,7 +5,7 @@ use Rattle.trace_lines.specs.declared.entry.Entry.{Entry}
 use Rattle.trace_page.specs.Frame.{head, tail}
 use Rattle.trace_page.specs.Scene.{Seen, opening}
 use Rattle.trace_page.specs.Shapes.{group_text}
-use Rattle.trace_page.specs.Steps.{finished, is_shown, told}
+use Rattle.trace_page.specs.Steps.{finished, is_shown, noted, told}
 
 -- a byte in front of the first of these lines, if there is any
 abbrev pub onto_first : ℕ → List (List ℕ) → List (List ℕ)
@@ -37,8 +37,13 @@ abbrev pub told_by : Option Entry → Seen → Seen
 told_by None s = s
 told_by (Some e) s = told e s
 
+-- the words of a line are known
+abbrev pub noted_by : Option Entry → List ℕ → Seen → Seen
+noted_by None l s = s
+noted_by (Some e) l s = noted e l s
+
 unfoldable pub told_line : List ℕ → Seen → Seen
-told_line l s = told_by (entry_of l) s
+told_line l s = told_by (entry_of l) (noted_by (entry_of l) l s)
 
 -- behind these lines
 abbrev pub told_all : Seen → List (List ℕ) → Seen

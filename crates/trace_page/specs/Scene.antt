@@ -6,6 +6,7 @@ use Rattle.trace_lines.specs.declared.entry.Verb.TheVariants as verb
 use Rattle.trace_page.specs.declared.scene.Kind.TheVariants as kind
 use Rattle.trace_page.specs.declared.scene.Lane.{Lane}
 use Rattle.trace_page.specs.declared.scene.Moment.{Moment}
+use Rattle.trace_page.specs.declared.scene.Naming.{Naming}
 use Rattle.trace_page.specs.declared.scene.Need.{Need}
 use Rattle.trace_page.specs.declared.scene.Need.TheVariants as need
 use Rattle.trace_page.specs.declared.scene.Setting.{Setting}
@@ -13,7 +14,8 @@ use Rattle.trace_page.specs.declared.scene.Shape.{Shape}
 use Rattle.trace_page.specs.declared.scene.Span.{Span}
 
 -- The calls behind `base`, up to `last`, are drawn; there are more where a call came behind the last. `time` is when the last line
--- happened, the caller who made the last call, and the agent who sent the last letter. Lanes stand in the order of birth.
+-- happened, the caller who made the last call, and the agent who sent the last letter. The words are what the last call says, or the
+-- procedure of the thread that it creates. Lanes stand in the order of birth.
 pub record Seen : Type 0 where
   pub base : ℕ
   pub last : ℕ
@@ -23,9 +25,11 @@ pub record Seen : Type 0 where
   pub events : ℕ
   pub agent : ℕ
   pub closings : ℕ
+  pub words : List ℕ
   pub lanes : List Lane
   pub spans : List Span
   pub settings : List Setting
+  pub names : List Naming
   -- what is drawn for the last line
   pub shapes : List Shape
 
@@ -40,9 +44,11 @@ opening base last = record {
   events = 0;
   agent = null_id;
   closings = 0;
+  words = [];
   lanes = [];
   spans = [];
   settings = [];
+  names = [];
   shapes = [];
 }
 
@@ -81,11 +87,12 @@ need_of verb.MonExit = need.Nothing
 need_of verb.MonBreak = need.Nothing
 need_of verb.Agent = need.Nothing
 need_of verb.OnExit = need.Nothing
+need_of verb.Say = need.Nothing
 need_of verb.Other = need.Nothing
 
 -- a lane that has called nothing yet
 abbrev pub blank : ℕ → ℕ → Moment → Lane
-blank id event now = record { id = id; event = event; verb = verb.Other; target = null_id; suspended = false; since = now; waits = false }
+blank id event now = record { id = id; event = event; verb = verb.Other; target = null_id; suspended = false; since = now; waits = false; clear = 0 }
 
 -- the lane of a thread or an agent
 abbrev pub lane_of : Seen → ℕ → Lane

@@ -3,6 +3,8 @@ use Rattle.lwp_types.specs.Names.{null_id}
 use Rattle.std.specs.Fmt.{decimal}
 use Rattle.std.specs.List.{flat_map}
 use Rattle.std.specs.Prelude.{Bool, List, [], codes, false, if◌then◌else◌, min, true, ℕ, ◌%◌, ◌*◌, ◌++◌, ◌+◌, ◌-◌, ◌==◌, ◌∷◌}
+use Rattle.trace_lines.specs.declared.entry.Gain.{Gain}
+use Rattle.trace_lines.specs.declared.entry.Gain.TheVariants as gain
 use Rattle.trace_page.specs.Scene.{Seen, need_of, place}
 use Rattle.trace_page.specs.declared.scene.Kind.{Kind}
 use Rattle.trace_page.specs.declared.scene.Kind.TheVariants as kind
@@ -87,13 +89,25 @@ label_text class x y = class_text (codes "text") class ++ (value_text (codes "x"
 
 -- ---- shapes
 
--- each tenth call has its number above, and a rule from there down through all lanes
-unfoldable pub number_text : Seen → Moment → List ℕ
-number_text s at =
-    if at.call % 10 == 0 then label_text (codes "number") (x_of s at) 12 ++ (decimal at.call ++ (label_closed ++ use_text (codes "#rule") (x_of s at) 16)) else []
+-- each tenth call has a rule down through all lanes
+unfoldable pub rule_text : Seen → Moment → List ℕ
+rule_text s at = if at.call % 10 == 0 then use_text (codes "#rule") (x_of s at) 0 else []
 
 unfoldable pub tick_text : Seen → ℕ → Moment → List ℕ
-tick_text s tid at = use_text (codes "#tick") (x_of s at) (y_of s tid) ++ number_text s at
+tick_text s tid at = use_text (codes "#tick") (x_of s at) (y_of s tid) ++ rule_text s at
+
+-- an answer is a dot, a refusal an exclamation mark, what is caught a hook
+unfoldable pub sign_of : Gain → List ℕ
+sign_of gain.Refused = codes "#refused"
+sign_of gain.Caught = codes "#caught"
+sign_of (gain.Value n) = codes "#answer"
+sign_of (gain.Thread n) = codes "#answer"
+sign_of (gain.Letter n) = codes "#answer"
+sign_of gain.Reply = codes "#answer"
+sign_of gain.Other = codes "#answer"
+
+unfoldable pub said_text : Seen → ℕ → Moment → List ℕ
+said_text s tid at = label_text (codes "said") (x_of s at) (y_of s tid) ++ (escaped s.words ++ label_closed)
 
 -- what a call waits for
 unfoldable pub wait_class : Need → List ℕ
@@ -190,6 +204,8 @@ due_text s lane at = label_text (codes "due") (x_of s at + 6) (y_of s lane.id + 
 -- a shape of a line
 unfoldable pub shape_text : Seen → List ℕ → Shape → List ℕ
 shape_text s line (shape.Tick tid at) = tick_text s tid at
+shape_text s line (shape.Answer tid g at) = use_text (sign_of g) (x_of s at) (y_of s tid)
+shape_text s line (shape.Said tid at) = said_text s tid at
 shape_text s line (shape.Wait lane to) = wait_text s lane to
 shape_text s line (shape.Bar span to) = bar_text s span.kind span to
 shape_text s line (shape.Arrow way from left to at) = arrow_text s way from left to at

@@ -1,6 +1,8 @@
 -- What a line makes of all that is known, and what is drawn for it.
 use Rattle.lwp_types.specs.Names.{null_id}
-use Rattle.std.specs.Prelude.{Bool, List, [], false, if◌then◌else◌, length, nat_lt, not, true, ℕ, ◌&&◌, ◌++◌, ◌==◌, ◌||◌, ◌∷◌}
+use Rattle.lwp_types.specs.TextFields.{is_text}
+use Rattle.std.specs.Prelude.{Bool, List, [], false, if◌then◌else◌, length, min, nat_lt, not, take, true, ℕ, ◌&&◌, ◌++◌, ◌+◌, ◌-◌, ◌/◌, ◌==◌, ◌^◌, ◌||◌, ◌∷◌}
+use Rattle.trace_lines.specs.Words.{rest, word}
 use Rattle.trace_lines.specs.declared.entry.Entry.{Entry}
 use Rattle.trace_lines.specs.declared.entry.Entry.TheVariants as entry
 use Rattle.trace_lines.specs.declared.entry.Gain.{Gain}
@@ -55,12 +57,40 @@ given_up tid verb.MonExit s = s
 given_up tid verb.MonBreak s = s
 given_up tid verb.Agent s = s
 given_up tid verb.OnExit s = s
+given_up tid verb.Say s = s
 given_up tid verb.Other s = s
+
+-- the words of the last call end before this call: each byte takes a third of the way to the next
+abbrev pub room : Seen → ℕ
+room s = min (s.time.call + (2 + length s.words / 3)) (2 ^ 64 - 1)
+
+-- words are drawn where those before leave room
+abbrev pub said : ℕ → Seen → Seen
+said tid s = if nat_lt s.time.call (lane_of s tid).clear then s else drawn (shape.Said tid s.time) (put (record (lane_of s tid) { clear = room s }) s)
+
+abbrev pub spoken : ℕ → Verb → Seen → Seen
+spoken tid verb.Say s = said tid s
+spoken tid verb.Wait s = s
+spoken tid verb.Create s = s
+spoken tid verb.Destroy s = s
+spoken tid verb.Suspend s = s
+spoken tid verb.Resume s = s
+spoken tid verb.Join s = s
+spoken tid verb.Sleep s = s
+spoken tid verb.Send s = s
+spoken tid verb.Receive s = s
+spoken tid verb.Enter s = s
+spoken tid verb.CondEnter s = s
+spoken tid verb.MonExit s = s
+spoken tid verb.MonBreak s = s
+spoken tid verb.Agent s = s
+spoken tid verb.OnExit s = s
+spoken tid verb.Other s = s
 
 abbrev pub called : ℕ → Verb → ℕ → Bool → Seen → Seen
 called tid v target suspended s =
     let begins = met_thread tid (counted tid s) in
-    given_up tid v (drawn (shape.Tick tid begins.time) (asking tid v target suspended begins))
+    given_up tid v (spoken tid v (drawn (shape.Tick tid begins.time) (asking tid v target suspended begins)))
 
 -- ---- an answer
 
@@ -91,21 +121,27 @@ came lane (gain.Letter from) s = shape.Arrow way.Letter from (lane_of s from).si
 came lane gain.Reply s = shape.Arrow way.Reply s.caller s.time lane.id s.time ∷ []
 came lane (gain.Value n) s = woken lane s.caller s.time
 came lane (gain.Thread n) s = woken lane s.caller s.time
+came lane gain.Caught s = woken lane s.caller s.time
 came lane gain.Refused s = woken lane s.caller s.time
 came lane gain.Other s = woken lane s.caller s.time
 
 abbrev pub shown_answer : Lane → Gain → Seen → Seen
-shown_answer lane g s = record s { shapes = s.shapes ++ (waited lane s.time ++ came lane g s) }
+shown_answer lane g s = drawn (shape.Answer lane.id g s.time) (record s { shapes = s.shapes ++ (waited lane s.time ++ came lane g s) })
 
 -- a new thread begins suspended
 abbrev pub parked : Bool → ℕ → Seen → Seen
 parked suspended id s = if suspended then begun (record { tid = id; kind = kind.Parked; of = null_id; since = s.time; level = 0; event = 0 }) s else s
 
+-- a thread has its procedure's name
+abbrev pub named : ℕ → Seen → Seen
+named id s = record s { names = s.names ++ record { tid = id; name = s.words } ∷ [] }
+
 abbrev pub created : Lane → Gain → Seen → Seen
-created lane (gain.Thread u) s = parked lane.suspended u (met_thread u s)
+created lane (gain.Thread u) s = parked lane.suspended u (met_thread u (named u s))
 created lane (gain.Value n) s = s
 created lane (gain.Letter n) s = s
 created lane gain.Reply s = s
+created lane gain.Caught s = s
 created lane gain.Refused s = s
 created lane gain.Other s = s
 
@@ -114,6 +150,7 @@ with_agent lane (gain.Thread u) s = met u lane.target lane.id s
 with_agent lane (gain.Value n) s = s
 with_agent lane (gain.Letter n) s = s
 with_agent lane gain.Reply s = s
+with_agent lane gain.Caught s = s
 with_agent lane gain.Refused s = s
 with_agent lane gain.Other s = s
 
@@ -122,6 +159,7 @@ set lane (gain.Value n) s = record s { settings = s.settings ++ record { reg = n
 set lane (gain.Thread u) s = s
 set lane (gain.Letter n) s = s
 set lane gain.Reply s = s
+set lane gain.Caught s = s
 set lane gain.Refused s = s
 set lane gain.Other s = s
 
@@ -146,6 +184,7 @@ granted lane verb.Join g s = s
 granted lane verb.Sleep g s = s
 granted lane verb.Send g s = s
 granted lane verb.Receive g s = s
+granted lane verb.Say g s = s
 granted lane verb.Other g s = s
 
 -- a refused wait has given nothing up
@@ -155,6 +194,7 @@ settled lane (gain.Value n) s = granted lane lane.verb (gain.Value n) s
 settled lane (gain.Thread n) s = granted lane lane.verb (gain.Thread n) s
 settled lane (gain.Letter n) s = granted lane lane.verb (gain.Letter n) s
 settled lane gain.Reply s = granted lane lane.verb gain.Reply s
+settled lane gain.Caught s = granted lane lane.verb gain.Caught s
 settled lane gain.Other s = granted lane lane.verb gain.Other s
 
 abbrev pub answered : ℕ → Gain → Seen → Seen
@@ -187,12 +227,14 @@ carried tid verb.CondEnter target s = s
 carried tid verb.Wait target s = s
 carried tid verb.Agent target s = s
 carried tid verb.OnExit target s = s
+carried tid verb.Say target s = s
 carried tid verb.Other target s = s
 
 abbrev pub exited : ℕ → Verb → ℕ → Bool → Seen → Seen
 exited reg v target refused s =
-    let ran = drawn (shape.Exit (owner_of reg s.settings) s.time) s in
-    if refused then ran else carried (owner_of reg s.settings) v target ran
+    let tid = owner_of reg s.settings in
+    let ran = drawn (shape.Exit tid s.time) s in
+    if refused then drawn (shape.Answer tid gain.Refused s.time) ran else carried tid v target ran
 
 abbrev pub died : ℕ → Seen → Seen
 died tid s =
@@ -261,6 +303,47 @@ is_call (entry.Tick now client seq) = false
 is_call (entry.Trapped tid event) = false
 is_call (entry.Rites agent dead) = false
 is_call entry.Closing = false
+
+-- what a call says, or the procedure that it names, in its line
+abbrev pub words_of : Verb → List ℕ → List ℕ
+words_of verb.Create line = word (rest (rest line))
+words_of verb.Say line = rest (rest line)
+words_of verb.Wait line = []
+words_of verb.Destroy line = []
+words_of verb.Suspend line = []
+words_of verb.Resume line = []
+words_of verb.Join line = []
+words_of verb.Sleep line = []
+words_of verb.Send line = []
+words_of verb.Receive line = []
+words_of verb.Enter line = []
+words_of verb.CondEnter line = []
+words_of verb.MonExit line = []
+words_of verb.MonBreak line = []
+words_of verb.Agent line = []
+words_of verb.OnExit line = []
+words_of verb.Other line = []
+
+-- its first 40 bytes, or all
+abbrev pub front : List ℕ → List ℕ
+front text = take (min (length text) 40) text
+
+-- as many of them as are drawn, if they can be
+abbrev pub drawable : List ℕ → List ℕ
+drawable text = if is_text (front text) then front text else []
+
+-- a call is told: its words are known
+abbrev pub noted : Entry → List ℕ → Seen → Seen
+noted (entry.Called tid v target suspended) line s = record s { words = drawable (words_of v line) }
+noted (entry.Answered tid g) line s = s
+noted (entry.Exited reg v target refused) line s = s
+noted (entry.Died tid) line s = s
+noted (entry.Event event client seq) line s = s
+noted (entry.Also agent) line s = s
+noted (entry.Tick now client seq) line s = s
+noted (entry.Trapped tid event) line s = s
+noted (entry.Rites agent dead) line s = s
+noted entry.Closing line s = s
 
 -- the line stands behind the last call that is drawn
 abbrev pub is_past : Entry → Seen → Bool

@@ -1,13 +1,13 @@
 // What stands around the picture.
-ghost use Rattle.std.specs.Prelude.{◌≡◌, ◌++◌, OnOk};
+ghost use Rattle.std.specs.Prelude.{◌≡◌, ◌++◌, ◌<◌, ◌≤◌, OnOk};
 ghost use Rattle.std.specs.List.{flat_map};
-ghost use Rattle.trace_page.specs.Frame.{colours, end_text, event_words, head, head_key, head_style, height_open, key_marks, key_waits, layout, marks, more_closed, more_open, more_text, name_text, name_words, names_text, opening, page_closed, patterns, signs, size_closed, size_text, tail, waits, ways, width_open};
+ghost use Rattle.trace_page.specs.Frame.{around, beyond, colours, each_text, end_text, event_words, head, head_key, head_style, height_of, height_open, key_marks, key_waits, layout, marks, more_closed, more_open, more_text, name_text, name_words, names_closed, names_open, names_text, number_text, numbers_closed, numbers_open, numbers_text, opening, page_closed, patterns, procedure_of, procedure_words, script, sheet_closed, sheet_names, sheet_numbers, sheet_open, sheet_row, sheet_text, sheets_text, signs, size_closed, size_open, size_text, strip_closed, strip_open, strip_text, tail, tenth, tenths, waits, ways, width_of};
 
-use crate::scene::{Lane, Scene};
-use crate::shapes::{add_counted, add_group_closed, add_group_open, add_label};
+use crate::scene::{Lane, Moment, Naming, Scene};
+use crate::shapes::{add_counted, add_escaped, add_group_closed, add_group_open, add_label};
 use lwp_types::NoMemory;
 use trace_lines::NOBODY;
-use trace_text::add_text;
+use trace_text::{add_number, add_text};
 
 #[tactic(auto, unfolding(crate::specs::Frame::opening))]
 fn opening() -> &'static [u8]
@@ -20,21 +20,21 @@ fn opening() -> &'static [u8]
 fn colours() -> &'static [u8]
     ensures { result.now ≡ colours }
 {
-    b":root{color-scheme:light dark;--paper:#fff;--ink:#1c1c1c;--soft:#667;--line:#b9bec8;--reply:#c2541b;--letter:#1f6fb4;--monitor:#b3261e;--condition:#7a3fa0;--death:#5a5a5a;--clock:#00767c;--suspended:#a07800;--held:#cfe6d2;--edge:#3c7a46;--under:darken}\n@media(prefers-color-scheme:dark){:root{--paper:#15171a;--ink:#e8e8e8;--soft:#a4abb8;--line:#4a505c;--reply:#ff9a5c;--letter:#6db8ff;--monitor:#ff7d74;--condition:#cf9bf2;--death:#b9b9b9;--clock:#5fd3d8;--suspended:#f0c64a;--held:#24442a;--edge:#7fc98b;--under:lighten}}\n"
+    b":root{color-scheme:light dark;--paper:#fff;--ink:#1c1c1c;--soft:#667;--line:#b9bec8;--reply:#c2541b;--letter:#1f6fb4;--monitor:#b3261e;--condition:#7a3fa0;--death:#5a5a5a;--clock:#00767c;--suspended:#a07800;--caught:#7a3fa0;--held:#cfe6d2;--edge:#3c7a46;--under:darken}\n@media(prefers-color-scheme:dark){:root{--paper:#15171a;--ink:#e8e8e8;--soft:#a4abb8;--line:#4a505c;--reply:#ff9a5c;--letter:#6db8ff;--monitor:#ff7d74;--condition:#cf9bf2;--death:#b9b9b9;--clock:#5fd3d8;--suspended:#f0c64a;--caught:#cf9bf2;--held:#24442a;--edge:#7fc98b;--under:lighten}}\n"
 }
 
 #[tactic(auto, unfolding(crate::specs::Frame::layout))]
 fn layout() -> &'static [u8]
     ensures { result.now ≡ layout }
 {
-    b"body{margin:0;padding:8px;display:flex;flex-direction:column;background:var(--paper);color:var(--ink);font:13px sans-serif}\n.more{order:-1;margin:4px 0}\n.key{height:76px;width:900px;flex:none}\n.page{display:grid;grid-template-columns:120px auto;min-width:max-content}\n.run{grid-area:1/2}\n.names{grid-area:1/1;position:sticky;left:0;width:120px;background:var(--paper);border-right:1px solid var(--line)}\nsvg{display:block;fill:var(--ink)}\n"
+    b"body{margin:0;padding:8px;display:flex;flex-direction:column;background:var(--paper);color:var(--ink);font:13px sans-serif}\n.more{order:-1;margin:4px 0}\n.key{height:100px;width:900px;flex:none}\n.scale{order:-2;position:sticky;left:8px;width:max-content}\n.strip{order:-1;position:sticky;top:0;left:8px;z-index:3;flex:none;width:calc(100vw - 16px);height:44px;background:var(--paper);border:1px solid var(--line);box-sizing:border-box;cursor:pointer}\n.seen{fill:var(--suspended);opacity:.25}\n.page{display:grid;grid-template-columns:150px auto;min-width:max-content}\n.run{grid-area:2/2}\n.numbers{grid-area:1/2;position:sticky;top:44px;z-index:1;height:16px;background:var(--paper)}\n.names{grid-area:2/1;position:sticky;left:0;z-index:2;width:150px;background:var(--paper);border-right:1px solid var(--line)}\n.sheet{display:none}\nsvg{display:block;fill:var(--ink)}\n@page{size:landscape;margin:8mm}\n@media print{:root{color-scheme:light}.scale,.strip,.page{display:none}.sheet{display:block;width:100%;max-height:100vh;break-inside:avoid;break-before:page}.names,.numbers{position:static}}\n"
 }
 
 #[tactic(auto, unfolding(crate::specs::Frame::marks))]
 fn marks() -> &'static [u8]
     ensures { result.now ≡ marks }
 {
-    b"text{font:12px sans-serif}\n.name{font-weight:bold}\n.number,.event{font-size:10px;fill:var(--soft);text-anchor:middle}\n.clock{font-size:10px;fill:var(--clock);text-anchor:middle}\n.tag{font-size:8px;fill:var(--ink)}\n.end{font-weight:bold}\n.due{font-weight:bold;fill:var(--monitor)}\n.life,#rule{fill:var(--line);mix-blend-mode:var(--under);pointer-events:none}\n#rule{opacity:.5}\n#clock{fill:var(--clock)}\n#clock rect{opacity:.5;pointer-events:none}\n.held{fill:var(--held);stroke:var(--edge);stroke-width:.8}\n.reply,.letter,.monitor,.condition,.death,.sleep,.suspended{stroke-width:1}\n"
+    b"text{font:12px sans-serif}\n.name{font-weight:bold}\n.said{font-size:9px;font-style:italic}\n.number,.event{font-size:10px;fill:var(--soft);text-anchor:middle}\n.clock{font-size:10px;fill:var(--clock);text-anchor:middle}\n.tag{font-size:8px;fill:var(--ink)}\n.end{font-weight:bold}\n.due{font-weight:bold;fill:var(--monitor)}\n.life,#rule{fill:var(--line);mix-blend-mode:var(--under);pointer-events:none}\n#rule{opacity:.5}\n#clock,#spot{fill:var(--clock)}\n#refused{fill:var(--monitor)}\n#caught path{fill:none;stroke:var(--caught);stroke-width:1.6}\n#clock rect{opacity:.5;pointer-events:none}\n.held{fill:var(--held);stroke:var(--edge);stroke-width:.8}\n.reply,.letter,.monitor,.condition,.death,.sleep,.suspended{stroke-width:1}\n"
 }
 
 #[tactic(auto, unfolding(crate::specs::Frame::waits))]
@@ -55,14 +55,14 @@ fn ways() -> &'static [u8]
 fn patterns() -> &'static [u8]
     ensures { result.now ≡ patterns }
 {
-    b"<svg class='key' viewBox='0 0 900 76'>\n<defs><pattern id='p-reply' width='6' height='6' patternUnits='userSpaceOnUse'><path d='M0 6L6 0'/></pattern><pattern id='p-letter' width='6' height='6' patternUnits='userSpaceOnUse'><path d='M1 3h1.5M4 0h1.5M4 6h1.5'/></pattern><pattern id='p-monitor' width='6' height='6' patternUnits='userSpaceOnUse'><path d='M0 0L6 6M0 6L6 0'/></pattern><pattern id='p-condition' width='6' height='6' patternUnits='userSpaceOnUse'><path d='M1 0V6M4 0V6'/></pattern><pattern id='p-death' width='6' height='6' patternUnits='userSpaceOnUse'><path d='M0 0L6 6'/></pattern><pattern id='p-sleep' width='6' height='6' patternUnits='userSpaceOnUse'><path d='M0 4.5L3 1.5L6 4.5'/></pattern><pattern id='p-suspended' width='6' height='6' patternUnits='userSpaceOnUse'><path d='M0 1.5H6M0 4.5H6'/></pattern>"
+    b"<svg class='key' viewBox='0 0 900 100'>\n<defs><pattern id='p-reply' width='6' height='6' patternUnits='userSpaceOnUse'><path d='M0 6L6 0'/></pattern><pattern id='p-letter' width='6' height='6' patternUnits='userSpaceOnUse'><path d='M1 3h1.5M4 0h1.5M4 6h1.5'/></pattern><pattern id='p-monitor' width='6' height='6' patternUnits='userSpaceOnUse'><path d='M0 0L6 6M0 6L6 0'/></pattern><pattern id='p-condition' width='6' height='6' patternUnits='userSpaceOnUse'><path d='M1 0V6M4 0V6'/></pattern><pattern id='p-death' width='6' height='6' patternUnits='userSpaceOnUse'><path d='M0 0L6 6'/></pattern><pattern id='p-sleep' width='6' height='6' patternUnits='userSpaceOnUse'><path d='M0 4.5L3 1.5L6 4.5'/></pattern><pattern id='p-suspended' width='6' height='6' patternUnits='userSpaceOnUse'><path d='M0 1.5H6M0 4.5H6'/></pattern>"
 }
 
 #[tactic(auto, unfolding(crate::specs::Frame::signs))]
 fn signs() -> &'static [u8]
     ensures { result.now ≡ signs }
 {
-    b"<marker id='a-sent' viewBox='0 0 8 8' refX='7' refY='4' markerWidth='6' markerHeight='6' orient='auto'><path d='M0 0L8 4L0 8z'/></marker><marker id='a-replied' viewBox='0 0 8 8' refX='7' refY='4' markerWidth='6' markerHeight='6' orient='auto'><path d='M0 0L8 4L0 8z'/></marker><marker id='a-woken' viewBox='0 0 8 8' refX='7' refY='4' markerWidth='6' markerHeight='6' orient='auto'><path d='M0 0L8 4L0 8z'/></marker><g id='tick'><rect x='-4' y='0' width='8' height='20' fill='transparent'/><rect x='-1' y='2' width='2' height='16'/></g><g id='exit'><path class='sign' d='M0 4L5 10L0 16L-5 10z'/></g><g id='death'><path class='sign' d='M3 5L13 15M3 15L13 5'/></g><rect id='rule' x='-.5' y='0' width='1' height='100%'/><g id='clock'><circle r='3'/><rect x='-.5' y='0' width='1' height='100%'/></g></defs>\n"
+    b"<marker id='a-sent' viewBox='0 0 8 8' refX='7' refY='4' markerWidth='6' markerHeight='6' orient='auto'><path d='M0 0L8 4L0 8z'/></marker><marker id='a-replied' viewBox='0 0 8 8' refX='7' refY='4' markerWidth='6' markerHeight='6' orient='auto'><path d='M0 0L8 4L0 8z'/></marker><marker id='a-woken' viewBox='0 0 8 8' refX='7' refY='4' markerWidth='6' markerHeight='6' orient='auto'><path d='M0 0L8 4L0 8z'/></marker><g id='tick'><rect x='-4' y='0' width='8' height='20' fill='transparent'/><rect x='-1' y='2' width='2' height='16'/></g><g id='exit'><path class='sign' d='M0 4L5 10L0 16L-5 10z'/></g><g id='death'><path class='sign' d='M3 5L13 15M3 15L13 5'/></g><g id='answer'><rect x='3' y='0' width='8' height='20' fill='transparent'/><circle cx='7' cy='17' r='1.4'/></g><g id='refused'><rect x='3' y='0' width='8' height='20' fill='transparent'/><path d='M5.6 2h2.8l-.6 10h-1.6z'/><circle cx='7' cy='16' r='1.7'/></g><g id='caught'><rect x='3' y='0' width='8' height='20' fill='transparent'/><path d='M9.5 3V12A3 3 0 0 1 3.5 12V9'/></g><rect id='rule' x='-.5' y='0' width='1'/><circle id='spot' r='3'/><g id='clock'><circle r='3'/><rect x='-.5' y='0' width='1'/></g></defs>\n"
 }
 
 #[tactic(auto, unfolding(crate::specs::Frame::key_waits))]
@@ -76,21 +76,49 @@ fn key_waits() -> &'static [u8]
 fn key_marks() -> &'static [u8]
     ensures { result.now ≡ key_marks }
 {
-    b"<use href='#tick' x='20' y='28'/><text x='34' y='42'>a call</text><use href='#exit' x='110' y='28'/><text x='122' y='42'>an exit procedure</text><use href='#death' x='242' y='28'/><text x='262' y='42'>a death</text><path class='sent' d='M330 38L360 38'/><text x='366' y='42'>a letter</text><path class='replied' d='M430 38L460 38'/><text x='466' y='42'>a reply</text><path class='woken' d='M530 38L560 38'/><text x='566' y='42'>wakes</text><text class='event' x='632' y='42'>0:1</text><text x='648' y='42'>a line: client and number</text><text x='8' y='66'>Calls go from left to right, every tenth has its number above. Point at a mark to see its line of the trace.</text><rect class='sleep' x='678' y='56' width='28' height='12'/><text x='712' y='66'>sleeps</text><use href='#clock' x='796' y='62'/><text class='clock' x='808' y='66'>7</text><text x='822' y='66'>a tick</text></svg>\n<div class='page'>\n<svg class='run'>\n"
+    b"<use href='#tick' x='20' y='28'/><text x='34' y='42'>a call</text><use href='#exit' x='110' y='28'/><text x='122' y='42'>an exit procedure</text><use href='#death' x='242' y='28'/><text x='262' y='42'>a death</text><path class='sent' d='M330 38L360 38'/><text x='366' y='42'>a letter</text><path class='replied' d='M430 38L460 38'/><text x='466' y='42'>a reply</text><path class='woken' d='M530 38L560 38'/><text x='566' y='42'>wakes</text><text class='event' x='632' y='42'>0:1</text><text x='648' y='42'>a line: client and number</text><use href='#answer' x='13' y='52'/><text x='34' y='66'>an answer</text><use href='#refused' x='103' y='52'/><text x='122' y='66'>a refusal</text><use href='#caught' x='237' y='52'/><text x='262' y='66'>an exception is caught</text><text class='said' x='430' y='66'>hello</text><text x='466' y='66'>what is said, where there is room</text><text x='8' y='90'>Calls go from left to right, every tenth has its number above. Point at a mark to see its line of the trace.</text><rect class='sleep' x='678' y='56' width='28' height='12'/><text x='712' y='66'>sleeps</text><use href='#spot' x='796' y='62'/><text class='clock' x='808' y='66'>7</text><text x='822' y='66'>a tick</text></svg>\n<div class='page'>\n<svg class='run'><g id='run'>\n"
 }
 
-#[tactic(auto, unfolding(crate::specs::Frame::width_open))]
-fn width_open() -> &'static [u8]
-    ensures { result.now ≡ width_open }
+#[tactic(auto, unfolding(crate::specs::Frame::names_open))]
+fn names_open() -> &'static [u8]
+    ensures { result.now ≡ names_open }
 {
-    b"<style>.run{width:"
+    b"</g></svg>\n<svg class='names'><g id='names'>\n"
+}
+
+#[tactic(auto, unfolding(crate::specs::Frame::names_closed))]
+fn names_closed() -> &'static [u8]
+    ensures { result.now ≡ names_closed }
+{
+    b"</g></svg>\n"
+}
+
+#[tactic(auto, unfolding(crate::specs::Frame::numbers_open))]
+fn numbers_open() -> &'static [u8]
+    ensures { result.now ≡ numbers_open }
+{
+    b"<svg class='numbers'><g id='numbers'>\n"
+}
+
+#[tactic(auto, unfolding(crate::specs::Frame::numbers_closed))]
+fn numbers_closed() -> &'static [u8]
+    ensures { result.now ≡ numbers_closed }
+{
+    b"</g></svg>\n</div>\n"
+}
+
+#[tactic(auto, unfolding(crate::specs::Frame::size_open))]
+fn size_open() -> &'static [u8]
+    ensures { result.now ≡ size_open }
+{
+    b"<style>.run,.numbers{width:"
 }
 
 #[tactic(auto, unfolding(crate::specs::Frame::height_open))]
 fn height_open() -> &'static [u8]
     ensures { result.now ≡ height_open }
 {
-    b"px}.run,.names{height:"
+    b"px}.run,.names,#rule,#clock rect{height:"
 }
 
 #[tactic(auto, unfolding(crate::specs::Frame::size_closed))]
@@ -98,6 +126,55 @@ fn size_closed() -> &'static [u8]
     ensures { result.now ≡ size_closed }
 {
     b"px}</style>\n"
+}
+
+#[tactic(auto, unfolding(crate::specs::Frame::strip_open))]
+fn strip_open() -> &'static [u8]
+    ensures { result.now ≡ strip_open }
+{
+    b"<svg class='strip' preserveAspectRatio='none' viewBox='0 0 "
+}
+
+#[tactic(auto, unfolding(crate::specs::Frame::strip_closed))]
+fn strip_closed() -> &'static [u8]
+    ensures { result.now ≡ strip_closed }
+{
+    b"'><use href='#run'/><rect class='seen' y='0' height='100%'/></svg>\n"
+}
+
+#[tactic(auto, unfolding(crate::specs::Frame::sheet_open))]
+fn sheet_open() -> &'static [u8]
+    ensures { result.now ≡ sheet_open }
+{
+    b"<svg class='sheet' viewBox='0 0 1110 740'><svg x='150' y='20' width='960' height='720' viewBox='"
+}
+
+#[tactic(auto, unfolding(crate::specs::Frame::sheet_names))]
+fn sheet_names() -> &'static [u8]
+    ensures { result.now ≡ sheet_names }
+{
+    b" 960 720'><use href='#run'/></svg><svg y='20' width='150' height='720' viewBox='0 "
+}
+
+#[tactic(auto, unfolding(crate::specs::Frame::sheet_numbers))]
+fn sheet_numbers() -> &'static [u8]
+    ensures { result.now ≡ sheet_numbers }
+{
+    b" 150 720'><use href='#names'/></svg><svg x='150' width='960' height='20' viewBox='"
+}
+
+#[tactic(auto, unfolding(crate::specs::Frame::sheet_closed))]
+fn sheet_closed() -> &'static [u8]
+    ensures { result.now ≡ sheet_closed }
+{
+    b" 0 960 20'><use href='#numbers'/></svg></svg>\n"
+}
+
+#[tactic(auto, unfolding(crate::specs::Frame::script))]
+fn script() -> &'static [u8]
+    ensures { result.now ≡ script }
+{
+    b"<script>\n(function(){\nvar q=function(s){return document.querySelector(s)},page=q('.page'),run=q('.run'),strip=q('.strip'),seen=q('.seen'),wide=strip.viewBox.baseVal.width;\nvar show=function(){var r=run.getBoundingClientRect(),k=wide/r.width;seen.setAttribute('x',Math.max(0,(150-r.left)*k));seen.setAttribute('width',Math.max(0,(innerWidth-150)*k))};\nstrip.onclick=function(e){var r=run.getBoundingClientRect(),s=strip.getBoundingClientRect();scrollBy((e.clientX-s.left)/s.width*r.width+r.left-innerWidth/2,0)};\nvar label=document.createElement('label'),range=document.createElement('input');label.className='scale';label.append('scale ',range);range.type='range';range.min=25;range.max=200;range.value=100;\nrange.oninput=function(){page.style.zoom=range.value/100;show()};\ndocument.body.append(label);addEventListener('scroll',show);addEventListener('resize',show);show()\n})()\n</script>\n"
 }
 
 #[tactic(auto, unfolding(crate::specs::Frame::more_open))]
@@ -162,22 +239,69 @@ fn add_event_words(out: &mut Vec<u8>, event: u64) -> Result<(), NoMemory>
     add_counted(out, b", event ", event)
 }
 
-#[tactic(auto, unfolding(crate::specs::Frame::name_words))]
-fn add_name_words(out: &mut Vec<u8>, lane: Lane) -> Result<(), NoMemory>
-    ensures { OnOk result (out.new.items ≡ out.old.items ++ name_words lane) }
+#[tactic(auto, unfolding(crate::specs::Frame::procedure_words))]
+fn add_procedure_words(out: &mut Vec<u8>, name: &[u8]) -> Result<(), NoMemory>
+    ensures { OnOk result (out.new.items ≡ out.old.items ++ procedure_words name.now) }
 {
-    add_counted(out, b"t", lane.id)?;
-    add_event_words(out, lane.event)
+    if name.is_empty() {
+        return Ok(());
+    }
+    add_text(out, b" ")?;
+    add_escaped(out, name)
+}
+
+fn procedure_of(id: u64, namings: &[Naming]) -> &[u8]
+    ensures { result.now ≡ procedure_of id namings.now }
+{
+    for naming in namings {
+        if naming.tid == id {
+            return naming.name.bytes();
+        }
+    }
+    &[]
+}
+
+// A part of the picture on a sheet of paper.
+#[tactic(auto, unfolding(crate::specs::Frame::sheet_text))]
+fn add_sheet(out: &mut Vec<u8>, y: u64, x: u64) -> Result<(), NoMemory>
+    ensures { OnOk result (out.new.items ≡ out.old.items ++ sheet_text y x) }
+{
+    add_counted(out, sheet_open(), x)?;
+    add_counted(out, b" ", y)?;
+    add_counted(out, sheet_names(), y)?;
+    add_counted(out, sheet_numbers(), x)?;
+    add_text(out, sheet_closed())
+}
+
+// The sheets beside each other.
+fn add_sheet_row(out: &mut Vec<u8>, columns: u64, row: u64) -> Result<(), NoMemory>
+    requires columns { columns < 65536 }
+    requires row { row < 65536 }
+    ensures { OnOk result (out.new.items ≡ out.old.items ++ sheet_row columns row) }
+{
+    for column in 0..columns {
+        add_sheet(out, 704 * row, 960 * column)?;
+    }
+    Ok(())
 }
 
 impl Scene {
+    #[tactic(auto, unfolding(crate::specs::Frame::name_words))]
+    fn add_name_words(&self, out: &mut Vec<u8>, lane: Lane) -> Result<(), NoMemory>
+        ensures { OnOk result (out.new.items ≡ out.old.items ++ name_words self.now lane) }
+    {
+        add_counted(out, b"t", lane.id)?;
+        add_event_words(out, lane.event)?;
+        add_procedure_words(out, procedure_of(lane.id, &self.names))
+    }
+
     #[tactic(auto, unfolding(crate::specs::Frame::name_text, crate::specs::Frame::name_closed))]
     fn add_name(&self, out: &mut Vec<u8>, lane: Lane) -> Result<(), NoMemory>
         ensures { OnOk result (out.new.items ≡ out.old.items ++ name_text self.now lane) }
     {
         let y = self.y_of(lane.id) + 14;
         add_label(out, b"name", 4, y)?;
-        add_name_words(out, lane)?;
+        self.add_name_words(out, lane)?;
         add_text(out, b"</text>\n")
     }
 
@@ -190,24 +314,108 @@ impl Scene {
         Ok(())
     }
 
-    #[tactic(auto, unfolding(crate::specs::Frame::names_text, crate::specs::Frame::names_open, crate::specs::Frame::names_closed))]
+    #[tactic(auto, unfolding(crate::specs::Frame::names_text))]
     fn add_names(&self, out: &mut Vec<u8>) -> Result<(), NoMemory>
         ensures { OnOk result (out.new.items ≡ out.old.items ++ names_text self.now) }
     {
-        add_text(out, b"</svg>\n<svg class='names'>\n")?;
+        add_text(out, names_open())?;
         self.add_all_names(out)?;
-        add_text(out, b"</svg>\n</div>\n")
+        add_text(out, names_closed())
+    }
+
+    // The number of a tenth call.
+    fn tenth(&self, n: u64) -> u64
+        requires { n < 501 }
+        ensures { result ≡ tenth self.now n }
+    {
+        (self.base / 10 + 1 + n).saturating_mul(10)
+    }
+
+    #[tactic(auto, unfolding(crate::specs::Frame::number_text, crate::specs::Frame::name_closed))]
+    fn add_call_number(&self, out: &mut Vec<u8>, n: u64) -> Result<(), NoMemory>
+        requires { n < 501 }
+        ensures { OnOk result (out.new.items ≡ out.old.items ++ number_text self.now n) }
+    {
+        let call = self.tenth(n);
+        let x = self.x_of(Moment { call, late: false });
+        add_label(out, b"number", x, 12)?;
+        add_number(out, call)?;
+        add_text(out, b"</text>\n")
+    }
+
+    // How many tenth calls are drawn.
+    fn tenths(&self) -> u64
+        ensures value { result ≡ tenths self.now }
+        ensures most { result ≤ 501 }
+    {
+        let before = self.base / 10;
+        (self.time.call.saturating_sub(1) / 10)
+            .saturating_sub(before)
+            .min(501)
+    }
+
+    fn add_all_numbers(&self, out: &mut Vec<u8>) -> Result<(), NoMemory>
+        ensures { OnOk result (out.new.items ≡ out.old.items ++ each_text (number_text self.now) 0 (tenths self.now)) }
+    {
+        let count = self.tenths();
+        for n in 0..count {
+            self.add_call_number(out, n)?;
+        }
+        Ok(())
+    }
+
+    #[tactic(auto, unfolding(crate::specs::Frame::numbers_text))]
+    fn add_numbers(&self, out: &mut Vec<u8>) -> Result<(), NoMemory>
+        ensures { OnOk result (out.new.items ≡ out.old.items ++ numbers_text self.now) }
+    {
+        add_text(out, numbers_open())?;
+        self.add_all_numbers(out)?;
+        add_text(out, numbers_closed())
+    }
+
+    fn width(&self) -> u64
+        ensures value { result ≡ width_of self.now }
+        ensures most { result ≤ 80384 }
+    {
+        self.x_of(self.time) + 320
+    }
+
+    fn height(&self) -> u64
+        ensures value { result ≡ height_of self.now }
+        ensures most { result ≤ 2883604 }
+    {
+        self.y_of(NOBODY) + 8
     }
 
     #[tactic(auto, unfolding(crate::specs::Frame::size_text))]
     fn add_size(&self, out: &mut Vec<u8>) -> Result<(), NoMemory>
         ensures { OnOk result (out.new.items ≡ out.old.items ++ size_text self.now) }
     {
-        let width = self.x_of(self.time) + 320;
-        let height = self.y_of(NOBODY) + 8;
-        add_counted(out, width_open(), width)?;
-        add_counted(out, height_open(), height)?;
+        add_counted(out, size_open(), self.width())?;
+        add_counted(out, height_open(), self.height())?;
         add_text(out, size_closed())
+    }
+
+    #[tactic(auto, unfolding(crate::specs::Frame::strip_text))]
+    fn add_strip(&self, out: &mut Vec<u8>) -> Result<(), NoMemory>
+        ensures { OnOk result (out.new.items ≡ out.old.items ++ strip_text self.now) }
+    {
+        add_counted(out, strip_open(), self.width())?;
+        add_counted(out, b" ", self.height())?;
+        add_text(out, strip_closed())
+    }
+
+    fn add_sheets(&self, out: &mut Vec<u8>) -> Result<(), NoMemory>
+        ensures { OnOk result (out.new.items ≡ out.old.items ++ sheets_text self.now) }
+    {
+        let width = self.width();
+        let height = self.height();
+        let columns = width / 960 + 1;
+        let rows = height / 704 + 1;
+        for row in 0..rows {
+            add_sheet_row(out, columns, row)?;
+        }
+        Ok(())
     }
 
     #[tactic(auto, unfolding(crate::specs::Frame::more_text))]
@@ -230,15 +438,35 @@ impl Scene {
         add_group_closed(out)
     }
 
+    // The picture's end, and what moves with it.
+    #[tactic(auto, unfolding(crate::specs::Frame::around))]
+    fn add_around(&self, out: &mut Vec<u8>) -> Result<(), NoMemory>
+        ensures { OnOk result (out.new.items ≡ out.old.items ++ around self.now) }
+    {
+        self.add_end(out)?;
+        self.add_names(out)?;
+        self.add_numbers(out)?;
+        self.add_size(out)
+    }
+
+    // The strip above it, and the sheets.
+    #[tactic(auto, unfolding(crate::specs::Frame::beyond))]
+    fn add_beyond(&self, out: &mut Vec<u8>) -> Result<(), NoMemory>
+        ensures { OnOk result (out.new.items ≡ out.old.items ++ beyond self.now) }
+    {
+        self.add_strip(out)?;
+        self.add_more(out)?;
+        self.add_sheets(out)?;
+        add_text(out, script())
+    }
+
     /// All that stands behind the last line.
     #[tactic(auto, unfolding(crate::specs::Frame::tail))]
     pub(crate) fn add_tail(&self, out: &mut Vec<u8>) -> Result<(), NoMemory>
         ensures { OnOk result (out.new.items ≡ out.old.items ++ tail self.now) }
     {
-        self.add_end(out)?;
-        self.add_names(out)?;
-        self.add_size(out)?;
-        self.add_more(out)?;
+        self.add_around(out)?;
+        self.add_beyond(out)?;
         add_text(out, page_closed())
     }
 }

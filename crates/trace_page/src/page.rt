@@ -55,6 +55,7 @@ fn add_line(scene: &mut Scene, out: &mut Vec<u8>, line: &[u8], number: u64) -> R
     let Some(entry) = entry_of(line) else {
         return Err(PageErr::Line(number));
     };
+    scene.note(entry, line);
     scene.tell(entry)?;
     scene.add_shown(out, line)?;
     Ok(())

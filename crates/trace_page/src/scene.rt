@@ -1,6 +1,7 @@
 // What is known of a trace so far, and what is drawn for its next line.
+use lwp_types::Text;
 use std::marker::Model;
-use trace_lines::Verb;
+use trace_lines::{Gain, Verb};
 
 /// When something happens: at a call, by its number counted from 1, or behind it, where lines are taken before the next.
 #[derive(Clone, Copy)]
@@ -21,6 +22,8 @@ pub struct Lane {
     pub since: Moment,
     /// The call isn't answered yet.
     pub waits: bool,
+    /// The first call at which there is room for words again.
+    pub clear: u64,
 }
 
 /// What a call may wait for.
@@ -66,6 +69,13 @@ pub struct Setting {
     pub tid: u64,
 }
 
+/// The procedure that a thread begins with.
+#[derive(Clone, Copy)]
+pub struct Naming {
+    pub tid: u64,
+    pub name: Text,
+}
+
 /// What goes from one lane to another.
 #[derive(Clone, Copy)]
 pub enum Way {
@@ -81,6 +91,17 @@ pub enum Way {
 pub enum Shape {
     /// The tick of a call.
     Tick {
+        tid: u64,
+        at: Moment,
+    },
+    /// The answer to a call of the thread, or to an exit procedure of it that is refused.
+    Answer {
+        tid: u64,
+        gain: Gain,
+        at: Moment,
+    },
+    /// What the thread says in a call.
+    Said {
         tid: u64,
         at: Moment,
     },
@@ -151,9 +172,11 @@ pub struct Scene {
     pub(crate) events: u64,
     pub(crate) agent: u64,
     pub(crate) closings: u64,
+    pub(crate) words: Text,
     pub(crate) lanes: Vec<Lane>,
     pub(crate) spans: Vec<Span>,
     pub(crate) settings: Vec<Setting>,
+    pub(crate) names: Vec<Naming>,
     pub(crate) shapes: Vec<Shape>,
 }
 
@@ -168,9 +191,11 @@ impl Drop for Scene {
             events: _,
             agent: _,
             closings: _,
+            words: _,
             lanes: _,
             spans: _,
             settings: _,
+            names: _,
             shapes: _,
         } = self;
     }
@@ -181,5 +206,5 @@ impl Model for Scene {
 
     ghost Value = { Seen };
 
-    ghost view = { λ s. record { base = s.base; last = s.last; more = s.more; time = s.time; caller = s.caller; events = s.events; agent = s.agent; closings = s.closings; lanes = s.lanes.items; spans = s.spans.items; settings = s.settings.items; shapes = s.shapes.items } };
+    ghost view = { λ s. record { base = s.base; last = s.last; more = s.more; time = s.time; caller = s.caller; events = s.events; agent = s.agent; closings = s.closings; words = s.words; lanes = s.lanes.items; spans = s.spans.items; settings = s.settings.items; names = s.names.items; shapes = s.shapes.items } };
 }

@@ -1,12 +1,12 @@
 // The text of what is drawn. Each function but those that answer a number or a word puts its part at the end of the bytes so far.
 ghost use Rattle.std.specs.Prelude.{◌≡◌, ◌≤◌, ◌+◌, ◌++◌, OnOk, codes};
 ghost use Rattle.std.specs.Fmt.{decimal};
-ghost use Rattle.trace_page.specs.Shapes.{class_text, closed, group_closed, group_open, label_closed, posted_text, sign_open, tag_text, title_text, use_open, value_text, waits_text, arrow_text, band_text, bar_text, clock_text, closing_text, deep, due_text, escaped, escaped_byte, event_text, group_text, half, held_text, label_text, letter_text, named_text, number_text, path_text, rect_text, shape_text, shapes_text, tick_text, trap_text, use_text, wait_class, wait_text, wanted_text, way_class, x_of, y_of};
+ghost use Rattle.trace_page.specs.Shapes.{class_text, closed, group_closed, group_open, label_closed, posted_text, sign_open, tag_text, title_text, use_open, value_text, waits_text, arrow_text, band_text, bar_text, clock_text, closing_text, deep, due_text, escaped, escaped_byte, event_text, group_text, half, held_text, label_text, letter_text, named_text, path_text, rect_text, rule_text, said_text, shape_text, shapes_text, sign_of, tick_text, trap_text, use_text, wait_class, wait_text, wanted_text, way_class, x_of, y_of};
 
 use crate::scene::{Kind, Lane, Moment, Need, Scene, Shape, Span, Way};
 use crate::steps::{need_of, place};
 use lwp_types::NoMemory;
-use trace_lines::NOBODY;
+use trace_lines::{Gain, NOBODY};
 use trace_text::{add_number, add_text};
 
 // ---- Text of the trace.
@@ -200,6 +200,19 @@ fn wait_class(need: Need) -> &'static [u8]
     }
 }
 
+#[tactic(auto, unfolding(crate::specs::Shapes::sign_of))]
+fn sign_of(gain: Gain) -> &'static [u8]
+    ensures { result.now ≡ sign_of gain }
+{
+    match gain {
+        Gain::Refused => b"#refused",
+        Gain::Caught => b"#caught",
+        Gain::Value(_) | Gain::Thread(_) | Gain::Letter(_) | Gain::Reply | Gain::Other => {
+            b"#answer"
+        }
+    }
+}
+
 #[tactic(auto, unfolding(crate::specs::Shapes::way_class))]
 fn way_class(way: Way) -> &'static [u8]
     ensures { result.now ≡ way_class way }
@@ -320,18 +333,14 @@ impl Scene {
         56 + 44 * (place(id, &self.lanes).min(65535) as u64)
     }
 
-    #[tactic(auto, unfolding(crate::specs::Shapes::number_text))]
-    fn add_call_number(&self, out: &mut Vec<u8>, at: Moment) -> Result<(), NoMemory>
-        ensures { OnOk result (out.new.items ≡ out.old.items ++ number_text self.now at) }
+    #[tactic(auto, unfolding(crate::specs::Shapes::rule_text))]
+    fn add_rule(&self, out: &mut Vec<u8>, at: Moment) -> Result<(), NoMemory>
+        ensures { OnOk result (out.new.items ≡ out.old.items ++ rule_text self.now at) }
     {
         if at.call % 10 != 0 {
             return Ok(());
         }
-        let x = self.x_of(at);
-        add_label(out, b"number", x, 12)?;
-        add_number(out, at.call)?;
-        add_label_closed(out)?;
-        add_use(out, b"#rule", x, 16)
+        add_use(out, b"#rule", self.x_of(at), 0)
     }
 
     #[tactic(auto, unfolding(crate::specs::Shapes::tick_text))]
@@ -339,7 +348,16 @@ impl Scene {
         ensures { OnOk result (out.new.items ≡ out.old.items ++ tick_text self.now tid at) }
     {
         add_use(out, b"#tick", self.x_of(at), self.y_of(tid))?;
-        self.add_call_number(out, at)
+        self.add_rule(out, at)
+    }
+
+    #[tactic(auto, unfolding(crate::specs::Shapes::said_text))]
+    fn add_said(&self, out: &mut Vec<u8>, tid: u64, at: Moment) -> Result<(), NoMemory>
+        ensures { OnOk result (out.new.items ≡ out.old.items ++ said_text self.now tid at) }
+    {
+        add_label(out, b"said", self.x_of(at), self.y_of(tid))?;
+        add_escaped(out, self.words.bytes())?;
+        add_label_closed(out)
     }
 
     #[tactic(auto, unfolding(crate::specs::Shapes::wait_text))]
@@ -491,6 +509,10 @@ impl Scene {
     {
         match shape {
             Shape::Tick { tid, at } => self.add_tick(out, tid, at),
+            Shape::Answer { tid, gain, at } => {
+                add_use(out, sign_of(gain), self.x_of(at), self.y_of(tid))
+            }
+            Shape::Said { tid, at } => self.add_said(out, tid, at),
             Shape::Wait { lane, to } => self.add_wait(out, lane, to),
             Shape::Bar { span, to } => self.add_bar(out, span, to),
             Shape::Arrow {

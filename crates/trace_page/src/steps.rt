@@ -2,13 +2,13 @@
 ghost use Rattle.std.specs.Prelude.{◌≡◌, ◌++◌, ◌&&◌, OnOk};
 ghost use Rattle.trace_page.specs.Scene.{begun, blank, drawn, lane_of, need_of, one_more, opened, opening, place, put, same_bool, together};
 ghost use Rattle.trace_page.specs.Spans.{changed, held_more};
-ghost use Rattle.trace_page.specs.Steps.{all_due, also_sent, answered, asking, called, came, carried, closed, counted, created, died, done, due, event_taken, exited, finished, given_up, granted, has_waited, is_call, is_past, is_shown, left, may_wait, met, met_thread, owner_of, parked, reported, sent, set, settled, shown_answer, ticked, told, trapped, waited, with_agent, woken};
+ghost use Rattle.trace_page.specs.Steps.{all_due, also_sent, answered, asking, called, came, carried, closed, counted, created, died, done, drawable, due, event_taken, exited, finished, given_up, granted, has_waited, is_call, is_past, is_shown, left, may_wait, met, met_thread, named, noted, owner_of, parked, reported, room, said, sent, set, settled, shown_answer, spoken, ticked, told, trapped, waited, with_agent, woken, words_of};
 
-use crate::scene::{Kind, Lane, Moment, Need, Scene, Setting, Shape, Span, Way};
+use crate::scene::{Kind, Lane, Moment, Naming, Need, Scene, Setting, Shape, Span, Way};
 use crate::spans::{Change, add_bars, add_kept, agent_of, level_of, monitor_at, top_level};
-use lwp_types::NoMemory;
+use lwp_types::{NoMemory, Text};
 use std::alloc::Global;
-use trace_lines::{Entry, Gain, NOBODY, Verb};
+use trace_lines::{Entry, Gain, NOBODY, Verb, rest, word};
 
 fn one_more(n: u64) -> u64
     ensures { result ≡ one_more n }
@@ -45,6 +45,7 @@ fn blank(id: u64, event: u64, now: Moment) -> Lane
         suspended: false,
         since: now,
         waits: false,
+        clear: 0,
     }
 }
 
@@ -80,6 +81,7 @@ pub fn need_of(verb: Verb) -> Need
         | Verb::MonBreak
         | Verb::Agent
         | Verb::OnExit
+        | Verb::Say
         | Verb::Other => Need::Nothing,
     }
 }
@@ -158,6 +160,41 @@ fn is_call(entry: Entry) -> bool
     }
 }
 
+// What a call says, or the procedure that it names, in its line.
+fn words_of(verb: Verb, line: &[u8]) -> &[u8]
+    ensures { result.now ≡ words_of verb line.now }
+{
+    match verb {
+        Verb::Create => word(rest(rest(line))),
+        Verb::Say => rest(rest(line)),
+        Verb::Destroy
+        | Verb::Suspend
+        | Verb::Resume
+        | Verb::Join
+        | Verb::Sleep
+        | Verb::Send
+        | Verb::Receive
+        | Verb::Enter
+        | Verb::CondEnter
+        | Verb::MonExit
+        | Verb::MonBreak
+        | Verb::Wait
+        | Verb::Agent
+        | Verb::OnExit
+        | Verb::Other => &[],
+    }
+}
+
+// As much of a text as is drawn, if it can be.
+fn drawable(text: &[u8]) -> Text
+    ensures { result ≡ drawable text.now }
+{
+    match Text::new(&text[..text.len().min(40)]) {
+        Some(words) => words,
+        None => Text::empty(),
+    }
+}
+
 impl Scene {
     /// Before the first line. The calls behind `base`, up to `last`, are to be drawn.
     pub fn new(alloc: Global, base: u64, last: u64) -> Scene
@@ -175,9 +212,11 @@ impl Scene {
             events: 0,
             agent: NOBODY,
             closings: 0,
+            words: Text::empty(),
             lanes: Vec::new(alloc),
             spans: Vec::new(alloc),
             settings: Vec::new(alloc),
+            names: Vec::new(alloc),
             shapes: Vec::new(alloc),
         }
     }
@@ -297,6 +336,53 @@ impl Scene {
             | Verb::MonBreak
             | Verb::Agent
             | Verb::OnExit
+            | Verb::Say
+            | Verb::Other => Ok(()),
+        }
+    }
+
+    // The first call behind the words of the last one.
+    fn room(&self) -> u64
+        ensures { result ≡ room self.now }
+    {
+        let words = self.words.bytes().len() as u64;
+        self.time.call.saturating_add(2 + words / 3)
+    }
+
+    // Words are drawn where those before leave room.
+    fn say(&mut self, tid: u64) -> Result<(), NoMemory>
+        ensures { OnOk result (self.new ≡ said tid self.old) }
+    {
+        let lane = self.lane_of(tid);
+        if self.time.call < lane.clear {
+            return Ok(());
+        }
+        let clear = self.room();
+        let at = self.time;
+        self.put(Lane { clear, ..lane });
+        self.draw(Shape::Said { tid, at })
+    }
+
+    fn speak(&mut self, tid: u64, verb: Verb) -> Result<(), NoMemory>
+        ensures { OnOk result (self.new ≡ spoken tid verb self.old) }
+    {
+        match verb {
+            Verb::Say => self.say(tid),
+            Verb::Create
+            | Verb::Destroy
+            | Verb::Suspend
+            | Verb::Resume
+            | Verb::Join
+            | Verb::Sleep
+            | Verb::Send
+            | Verb::Receive
+            | Verb::Enter
+            | Verb::CondEnter
+            | Verb::MonExit
+            | Verb::MonBreak
+            | Verb::Wait
+            | Verb::Agent
+            | Verb::OnExit
             | Verb::Other => Ok(()),
         }
     }
@@ -309,6 +395,7 @@ impl Scene {
         let at = self.time;
         self.ask(tid, verb, target, suspended);
         self.draw(Shape::Tick { tid, at })?;
+        self.speak(tid, verb)?;
         self.give_up(tid, verb)
     }
 
@@ -335,7 +422,7 @@ impl Scene {
                 to: lane.id,
                 at: now,
             }),
-            Gain::Value(_) | Gain::Thread(_) | Gain::Refused | Gain::Other => {
+            Gain::Value(_) | Gain::Thread(_) | Gain::Caught | Gain::Refused | Gain::Other => {
                 add_woken(&mut self.shapes, lane, self.caller, now)
             }
         }
@@ -345,7 +432,13 @@ impl Scene {
         ensures { OnOk result (self.new ≡ shown_answer lane gain self.old) }
     {
         add_waited(&mut self.shapes, lane, self.time)?;
-        self.show_coming(lane, gain)
+        self.show_coming(lane, gain)?;
+        let at = self.time;
+        self.draw(Shape::Answer {
+            tid: lane.id,
+            gain,
+            at,
+        })
     }
 
     fn park(&mut self, suspended: bool, id: u64) -> Result<(), NoMemory>
@@ -364,15 +457,30 @@ impl Scene {
         })
     }
 
+    // A thread has its procedure's name.
+    fn name(&mut self, tid: u64) -> Result<(), NoMemory>
+        ensures { OnOk result (self.new ≡ named tid self.old) }
+    {
+        let name = self.words;
+        self.names.push(Naming { tid, name })?;
+        Ok(())
+    }
+
     fn create(&mut self, lane: Lane, gain: Gain) -> Result<(), NoMemory>
         ensures { OnOk result (self.new ≡ created lane gain self.old) }
     {
         match gain {
             Gain::Thread(id) => {
+                self.name(id)?;
                 self.meet(id, 0, NOBODY)?;
                 self.park(lane.suspended, id)
             }
-            Gain::Value(_) | Gain::Letter(_) | Gain::Reply | Gain::Refused | Gain::Other => Ok(()),
+            Gain::Value(_)
+            | Gain::Letter(_)
+            | Gain::Reply
+            | Gain::Caught
+            | Gain::Refused
+            | Gain::Other => Ok(()),
         }
     }
 
@@ -381,7 +489,12 @@ impl Scene {
     {
         match gain {
             Gain::Thread(id) => self.meet(id, lane.target, lane.id),
-            Gain::Value(_) | Gain::Letter(_) | Gain::Reply | Gain::Refused | Gain::Other => Ok(()),
+            Gain::Value(_)
+            | Gain::Letter(_)
+            | Gain::Reply
+            | Gain::Caught
+            | Gain::Refused
+            | Gain::Other => Ok(()),
         }
     }
 
@@ -393,7 +506,12 @@ impl Scene {
                 self.settings.push(Setting { reg, tid: lane.id })?;
                 Ok(())
             }
-            Gain::Thread(_) | Gain::Letter(_) | Gain::Reply | Gain::Refused | Gain::Other => Ok(()),
+            Gain::Thread(_)
+            | Gain::Letter(_)
+            | Gain::Reply
+            | Gain::Caught
+            | Gain::Refused
+            | Gain::Other => Ok(()),
         }
     }
 
@@ -435,7 +553,9 @@ impl Scene {
                 let now = self.time;
                 self.change(Change::Wakes { tid: lane.id, now })
             }
-            Verb::Join | Verb::Sleep | Verb::Send | Verb::Receive | Verb::Other => Ok(()),
+            Verb::Join | Verb::Sleep | Verb::Send | Verb::Receive | Verb::Say | Verb::Other => Ok(
+                (),
+            ),
         }
     }
 
@@ -444,9 +564,12 @@ impl Scene {
     {
         match gain {
             Gain::Refused => self.change(Change::Stays { tid: lane.id }),
-            Gain::Value(_) | Gain::Thread(_) | Gain::Letter(_) | Gain::Reply | Gain::Other => {
-                self.grant(lane, lane.verb, gain)
-            }
+            Gain::Value(_)
+            | Gain::Thread(_)
+            | Gain::Letter(_)
+            | Gain::Reply
+            | Gain::Caught
+            | Gain::Other => { self.grant(lane, lane.verb, gain) }
         }
     }
 
@@ -482,6 +605,7 @@ impl Scene {
             | Verb::Wait
             | Verb::Agent
             | Verb::OnExit
+            | Verb::Say
             | Verb::Other => Ok(()),
         }
     }
@@ -493,7 +617,8 @@ impl Scene {
         let at = self.time;
         self.draw(Shape::Exit { tid, at })?;
         if refused {
-            return Ok(());
+            let gain = Gain::Refused;
+            return self.draw(Shape::Answer { tid, gain, at });
         }
         self.carry_out(tid, verb, target)
     }
@@ -657,6 +782,21 @@ impl Scene {
         ensures { result ≡ is_past entry self.now }
     {
         self.more || (is_call(entry) && self.time.call == self.last)
+    }
+
+    /// The words of a line are known.
+    pub fn note(&mut self, entry: Entry, line: &[u8])
+        ensures { self.new ≡ noted entry line.now self.old }
+    {
+        if let Entry::Called {
+            tid: _,
+            verb,
+            target: _,
+            suspended: _,
+        } = entry
+        {
+            self.words = drawable(words_of(verb, line));
+        }
     }
 
     /// What a line tells is known now.
