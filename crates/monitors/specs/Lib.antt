@@ -1,4 +1,5 @@
 pub mod MonitorTable
 pub mod Kept
+pub mod Held
 pub mod Machine
 pub mod Requests

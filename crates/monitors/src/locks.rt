@@ -1,22 +1,39 @@
-// The locks of the held monitors, in the order in which they were acquired.
-ghost use Rattle.std.specs.Prelude.{◌≡◌, vec_capacity};
+// The locks of the held monitors: in the order in which they were acquired, and the same by rising monitors.
+ghost use Rattle.std.specs.Prelude.{[], ◌∷◌, ◌++◌, ◌≡◌, ◌<◌, ◌≤◌, if◌then◌else◌, ◌==◌, ℕ, IfNone, IfSome, Some, length, vec_capacity};
 ghost use Rattle.lwp_types.specs.Locks.{depth_in, with_depth};
-ghost use Rattle.lwp_types.specs.Release.{last_lock, lock_of, without_lock};
+ghost use Rattle.lwp_types.specs.Release.{last_lock, lock_of, locks_on, without_lock};
+ghost use Rattle.monitors.specs.Held.{AreOrdered, IsLockAt};
 
 use lwp_types::{Lock, Mid, Tid};
 
-// The lock of the monitor, if it is held.
-pub fn lock_of(locks: &[Lock], mon: Mid) -> Option<Lock>
-    ensures { result ≡ lock_of locks.now mon }
+// Where the lock of the monitor stands, by rising monitors.
+fn place_of(held: &[Lock], mon: Mid) -> Option<usize>
+    requires { AreOrdered held.now }
+    ensures none { IfNone result (locks_on held.now mon ≡ 0) }
+    ensures some { IfSome result (IsLockAt mon held.now) }
 {
-    locks.iter().copied().find(|lock| lock.mon == mon)
+    let at = held.partition_point(|lock| lock.mon.number < mon.number);
+    match held.get(at) {
+        Some(lock) if lock.mon == mon => Some(at),
+        _ => None,
+    }
+}
+
+// The lock of the monitor, if it is held.
+pub fn lock_of(held: &[Lock], mon: Mid) -> Option<Lock>
+    requires { AreOrdered held.now }
+    ensures { result ≡ lock_of held.now mon }
+{
+    let at = place_of(held, mon)?;
+    Some(held[at])
 }
 
 // How often the monitor's owner has entered it, and 0 where it is free.
-pub fn depth_of(locks: &[Lock], mon: Mid) -> u32
-    ensures { result ≡ depth_in locks.now mon }
+pub fn depth_of(held: &[Lock], mon: Mid) -> u32
+    requires { AreOrdered held.now }
+    ensures { result ≡ depth_in held.now mon }
 {
-    lock_of(locks, mon).map_or(0, |lock| lock.depth)
+    lock_of(held, mon).map_or(0, |lock| lock.depth)
 }
 
 // Of the thread's locks the one that it acquired last.
@@ -26,22 +43,117 @@ pub fn last_lock(locks: &[Lock], tid: Tid) -> Option<Lock>
     locks.iter().rev().copied().find(|lock| lock.owner == tid)
 }
 
-// The monitor is held at this depth.
-pub fn set_depth(locks: &mut Vec<Lock>, mon: Mid, depth: u32)
+// Where the lock of the monitor stands in the order of acquisition. Whoever holds several mostly leaves the last first.
+fn last_place(locks: &[Lock], mon: Mid) -> Option<usize>
+    ensures none { IfNone result (locks_on locks.now mon ≡ 0) }
+    ensures some { IfSome result (IsLockAt mon locks.now) }
+{
+    let mut behind = locks.len();
+    while behind > 0 {
+        behind -= 1;
+        if locks[behind].mon == mon {
+            return Some(behind);
+        }
+    }
+    None
+}
+
+// One lock more, by rising monitors.
+fn hold(held: &mut Vec<Lock>, lock: Lock)
+    requires ordered { AreOrdered held.old.items }
+    requires free { locks_on held.old.items lock.mon ≡ 0 }
+    requires room { length held.old.items < vec_capacity held.old }
+    ensures ordered { AreOrdered held.new.items }
+    ensures locks { (m : ℕ) → lock_of held.new.items m ≡ (if lock.mon == m then Some lock else lock_of held.old.items m) }
+    ensures capacity { vec_capacity held.new ≡ vec_capacity held.old }
+{
+    let at = held.partition_point(|other| other.mon.number < lock.mon.number);
+    // There is room, so no memory is asked for.
+    let _ = held.insert(at, lock);
+}
+
+// A free monitor is held.
+pub fn acquire(locks: &mut Vec<Lock>, held: &mut Vec<Lock>, lock: &Lock)
+    requires ordered { AreOrdered held.old.items }
+    requires free { locks_on held.old.items lock.now.mon ≡ 0 }
+    requires room { length locks.old.items < vec_capacity locks.old }
+    requires held_room { length held.old.items < vec_capacity held.old }
+    ensures items { locks.new.items ≡ locks.old.items ++ lock.now ∷ [] }
+    ensures capacity { vec_capacity locks.new ≡ vec_capacity locks.old }
+    ensures ordered { AreOrdered held.new.items }
+    ensures held { (m : ℕ) → lock_of held.new.items m ≡ (if lock.now.mon == m then Some lock.now else lock_of held.old.items m) }
+    ensures held_capacity { vec_capacity held.new ≡ vec_capacity held.old }
+{
+    hold(held, *lock);
+    locks.push_reserved(*lock);
+}
+
+// The monitor is held at this depth, in the order of acquisition.
+fn deepen_last(locks: &mut Vec<Lock>, mon: Mid, depth: u32)
+    requires { (m : ℕ) → locks_on locks.old.items m ≤ 1 }
     ensures items { locks.new.items ≡ with_depth mon depth locks.old.items }
     ensures capacity { vec_capacity locks.new ≡ vec_capacity locks.old }
 {
-    for lock in locks.iter_mut() {
-        if lock.mon == mon {
-            lock.depth = depth;
-        }
+    if let Some(at) = last_place(locks, mon) {
+        locks[at].depth = depth;
     }
 }
 
-// Nobody holds the monitor.
-pub fn free(locks: &mut Vec<Lock>, mon: Mid)
+// The same by rising monitors.
+fn deepen_held(held: &mut Vec<Lock>, mon: Mid, depth: u32)
+    requires { AreOrdered held.old.items }
+    ensures items { held.new.items ≡ with_depth mon depth held.old.items }
+    ensures capacity { vec_capacity held.new ≡ vec_capacity held.old }
+{
+    if let Some(at) = place_of(held, mon) {
+        held[at].depth = depth;
+    }
+}
+
+// Nobody holds the monitor, in the order of acquisition.
+fn take_last(locks: &mut Vec<Lock>, mon: Mid)
+    requires { (m : ℕ) → locks_on locks.old.items m ≤ 1 }
     ensures items { locks.new.items ≡ without_lock mon locks.old.items }
     ensures capacity { vec_capacity locks.new ≡ vec_capacity locks.old }
 {
-    locks.retain(|lock| lock.mon != mon);
+    if let Some(at) = last_place(locks, mon) {
+        locks.remove(at);
+    }
+}
+
+// The same by rising monitors.
+fn take_held(held: &mut Vec<Lock>, mon: Mid)
+    requires { AreOrdered held.old.items }
+    ensures items { held.new.items ≡ without_lock mon held.old.items }
+    ensures capacity { vec_capacity held.new ≡ vec_capacity held.old }
+{
+    if let Some(at) = place_of(held, mon) {
+        held.remove(at);
+    }
+}
+
+// The monitor is held at this depth.
+pub fn set_depth(locks: &mut Vec<Lock>, held: &mut Vec<Lock>, mon: Mid, depth: u32)
+    requires once { (m : ℕ) → locks_on locks.old.items m ≤ 1 }
+    requires ordered { AreOrdered held.old.items }
+    ensures items { locks.new.items ≡ with_depth mon depth locks.old.items }
+    ensures capacity { vec_capacity locks.new ≡ vec_capacity locks.old }
+    ensures held { held.new.items ≡ with_depth mon depth held.old.items }
+    ensures held_capacity { vec_capacity held.new ≡ vec_capacity held.old }
+{
+    deepen_last(locks, mon, depth);
+    deepen_held(held, mon, depth);
+}
+
+// Nobody holds the monitor.
+pub fn free(locks: &mut Vec<Lock>, held: &mut Vec<Lock>, mon: Mid)
+    requires once { (m : ℕ) → locks_on locks.old.items m ≤ 1 }
+    requires ordered { AreOrdered held.old.items }
+    ensures items { locks.new.items ≡ without_lock mon locks.old.items }
+    ensures capacity { vec_capacity locks.new ≡ vec_capacity locks.old }
+    ensures held { held.new.items ≡ without_lock mon held.old.items }
+    ensures held_capacity { vec_capacity held.new ≡ vec_capacity held.old }
+{
+    take_last(locks, mon);
+    take_held(held, mon);
 }

@@ -6,7 +6,7 @@ ghost use Rattle.lwp_types.specs.Release.{last_lock, lock_of, locks_on};
 ghost use Rattle.monitors.specs.MonitorTable.{created, destroyed, empty_table, entered, exited, forgotten, freed, granted, has_request, is_free, is_live, is_unwanted, last_release, last_released, may_enter, newborn, next_owner, next_request, owner_after, owner_of, released, requested, requests_of, requeued, reserved};
 
 use crate::live::{has, list, take_out};
-use crate::locks::{depth_of, free, last_lock, lock_of, set_depth};
+use crate::locks::{acquire, depth_of, free, last_lock, lock_of, set_depth};
 use lwp_types::{IdList, Lock, Mid, NoMemory, Tid};
 use std::alloc::Global;
 use std::marker::Model;
@@ -21,7 +21,10 @@ pub struct Monitors {
     live: Vec<Mid>,
     births: u64,
     limit: u64,
+    // In the order of acquisition.
     locks: Vec<Lock>,
+    // The same by rising monitors, so that whether one is held is found at once.
+    held: Vec<Lock>,
     requests: WaitingList,
 }
 
@@ -34,6 +37,7 @@ impl Drop for Monitors {
             births: _,
             limit: _,
             locks: _,
+            held: _,
             requests: _,
         } = self;
     }
@@ -42,14 +46,14 @@ impl Drop for Monitors {
 impl Model for Monitors {
     ghost use Rattle.std.specs.Prelude.{map, vec_capacity};
     ghost use Rattle.monitors.specs.MonitorTable.{MonitorTable};
-    ghost use Rattle.monitors.specs.Kept.{IsKept};
+    ghost use Rattle.monitors.specs.Held.{IsSound};
     ghost use Rattle.monitors.specs.Requests.{request_of};
 
     ghost Value = { MonitorTable };
 
     ghost view = { λ s. record { monitors = s.live.items; births = s.births; limit = s.limit; locks = s.locks.items; requests = map request_of s.requests.waiting; places = s.requests.places } };
 
-    ghost invariant = { λ s. IsKept (record { monitors = s.live.items; births = s.births; limit = s.limit; locks = s.locks.items; requests = map request_of s.requests.waiting; places = s.requests.places }) (vec_capacity s.locks) };
+    ghost invariant = { λ s. IsSound (record { monitors = s.live.items; births = s.births; limit = s.limit; locks = s.locks.items; requests = map request_of s.requests.waiting; places = s.requests.places }) s.held.items (vec_capacity s.locks) (vec_capacity s.held) };
 }
 
 impl Monitors {
@@ -63,6 +67,7 @@ impl Monitors {
             births: 0,
             limit: births,
             locks: Vec::new(alloc),
+            held: Vec::new(alloc),
             requests: WaitingList::new(alloc),
         }
     }
@@ -88,6 +93,7 @@ impl Monitors {
         }
         let mon = Mid { number: births };
         self.locks.reserve(self.live.len() + 1 - self.locks.len())?;
+        self.held.reserve(self.live.len() + 1 - self.held.len())?;
         self.live.push(mon)?;
         self.births = births + 1;
         Ok(Some(mon))
@@ -115,7 +121,7 @@ impl Monitors {
         requires { IsTrue (is_live self.now mon) }
         ensures { result ≡ owner_of self.now mon }
     {
-        lock_of(&self.locks, mon).map(|lock| lock.owner)
+        lock_of(&self.held, mon).map(|lock| lock.owner)
     }
 
     /// How often the owner has entered the monitor, and 0 where it is free.
@@ -123,7 +129,7 @@ impl Monitors {
         requires { IsTrue (is_live self.now mon) }
         ensures { result ≡ depth_in self.now.locks mon }
     {
-        depth_of(&self.locks, mon)
+        depth_of(&self.held, mon)
     }
 
     /// The thread enters a free monitor, or its own once more. The answer is how often it had entered it before.
@@ -133,17 +139,18 @@ impl Monitors {
         ensures value { result ≡ depth_in self.old.locks mon }
         ensures after { self.new ≡ entered self.old tid mon }
     {
-        match lock_of(&self.locks, mon) {
+        match lock_of(&self.held, mon) {
             None => {
-                self.locks.push_reserved(Lock {
+                let lock = Lock {
                     mon,
                     owner: tid,
                     depth: 1,
-                });
+                };
+                acquire(&mut self.locks, &mut self.held, &lock);
                 0
             }
             Some(lock) => {
-                set_depth(&mut self.locks, mon, lock.depth + 1);
+                set_depth(&mut self.locks, &mut self.held, mon, lock.depth + 1);
                 lock.depth
             }
         }
@@ -172,11 +179,11 @@ impl Monitors {
         ensures value { result ≡ owner_after self.old mon }
         ensures after { self.new ≡ exited self.old mon }
     {
-        let depth = depth_of(&self.locks, mon);
+        let depth = depth_of(&self.held, mon);
         if depth <= 1 {
             return self.break_lock(mon);
         }
-        set_depth(&mut self.locks, mon, depth - 1);
+        set_depth(&mut self.locks, &mut self.held, mon, depth - 1);
         None
     }
 
@@ -186,7 +193,7 @@ impl Monitors {
         ensures value { result ≡ next_owner self.old mon }
         ensures after { self.new ≡ released self.old mon }
     {
-        free(&mut self.locks, mon);
+        free(&mut self.locks, &mut self.held, mon);
         self.grant(mon)
     }
 
@@ -196,8 +203,8 @@ impl Monitors {
         ensures value { result ≡ depth_in self.old.locks mon }
         ensures after { self.new ≡ freed self.old mon }
     {
-        let before = depth_of(&self.locks, mon);
-        free(&mut self.locks, mon);
+        let before = depth_of(&self.held, mon);
+        free(&mut self.locks, &mut self.held, mon);
         before
     }
 
@@ -211,11 +218,12 @@ impl Monitors {
     {
         let next = self.requests.best(mon.number)?;
         self.requests.leave(next.tid);
-        self.locks.push_reserved(Lock {
+        let lock = Lock {
             mon: Mid { number: next.what },
             owner: next.tid,
             depth: next.depth,
-        });
+        };
+        acquire(&mut self.locks, &mut self.held, &lock);
         Some(next.tid)
     }
 
