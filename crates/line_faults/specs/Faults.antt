@@ -4,11 +4,13 @@ use Rattle.std.specs.List.{list_any}
 use Rattle.lwp_types.specs.TextFields.{is_printable, is_text}
 use Rattle.script_lines.specs.declared.table.Kind.{Kind}
 use Rattle.script_lines.specs.declared.table.Kind.TheVariants as kind
+use Rattle.script_lines.specs.contracts.table.Kind.{the_type as kind_type}
+use denote.Enum.Bare.{sameb}
 use Rattle.script_lines.specs.declared.table.Op.{Op}
 use Rattle.script_lines.specs.Reading.{first_word}
 use Rattle.script_lines.specs.Table.{is_half, key_length, op_at, slots_of}
 use Rattle.script_lines.specs.Words.{reach}
-use Rattle.line_faults.specs.Near.{or_else}
+use Rattle.line_faults.specs.Near.{behind_first, or_else}
 use Rattle.line_faults.specs.Slots.{fits, is_built, is_test}
 use Rattle.line_faults.specs.declared.faults.Fault.{Fault}
 use Rattle.line_faults.specs.declared.faults.What.{What}
@@ -123,3 +125,18 @@ unfoldable pub fault_of : List ℕ → Option Fault
 fault_of line =
     if is_printable line then form_fault (op_of line) line
     else Some (fault_at (from_unprintable line) (byte_what (from_unprintable line)))
+
+-- ---- Words that are told of lines whose form is right.
+
+-- the key of the line
+abbrev pub key_at : List ℕ → List ℕ
+key_at line = take (key_length line) line
+
+-- what is left from the first slot of this kind on
+abbrev pub from_slot : Kind → List Kind → List ℕ → List ℕ
+from_slot k [] rest = []
+from_slot k (j ∷ js) rest = if sameb kind_type j k then behind_first rest else from_slot k js (behind_slot j rest)
+
+-- what is left of a line of this kind from the first slot of that kind on; nothing, where it has no such slot
+abbrev pub slot_at : Op → Kind → List ℕ → List ℕ
+slot_at o k line = from_slot k (slots_of o) (drop (key_length line) line)

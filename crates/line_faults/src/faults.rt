@@ -3,11 +3,12 @@ ghost use Rattle.std.specs.Prelude.{◌≡◌, Some, length, take, drop};
 ghost use Rattle.std.specs.List.{list_any};
 ghost use Rattle.script_lines.specs.Table.{is_half, key_length};
 ghost use Rattle.script_lines.specs.Reading.{first_word};
-ghost use Rattle.line_faults.specs.Faults.{behind_slot, behind_word, byte_what, end_fault, fault_at, fault_of, form_fault, from_unprintable, front_fault, is_upper, op_of, opens_comment, second_fault, slot_fault, slots_fault, text_fault, what_of, word_fault, wrong};
+ghost use Rattle.line_faults.specs.Faults.{behind_slot, behind_word, byte_what, end_fault, fault_at, fault_of, form_fault, from_slot, from_unprintable, front_fault, is_upper, key_at, op_of, opens_comment, second_fault, slot_at, slot_fault, slots_fault, text_fault, what_of, word_fault, wrong};
 ghost use Rattle.line_faults.specs.Faults.{rest_fault};
 ghost use Rattle.line_faults.specs.Slots.{is_built, is_test};
 ghost use Rattle.script_lines.specs.declared.table.Kind.TheVariants as kind;
 
+use crate::near::behind_first;
 use crate::slots::{fits, is_built, is_test};
 use script_lines::{Kind, Op, is_printable, reach};
 
@@ -328,4 +329,34 @@ pub fn fault_of(line: &[u8]) -> Option<Fault>
     }
     let rest = from_unprintable(line);
     fault_at(rest, byte_what(rest))
+}
+
+/// The key of the line: its first word, or the first two where both are the key.
+pub fn key_at(line: &[u8]) -> &[u8]
+    ensures { result.now ≡ key_at line.now }
+{
+    let (key, _) = split_key(line);
+    key
+}
+
+// What is left from the first slot of this kind on.
+fn from_slot<'l>(kind: Kind, kinds: &[Kind], rest: &'l [u8]) -> &'l [u8]
+    ensures { result.now ≡ from_slot kind kinds.now rest.now }
+{
+    let mut left = rest;
+    for other in kinds {
+        if *other == kind {
+            return behind_first(left);
+        }
+        left = behind_slot(*other, left);
+    }
+    &[]
+}
+
+/// What is left of a line of this kind from the first slot of that kind on; nothing, where it has no such slot.
+pub fn slot_at(op: Op, kind: Kind, line: &[u8]) -> &[u8]
+    ensures { result.now ≡ slot_at op kind line.now }
+{
+    let (_, rest) = split_key(line);
+    from_slot(kind, op.slots(), rest)
 }

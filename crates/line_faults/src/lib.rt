@@ -13,7 +13,7 @@ mod near;
 mod slots;
 mod texts;
 
-pub use faults::{Fault, What, fault_of, op_of};
+pub use faults::{Fault, What, fault_of, key_at, op_of, slot_at};
 pub use forms::{add_form, nearest_op};
 pub use near::{nearest, one_apart, two_apart};
 pub use texts::what_text;

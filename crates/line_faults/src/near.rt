@@ -4,8 +4,8 @@ ghost use Rattle.line_faults.specs.Near.{behind_first, edited, edited_once, firs
 
 use lwp_types::Text;
 
-// The word without its first byte.
-fn behind_first(word: &[u8]) -> &[u8]
+/// The word without its first byte.
+pub(crate) fn behind_first(word: &[u8]) -> &[u8]
     ensures { result.now ≡ behind_first word.now }
 {
     match word {

@@ -1,0 +1,29 @@
+-- What holds of the errors of all texts.
+use Rattle.std.specs.Prelude.{◌≡◌, ◌↔◌, ℕ, List, [], ◌∷◌, Err, take}
+use Rattle.script_text.specs.declared.reason.Reason.{Reason}
+use Rattle.script_text.specs.declared.script.Script.{Script}
+use Rattle.script_text.specs.Grammar.{Spells}
+use Rattle.script_text.specs.Spelling.{verdict}
+use Rattle.script_advice.specs.Advice.{grade_of, report}
+use Rattle.script_advice.specs.Errors.{errors}
+use Rattle.script_advice.specs.Remarks.{Remark}
+use Rattle.script_advice.specs.declared.advice.Grade.TheVariants as grade
+use Rattle.script_advice.specs.declared.texts.Format.{Format}
+
+-- the first of these is of this line, for this reason
+abbrev pub BeginsWith : List Remark → ℕ → Reason → Type 0
+BeginsWith [] n why = ⊥
+BeginsWith (r ∷ rs) n why = (r.line ≡ n) × (r.reason ≡ why)
+
+-- where the reader refuses a text, the first error is of the reader's line, for the reader's reason
+abbrev pub FirstIsReaders : List ℕ → Type 0
+FirstIsReaders text = (n : ℕ) (why : Reason) → verdict text ≡ Err (n, why) → BeginsWith (errors text) n why
+
+-- a text has no errors exactly where it spells a script
+abbrev pub IsFineWhereSpelt : List ℕ → Type 0
+IsFineWhereSpelt text = (errors text ≡ []) ↔ ((script : Script) × Spells text script)
+
+-- of a text that is too long, no more has to be read than its first 16,777,217 bytes
+pub record IsKnownByFront (f : Format) (text : List ℕ) : Type 0 where
+  pub report : report f (take 16777217 text) ≡ report f text
+  pub grade : grade_of (take 16777217 text) ≡ grade_of text

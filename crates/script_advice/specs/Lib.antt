@@ -1,0 +1,5 @@
+pub mod Remarks
+pub mod Errors
+pub mod Texts
+pub mod Advice
+pub mod Laws

@@ -1,0 +1,39 @@
+// What is told of a text.
+ghost use Rattle.std.specs.Prelude.{◌≡◌, ◌++◌, IfOk};
+ghost use Rattle.script_advice.specs.Advice.{grade_of, report};
+
+use crate::errors::add_errors;
+use crate::texts::Format;
+use lwp_types::NoMemory;
+use script_text::{ReadErr, read_script};
+use std::alloc::Global;
+
+/// How good a text is.
+#[derive(Clone, Copy, PartialEq, Eq)]
+pub enum Grade {
+    /// It spells a script.
+    Fine,
+    /// It spells none.
+    Wrong,
+}
+
+/// Puts all that is told of a text behind the bytes so far, and gives the text's grade.
+#[tactic(auto, unfolding(crate::specs::Advice::report))]
+pub fn add_report(
+    alloc: Global,
+    out: &mut Vec<u8>,
+    format: Format,
+    text: &[u8],
+) -> Result<Grade, NoMemory>
+    ensures told { IfOk result (λ g. out.new.items ≡ out.old.items ++ report format text.now) }
+    ensures grade { IfOk result (λ g. g ≡ grade_of text.now) }
+{
+    match read_script(alloc, text) {
+        Ok(_) => Ok(Grade::Fine),
+        Err(ReadErr::NoMemory) => Err(NoMemory),
+        Err(ReadErr::Bad { line, reason }) => {
+            add_errors(alloc, out, format, text, line, reason)?;
+            Ok(Grade::Wrong)
+        }
+    }
+}
