@@ -7,13 +7,14 @@ use Rattle.script_text.specs.Spelling.{verdict}
 use Rattle.script_advice.specs.Advice.{grade_of, report}
 use Rattle.script_advice.specs.Errors.{errors}
 use Rattle.script_advice.specs.Remarks.{Remark}
+use Rattle.script_advice.specs.declared.remarks.Cause.TheVariants as cause
 use Rattle.script_advice.specs.declared.advice.Grade.TheVariants as grade
 use Rattle.script_advice.specs.declared.texts.Format.{Format}
 
 -- the first of these is of this line, for this reason
 abbrev pub BeginsWith : List Remark → ℕ → Reason → Type 0
 BeginsWith [] n why = ⊥
-BeginsWith (r ∷ rs) n why = (r.line ≡ n) × (r.reason ≡ why)
+BeginsWith (r ∷ rs) n why = (r.line ≡ n) × (r.cause ≡ cause.Bad why)
 
 -- where the reader refuses a text, the first error is of the reader's line, for the reader's reason
 abbrev pub FirstIsReaders : List ℕ → Type 0

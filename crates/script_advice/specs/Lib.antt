@@ -3,3 +3,4 @@ pub mod Errors
 pub mod Texts
 pub mod Advice
 pub mod Laws
+pub mod Doubts

@@ -17,15 +17,19 @@ use Rattle.line_faults.specs.Forms.{nearest_op}
 use Rattle.line_faults.specs.Faults.{fault_of, key_at, op_of, slot_at}
 use Rattle.line_faults.specs.Texts.{what_text}
 use Rattle.line_faults.specs.declared.faults.Fault.{Fault}
+use Rattle.script_advice.specs.declared.remarks.Cause.{Cause}
+use Rattle.script_advice.specs.declared.remarks.Cause.TheVariants as cause
+use Rattle.script_advice.specs.declared.remarks.Doubt.{Doubt}
+use Rattle.script_advice.specs.declared.remarks.Doubt.TheVariants as doubt
 use Rattle.script_advice.specs.declared.remarks.Place.{Place}
 use Rattle.script_advice.specs.declared.remarks.Why.{Why}
 use Rattle.script_advice.specs.declared.remarks.Why.TheVariants as why
 
--- An error: the number of its line, why the line is bad, the line, where in it what is wrong, the kind of line whose form is told, and
+-- What is told of a line: its number, why it is told, the line, where in it what is wrong, the kind of line whose form is told, and
 -- the word that the wrong one is nearly; empty, where it is nearly none.
 pub record Remark : Type 0 where
   pub line : ℕ
-  pub reason : Reason
+  pub cause : Cause
   pub text : List ℕ
   pub place : Place
   pub form : Option Op
@@ -63,11 +67,40 @@ rule_text reason.Again = codes "an again ends its procedure, which doesn't begin
 rule_text reason.Statement = codes "a statement stands in a procedure"
 rule_text reason.Missing = codes "the script ends too early: lwp 1, a pod and a procedure have to be there"
 
+-- the name of a doubt
+abbrev pub doubt_text : Doubt → List ℕ
+doubt_text doubt.Thread = codes "Unset"
+doubt_text doubt.Monitor = codes "Unset"
+doubt_text doubt.Condition = codes "Unset"
+doubt_text doubt.Procedure = codes "Unstarted"
+doubt_text doubt.Statement = codes "Unreached"
+doubt_text doubt.Client = codes "Unasked"
+
+-- what is meant by it
+abbrev pub doubted_text : Doubt → List ℕ
+doubted_text doubt.Thread = codes "a thread that no create and no agent names"
+doubted_text doubt.Monitor = codes "a monitor that no moncreate names"
+doubted_text doubt.Condition = codes "a condition that no cvcreate names"
+doubted_text doubt.Procedure = codes "a procedure that no create and no call starts"
+doubted_text doubt.Statement = codes "a statement behind a return, which nothing reaches"
+doubted_text doubt.Client = codes "an event that no agent and no session asks for"
+
+-- whether it is an error or a warning
+abbrev pub severity_text : Cause → List ℕ
+severity_text (cause.Bad r) = codes "error"
+severity_text (cause.Doubted d) = codes "warning"
+
+-- why it is told
+abbrev pub cause_text : Cause → List ℕ
+cause_text (cause.Bad r) = reason_text r
+cause_text (cause.Doubted d) = doubt_text d
+
 -- what is wrong, in words
 abbrev pub why_text : Why → List ℕ
 why_text (why.Form w) = what_text w
 why_text why.Undeclared = codes "a procedure that nothing declares"
 why_text (why.Rule r) = rule_text r
+why_text (why.Doubted d) = doubted_text d
 
 -- ---- Where it is, and what is wrong there.
 
@@ -131,6 +164,7 @@ unfoldable pub near_of : Declared → Why → List ℕ → List ℕ
 near_of d (why.Form w) line = near_key line (op_of line)
 near_of d why.Undeclared line = near_procedure d (phrase_at line)
 near_of d (why.Rule r) line = []
+near_of d (why.Doubted x) line = []
 
 -- ---- What may stand there.
 
@@ -152,7 +186,7 @@ form_of r line = if is_of_text r then None else wanted_op r line
 abbrev pub remark_of : Declared → ℕ → Reason → List ℕ → Remark
 remark_of d n r line = record {
   line = n;
-  reason = r;
+  cause = cause.Bad r;
   text = line;
   place = place_of d r line;
   form = form_of r line;

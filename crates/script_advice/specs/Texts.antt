@@ -4,7 +4,7 @@ use Rattle.std.specs.Prelude.{ℕ, Bool, ◌&&◌, ◌+◌, ◌-◌, nat_le, Lis
 use Rattle.std.specs.List.{flat_map}
 use Rattle.script_lines.specs.declared.table.Op.{Op}
 use Rattle.line_faults.specs.Forms.{form}
-use Rattle.script_advice.specs.Remarks.{Remark, reason_text, why_text}
+use Rattle.script_advice.specs.Remarks.{Remark, cause_text, severity_text, why_text}
 use Rattle.script_advice.specs.declared.texts.Format.{Format}
 use Rattle.script_advice.specs.declared.texts.Format.TheVariants as format
 
@@ -37,9 +37,9 @@ abbrev pub quoted : List ℕ → ℕ → List ℕ
 quoted [] at = []
 quoted (b ∷ bs) at = codes "  " ++ (map shown (b ∷ bs) ++ (codes "\n  " ++ (map under (take at (b ∷ bs)) ++ codes "^\n")))
 
--- an error's number of the line, and its reason
+-- whether it is an error, the number of its line, and why it is told
 unfoldable pub head_text : Remark → List ℕ
-head_text r = codes "error line " ++ (decimal r.line ++ (codes ": " ++ (reason_text r.reason ++ codes "\n")))
+head_text r = severity_text r.cause ++ (codes " line " ++ (decimal r.line ++ (codes ": " ++ (cause_text r.cause ++ codes "\n"))))
 
 -- what is wrong, what may stand there, and what nearly does
 unfoldable pub advice_text : Remark → List ℕ
@@ -56,7 +56,7 @@ unfoldable pub json_place : Remark → List ℕ
 json_place r = codes "{\"line\":" ++ (decimal r.line ++ (codes ",\"column\":" ++ decimal (column r + 1)))
 
 unfoldable pub json_reason : Remark → List ℕ
-json_reason r = codes ",\"severity\":\"error\",\"reason\":\"" ++ (reason_text r.reason ++ codes "\"")
+json_reason r = codes ",\"severity\":\"" ++ (severity_text r.cause ++ (codes "\",\"reason\":\"" ++ (cause_text r.cause ++ codes "\"")))
 
 unfoldable pub json_advice : Remark → List ℕ
 json_advice r =

@@ -12,12 +12,15 @@
 
 mod advice;
 mod checking;
+mod doubts;
 mod errors;
 mod known;
 mod laws;
 mod lines;
 mod remarks;
+mod sets;
 mod texts;
+mod way;
 
 pub use advice::{Grade, add_report};
 pub use checking::{CheckEnd, check, fault_text, status_of};

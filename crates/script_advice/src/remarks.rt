@@ -2,7 +2,7 @@
 ghost use Rattle.std.specs.Prelude.{◌≡◌, length, option_map};
 ghost use Rattle.line_faults.specs.Near.{nearest};
 ghost use Rattle.script_lines.specs.Reading.{phrase_at};
-ghost use Rattle.script_advice.specs.Remarks.{fault_place, form_of, is_of_text, key_or_none, likely_op, near_key, near_of, near_procedure, place_at, place_of, reason_text, remark_of, rule_text, said_place, some_names, starts_nothing, why_text};
+ghost use Rattle.script_advice.specs.Remarks.{cause_text, doubt_text, doubted_text, fault_place, form_of, is_of_text, key_or_none, likely_op, near_key, near_of, near_procedure, place_at, place_of, reason_text, remark_of, rule_text, said_place, severity_text, some_names, starts_nothing, why_text};
 
 use crate::known::Known;
 use line_faults::{Fault, What, fault_of, key_at, nearest, nearest_op, op_of, slot_at, what_text};
@@ -10,6 +10,32 @@ use lwp_types::Text;
 use script_lines::{Kind, Op, Phrase, phrase_at};
 use script_text::Reason;
 use std::marker::Model;
+
+/// What is allowed in a script and hardly meant.
+#[derive(Clone, Copy)]
+pub enum Doubt {
+    /// No line sets the thread's name.
+    Thread,
+    /// No line sets the monitor's name.
+    Monitor,
+    /// No line sets the condition's name.
+    Condition,
+    /// No line starts the procedure.
+    Procedure,
+    /// The statement can't be reached.
+    Statement,
+    /// No line asks for the client's event.
+    Client,
+}
+
+/// Why a line is told.
+#[derive(Clone, Copy)]
+pub enum Cause {
+    /// An error: the line is bad.
+    Bad(Reason),
+    /// A warning.
+    Doubted(Doubt),
+}
 
 /// What is wrong with a line.
 #[derive(Clone, Copy)]
@@ -20,6 +46,8 @@ pub enum Why {
     Undeclared,
     /// The form is right, and the line, or the text, breaks the rule that has this name.
     Rule(Reason),
+    /// The line is good, and hardly meant.
+    Doubted(Doubt),
 }
 
 /// What is wrong with a line, and how many bytes are left of it from the wrong word on.
@@ -29,11 +57,11 @@ pub struct Place {
     pub why: Why,
 }
 
-/// An error: the number of its line, why the line is bad, the line, where in it what is wrong, the kind of line whose form is told, and
+/// What is told of a line: its number, why it is told, the line, where in it what is wrong, the kind of line whose form is told, and
 /// the word that the wrong one is nearly; empty, where it is nearly none.
 pub struct Remark<'t> {
     pub line: u32,
-    pub reason: Reason,
+    pub cause: Cause,
     pub text: &'t [u8],
     pub place: Place,
     pub form: Option<Op>,
@@ -45,7 +73,7 @@ impl<'t> Model for Remark<'t> {
 
     ghost Value = { AnyRemark };
 
-    ghost view = { λ r. record { line = r.line; reason = r.reason; text = r.text.now; place = r.place; form = r.form; near = r.near.now } };
+    ghost view = { λ r. record { line = r.line; cause = r.cause; text = r.text.now; place = r.place; form = r.form; near = r.near.now } };
 }
 
 // By hand, so that whoever drops a remark calls this.
@@ -53,7 +81,7 @@ impl<'t> Drop for Remark<'t> {
     fn drop(self) {
         let Remark {
             line: _,
-            reason: _,
+            cause: _,
             text: _,
             place: _,
             form: _,
@@ -62,8 +90,8 @@ impl<'t> Drop for Remark<'t> {
     }
 }
 
-/// The name of a reason.
-pub fn reason_text(reason: Reason) -> &'static [u8]
+// The name of a reason.
+fn reason_text(reason: Reason) -> &'static [u8]
     ensures { result.now ≡ reason_text reason }
 {
     match reason {
@@ -108,6 +136,52 @@ fn rule_text(reason: Reason) -> &'static [u8]
     }
 }
 
+// The name of a doubt.
+fn doubt_text(doubt: Doubt) -> &'static [u8]
+    ensures { result.now ≡ doubt_text doubt }
+{
+    match doubt {
+        Doubt::Thread | Doubt::Monitor | Doubt::Condition => b"Unset",
+        Doubt::Procedure => b"Unstarted",
+        Doubt::Statement => b"Unreached",
+        Doubt::Client => b"Unasked",
+    }
+}
+
+// What is meant by it.
+fn doubted_text(doubt: Doubt) -> &'static [u8]
+    ensures { result.now ≡ doubted_text doubt }
+{
+    match doubt {
+        Doubt::Thread => b"a thread that no create and no agent names",
+        Doubt::Monitor => b"a monitor that no moncreate names",
+        Doubt::Condition => b"a condition that no cvcreate names",
+        Doubt::Procedure => b"a procedure that no create and no call starts",
+        Doubt::Statement => b"a statement behind a return, which nothing reaches",
+        Doubt::Client => b"an event that no agent and no session asks for",
+    }
+}
+
+/// Whether it is an error or a warning.
+pub fn severity_text(cause: Cause) -> &'static [u8]
+    ensures { result.now ≡ severity_text cause }
+{
+    match cause {
+        Cause::Bad(_) => b"error",
+        Cause::Doubted(_) => b"warning",
+    }
+}
+
+/// Why it is told.
+pub fn cause_text(cause: Cause) -> &'static [u8]
+    ensures { result.now ≡ cause_text cause }
+{
+    match cause {
+        Cause::Bad(reason) => reason_text(reason),
+        Cause::Doubted(doubt) => doubt_text(doubt),
+    }
+}
+
 /// What is wrong, in words.
 pub fn why_text(why: Why) -> &'static [u8]
     ensures { result.now ≡ why_text why }
@@ -116,6 +190,7 @@ pub fn why_text(why: Why) -> &'static [u8]
         Why::Form(what) => what_text(what),
         Why::Undeclared => b"a procedure that nothing declares",
         Why::Rule(reason) => rule_text(reason),
+        Why::Doubted(doubt) => doubted_text(doubt),
     }
 }
 
@@ -177,8 +252,9 @@ fn place_of(known: &Known, reason: Reason, line: &[u8]) -> Place
 
 // ---- The word that is nearly there.
 
+/// The names that are looked at for one that is near.
 #[tactic(auto, using(std::proofs::lemmas::List::take_min))]
-fn some_names(names: &[Text]) -> &[Text]
+pub(crate) fn some_names(names: &[Text]) -> &[Text]
     ensures { result.now ≡ some_names names.now }
 {
     &names[..256_usize.min(names.len())]
@@ -230,7 +306,7 @@ fn near_of<'k>(known: &'k Known, why: Why, line: &[u8]) -> &'k [u8]
     match why {
         Why::Form(_) => near_key(line, op_of(line)),
         Why::Undeclared => near_procedure(known, line),
-        Why::Rule(_) => &[],
+        Why::Rule(_) | Why::Doubted(_) => &[],
     }
 }
 
@@ -268,7 +344,7 @@ pub fn remark_of<'t>(known: &'t Known, line: u32, reason: Reason, text: &'t [u8]
     let place = place_of(known, reason, text);
     Remark {
         line,
-        reason,
+        cause: Cause::Bad(reason),
         text,
         place,
         form: form_of(reason, text),

@@ -2,7 +2,7 @@
 ghost use Rattle.std.specs.Prelude.{◌≡◌, ◌++◌, OnOk, map};
 ghost use Rattle.script_advice.specs.Texts.{advice_text, column, head_text, json_advice, json_place, json_reason, json_text, labelled, labelled_form, plain_text, quoted, remark_text, shown, under};
 
-use crate::remarks::{Remark, reason_text, why_text};
+use crate::remarks::{Remark, cause_text, severity_text, why_text};
 use line_faults::add_form;
 use lwp_types::NoMemory;
 use script_lines::Op;
@@ -95,15 +95,16 @@ fn add_quoted(out: &mut Vec<u8>, text: &[u8], at: usize) -> Result<(), NoMemory>
     add_text(out, b"^\n")
 }
 
-// An error's number of the line, and its reason.
+// Whether it is an error, the number of its line, and why it is told.
 #[tactic(auto, unfolding(crate::specs::Texts::head_text))]
 fn add_head(out: &mut Vec<u8>, remark: &Remark<'_>) -> Result<(), NoMemory>
     ensures { OnOk result (out.new.items ≡ out.old.items ++ head_text remark.now) }
 {
-    add_text(out, b"error line ")?;
+    add_text(out, severity_text(remark.cause))?;
+    add_text(out, b" line ")?;
     add_number(out, u64::from(remark.line))?;
     add_text(out, b": ")?;
-    add_text(out, reason_text(remark.reason))?;
+    add_text(out, cause_text(remark.cause))?;
     add_text(out, b"\n")
 }
 
@@ -141,8 +142,10 @@ fn add_json_place(out: &mut Vec<u8>, remark: &Remark<'_>) -> Result<(), NoMemory
 fn add_json_reason(out: &mut Vec<u8>, remark: &Remark<'_>) -> Result<(), NoMemory>
     ensures { OnOk result (out.new.items ≡ out.old.items ++ json_reason remark.now) }
 {
-    add_text(out, b",\"severity\":\"error\",\"reason\":\"")?;
-    add_text(out, reason_text(remark.reason))?;
+    add_text(out, b",\"severity\":\"")?;
+    add_text(out, severity_text(remark.cause))?;
+    add_text(out, b"\",\"reason\":\"")?;
+    add_text(out, cause_text(remark.cause))?;
     add_text(out, b"\"")
 }
 
