@@ -1,5 +1,5 @@
 -- What is told of a text, and what the program comes to, with all that it meets outside.
-use Rattle.std.specs.Prelude.{ℕ, List, [], ◌∷◌, Option, Some, None, Result, Ok, Err, codes, take, if◌then◌else◌, ◌≡◌}
+use Rattle.std.specs.Prelude.{ℕ, Bool, true, false, List, [], ◌∷◌, Option, Some, None, Result, Ok, Err, codes, take, if◌then◌else◌, ◌≡◌}
 use Rattle.std.specs.Str.{bytes_eq}
 use Rattle.lwp_types.specs.Streams.{appended}
 use Rattle.script_text.specs.declared.reason.Reason.{Reason}
@@ -8,7 +8,9 @@ use Rattle.script_text.specs.Spelling.{verdict}
 use Rattle.whole_streams.specs.Limited.{HasFront, IsReadUp, IsReadWithin}
 use Rattle.whole_streams.specs.Streams.{IsFaultless, IsFaulty, IsQuiet, Stream}
 use Rattle.whole_streams.specs.Writing.{AppendsPart}
-use Rattle.script_advice.specs.Errors.{errors}
+use Rattle.script_advice.specs.Doubts.{are_some, doubts}
+use Rattle.script_advice.specs.Errors.{errors_at}
+use Rattle.script_advice.specs.Remarks.{Remark}
 use Rattle.script_advice.specs.Texts.{remarks_text}
 use Rattle.script_advice.specs.declared.advice.Grade.{Grade}
 use Rattle.script_advice.specs.declared.advice.Grade.TheVariants as grade
@@ -17,17 +19,30 @@ use Rattle.script_advice.specs.declared.checking.CheckEnd.TheVariants as end
 use Rattle.script_advice.specs.declared.texts.Format.{Format}
 use Rattle.script_advice.specs.declared.texts.Format.TheVariants as format
 
--- the first thousand errors of a text
+-- what is told of a text, by what reading it comes to: its errors, or the doubts of a script
+abbrev pub remarks_by : List ℕ → Result Script (ℕ × Reason) → List Remark
+remarks_by text (Ok script) = doubts text
+remarks_by text (Err bad) = errors_at text bad.0 bad.1
+
+abbrev pub remarks : List ℕ → List Remark
+remarks text = remarks_by text (verdict text)
+
+-- the first thousand of these, written so
 unfoldable pub report : Format → List ℕ → List ℕ
-report f text = remarks_text f (take 1000 (errors text))
+report f text = remarks_text f (take 1000 (remarks text))
+
+-- a script is fine where nothing is doubtful
+abbrev pub doubted_grade : Bool → Grade
+doubted_grade true = grade.Warned
+doubted_grade false = grade.Fine
 
 -- a text is wrong where the reader refuses it
-abbrev pub grade_by : Result Script (ℕ × Reason) → Grade
-grade_by (Ok script) = grade.Fine
-grade_by (Err bad) = grade.Wrong
+abbrev pub grade_by : List ℕ → Result Script (ℕ × Reason) → Grade
+grade_by text (Ok script) = doubted_grade (are_some (doubts text))
+grade_by text (Err bad) = grade.Wrong
 
-abbrev pub grade_of : List ℕ → Grade
-grade_of text = grade_by (verdict text)
+unfoldable pub grade_of : List ℕ → Grade
+grade_of text = grade_by text (verdict text)
 
 -- ---- The program.
 
@@ -71,6 +86,7 @@ CheckSays (Some f) source sink e = EndSays f source sink e
 
 abbrev pub grade_status : Grade → ℕ
 grade_status grade.Fine = 0
+grade_status grade.Warned = 1
 grade_status grade.Wrong = 2
 
 -- the status of an end

@@ -195,3 +195,8 @@ doubts_from s w n (line ∷ lines) = doubts_told s w n line (phrase_at line) (do
 -- the warnings of a text that spells a script
 abbrev pub doubts : List ℕ → List Remark
 doubts text = doubts_from (sets_of text) no_way 1 (cut text).0
+
+-- there is one at least
+abbrev pub are_some : List Remark → Bool
+are_some [] = false
+are_some (r ∷ rs) = true

@@ -28,6 +28,7 @@ fn grade_status(grade: Grade) -> u8
 {
     match grade {
         Grade::Fine => 0,
+        Grade::Warned => 1,
         Grade::Wrong => 2,
     }
 }

@@ -1,8 +1,8 @@
 // What is allowed in a script and hardly meant, line by line.
-ghost use Rattle.std.specs.Prelude.{◌≡◌, ◌++◌, ◌||◌, ◌<◌, Bool, IfOk, List, OnOk, is_some, not, take};
+ghost use Rattle.std.specs.Prelude.{◌≡◌, ◌++◌, ◌∷◌, ◌||◌, IfOk, List, OnOk, suc, take};
 ghost use Rattle.script_lines.specs.Reading.{phrase_at};
 ghost use Rattle.script_text.specs.Spelling.{cut};
-ghost use Rattle.script_advice.specs.Doubts.{doubt_if, doubt_of, doubt_remark, doubted_first, doubted_words, doubts, doubts_from, doubts_told, is_unset, name_doubt, near_set, or_words, role_doubt, way_told};
+ghost use Rattle.script_advice.specs.Doubts.{are_some, doubt_if, doubt_of, doubt_remark, doubted_words, doubts, doubts_told, is_unset, name_doubt, near_set, or_words, role_doubt, way_told};
 ghost use Rattle.script_advice.specs.Remarks.{Remark, some_names, word_or_none};
 ghost use Rattle.line_faults.specs.Near.{nearest};
 ghost use Rattle.script_advice.specs.Texts.{remark_text, remarks_text};
@@ -147,4 +147,104 @@ fn add_doubt(
         near: near_set(sets, doubt, phrase),
     };
     add_remark(out, format, &remark)
+}
+
+// The way to a line, the line's number, how many more doubts may be told, and whether there were any.
+#[derive(Clone, Copy)]
+struct Walk {
+    way: Way,
+    number: u32,
+    left: u32,
+    any: bool,
+}
+
+// Tells one doubt, if more may be told. Gives how many more may be told then.
+fn add_counted(
+    out: &mut Vec<u8>,
+    format: Format,
+    sets: &Sets,
+    walk: Walk,
+    line: &[u8],
+    phrase: &Phrase<'_>,
+    doubt: Doubt,
+) -> Result<u32, NoMemory>
+    ensures { IfOk result (λ after. (others : List Remark) →
+        out.old.items ++ remarks_text format (take walk.left (doubt_remark sets.now walk.number line.now phrase.now doubt ∷ others))
+        ≡ out.new.items ++ remarks_text format (take after others)) }
+{
+    if walk.left == 0 {
+        return Ok(0);
+    }
+    add_doubt(out, format, sets, walk.number, line, phrase, doubt)?;
+    Ok(walk.left - 1)
+}
+
+// Tells what is doubtful in a line, and goes on behind it.
+fn add_line(
+    out: &mut Vec<u8>,
+    format: Format,
+    sets: &Sets,
+    walk: Walk,
+    line: &[u8],
+) -> Result<Walk, NoMemory>
+    ensures told { IfOk result (λ w. (others : List Remark) →
+        out.old.items ++ remarks_text format (take walk.left (doubts_told sets.now walk.way walk.number line.now (phrase_at line.now) others))
+        ≡ out.new.items ++ remarks_text format (take w.left others)) }
+    ensures any { IfOk result (λ w. (others : List Remark) →
+        (walk.any || are_some (doubts_told sets.now walk.way walk.number line.now (phrase_at line.now) others)) ≡ (w.any || are_some others)) }
+    ensures way { IfOk result (λ w. w.way ≡ way_told walk.way (phrase_at line.now)) }
+    ensures number { IfOk result (λ w. w.number ≡ suc walk.number) }
+{
+    let Some(number) = walk.number.checked_add(1) else {
+        return Err(NoMemory);
+    };
+    let Some(phrase) = phrase_at(line) else {
+        return Ok(Walk {
+            way: walk.way,
+            number,
+            left: walk.left,
+            any: walk.any,
+        });
+    };
+    let way = walk.way.behind(&phrase);
+    let Some(doubt) = doubt_of(sets, walk.way, &phrase) else {
+        return Ok(Walk {
+            way,
+            number,
+            left: walk.left,
+            any: walk.any,
+        });
+    };
+    let left = add_counted(out, format, sets, walk, line, &phrase, doubt)?;
+    Ok(Walk {
+        way,
+        number,
+        left,
+        any: true,
+    })
+}
+
+/// Tells the first thousand doubts of a text that spells a script, and gives whether there are any.
+pub fn add_doubts(
+    alloc: Global,
+    out: &mut Vec<u8>,
+    format: Format,
+    text: &[u8],
+) -> Result<bool, NoMemory>
+    ensures told { OnOk result (out.new.items ≡ out.old.items ++ remarks_text format (take 1000 (doubts text.now))) }
+    ensures any { IfOk result (λ any. any ≡ are_some (doubts text.now)) }
+{
+    let sets = Sets::by(alloc, text)?;
+    let mut walk = Walk {
+        way: Way::new(),
+        number: 1,
+        left: 1000,
+        any: false,
+    };
+    let mut rest = text;
+    while let Some((line, after)) = first_line(rest) {
+        walk = add_line(out, format, &sets, walk, line)?;
+        rest = after;
+    }
+    Ok(walk.any)
 }

@@ -24,5 +24,7 @@ mod way;
 
 pub use advice::{Grade, add_report};
 pub use checking::{CheckEnd, check, fault_text, status_of};
-pub use laws::{first_error_is_the_readers, front_is_enough, no_errors_where_spelt};
+pub use laws::{
+    errors_are_told, first_error_is_the_readers, front_is_enough, no_errors_where_spelt,
+};
 pub use texts::Format;
