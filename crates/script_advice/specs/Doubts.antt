@@ -59,9 +59,10 @@ condition_used _ p = p.condition
 abbrev pub procedure_started : Phrase → List ℕ
 procedure_started p = if starts p.op then p.procedure else []
 
--- the event that a line asks for: that of an agent or of a session; 0 for a line that asks for none
+-- the event that a line asks for: that of an agent, of a trap or of a session; 0 for a line that asks for none
 abbrev pub event_asked : Op → Phrase → ℕ
 event_asked op.Agent p = p.number
+event_asked op.Trap p = p.number
 event_asked op.Native p = p.event
 event_asked _ p = 0
 

@@ -83,7 +83,7 @@ doubted_text doubt.Monitor = codes "a monitor that no moncreate names"
 doubted_text doubt.Condition = codes "a condition that no cvcreate names"
 doubted_text doubt.Procedure = codes "a procedure that no create and no call starts"
 doubted_text doubt.Statement = codes "a statement behind a return, which nothing reaches"
-doubted_text doubt.Client = codes "an event that no agent and no session asks for"
+doubted_text doubt.Client = codes "an event that no agent, no trap and no session asks for"
 
 -- whether it is an error or a warning
 abbrev pub severity_text : Cause → List ℕ

@@ -158,7 +158,7 @@ fn doubted_text(doubt: Doubt) -> &'static [u8]
         Doubt::Condition => b"a condition that no cvcreate names",
         Doubt::Procedure => b"a procedure that no create and no call starts",
         Doubt::Statement => b"a statement behind a return, which nothing reaches",
-        Doubt::Client => b"an event that no agent and no session asks for",
+        Doubt::Client => b"an event that no agent, no trap and no session asks for",
     }
 }
 

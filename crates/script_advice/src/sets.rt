@@ -106,7 +106,7 @@ fn event_asked(phrase: &Phrase<'_>) -> u32
     ensures { result ≡ event_asked phrase.now.op phrase.now }
 {
     match phrase.op {
-        Op::Agent => phrase.number,
+        Op::Agent | Op::Trap => phrase.number,
         Op::Native => u32::from(phrase.event),
         _ => 0,
     }
