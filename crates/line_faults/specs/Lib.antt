@@ -1,0 +1,5 @@
+pub mod Near
+pub mod Forms
+pub mod Slots
+pub mod Faults
+pub mod Texts

@@ -1,0 +1,22 @@
+-- What is told of one line in front of others.
+use Rattle.std.proofs.Common.{◌≡◌, ℕ, zero, suc, ◌<◌, ◌-◌, List, ◌∷◌, ◌++◌, take, Option, Some, sym, arith, append_assoc}
+use Rattle.script_text.specs.declared.reader.Declared.{Declared}
+use Rattle.script_text.specs.declared.reason.Reason.{Reason}
+use Rattle.script_advice.specs.declared.texts.Format.{Format}
+use Rattle.script_advice.specs.Errors.{told_first}
+use Rattle.script_advice.specs.Remarks.{Remark, remark_of}
+use Rattle.script_advice.specs.Texts.{remark_text, remarks_text}
+
+-- where an error was told, one fewer of the others is
+pub told_some : (f : Format) (d : Declared) (n : ℕ) (line : List ℕ) (why : Reason) (x : Option Reason) (left : ℕ) (out new : List ℕ) (others : List Remark) → x ≡ Some why → 0 < left → new ≡ out ++ remark_text f (remark_of d n why line) → out ++ remarks_text f (take left (told_first d n line x others)) ≡ new ++ remarks_text f (take (left - 1) others)
+told_some f d n line why x zero out new others e h i = absurd (omega arith)
+told_some f d n line why x (suc l) out new others e h i =
+    let m : suc l - 1 ≡ l = omega arith in
+    rw (e, m, i) (sym (append_assoc out (remark_text f (remark_of d n why line)) (remarks_text f (take l others))))
+
+-- the same of any remark, where more may be told or not
+pub told_one : (f : Format) (r : Remark) (left : ℕ) (out new : List ℕ) (others : List Remark) → 0 < left → new ≡ out ++ remark_text f r → out ++ remarks_text f (take left (r ∷ others)) ≡ new ++ remarks_text f (take (left - 1) others)
+told_one f r zero out new others h i = absurd (omega arith)
+told_one f r (suc l) out new others h i =
+    let m : suc l - 1 ≡ l = omega arith in
+    rw (m, i) (sym (append_assoc out (remark_text f r) (remarks_text f (take l others))))

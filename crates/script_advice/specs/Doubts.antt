@@ -1,0 +1,203 @@
+-- What is allowed in a script and hardly meant, line by line.
+use Rattle.std.specs.Prelude.{ℕ, suc, Bool, true, false, not, ◌&&◌, ◌==◌, nat_lt, List, [], ◌∷◌, ◌++◌, fold, length, Option, Some, None, if◌then◌else◌}
+use Rattle.std.specs.List.{list_any}
+use denote.Enum.Bare.{sameb}
+use Rattle.script_lines.specs.contracts.table.Op.{the_type as op_type}
+use Rattle.script_lines.specs.declared.table.Kind.TheVariants as kind
+use Rattle.script_lines.specs.declared.table.Op.{Op}
+use Rattle.script_lines.specs.declared.table.Op.TheVariants as op
+use Rattle.script_lines.specs.declared.table.Role.{Role}
+use Rattle.script_lines.specs.declared.table.Role.TheVariants as role
+use Rattle.script_lines.specs.Phrase.{Phrase}
+use Rattle.script_lines.specs.Reading.{phrase_at}
+use Rattle.script_lines.specs.Table.{role_of, starts}
+use Rattle.script_text.specs.Meaning.{contains_name, enter}
+use Rattle.script_text.specs.Spelling.{cut}
+use Rattle.line_faults.specs.Near.{nearest, or_else}
+use Rattle.line_faults.specs.Faults.{slot_at}
+use Rattle.script_advice.specs.Remarks.{Remark, place_at, some_names, word_or_none}
+use Rattle.script_advice.specs.declared.remarks.Cause.TheVariants as cause
+use Rattle.script_advice.specs.declared.remarks.Doubt.{Doubt}
+use Rattle.script_advice.specs.declared.remarks.Doubt.TheVariants as doubt
+use Rattle.script_advice.specs.declared.remarks.Why.TheVariants as why
+use Rattle.script_advice.specs.declared.sets.Sets.{Sets}
+use Rattle.script_advice.specs.declared.way.Way.{Way}
+
+-- ---- What the lines of a text set, start and ask for.
+
+-- the thread that a line names, if it sets the name
+abbrev pub thread_set : Op → Phrase → List ℕ
+thread_set op.Create p = p.thread
+thread_set op.Agent p = p.thread
+thread_set _ p = []
+
+-- the same, if it doesn't
+abbrev pub thread_used : Op → Phrase → List ℕ
+thread_used op.Create p = []
+thread_used op.Agent p = []
+thread_used _ p = p.thread
+
+-- the monitor that a line names, if it sets the name
+abbrev pub monitor_set : Op → Phrase → List ℕ
+monitor_set op.MonCreate p = p.monitor
+monitor_set _ p = []
+
+abbrev pub monitor_used : Op → Phrase → List ℕ
+monitor_used op.MonCreate p = []
+monitor_used _ p = p.monitor
+
+-- the condition that a line names, if it sets the name
+abbrev pub condition_set : Op → Phrase → List ℕ
+condition_set op.CvCreate p = p.condition
+condition_set _ p = []
+
+abbrev pub condition_used : Op → Phrase → List ℕ
+condition_used op.CvCreate p = []
+condition_used _ p = p.condition
+
+-- the procedure that a line starts
+abbrev pub procedure_started : Phrase → List ℕ
+procedure_started p = if starts p.op then p.procedure else []
+
+-- the event that a line asks for: that of an agent, of a trap or of a session; 0 for a line that asks for none
+abbrev pub event_asked : Op → Phrase → ℕ
+event_asked op.Agent p = p.number
+event_asked op.Trap p = p.number
+event_asked op.Native p = p.event
+event_asked _ p = 0
+
+-- an event is one of these
+abbrev pub is_asked : List ℕ → ℕ → Bool
+is_asked events e = list_any (λ x. x == e) events
+
+abbrev pub no_sets : Sets
+no_sets = record { threads = []; monitors = []; conditions = []; started = []; asked = [] }
+
+-- what is set, and what one more line sets
+abbrev pub sets_said : Sets → Phrase → Sets
+sets_said s p = record {
+  threads = enter s.threads (thread_set p.op p);
+  monitors = enter s.monitors (monitor_set p.op p);
+  conditions = enter s.conditions (condition_set p.op p);
+  started = enter s.started (procedure_started p);
+  asked = s.asked ++ event_asked p.op p ∷ [];
+}
+
+abbrev pub sets_told : Sets → Option Phrase → Sets
+sets_told s None = s
+sets_told s (Some p) = sets_said s p
+
+abbrev pub sets_on : Sets → List ℕ → Sets
+sets_on s line = sets_told s (phrase_at line)
+
+-- what the lines of a text set
+abbrev pub sets_of : List ℕ → Sets
+sets_of text = fold sets_on no_sets (cut text).0
+
+-- ---- The way through a procedure.
+
+-- no procedure has begun
+abbrev pub no_way : Way
+no_way = record { begun = false; skipped = false; closed = false }
+
+-- how it goes on behind a line: a `return` closes the way, unless a `skip` may pass over it
+abbrev pub way_by : Role → Op → Way → Way
+way_by role.Proc o w = record { begun = true; skipped = false; closed = false }
+way_by role.Skip o w = record { begun = w.begun; skipped = true; closed = false }
+way_by role.Statement o w = record { begun = w.begun; skipped = false; closed = sameb op_type o op.Return && not w.skipped }
+way_by _ o w = w
+
+abbrev pub way_behind : Way → Phrase → Way
+way_behind w p = way_by (role_of p.op) p.op w
+
+-- ---- Doubts.
+
+-- a word that is none of these names, and not empty
+abbrev pub is_unset : List (List ℕ) → List ℕ → Bool
+is_unset names w = nat_lt 0 (length w) && not (contains_name names w)
+
+abbrev pub doubt_if : Bool → Doubt → Option Doubt
+doubt_if b d = if b then Some d else None
+
+-- what is doubtful in the part that a line plays
+abbrev pub role_doubt : Role → Sets → Way → Phrase → Option Doubt
+role_doubt role.Client s w p = doubt_if (nat_lt 0 p.event && not (is_asked s.asked p.event)) doubt.Client
+role_doubt role.Native s w p = doubt_if (not (contains_name s.started p.procedure)) doubt.Procedure
+role_doubt role.Proc s w p = doubt_if (w.begun && not (contains_name s.started p.procedure)) doubt.Procedure
+role_doubt role.Statement s w p = doubt_if w.closed doubt.Statement
+role_doubt role.Skip s w p = doubt_if w.closed doubt.Statement
+role_doubt role.Again s w p = doubt_if w.closed doubt.Statement
+role_doubt _ s w p = None
+
+-- what is doubtful in the names of a line
+abbrev pub name_doubt : Sets → Phrase → Option Doubt
+name_doubt s p =
+    if is_unset s.threads (thread_used p.op p) then Some doubt.Thread
+    else if is_unset s.monitors (monitor_used p.op p) then Some doubt.Monitor
+    else doubt_if (is_unset s.conditions (condition_used p.op p)) doubt.Condition
+
+-- what is doubtful in a line first
+unfoldable pub doubt_of : Sets → Way → Phrase → Option Doubt
+doubt_of s w p = or_else (role_doubt (role_of p.op) s w p) (name_doubt s p)
+
+-- ---- What is told of them.
+
+-- the first of two that isn't empty
+abbrev pub or_words : List ℕ → List ℕ → List ℕ
+or_words [] w = w
+or_words (b ∷ v) w = b ∷ v
+
+-- the line from the doubtful word on
+abbrev pub doubted_words : Doubt → Op → List ℕ → List ℕ
+doubted_words doubt.Thread o line = or_words (slot_at o kind.Who line) (or_words (slot_at o kind.Source line) (slot_at o kind.Built line))
+doubted_words doubt.Monitor o line = slot_at o kind.Monitor line
+doubted_words doubt.Condition o line = slot_at o kind.Condition line
+doubted_words doubt.Procedure o line = slot_at o kind.Procedure line
+doubted_words doubt.Client o line = slot_at o kind.Event line
+doubted_words doubt.Statement o line = line
+
+-- the name that is set and nearly the doubtful one
+abbrev pub near_set : Sets → Doubt → Phrase → List ℕ
+near_set s doubt.Thread p = word_or_none (nearest (some_names s.threads) p.thread)
+near_set s doubt.Monitor p = word_or_none (nearest (some_names s.monitors) p.monitor)
+near_set s doubt.Condition p = word_or_none (nearest (some_names s.conditions) p.condition)
+near_set s _ p = []
+
+abbrev pub doubt_remark : Sets → ℕ → List ℕ → Phrase → Doubt → Remark
+doubt_remark s n line p d = record {
+  line = n;
+  cause = cause.Doubted d;
+  text = line;
+  place = place_at (length (doubted_words d p.op line)) (why.Doubted d);
+  form = None;
+  near = near_set s d p;
+}
+
+-- what is told of a line, if anything is, in front of other remarks
+abbrev pub doubted_first : Sets → ℕ → List ℕ → Phrase → Option Doubt → List Remark → List Remark
+doubted_first s n line p None others = others
+doubted_first s n line p (Some d) others = doubt_remark s n line p d ∷ others
+
+-- how the way goes on behind a line, by what it says
+abbrev pub way_told : Way → Option Phrase → Way
+way_told w None = w
+way_told w (Some p) = way_behind w p
+
+-- what is told of a line, by what it says, in front of other remarks
+abbrev pub doubts_told : Sets → Way → ℕ → List ℕ → Option Phrase → List Remark → List Remark
+doubts_told s w n line None others = others
+doubts_told s w n line (Some p) others = doubted_first s n line p (doubt_of s w p) others
+
+-- the doubts of these lines, of which the first has this number and stands on this way
+abbrev pub doubts_from : Sets → Way → ℕ → List (List ℕ) → List Remark
+doubts_from s w n [] = []
+doubts_from s w n (line ∷ lines) = doubts_told s w n line (phrase_at line) (doubts_from s (way_told w (phrase_at line)) (suc n) lines)
+
+-- the warnings of a text that spells a script
+abbrev pub doubts : List ℕ → List Remark
+doubts text = doubts_from (sets_of text) no_way 1 (cut text).0
+
+-- there is one at least
+abbrev pub are_some : List Remark → Bool
+are_some [] = false
+are_some (r ∷ rs) = true

@@ -1,0 +1,66 @@
+-- The errors of a text: its first bad line, and the lines behind it that are bad by themselves.
+use Rattle.std.specs.Prelude.{ℕ, suc, ◌-◌, ◌==◌, List, [], ◌∷◌, ◌++◌, drop, Option, Some, None, Result, Ok, Err, if◌then◌else◌}
+use Rattle.lwp_types.specs.TextFields.{is_printable}
+use Rattle.script_lines.specs.Phrase.{Phrase}
+use Rattle.script_lines.specs.Reading.{phrase_at}
+use Rattle.script_text.specs.declared.reader.Declared.{Declared}
+use Rattle.script_text.specs.declared.reason.Reason.{Reason}
+use Rattle.script_text.specs.declared.reason.Reason.TheVariants as reason
+use Rattle.script_text.specs.declared.script.Script.{Script}
+use Rattle.script_text.specs.declared.stage.Stage.TheVariants as stage
+use Rattle.script_text.specs.Grammar.{is_declared}
+use Rattle.script_text.specs.Spelling.{cut, declared_in, reason_of, verdict}
+use Rattle.script_advice.specs.Remarks.{Remark, remark_of}
+
+-- ---- A line by itself.
+
+-- a line that says this is bad where it starts a procedure that nothing declares; one that says nothing is bad for the reason that it
+-- would have among statements
+abbrev pub alone_said : Declared → List ℕ → Option Phrase → Option Reason
+alone_said d line None = Some (reason_of stage.Calling line)
+alone_said d line (Some p) = if is_declared d p then None else Some reason.Statement
+
+-- why a line is bad wherever it stands, in a text that declares these procedures
+unfoldable pub alone : Declared → List ℕ → Option Reason
+alone d line = if is_printable line then alone_said d line (phrase_at line) else Some reason.Bytes
+
+-- ---- All errors.
+
+-- what is told of a line for a reason, if there is one, in front of other remarks
+abbrev pub told_first : Declared → ℕ → List ℕ → Option Reason → List Remark → List Remark
+told_first d n line None others = others
+told_first d n line (Some why) others = remark_of d n why line ∷ others
+
+-- a last line that hasn't ended
+abbrev pub unended : Declared → ℕ → List ℕ → List Remark
+unended d n [] = []
+unended d n (b ∷ bs) = remark_of d n reason.Unended (b ∷ bs) ∷ []
+
+-- the errors of these lines, of which the first has this number, and of what stands behind them
+abbrev pub later : Declared → ℕ → List (List ℕ) → List ℕ → List Remark
+later d n [] tail = unended d n tail
+later d n (line ∷ lines) tail = told_first d n line (alone d line) (later d (suc n) lines tail)
+
+-- the errors from the first bad line on, which is the first of these, or what stands behind them
+abbrev pub from_first : Declared → ℕ → Reason → List (List ℕ) → List ℕ → List Remark
+from_first d n why [] tail = remark_of d n why tail ∷ []
+from_first d n why (line ∷ lines) tail = remark_of d n why line ∷ later d (suc n) lines tail
+
+-- the procedures that a text declares, wherever they stand
+abbrev pub declared_by : List ℕ → Declared
+declared_by text = declared_in ((cut text).0 ++ (cut text).1 ∷ [])
+
+-- the errors of a text whose first bad line is this; line 0 stands for the whole
+unfoldable pub errors_at : List ℕ → ℕ → Reason → List Remark
+errors_at text n why =
+    if n == 0 then remark_of (declared_by text) 0 why [] ∷ []
+    else from_first (declared_by text) n why (drop (n - 1) (cut text).0) (cut text).1
+
+-- the errors of a text, by what reading it comes to
+abbrev pub errors_by : List ℕ → Result Script (ℕ × Reason) → List Remark
+errors_by text (Ok script) = []
+errors_by text (Err bad) = errors_at text bad.0 bad.1
+
+-- the errors of a text: none where it spells a script, and else the reader's own first
+abbrev pub errors : List ℕ → List Remark
+errors text = errors_by text (verdict text)

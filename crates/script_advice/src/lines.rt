@@ -1,0 +1,34 @@
+// The lines of a text, one by one.
+ghost use Rattle.std.specs.Prelude.{◌≡◌, ◌<◌, ◌∷◌, [], drop, length, IfSome, IfNone};
+ghost use Rattle.script_text.specs.Spelling.{cut};
+
+use memchr::memchr;
+
+/// The first line and what stands behind its end.
+pub fn first_line(text: &[u8]) -> Option<(&[u8], &[u8])>
+    ensures some { IfSome result (λ x. cut text.now ≡ (x.0.now ∷ (cut x.1.now).0, (cut x.1.now).1)) }
+    ensures shorter { IfSome result (λ x. length x.1.now < length text.now) }
+    ensures none { IfNone result (cut text.now ≡ ([], text.now)) }
+{
+    match memchr(b'\n', text) {
+        None => None,
+        Some(end) => Some((&text[..end], &text[end + 1..])),
+    }
+}
+
+/// What stands behind so many lines; where there are fewer, what stands behind all of them.
+pub fn behind_lines(count: u32, text: &[u8]) -> &[u8]
+    ensures lines { (cut result.now).0 ≡ drop count (cut text.now).0 }
+    ensures tail { (cut result.now).1 ≡ (cut text.now).1 }
+{
+    let mut rest = text;
+    let mut left = count;
+    while left > 0 {
+        match first_line(rest) {
+            Some((_, after)) => rest = after,
+            None => return rest,
+        }
+        left -= 1;
+    }
+    rest
+}

@@ -1,0 +1,178 @@
+// What the lines of a text set, start and ask for.
+ghost use Rattle.std.specs.Prelude.{◌≡◌};
+ghost use Rattle.script_advice.specs.Doubts.{condition_set, condition_used, event_asked, is_asked, monitor_set, monitor_used, procedure_started, thread_set, thread_used};
+
+use crate::lines::first_line;
+use lwp_types::{NoMemory, Sequence};
+use script_lines::{Op, Phrase, phrase_at};
+use script_text::NameList;
+use std::alloc::Global;
+
+/// The names that lines set, the procedures that they start, and the events that they ask for; 0 stands for a line that asks for none.
+pub struct Sets {
+    pub threads: NameList,
+    pub monitors: NameList,
+    pub conditions: NameList,
+    pub started: NameList,
+    pub asked: Sequence<u32>,
+}
+
+// By hand, so that whoever drops these calls this.
+impl Drop for Sets {
+    fn drop(self) {
+        let Sets {
+            threads: _,
+            monitors: _,
+            conditions: _,
+            started: _,
+            asked: _,
+        } = self;
+    }
+}
+
+// The thread that a line names, if it sets the name.
+fn thread_set<'l>(phrase: &Phrase<'l>) -> &'l [u8]
+    ensures { result.now ≡ thread_set phrase.now.op phrase.now }
+{
+    match phrase.op {
+        Op::Create | Op::Agent => phrase.thread,
+        _ => &[],
+    }
+}
+
+/// The thread that a line names, if it doesn't set the name.
+pub fn thread_used<'l>(phrase: &Phrase<'l>) -> &'l [u8]
+    ensures { result.now ≡ thread_used phrase.now.op phrase.now }
+{
+    match phrase.op {
+        Op::Create | Op::Agent => &[],
+        _ => phrase.thread,
+    }
+}
+
+// The monitor that a line names, if it sets the name.
+fn monitor_set<'l>(phrase: &Phrase<'l>) -> &'l [u8]
+    ensures { result.now ≡ monitor_set phrase.now.op phrase.now }
+{
+    match phrase.op {
+        Op::MonCreate => phrase.monitor,
+        _ => &[],
+    }
+}
+
+/// The monitor that a line names, if it doesn't set the name.
+pub fn monitor_used<'l>(phrase: &Phrase<'l>) -> &'l [u8]
+    ensures { result.now ≡ monitor_used phrase.now.op phrase.now }
+{
+    match phrase.op {
+        Op::MonCreate => &[],
+        _ => phrase.monitor,
+    }
+}
+
+// The condition that a line names, if it sets the name.
+fn condition_set<'l>(phrase: &Phrase<'l>) -> &'l [u8]
+    ensures { result.now ≡ condition_set phrase.now.op phrase.now }
+{
+    match phrase.op {
+        Op::CvCreate => phrase.condition,
+        _ => &[],
+    }
+}
+
+/// The condition that a line names, if it doesn't set the name.
+pub fn condition_used<'l>(phrase: &Phrase<'l>) -> &'l [u8]
+    ensures { result.now ≡ condition_used phrase.now.op phrase.now }
+{
+    match phrase.op {
+        Op::CvCreate => &[],
+        _ => phrase.condition,
+    }
+}
+
+// The procedure that a line starts.
+fn procedure_started<'l>(phrase: &Phrase<'l>) -> &'l [u8]
+    ensures { result.now ≡ procedure_started phrase.now }
+{
+    if phrase.op.starts() {
+        phrase.procedure
+    } else {
+        &[]
+    }
+}
+
+// The event that a line asks for; 0 for a line that asks for none.
+fn event_asked(phrase: &Phrase<'_>) -> u32
+    ensures { result ≡ event_asked phrase.now.op phrase.now }
+{
+    match phrase.op {
+        Op::Agent | Op::Trap => phrase.number,
+        Op::Native => u32::from(phrase.event),
+        _ => 0,
+    }
+}
+
+fn is_asked(events: &[u32], event: u32) -> bool
+    ensures { result ≡ is_asked events.now event }
+{
+    events.iter().any(|asked| *asked == event)
+}
+
+impl Sets {
+    ghost use Rattle.std.specs.Prelude.{◌≡◌, OnOk, IfOk};
+    ghost use Rattle.script_lines.specs.Reading.{phrase_at};
+    ghost use Rattle.script_advice.specs.Doubts.{is_asked, no_sets, sets_of, sets_on, sets_said};
+
+    fn new(alloc: Global) -> Sets
+        ensures { result ≡ no_sets }
+    {
+        Sets {
+            threads: NameList::new(alloc),
+            monitors: NameList::new(alloc),
+            conditions: NameList::new(alloc),
+            started: NameList::new(alloc),
+            asked: Sequence::new(alloc),
+        }
+    }
+
+    // Notes what a line sets.
+    fn note(&mut self, phrase: &Phrase<'_>) -> Result<(), NoMemory>
+        ensures { OnOk result (self.new ≡ sets_said self.old phrase.now) }
+    {
+        self.threads.enter(thread_set(phrase))?;
+        self.monitors.enter(monitor_set(phrase))?;
+        self.conditions.enter(condition_set(phrase))?;
+        self.started.enter(procedure_started(phrase))?;
+        self.asked.push(event_asked(phrase))
+    }
+
+    // Notes what a line sets, if it says anything.
+    fn note_line(&mut self, line: &[u8]) -> Result<(), NoMemory>
+        ensures { OnOk result (self.new ≡ sets_on self.old line.now) }
+    {
+        match phrase_at(line) {
+            Some(phrase) => self.note(&phrase),
+            None => Ok(()),
+        }
+    }
+
+    /// What the lines of a text set.
+    pub fn by(alloc: Global, text: &[u8]) -> Result<Sets, NoMemory>
+        ensures { IfOk result (λ sets. sets ≡ sets_of text.now) }
+    {
+        let mut sets = Sets::new(alloc);
+        let mut rest = text;
+        while let Some((line, after)) = first_line(rest) {
+            sets.note_line(line)?;
+            rest = after;
+        }
+        Ok(sets)
+    }
+
+    /// Whether a line asks for the event.
+    pub fn asks(&self, event: u8) -> bool
+        ensures { result ≡ is_asked self.now.asked event }
+    {
+        is_asked(self.asked.as_slice(), u32::from(event))
+    }
+}
