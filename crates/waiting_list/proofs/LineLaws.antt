@@ -1,4 +1,4 @@
--- Each call keeps what a `WaitingList` keeps of its fields.
+-- What holds of an answer whose case is known.
 use Rattle.std.proofs.Common.{Err, IfNone, IfSome, None, Ok, OnErr, OnOk, Option, Result, Some, ◌≡◌}
 use Rattle.std.specs.Option.{OnSome}
 
