@@ -1,6 +1,6 @@
 -- The elements of a page are closed: what each of its parts makes of a reader.
 use Rattle.lwp_types.specs.Names.{null_id}
-use Rattle.std.proofs.Common.{List, [], ap, eqb, refl, suc, true, zero, ℕ, ◌%◌, ◌*◌, ◌++◌, ◌+◌, ◌/◌, ◌∷◌, ◌≡◌}
+use Rattle.std.proofs.Common.{List, [], ap, eqb, refl, suc, true, zero, ℕ, ◌%◌, ◌++◌, ◌+◌, ◌∷◌, ◌≡◌}
 use Rattle.trace_lines.specs.declared.entry.Gain.{Gain}
 use Rattle.trace_lines.specs.declared.entry.Gain.TheVariants as gain
 use Rattle.std.specs.Fmt.{decimal}
@@ -8,7 +8,7 @@ use Rattle.std.specs.List.{list_all}
 use Rattle.std.specs.Prelude.{IsTrue, codes}
 use Rattle.trace_page.proofs.Readings.{Brings, Keeps, Plain, both, in_value, keeps_each, keeps_either, none, number, on, text_keeps}
 use Rattle.trace_page.proofs.TitleLaws.{texts_are_plain}
-use Rattle.trace_page.specs.Frame.{around, beyond, colours, each_text, end_text, event_open, event_words, head, head_key, head_style, height_of, height_open, key_marks, key_waits, layout, marks, more_closed, more_open, more_text, name_closed, name_text, name_words, names_closed, names_open, names_text, number_text, numbers_closed, numbers_open, numbers_text, page_closed, patterns, procedure_of, procedure_words, script, sheet_closed, sheet_names, sheet_numbers, sheet_open, sheet_row, sheet_text, sheets_text, signs, size_closed, size_open, size_text, strip_closed, strip_open, strip_text, tail, tenth, tenths, waits, ways, width_of}
+use Rattle.trace_page.specs.Frame.{around, beyond, colours, each_text, end_text, event_open, event_words, head, head_key, head_style, height_of, height_open, key_marks, key_waits, layout, marks, more_closed, more_open, more_text, name_closed, name_text, name_words, names_closed, names_open, names_text, number_text, numbers_closed, numbers_open, numbers_text, page_closed, paper_open, patterns, procedure_of, procedure_words, script, sheet_closed, sheet_open, sheet_text, sheet_turned, signs, size_closed, size_open, size_text, strip_closed, strip_open, strip_text, tail, tenth, tenths, waits, ways, width_of}
 use Rattle.trace_page.specs.Frame as frame
 use Rattle.trace_page.specs.Nesting.{Outside, Quoted, at, is_closed, is_nested, read, read_on}
 use Rattle.trace_page.specs.Page.{groups, page, shown, told_all, told_line}
@@ -461,34 +461,27 @@ strip_keeps s = record {
       on (strip_opens names) (on ((digits_go (width_of s)).goes inside) (on (space_goes.goes inside) (on ((digits_go (height_of s)).goes inside) (strip_closes names))));
 }
 
--- the sheets
-sheet_opens : (names : List (List ℕ)) → Brings (at Outside names) sheet_open (at (Quoted 39) (codes "svg" ∷ codes "svg" ∷ names))
+-- the sheet
+sheet_opens : (names : List (List ℕ)) → Brings (at Outside names) sheet_open (at (Quoted 39) (codes "svg" ∷ names))
 unfolding read read_on sheet_open
 sheet_opens names = record { so = refl }
 
-sheet_names_bring : (names : List (List ℕ)) → Brings (at (Quoted 39) (codes "svg" ∷ codes "svg" ∷ names)) sheet_names (at (Quoted 39) (codes "svg" ∷ codes "svg" ∷ names))
-unfolding read read_on sheet_names
-sheet_names_bring names = record { so = refl }
+sheet_turns : (names : List (List ℕ)) → Brings (at (Quoted 39) (codes "svg" ∷ names)) sheet_turned (at (Quoted 39) (codes "g" ∷ codes "svg" ∷ names))
+unfolding read read_on sheet_turned
+sheet_turns names = record { so = refl }
 
-sheet_numbers_bring : (names : List (List ℕ)) → Brings (at (Quoted 39) (codes "svg" ∷ codes "svg" ∷ names)) sheet_numbers (at (Quoted 39) (codes "svg" ∷ codes "svg" ∷ names))
-unfolding read read_on sheet_numbers
-sheet_numbers_bring names = record { so = refl }
-
-sheet_closes : (names : List (List ℕ)) → Brings (at (Quoted 39) (codes "svg" ∷ codes "svg" ∷ names)) sheet_closed (at Outside names)
+sheet_closes : (names : List (List ℕ)) → Brings (at (Quoted 39) (codes "g" ∷ codes "svg" ∷ names)) sheet_closed (at Outside names)
 unfolding read read_on sheet_closed
 sheet_closes names = record { so = refl }
 
-sheet_keeps : (y x : ℕ) → Keeps (sheet_text y x)
+sheet_keeps : (s : Seen) → Keeps (sheet_text s)
 unfolding sheet_text
-sheet_keeps y x = record {
+sheet_keeps s = record {
   keeps = λ names.
-      let inside : List (List ℕ) = codes "svg" ∷ codes "svg" ∷ names in
-      on (sheet_opens names) (on ((digits_go x).goes inside) (on (space_goes.goes inside) (on ((digits_go y).goes inside)
-      (on (sheet_names_bring names) (on ((digits_go y).goes inside) (on (sheet_numbers_bring names) (on ((digits_go x).goes inside) (sheet_closes names))))))));
+      let inside : List (List ℕ) = codes "svg" ∷ names in
+      on (sheet_opens names) (on ((digits_go (height_of s)).goes inside) (on (space_goes.goes inside) (on ((digits_go (width_of s + 150)).goes inside)
+      (on (sheet_turns names) (on ((digits_go (height_of s)).goes (codes "g" ∷ inside)) (sheet_closes names))))));
 }
-
-sheets_keep : (s : Seen) → Keeps (sheets_text s)
-sheets_keep s = each_keeps (sheet_row (width_of s / 960 + 1)) (λ row. each_keeps (λ column. sheet_text (704 * row) (960 * column)) (λ column. sheet_keeps (704 * row) (960 * column)) 0 (width_of s / 960 + 1)) 0 (height_of s / 704 + 1)
 
 -- the script
 script_keeps : (names : List (List ℕ)) → Brings (at Outside names) script (at Outside names)
@@ -504,13 +497,17 @@ height_open_keeps : Keeps height_open
 unfolding height_open
 height_open_keeps = text_keeps (record { plain = refl })
 
+paper_open_keeps : Keeps paper_open
+unfolding paper_open
+paper_open_keeps = text_keeps (record { plain = refl })
+
 size_closes : Brings (at Outside (codes "style" ∷ in_body)) size_closed (at Outside in_body)
 unfolding read read_on size_closed
 size_closes = record { so = refl }
 
 size_brings : (s : Seen) → Brings (at Outside in_body) (size_text s) (at Outside in_body)
 unfolding size_text
-size_brings s = on size_opens (on ((number_keeps _).keeps _) (on (height_open_keeps.keeps _) (on ((number_keeps _).keeps _) size_closes)))
+size_brings s = on size_opens (on ((number_keeps _).keeps _) (on (height_open_keeps.keeps _) (on ((number_keeps _).keeps _) (on (paper_open_keeps.keeps _) (on ((number_keeps _).keeps _) size_closes)))))
 
 more_opens : (names : List (List ℕ)) → Brings (at Outside names) more_open (at Outside (codes "p" ∷ names))
 unfolding read read_on more_open
@@ -538,7 +535,7 @@ around_brings s = on ((end_keeps s).keeps _) (on (names_bring s) (on (numbers_br
 
 beyond_brings : (s : Seen) → Brings (at Outside in_body) (beyond s) (at Outside in_body)
 unfolding beyond
-beyond_brings s = on ((strip_keeps s).keeps _) (on ((more_keeps s).keeps _) (on ((sheets_keep s).keeps _) (script_keeps in_body)))
+beyond_brings s = on ((strip_keeps s).keeps _) (on ((more_keeps s).keeps _) (on ((sheet_keeps s).keeps _) (script_keeps in_body)))
 
 tail_brings : (s : Seen) → Brings (at Outside in_picture) (tail s) (at Outside [])
 unfolding tail

@@ -18,7 +18,7 @@ colours = codes ":root{color-scheme:light dark;--paper:#fff;--ink:#1c1c1c;--soft
 
 -- how the page is laid out
 unfoldable pub layout : List ℕ
-layout = codes "body{margin:0;padding:8px;display:flex;flex-direction:column;background:var(--paper);color:var(--ink);font:13px sans-serif}\n.more{order:-1;margin:4px 0}\n.key{height:100px;width:900px;flex:none}\n.scale{order:-2;position:sticky;left:8px;width:max-content}\n.strip{order:-1;position:sticky;top:0;left:8px;z-index:3;flex:none;width:calc(100vw - 16px);height:44px;background:var(--paper);border:1px solid var(--line);box-sizing:border-box;cursor:pointer}\n.seen{fill:var(--suspended);opacity:.25}\n.page{display:grid;grid-template-columns:150px auto;min-width:max-content}\n.run{grid-area:2/2}\n.numbers{grid-area:1/2;position:sticky;top:44px;z-index:1;height:16px;background:var(--paper)}\n.names{grid-area:2/1;position:sticky;left:0;z-index:2;width:150px;background:var(--paper);border-right:1px solid var(--line)}\n.sheet{display:none}\nsvg{display:block;fill:var(--ink)}\n@page{size:landscape;margin:8mm}\n@media print{:root{color-scheme:light}.scale,.strip,.page{display:none}.sheet{display:block;width:100%;max-height:100vh;break-inside:avoid;break-before:page}.names,.numbers{position:static}}\n"
+layout = codes "body{margin:0;padding:8px;display:flex;flex-direction:column;background:var(--paper);color:var(--ink);font:13px sans-serif}\n.more{order:-1;margin:4px 0}\n.key{height:100px;width:900px;flex:none}\n.scale{order:-2;position:sticky;left:8px;width:max-content}\n.strip{order:-1;position:sticky;top:0;left:8px;z-index:3;flex:none;width:calc(100vw - 16px);height:44px;background:var(--paper);border:1px solid var(--line);box-sizing:border-box;cursor:pointer}\n.seen{fill:var(--suspended);opacity:.25}\n.page{display:grid;grid-template-columns:150px auto;min-width:max-content}\n.run{grid-area:2/2}\n.numbers{grid-area:1/2;position:sticky;top:44px;z-index:1;height:16px;background:var(--paper)}\n.names{grid-area:2/1;position:sticky;left:0;z-index:2;width:150px;background:var(--paper);border-right:1px solid var(--line)}\n.sheet{display:none}\nsvg{display:block;fill:var(--ink)}\n@page{margin:8mm}\n@media print{:root{color-scheme:light}.scale,.strip,.page{display:none}.sheet{display:block;max-width:100%}.key{height:auto;width:100%}.names,.numbers{position:static}}\n"
 
 -- how marks look
 unfoldable pub marks : List ℕ
@@ -76,6 +76,9 @@ size_open = codes "<style>.run,.numbers{width:"
 unfoldable pub height_open : List ℕ
 height_open = codes "px}.run,.names,#rule,#clock rect{height:"
 
+unfoldable pub paper_open : List ℕ
+paper_open = codes "px}.sheet{width:"
+
 unfoldable pub size_closed : List ℕ
 size_closed = codes "px}</style>\n"
 
@@ -86,20 +89,17 @@ unfoldable pub strip_closed : List ℕ
 strip_closed = codes "'><use href='#run'/><rect class='seen' y='0' height='100%'/></svg>\n"
 
 unfoldable pub sheet_open : List ℕ
-sheet_open = codes "<svg class='sheet' viewBox='0 0 1110 740'><svg x='150' y='20' width='960' height='720' viewBox='"
+sheet_open = codes "<svg class='sheet' viewBox='0 0 "
 
-unfoldable pub sheet_names : List ℕ
-sheet_names = codes " 960 720'><use href='#run'/></svg><svg y='20' width='150' height='720' viewBox='0 "
-
-unfoldable pub sheet_numbers : List ℕ
-sheet_numbers = codes " 150 720'><use href='#names'/></svg><svg x='150' width='960' height='20' viewBox='"
+unfoldable pub sheet_turned : List ℕ
+sheet_turned = codes "'><g transform='rotate(90) translate(0 -"
 
 unfoldable pub sheet_closed : List ℕ
-sheet_closed = codes " 0 960 20'><use href='#numbers'/></svg></svg>\n"
+sheet_closed = codes ")'><use href='#names'/><use href='#run' x='150'/><use href='#numbers' x='150'/></g></svg>\n"
 
 -- the strip tells what is seen, and goes where one clicks; a slider sets the scale: the page is whole without them
 unfoldable pub script : List ℕ
-script = codes "<script>\n(function(){\nvar q=function(s){return document.querySelector(s)},page=q('.page'),run=q('.run'),strip=q('.strip'),seen=q('.seen'),wide=strip.viewBox.baseVal.width;\nvar show=function(){var r=run.getBoundingClientRect(),k=wide/r.width;seen.setAttribute('x',Math.max(0,(150-r.left)*k));seen.setAttribute('width',Math.max(0,(innerWidth-150)*k))};\nstrip.onclick=function(e){var r=run.getBoundingClientRect(),s=strip.getBoundingClientRect();scrollBy((e.clientX-s.left)/s.width*r.width+r.left-innerWidth/2,0)};\nvar label=document.createElement('label'),range=document.createElement('input');label.className='scale';label.append('scale ',range);range.type='range';range.min=25;range.max=200;range.value=100;\nrange.oninput=function(){page.style.zoom=range.value/100;show()};\ndocument.body.append(label);addEventListener('scroll',show);addEventListener('resize',show);show()\n})()\n</script>\n"
+script = codes "<script>\n(function(){\nvar q=function(s){return document.querySelector(s)},page=q('.page'),run=q('.run'),strip=q('.strip'),seen=q('.seen'),wide=strip.viewBox.baseVal.width;\nvar show=function(){var r=run.getBoundingClientRect(),k=wide/r.width;strip.style.display=Math.max(0,r.width+150-innerWidth)?'':'none';seen.setAttribute('x',Math.max(0,(150-r.left)*k));seen.setAttribute('width',Math.max(0,(innerWidth-150)*k))};\nstrip.onclick=function(e){var r=run.getBoundingClientRect(),s=strip.getBoundingClientRect();scrollBy((e.clientX-s.left)/s.width*r.width+r.left-innerWidth/2,0)};\nvar label=document.createElement('label'),range=document.createElement('input');label.className='scale';label.append('scale ',range);range.type='range';range.min=25;range.max=200;range.value=100;\nrange.oninput=function(){page.style.zoom=range.value/100;show()};\ndocument.body.append(label);addEventListener('scroll',show);addEventListener('resize',show);show()\n})()\n</script>\n"
 
 unfoldable pub more_open : List ℕ
 more_open = codes "<p class='more'>Call "
@@ -168,23 +168,15 @@ abbrev pub height_of : Seen → ℕ
 height_of s = y_of s null_id + 8
 
 unfoldable pub size_text : Seen → List ℕ
-size_text s = size_open ++ (decimal (width_of s) ++ (height_open ++ (decimal (height_of s) ++ size_closed)))
+size_text s = size_open ++ (decimal (width_of s) ++ (height_open ++ (decimal (height_of s) ++ (paper_open ++ (decimal (height_of s) ++ size_closed)))))
 
 -- the whole picture once more, on a strip
 unfoldable pub strip_text : Seen → List ℕ
 strip_text s = strip_open ++ (decimal (width_of s) ++ (codes " " ++ (decimal (height_of s) ++ strip_closed)))
 
--- a part of the picture on a sheet of paper, with the names and the numbers that belong to it
-unfoldable pub sheet_text : ℕ → ℕ → List ℕ
-sheet_text y x =
-    sheet_open ++ (decimal x ++ (codes " " ++ (decimal y ++ (sheet_names ++ (decimal y ++ (sheet_numbers ++ (decimal x ++ sheet_closed)))))))
-
--- the sheets beside each other, of 60 calls each; the next ones below show 16 lanes more
-abbrev pub sheet_row : ℕ → ℕ → List ℕ
-sheet_row columns row = each_text (λ column. sheet_text (704 * row) (960 * column)) 0 columns
-
-abbrev pub sheets_text : Seen → List ℕ
-sheets_text s = each_text (sheet_row (width_of s / 960 + 1)) 0 (height_of s / 704 + 1)
+-- the whole picture for print, where time goes down: what is higher than a sheet of paper goes on on the next
+unfoldable pub sheet_text : Seen → List ℕ
+sheet_text s = sheet_open ++ (decimal (height_of s) ++ (codes " " ++ (decimal (width_of s + 150) ++ (sheet_turned ++ (decimal (height_of s) ++ sheet_closed)))))
 
 -- says so, where calls behind the last aren't drawn
 unfoldable pub more_text : Seen → List ℕ
@@ -198,9 +190,9 @@ end_text s = group_open ++ (shapes_text s [] s.shapes ++ group_closed)
 unfoldable pub around : Seen → List ℕ
 around s = end_text s ++ (names_text s ++ (numbers_text s ++ size_text s))
 
--- the strip above it, and the sheets
+-- the strip above it, and the sheet
 unfoldable pub beyond : Seen → List ℕ
-beyond s = strip_text s ++ (more_text s ++ (sheets_text s ++ script))
+beyond s = strip_text s ++ (more_text s ++ (sheet_text s ++ script))
 
 -- all that stands behind the last line
 unfoldable pub tail : Seen → List ℕ

@@ -1,7 +1,7 @@
 // What stands around the picture.
 ghost use Rattle.std.specs.Prelude.{◌≡◌, ◌++◌, ◌<◌, ◌≤◌, OnOk};
 ghost use Rattle.std.specs.List.{flat_map};
-ghost use Rattle.trace_page.specs.Frame.{around, beyond, colours, each_text, end_text, event_words, head, head_key, head_style, height_of, height_open, key_marks, key_waits, layout, marks, more_closed, more_open, more_text, name_text, name_words, names_closed, names_open, names_text, number_text, numbers_closed, numbers_open, numbers_text, opening, page_closed, patterns, procedure_of, procedure_words, script, sheet_closed, sheet_names, sheet_numbers, sheet_open, sheet_row, sheet_text, sheets_text, signs, size_closed, size_open, size_text, strip_closed, strip_open, strip_text, tail, tenth, tenths, waits, ways, width_of};
+ghost use Rattle.trace_page.specs.Frame.{around, beyond, colours, each_text, end_text, event_words, head, head_key, head_style, height_of, height_open, key_marks, key_waits, layout, marks, more_closed, more_open, more_text, name_text, name_words, names_closed, names_open, names_text, number_text, numbers_closed, numbers_open, numbers_text, opening, page_closed, paper_open, patterns, procedure_of, procedure_words, script, sheet_closed, sheet_open, sheet_text, sheet_turned, signs, size_closed, size_open, size_text, strip_closed, strip_open, strip_text, tail, tenth, tenths, waits, ways, width_of};
 
 use crate::scene::{Lane, Moment, Naming, Scene};
 use crate::shapes::{add_counted, add_escaped, add_group_closed, add_group_open, add_label};
@@ -27,7 +27,7 @@ fn colours() -> &'static [u8]
 fn layout() -> &'static [u8]
     ensures { result.now ≡ layout }
 {
-    b"body{margin:0;padding:8px;display:flex;flex-direction:column;background:var(--paper);color:var(--ink);font:13px sans-serif}\n.more{order:-1;margin:4px 0}\n.key{height:100px;width:900px;flex:none}\n.scale{order:-2;position:sticky;left:8px;width:max-content}\n.strip{order:-1;position:sticky;top:0;left:8px;z-index:3;flex:none;width:calc(100vw - 16px);height:44px;background:var(--paper);border:1px solid var(--line);box-sizing:border-box;cursor:pointer}\n.seen{fill:var(--suspended);opacity:.25}\n.page{display:grid;grid-template-columns:150px auto;min-width:max-content}\n.run{grid-area:2/2}\n.numbers{grid-area:1/2;position:sticky;top:44px;z-index:1;height:16px;background:var(--paper)}\n.names{grid-area:2/1;position:sticky;left:0;z-index:2;width:150px;background:var(--paper);border-right:1px solid var(--line)}\n.sheet{display:none}\nsvg{display:block;fill:var(--ink)}\n@page{size:landscape;margin:8mm}\n@media print{:root{color-scheme:light}.scale,.strip,.page{display:none}.sheet{display:block;width:100%;max-height:100vh;break-inside:avoid;break-before:page}.names,.numbers{position:static}}\n"
+    b"body{margin:0;padding:8px;display:flex;flex-direction:column;background:var(--paper);color:var(--ink);font:13px sans-serif}\n.more{order:-1;margin:4px 0}\n.key{height:100px;width:900px;flex:none}\n.scale{order:-2;position:sticky;left:8px;width:max-content}\n.strip{order:-1;position:sticky;top:0;left:8px;z-index:3;flex:none;width:calc(100vw - 16px);height:44px;background:var(--paper);border:1px solid var(--line);box-sizing:border-box;cursor:pointer}\n.seen{fill:var(--suspended);opacity:.25}\n.page{display:grid;grid-template-columns:150px auto;min-width:max-content}\n.run{grid-area:2/2}\n.numbers{grid-area:1/2;position:sticky;top:44px;z-index:1;height:16px;background:var(--paper)}\n.names{grid-area:2/1;position:sticky;left:0;z-index:2;width:150px;background:var(--paper);border-right:1px solid var(--line)}\n.sheet{display:none}\nsvg{display:block;fill:var(--ink)}\n@page{margin:8mm}\n@media print{:root{color-scheme:light}.scale,.strip,.page{display:none}.sheet{display:block;max-width:100%}.key{height:auto;width:100%}.names,.numbers{position:static}}\n"
 }
 
 #[tactic(auto, unfolding(crate::specs::Frame::marks))]
@@ -142,39 +142,39 @@ fn strip_closed() -> &'static [u8]
     b"'><use href='#run'/><rect class='seen' y='0' height='100%'/></svg>\n"
 }
 
+#[tactic(auto, unfolding(crate::specs::Frame::paper_open))]
+fn paper_open() -> &'static [u8]
+    ensures { result.now ≡ paper_open }
+{
+    b"px}.sheet{width:"
+}
+
 #[tactic(auto, unfolding(crate::specs::Frame::sheet_open))]
 fn sheet_open() -> &'static [u8]
     ensures { result.now ≡ sheet_open }
 {
-    b"<svg class='sheet' viewBox='0 0 1110 740'><svg x='150' y='20' width='960' height='720' viewBox='"
+    b"<svg class='sheet' viewBox='0 0 "
 }
 
-#[tactic(auto, unfolding(crate::specs::Frame::sheet_names))]
-fn sheet_names() -> &'static [u8]
-    ensures { result.now ≡ sheet_names }
+#[tactic(auto, unfolding(crate::specs::Frame::sheet_turned))]
+fn sheet_turned() -> &'static [u8]
+    ensures { result.now ≡ sheet_turned }
 {
-    b" 960 720'><use href='#run'/></svg><svg y='20' width='150' height='720' viewBox='0 "
-}
-
-#[tactic(auto, unfolding(crate::specs::Frame::sheet_numbers))]
-fn sheet_numbers() -> &'static [u8]
-    ensures { result.now ≡ sheet_numbers }
-{
-    b" 150 720'><use href='#names'/></svg><svg x='150' width='960' height='20' viewBox='"
+    b"'><g transform='rotate(90) translate(0 -"
 }
 
 #[tactic(auto, unfolding(crate::specs::Frame::sheet_closed))]
 fn sheet_closed() -> &'static [u8]
     ensures { result.now ≡ sheet_closed }
 {
-    b" 0 960 20'><use href='#numbers'/></svg></svg>\n"
+    b")'><use href='#names'/><use href='#run' x='150'/><use href='#numbers' x='150'/></g></svg>\n"
 }
 
 #[tactic(auto, unfolding(crate::specs::Frame::script))]
 fn script() -> &'static [u8]
     ensures { result.now ≡ script }
 {
-    b"<script>\n(function(){\nvar q=function(s){return document.querySelector(s)},page=q('.page'),run=q('.run'),strip=q('.strip'),seen=q('.seen'),wide=strip.viewBox.baseVal.width;\nvar show=function(){var r=run.getBoundingClientRect(),k=wide/r.width;seen.setAttribute('x',Math.max(0,(150-r.left)*k));seen.setAttribute('width',Math.max(0,(innerWidth-150)*k))};\nstrip.onclick=function(e){var r=run.getBoundingClientRect(),s=strip.getBoundingClientRect();scrollBy((e.clientX-s.left)/s.width*r.width+r.left-innerWidth/2,0)};\nvar label=document.createElement('label'),range=document.createElement('input');label.className='scale';label.append('scale ',range);range.type='range';range.min=25;range.max=200;range.value=100;\nrange.oninput=function(){page.style.zoom=range.value/100;show()};\ndocument.body.append(label);addEventListener('scroll',show);addEventListener('resize',show);show()\n})()\n</script>\n"
+    b"<script>\n(function(){\nvar q=function(s){return document.querySelector(s)},page=q('.page'),run=q('.run'),strip=q('.strip'),seen=q('.seen'),wide=strip.viewBox.baseVal.width;\nvar show=function(){var r=run.getBoundingClientRect(),k=wide/r.width;strip.style.display=Math.max(0,r.width+150-innerWidth)?'':'none';seen.setAttribute('x',Math.max(0,(150-r.left)*k));seen.setAttribute('width',Math.max(0,(innerWidth-150)*k))};\nstrip.onclick=function(e){var r=run.getBoundingClientRect(),s=strip.getBoundingClientRect();scrollBy((e.clientX-s.left)/s.width*r.width+r.left-innerWidth/2,0)};\nvar label=document.createElement('label'),range=document.createElement('input');label.className='scale';label.append('scale ',range);range.type='range';range.min=25;range.max=200;range.value=100;\nrange.oninput=function(){page.style.zoom=range.value/100;show()};\ndocument.body.append(label);addEventListener('scroll',show);addEventListener('resize',show);show()\n})()\n</script>\n"
 }
 
 #[tactic(auto, unfolding(crate::specs::Frame::more_open))]
@@ -259,30 +259,6 @@ fn procedure_of(id: u64, namings: &[Naming]) -> &[u8]
         }
     }
     &[]
-}
-
-// A part of the picture on a sheet of paper.
-#[tactic(auto, unfolding(crate::specs::Frame::sheet_text))]
-fn add_sheet(out: &mut Vec<u8>, y: u64, x: u64) -> Result<(), NoMemory>
-    ensures { OnOk result (out.new.items ≡ out.old.items ++ sheet_text y x) }
-{
-    add_counted(out, sheet_open(), x)?;
-    add_counted(out, b" ", y)?;
-    add_counted(out, sheet_names(), y)?;
-    add_counted(out, sheet_numbers(), x)?;
-    add_text(out, sheet_closed())
-}
-
-// The sheets beside each other.
-fn add_sheet_row(out: &mut Vec<u8>, columns: u64, row: u64) -> Result<(), NoMemory>
-    requires columns { columns < 65536 }
-    requires row { row < 65536 }
-    ensures { OnOk result (out.new.items ≡ out.old.items ++ sheet_row columns row) }
-{
-    for column in 0..columns {
-        add_sheet(out, 704 * row, 960 * column)?;
-    }
-    Ok(())
 }
 
 impl Scene {
@@ -393,6 +369,7 @@ impl Scene {
     {
         add_counted(out, size_open(), self.width())?;
         add_counted(out, height_open(), self.height())?;
+        add_counted(out, paper_open(), self.height())?;
         add_text(out, size_closed())
     }
 
@@ -405,17 +382,16 @@ impl Scene {
         add_text(out, strip_closed())
     }
 
-    fn add_sheets(&self, out: &mut Vec<u8>) -> Result<(), NoMemory>
-        ensures { OnOk result (out.new.items ≡ out.old.items ++ sheets_text self.now) }
+    // The whole picture for print.
+    #[tactic(auto, unfolding(crate::specs::Frame::sheet_text))]
+    fn add_sheet(&self, out: &mut Vec<u8>) -> Result<(), NoMemory>
+        ensures { OnOk result (out.new.items ≡ out.old.items ++ sheet_text self.now) }
     {
-        let width = self.width();
         let height = self.height();
-        let columns = width / 960 + 1;
-        let rows = height / 704 + 1;
-        for row in 0..rows {
-            add_sheet_row(out, columns, row)?;
-        }
-        Ok(())
+        add_counted(out, sheet_open(), height)?;
+        add_counted(out, b" ", self.width() + 150)?;
+        add_counted(out, sheet_turned(), height)?;
+        add_text(out, sheet_closed())
     }
 
     #[tactic(auto, unfolding(crate::specs::Frame::more_text))]
@@ -449,14 +425,14 @@ impl Scene {
         self.add_size(out)
     }
 
-    // The strip above it, and the sheets.
+    // The strip above it, and the sheet.
     #[tactic(auto, unfolding(crate::specs::Frame::beyond))]
     fn add_beyond(&self, out: &mut Vec<u8>) -> Result<(), NoMemory>
         ensures { OnOk result (out.new.items ≡ out.old.items ++ beyond self.now) }
     {
         self.add_strip(out)?;
         self.add_more(out)?;
-        self.add_sheets(out)?;
+        self.add_sheet(out)?;
         add_text(out, script())
     }
 
