@@ -1,5 +1,3 @@
-pub mod KeyLaws
-pub mod EntryLaws
-pub mod FilingLaws
-pub mod KeptLaws
+pub mod SearchLaws
+pub mod LevelLaws
 pub mod LineLaws

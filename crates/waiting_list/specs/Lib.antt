@@ -1,4 +1,3 @@
 pub mod Line
-pub mod Keys
-pub mod Entries
+pub mod Levels
 pub mod Kept

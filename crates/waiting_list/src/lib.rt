@@ -5,8 +5,7 @@
 //! What they wait for is a number, of a monitor or of a condition. The crate stands on `lwp_types` alone.
 #![tactic(auto)]
 
-mod filing;
-mod keys;
+mod levels;
 mod line;
 mod rows;
 
