@@ -8,7 +8,8 @@ use lwp_types::{Cid, CondRow, IdList, Mid, NoMemory};
 use std::alloc::Global;
 
 // Where the condition stands. Numbers are given in birth order, so they rise.
-fn place_of(rows: &[CondRow], cond: Cid) -> Option<usize>
+#[inline(never)]
+fn place_by_halves(rows: &[CondRow], cond: Cid) -> Option<usize>
     requires { AreRising rows.now }
     ensures none { IfNone result (count_by (is_condition cond) rows.now ≡ 0) }
     ensures some { IfSome result (IsAt cond rows.now) }
@@ -17,6 +18,19 @@ fn place_of(rows: &[CondRow], cond: Cid) -> Option<usize>
     match rows.get(at) {
         Some(row) if row.number == cond => Some(at),
         _ => None,
+    }
+}
+
+// The same. Whoever asks mostly asks for the last.
+#[inline(always)]
+fn place_of(rows: &[CondRow], cond: Cid) -> Option<usize>
+    requires { AreRising rows.now }
+    ensures none { IfNone result (count_by (is_condition cond) rows.now ≡ 0) }
+    ensures some { IfSome result (IsAt cond rows.now) }
+{
+    match rows.last() {
+        Some(last) if last.number == cond => Some(rows.len() - 1),
+        _ => place_by_halves(rows, cond),
     }
 }
 

@@ -1,5 +1,5 @@
 use Rattle.monitors.proofs.LiveLaws.{never_falls}
-use Rattle.monitors.proofs.live.place_of.Goals as goal
+use Rattle.monitors.proofs.live.place_by_halves.Goals as goal
 use Rattle.std.proofs.Common.{rules, sym, ◌∙◌}
 use Rattle.std.proofs.lemmas.Bool.{eqb-false}
 use Rattle.std.proofs.lemmas.List.Sorted.{IsPartitionPoint-from_clause, IsPartitionedBy-ltb}

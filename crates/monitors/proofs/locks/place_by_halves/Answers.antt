@@ -1,6 +1,6 @@
 use Rattle.lwp_types.specs.declared.rows.Lock.{Lock}
 use Rattle.monitors.proofs.LockLaws.{never_falls, no_lock}
-use Rattle.monitors.proofs.locks.place_of.Goals as goal
+use Rattle.monitors.proofs.locks.place_by_halves.Goals as goal
 use Rattle.std.proofs.Common.{ap, rules, sym, ◌∙◌}
 use Rattle.std.proofs.lemmas.Bool.{eqb-false}
 use Rattle.std.proofs.lemmas.List.Sorted.{IsPartitionPoint-from_clause, IsPartitionedBy-ltb}

@@ -1,5 +1,5 @@
 use Rattle.conditions.proofs.RowLaws.{never_falls, no_row}
-use Rattle.conditions.proofs.rows.place_of.Goals as goal
+use Rattle.conditions.proofs.rows.place_by_halves.Goals as goal
 use Rattle.lwp_types.specs.declared.rows.CondRow.{CondRow}
 use Rattle.std.proofs.Common.{ap, rules, sym, ◌∙◌}
 use Rattle.std.proofs.lemmas.Bool.{eqb-false}
