@@ -5,7 +5,7 @@ use Rattle.lwp_types.specs.OnlyLaws.{count_at, filter_none, map_none, remove_onl
 use Rattle.lwp_types.specs.Release.{is_lock, lock_of, locks_on, without_lock}
 use Rattle.lwp_types.specs.declared.rows.Lock.{Lock}
 use Rattle.monitors.specs.Held.{AreOrdered, IsLockAt}
-use Rattle.std.proofs.Common.{Bool, List, None, Option, Some, [], ap, arith, cond, eqb, false, get_or, inl, inr, length, not, refl, set, suc, sym, true, zero, ℕ, ◌++◌, ◌<◌, ◌∙◌, ◌∷◌, ◌≡◌, ◌≤◌}
+use Rattle.std.proofs.Common.{Bool, List, None, Option, Some, [], ap, arith, cond, eqb, false, get_or, inl, inr, length, not, refl, set, suc, sym, take, true, zero, ℕ, ◌++◌, ◌+◌, ◌<◌, ◌∙◌, ◌∷◌, ◌≡◌, ◌≤◌}
 use Rattle.std.proofs.lemmas.Bool.{cases_eq, eq-eqb, eqb-true, ne_eqb}
 use Rattle.std.specs.List.{AllByRecursion, insert, remove}
 use Rattle.std.specs.List.Sorted.{IsNonDecreasingBy, IsPartitionPoint}
@@ -194,3 +194,16 @@ as_many ls ks m few_ls few_ks same = by_lock (lock_of ls m) refl
     by_lock : (o : Option Lock) → lock_of ls m ≡ o → locks_on ls m ≡ locks_on ks m
     by_lock None e = omega (arith, count_not_found (is_lock m) ls e, count_not_found (is_lock m) ks (sym same ∙ e))
     by_lock (Some l) e = omega (arith, few_ls, few_ks, count_found (is_lock m) ls l e, count_found (is_lock m) ks l (sym same ∙ e))
+
+-- ---- the last
+
+pub remove_last : {X : Type 0} (xs : List X) (i : ℕ) → i + 1 ≡ length xs → remove xs i ≡ take i xs
+remove_last [] i e = absurd (omega (arith, e))
+remove_last (x ∷ []) zero e = refl
+remove_last (x ∷ []) (suc i) e = absurd (omega (arith, e))
+remove_last (x ∷ y ∷ ys) zero e = absurd (omega (arith, e))
+remove_last (x ∷ y ∷ ys) (suc i) e = ap (λ l. x ∷ l) (remove_last (y ∷ ys) i (omega (arith, e)))
+
+pub insert_last : {X : Type 0} (xs : List X) (x : X) → insert xs (length xs) x ≡ xs ++ x ∷ []
+insert_last [] x = refl
+insert_last (y ∷ ys) x = ap (λ l. y ∷ l) (insert_last ys x)

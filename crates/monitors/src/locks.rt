@@ -1,5 +1,6 @@
 // The locks of the held monitors: in the order in which they were acquired, and the same by rising monitors.
 ghost use Rattle.std.specs.Prelude.{[], ◌∷◌, ◌++◌, ◌≡◌, ◌<◌, ◌≤◌, if◌then◌else◌, ◌==◌, ℕ, IfNone, IfSome, Some, length, vec_capacity};
+ghost use Rattle.std.specs.List.{insert, remove};
 ghost use Rattle.lwp_types.specs.Locks.{depth_in, with_depth};
 ghost use Rattle.lwp_types.specs.Release.{last_lock, lock_of, locks_on, without_lock};
 ghost use Rattle.monitors.specs.Held.{AreOrdered, IsLockAt};
@@ -72,6 +73,38 @@ fn last_place(locks: &[Lock], mon: Mid) -> Option<usize>
     None
 }
 
+// Takes out the lock that stands there; the last is no move of others.
+#[inline(always)]
+#[tactic(auto, using(crate::proofs::LockLaws::remove_last))]
+fn take_at(locks: &mut Vec<Lock>, at: usize)
+    requires { at < length locks.old.items }
+    ensures items { locks.new.items ≡ remove locks.old.items at }
+    ensures capacity { vec_capacity locks.new ≡ vec_capacity locks.old }
+{
+    if at + 1 == locks.len() {
+        locks.pop();
+    } else {
+        locks.remove(at);
+    }
+}
+
+// Puts in a lock there, where there is room.
+#[inline(always)]
+#[tactic(auto, using(crate::proofs::LockLaws::insert_last))]
+fn put_at(locks: &mut Vec<Lock>, at: usize, lock: Lock)
+    requires place { at ≤ length locks.old.items }
+    requires room { length locks.old.items < vec_capacity locks.old }
+    ensures items { locks.new.items ≡ insert locks.old.items at lock }
+    ensures capacity { vec_capacity locks.new ≡ vec_capacity locks.old }
+{
+    if at == locks.len() {
+        locks.push_reserved(lock);
+    } else {
+        // There is room, so no memory is asked for.
+        let _ = locks.insert(at, lock);
+    }
+}
+
 // One lock more, by rising monitors.
 fn hold(held: &mut Vec<Lock>, lock: Lock)
     requires ordered { AreOrdered held.old.items }
@@ -82,8 +115,7 @@ fn hold(held: &mut Vec<Lock>, lock: Lock)
     ensures capacity { vec_capacity held.new ≡ vec_capacity held.old }
 {
     let at = held.partition_point(|other| other.mon.number < lock.mon.number);
-    // There is room, so no memory is asked for.
-    let _ = held.insert(at, lock);
+    put_at(held, at, lock);
 }
 
 // A free monitor is held.
@@ -131,7 +163,7 @@ fn take_last(locks: &mut Vec<Lock>, mon: Mid)
     ensures capacity { vec_capacity locks.new ≡ vec_capacity locks.old }
 {
     if let Some(at) = last_place(locks, mon) {
-        locks.remove(at);
+        take_at(locks, at);
     }
 }
 
@@ -142,7 +174,7 @@ fn take_held(held: &mut Vec<Lock>, mon: Mid)
     ensures capacity { vec_capacity held.new ≡ vec_capacity held.old }
 {
     if let Some(at) = place_of(held, mon) {
-        held.remove(at);
+        take_at(held, at);
     }
 }
 
