@@ -14,3 +14,5 @@ mod TalkTexts
 mod StoreSteps
 mod SessionSteps
 mod PodSteps
+mod Dying
+mod OwnSteps

@@ -144,13 +144,13 @@ module _ (a : ℕ) (body : SessionBody) (names : Names) where
   does_by x at.Bye k = does_returns (is_replied x)
   does_by x at.End k = DoesStop refl
 
-hears_no_mail : (x : Answer) (m : Mail) → is_posted (Hears x) m ≡ true → m ≡ Nothing
+pub hears_no_mail : (x : Answer) (m : Mail) → is_posted (Hears x) m ≡ true → m ≡ Nothing
 hears_no_mail x Nothing h = refl
 hears_no_mail x (Sent text) h = absurd (cc)
 hears_no_mail x (Received text) h = absurd (cc)
 
 -- a zero is told exactly if it is among the answers
-told_any : (s : ℕ) (es : List Effect) → list_any (told s is_zero) es ≡ list_any is_zero (answers_to s es)
+pub told_any : (s : ℕ) (es : List Effect) → list_any (told s is_zero) es ≡ list_any is_zero (answers_to s es)
 told_any s [] = refl
 told_any s (effect.Answered t a ∷ es) = by_test (eqb t s) (told_any s es)
   where

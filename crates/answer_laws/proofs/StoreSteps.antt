@@ -56,7 +56,7 @@ StoreGoesOn s k a talk waiting body out = Becomes s k a talk talk.session body w
 
 -- ---- what a store does
 
-data StoreDoes (turn : Turn StoreBody) : Type 0 where
+pub data StoreDoes (turn : Turn StoreBody) : Type 0 where
   DoesReceive : (body : StoreBody) → turn ≡ (call.Recv None mode.Block, body) → StoreDoes turn
   DoesReply : (v : ℕ) (text : List ℕ) (body : StoreBody) → turn ≡ (call.Reply v text, body) → StoreDoes turn
   DoesStop : turn.0 ≡ call.Return → StoreDoes turn
@@ -82,7 +82,7 @@ module _ (body : StoreBody) where
   does_received (answer.Caught d m p) = DoesStop refl
   does_received (answer.Ids n ns) = DoesStop refl
 
-  does_by : (x : Answer) (p : StorePlace) → StoreDoes (store_by body x p)
+  pub does_by : (x : Answer) (p : StorePlace) → StoreDoes (store_by body x p)
   does_by x kept_at.Start = DoesReceive _ refl
   does_by x kept_at.Recv = does_received x
   does_by x kept_at.Reply = does_replied (is_invalid x) (is_replied x)

@@ -9,3 +9,4 @@ pub mod ClientRows
 pub mod Agents
 pub mod Owners
 pub mod Stands
+pub mod Owns

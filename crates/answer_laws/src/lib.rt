@@ -29,6 +29,7 @@ ghost use Rattle.answer_laws.specs.Agents.{DeliveriesPassOthersBy, DeliveriesRea
 ghost use Rattle.answer_laws.specs.Events.{PodsLeaveIt, TakesLeaveIt};
 ghost use Rattle.answer_laws.specs.Lengths.{ShortLinesHaveShortAnswers};
 ghost use Rattle.answer_laws.specs.Owners.{OwnersOfNoneAreRefused, OwnersReceive, OwnersReply, SendsAreLetters};
+ghost use Rattle.answer_laws.specs.Owns.{OthersReplyNothing, PodsSessionsCallsAreEvents, PodsStoresCallsAreEvents};
 ghost use Rattle.answer_laws.specs.Replies.{EachHasOneLetter, ReadersLeaveTheRest, ReceivesAreTheLetters, RepliesAreTheAnswers};
 ghost use Rattle.answer_laws.specs.Sights.{DeliveriesLeaveIt, OthersLeaveIt};
 ghost use Rattle.answer_laws.specs.Stands.{DeliveriesAreEvents, OthersCallsAreEvents, PodsCallsAreEvents, SessionsCallsAreEvents, StoresCallsAreEvents, TakesAreEvents};
@@ -150,6 +151,21 @@ pub fn every_pod_call_beside_a_talk()
 /// And a line that is taken there.
 pub fn every_take_in_a_talk()
     ensures { TakesAreEvents }
+{}
+
+/// Nothing that others do in a pod is a reply of the session, and no line that is taken is.
+pub fn every_reply_of_others()
+    ensures { OthersReplyNothing }
+{}
+
+/// A call of the store in such a pod, the trap before it and the report behind it among that.
+pub fn every_call_of_the_store_in_a_pod()
+    ensures { PodsStoresCallsAreEvents }
+{}
+
+/// So it is of a call of the session: it goes on as the talk says, or asked for an agent in vain, or is gone.
+pub fn every_call_of_the_session_in_a_pod()
+    ensures { PodsSessionsCallsAreEvents }
 {}
 
 /// The answers to lines that have room in a letter have room in one.
