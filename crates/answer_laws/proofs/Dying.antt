@@ -9,13 +9,14 @@ use Rattle.lwp_types.specs.Lawful.{Lawful}
 use Rattle.lwp_types.specs.Agents.{armed, end_agent}
 use Rattle.lwp_types.specs.Marks.{found_in, frames, with_match}
 use Rattle.lwp_types.specs.declared.call.Answer.{Answer}
-use Rattle.lwp_types.specs.State.{State, is_agent, is_thread, marks_in, passes}
+use Rattle.lwp_types.specs.State.{State, ThreadRow, is_agent, is_number, is_thread, marks_in, numbers, passes}
 use Rattle.lwp_types.specs.Step.{case_of, step, step_by, step_if}
 use Rattle.lwp_types.specs.declared.call.Call.{Call}
 use Rattle.lwp_types.specs.declared.call.Effect.{Effect}
 use Rattle.lwp_types.specs.declared.rows.AgentRow.{AgentRow}
 use Rattle.lwp_types.specs.declared.rows.Mark.{Mark}
 use Rattle.lwp_types.specs.State.{agent_of}
+use Rattle.pod_events.proofs.Mild.{mild_deliver}
 use Rattle.pod_events.specs.Events.{rites_event}
 use Rattle.pod_events.specs.Rites.{first_reported, report_text, rites_said}
 use Rattle.pod_events.specs.Traps.{is_catch, is_given, notice}
@@ -26,6 +27,7 @@ use Rattle.pod_laws.proofs.Holding.{no_thread}
 use Rattle.pod_laws.specs.Forgotten.{IsGone, is_died}
 use Rattle.std.proofs.Common.{Bool, List, None, Option, Some, [], ap, arith, cond, count_by, eqb, false, not, refl, subst, sym, true, ℕ, ◌∙◌, ◌∷◌, ◌≡◌, ◌≤◌, ◌||◌}
 use Rattle.std.proofs.lemmas.Bool.{eq-eqb}
+use Rattle.std.specs.List.{find, list_any}
 use Rattle.std.specs.Prelude.{is_some, nat_le, nat_lt}
 use Rattle.lwp_types.specs.declared.call.Call.TheVariants as call
 use Rattle.lwp_types.specs.declared.call.LwpErr.TheVariants as error
@@ -84,3 +86,31 @@ gone_said u after es reports gone = by_armed (armed after rites_event) reports
     by_armed true [] = gone
     by_armed false rs = gone
     by_armed true (dead ∷ later) = gone_stays u after (deliver after rites_event (report_text dead)).after (deliver_fades u after rites_event (report_text dead)) gone
+
+-- a report lets nobody come or go
+module _ (u : ℕ) where
+  by_numbers : (rows : List ThreadRow) → is_some (find (is_number u) rows) ≡ list_any (λ n. eqb n u) (numbers rows)
+  by_numbers [] = refl
+  by_numbers (row ∷ rows) = by_test (eqb row.number u) (by_numbers rows)
+    where
+      by_test : (b : Bool) → is_some (find (is_number u) rows) ≡ list_any (λ n. eqb n u) (numbers rows) → is_some (cond b (Some row) (find (is_number u) rows)) ≡ (b || list_any (λ n. eqb n u) (numbers rows))
+      by_test true rest = refl
+      by_test false rest = rest
+
+  pub thread_delivered : (st : State) (e : ℕ) (text : List ℕ) → is_thread (deliver st e text).after u ≡ is_thread st u
+  thread_delivered st e text = by_numbers (deliver st e text).after.threads ∙ ap (list_any (λ n. eqb n u)) (mild_deliver st e text).lives ∙ sym (by_numbers st.threads)
+
+  pub thread_said : (after : State) (es : List Effect) (reports : List ℕ) → is_thread (rites_said after es reports).state u ≡ is_thread after u
+  thread_said after es reports = by_armed (armed after rites_event) reports
+    where
+      by_armed : (b : Bool) (rs : List ℕ) → is_thread (cond b (first_reported after es rs) (record { state = after; reports = rs; effects = es })).state u ≡ is_thread after u
+      by_armed true [] = refl
+      by_armed false rs = refl
+      by_armed true (dead ∷ later) = thread_delivered after rites_event (report_text dead)
+
+pub gone_thread : (st : State) (u : ℕ) → IsGone st u → is_thread st u ≡ false
+gone_thread st u gone = by_or (is_thread st u) gone.dead
+  where
+    by_or : (b : Bool) → (b || is_agent st u) ≡ false → b ≡ false
+    by_or true e = absurd (cc)
+    by_or false e = refl

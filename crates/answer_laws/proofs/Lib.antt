@@ -16,3 +16,4 @@ mod SessionSteps
 mod PodSteps
 mod Dying
 mod OwnSteps
+mod TalkShort

@@ -1,15 +1,15 @@
 -- What the two of a talk call themselves, in a pod with its own events.
-use Rattle.answer_laws.proofs.Dying.{gone_said, no_notice, returned_is_gone, destroyed_is_gone}
+use Rattle.answer_laws.proofs.Dying.{gone_said, gone_thread, no_notice, returned_is_gone, destroyed_is_gone}
 use Rattle.answer_laws.proofs.Others.{deliveries_leave_it}
 use Rattle.answer_laws.proofs.PodSteps.{Rests, becomes_said, births_said, rests_said, step_texts, tame_deliver}
 use Rattle.answer_laws.proofs.SessionSteps.{hears_no_mail, sessions_calls_are_events, told_any}
 use Rattle.answer_laws.proofs.Sights.{answers_append}
 use Rattle.answer_laws.proofs.Events.{rites_same}
 use Rattle.answer_laws.proofs.StoreSteps.{StoreDoes, StoreDoes.DoesReceive, StoreDoes.DoesReply, StoreDoes.DoesStop, does_by, stores_calls_are_events}
-use Rattle.answer_laws.proofs.TalkSteps.{attends_seen, attentive, either_of}
+use Rattle.answer_laws.proofs.TalkSteps.{attends_seen, attentive}
 use Rattle.answer_laws.specs.Clients.{names_only, replied_in, reply_to}
 use Rattle.answer_laws.specs.Events.{machine_of}
-use Rattle.answer_laws.specs.Owns.{OthersReplyNothing, PodsSessionsCallsAreEvents, PodsStoresCallsAreEvents, SessionComes, SessionComes.GoesOn, SessionComes.IsTurnedAway, SessionComes.Leaves}
+use Rattle.answer_laws.specs.Owns.{OthersReplyNothing, PodsSessionsCallsAreEvents, PodsStoresCallsAreEvents, SessionComes, SessionComes.GoesOn, SessionComes.IsTurnedAway, SessionComes.Dies}
 use Rattle.answer_laws.specs.Sights.{IsDelivered, IsLeft, IsWoken, Sight, answers_to, is_attentive, sight}
 use Rattle.answer_laws.specs.Stands.{Becomes, OpensInVain, Stands, block_of, goes_on_with, is_posted, is_short_reply, is_short_to, mail_letters, texts_in}
 use Rattle.answer_laws.specs.Talks.{Mail, Mail.Received, Stand, Stand.Hears, Talk, talked}
@@ -25,9 +25,9 @@ use Rattle.lwp_types.specs.Choice.{choice}
 use Rattle.lwp_types.specs.Counts.{timers_of}
 use Rattle.lwp_types.specs.Lawful.{Lawful}
 use Rattle.lwp_types.specs.Names.{Names, id_at, null_id}
-use Rattle.lwp_types.specs.State.{Outcome, State, ThreadRow, is_agent, is_thread, marks_in, passes, thread_of}
+use Rattle.lwp_types.specs.State.{Outcome, State, ThreadRow, is_thread, marks_in, passes, thread_of}
 use Rattle.lwp_types.specs.Step.{case_of, end_effects, ends, own_effects, step, step_by, step_if}
-use Rattle.lwp_types.specs.Unblock.{nonexist}
+use Rattle.lwp_types.specs.Unblock.{nonexist, zero_answer}
 use Rattle.lwp_types.specs.declared.call.Answer.{Answer}
 use Rattle.lwp_types.specs.declared.call.Call.{Call}
 use Rattle.lwp_types.specs.declared.call.Effect.{Effect}
@@ -54,10 +54,10 @@ use Rattle.lwp_types.specs.declared.rows.Block.TheVariants as block
 use Rattle.lwp_types.specs.declared.rows.Mark.TheVariants as mark
 
 -- the machine after a call, with the report behind it
-abbrev done_by : EventState → Trapping → Outcome
+abbrev pub done_by : EventState → Trapping → Outcome
 done_by es out = let said = rites_said out.state out.effects (reports_after es.state out.state es.reports out.effects) in record { after = said.state; effects = said.effects }
 
-event_is : (es : EventState) (t : ℕ) (c : Call) → choice es.state ≡ Some t → machine_of (event_step es c) ≡ done_by es (called es.state es.trapped t c es.pending)
+pub event_is : (es : EventState) (t : ℕ) (c : Call) → choice es.state ≡ Some t → machine_of (event_step es c) ≡ done_by es (called es.state es.trapped t c es.pending)
 unfolding event_step event_step_by
 event_is es t c turn = ap (λ o. machine_of (event_step_if es c o)) turn
 
@@ -65,13 +65,13 @@ event_is es t c turn = ap (λ o. machine_of (event_step_if es c o)) turn
 
 module _ (s a : ℕ) where
   -- whatever is told behind these effects, a reply of s isn't among them
-  abbrev Mute : List Effect → Type 0
+  abbrev pub Mute : List Effect → Type 0
   Mute es = (ys : List Effect) → replied_in s a ys ≡ [] → replied_in s a (es ++ ys) ≡ []
 
-  mute_then : (xs ys : List Effect) → Mute xs → Mute ys → Mute (xs ++ ys)
+  pub mute_then : (xs ys : List Effect) → Mute xs → Mute ys → Mute (xs ++ ys)
   mute_then xs ys one two zs none = ap (replied_in s a) (append_assoc xs ys zs) ∙ one (ys ++ zs) (two zs none)
 
-  mute_whole : (es : List Effect) → Mute es → replied_in s a es ≡ []
+  pub mute_whole : (es : List Effect) → Mute es → replied_in s a es ≡ []
   mute_whole es mute = ap (replied_in s a) (sym (append-nil es)) ∙ mute [] refl
 
   mute_tame : (es : List Effect) → list_all is_tame es ≡ true → Mute es
@@ -86,7 +86,7 @@ module _ (s a : ℕ) where
   mute_tame (effect.Trapped t e ∷ es) tame ys none = absurd (cc)
   mute_tame (effect.Rites b d ∷ es) tame ys none = absurd (cc)
 
-  mute_rites : (dead : ℕ) (es : List Effect) → list_all is_tame es ≡ true → Mute (map (as_rites dead) es)
+  pub mute_rites : (dead : ℕ) (es : List Effect) → list_all is_tame es ≡ true → Mute (map (as_rites dead) es)
   mute_rites dead [] tame ys none = none
   mute_rites dead (effect.Called t c ∷ es) tame ys none = absurd (cc)
   mute_rites dead (effect.Answered t x ∷ es) tame ys none = refl
@@ -99,7 +99,7 @@ module _ (s a : ℕ) where
   mute_rites dead (effect.Rites b d ∷ es) tame ys none = absurd (cc)
 
   -- without its call a step tells of none
-  mute_but : (st : State) (c : Call) → Mute (drop 1 (step st c).effects)
+  pub mute_but : (st : State) (c : Call) → Mute (drop 1 (step st c).effects)
   unfolding step step_by
   mute_but st c = by_choice (choice st)
     where
@@ -118,41 +118,38 @@ module _ (s a : ℕ) where
           mute_then made.others (own_effects t made.own ++ end_effects made.after) (mute_tame made.others (case_toll st t c).tame)
           (mute_then (own_effects t made.own) (end_effects made.after) (own_mute t made.own) (end_mute made.after (ends made.after)))
 
-  -- another's call is no reply of s
-  module _ (t : ℕ) (other : eqb t s ≡ false) where
-    mute_called : (c : Call) (es : List Effect) → Mute (effect.Called t c ∷ es)
-    mute_called c es ys none = rw other refl
-
-    mute_step : (st : State) (c : Call) → choice st ≡ Some t → Mute (step st c).effects
+  -- a call that is no reply of s to a, whatever is told behind it
+  module _ (t : ℕ) (c : Call) (none : (es : List Effect) → Mute (effect.Called t c ∷ es)) where
+    mute_step : (st : State) → choice st ≡ Some t → Mute (step st c).effects
     unfolding step step_by
-    mute_step st c turn = subst (λ o. Mute (step_if st c o).effects) (sym turn) (mute_called c (drop 1 (step_by st t c).effects))
+    mute_step st turn = subst (λ o. Mute (step_if st c o).effects) (sym turn) (none (drop 1 (step_by st t c).effects))
 
-    mute_made : (st : State) (trapped : List Bool) (c : Call) → choice st ≡ Some t → Mute (made st trapped t c).effects
-    mute_made st trapped c turn = by_trap (trap_of c)
+    mute_made : (st : State) (trapped : List Bool) → choice st ≡ Some t → Mute (made st trapped t c).effects
+    mute_made st trapped turn = by_trap (trap_of c)
       where
         by_refusal : (e : ℕ) (o : Option LwpErr) → Mute (trap_made st trapped t c e o).effects
-        by_refusal e None = λ ys none. rw other refl
-        by_refusal e (Some why) = λ ys none. rw other refl
+        by_refusal e None = none (effect.Answered t zero_answer ∷ [])
+        by_refusal e (Some why) = none (effect.Answered t (answer.Refused why) ∷ [])
 
         by_agent : (b : Bool) → Mute (cond b (refused_by st trapped t c error.InUse) (stepped trapped (step st c))).effects
-        by_agent true = λ ys none. rw other refl
-        by_agent false = mute_step st c turn
+        by_agent true = none (effect.Answered t (answer.Refused error.InUse) ∷ [])
+        by_agent false = mute_step st turn
 
         by_trap : (o : Option ℕ) → Mute (made_as st trapped t c o).effects
         by_trap None = by_agent (passes (is_trapped trapped) (agent_event_of c))
         by_trap (Some e) = by_refusal e (trap_refusal st trapped e)
 
-    mute_pending : (st : State) (trapped : List Bool) (c : Call) (pending : Option ℕ) → choice st ≡ Some t → Mute (called st trapped t c pending).effects
-    mute_pending st trapped c None turn = mute_made st trapped c turn
-    mute_pending st trapped c (Some e) turn = by_given (passes is_given (notice st t e)) (passes is_catch (notice st t e))
+    mute_pending : (st : State) (trapped : List Bool) (pending : Option ℕ) → choice st ≡ Some t → Mute (called st trapped t c pending).effects
+    mute_pending st trapped None turn = mute_made st trapped turn
+    mute_pending st trapped (Some e) turn = by_given (passes is_given (notice st t e)) (passes is_catch (notice st t e))
       where
         by_given : (b d : Bool) → Mute (effect.Trapped t e ∷ (cond b (made st trapped t c) (cond d (stepped trapped (but_call (step st (call.ExcNotify e)))) (stepped trapped (but_call (step st (call.Destroy t)))))).effects)
-        by_given true d ys none = mute_made st trapped c turn ys none
-        by_given false true ys none = mute_but st (call.ExcNotify e) ys none
-        by_given false false ys none = mute_but st (call.Destroy t) ys none
+        by_given true d ys rest = mute_made st trapped turn ys rest
+        by_given false true ys rest = mute_but st (call.ExcNotify e) ys rest
+        by_given false false ys rest = mute_but st (call.Destroy t) ys rest
 
   -- nor is a report
-  mute_said : (after : State) (es : List Effect) (reports : List ℕ) → Mute es → replied_in s a (rites_said after es reports).effects ≡ []
+  pub mute_said : (after : State) (es : List Effect) (reports : List ℕ) → Mute es → replied_in s a (rites_said after es reports).effects ≡ []
   mute_said after es reports mute = by_armed (armed after rites_event) reports
     where
       by_armed : (b : Bool) (rs : List ℕ) → replied_in s a (cond b (first_reported after es rs) (record { state = after; reports = rs; effects = es })).effects ≡ []
@@ -168,30 +165,40 @@ module _ (s a : ℕ) where
       by_trapped true = refl
       by_trapped false = mute_whole (deliver es.state e text).effects (mute_tame (deliver es.state e text).effects (tame_deliver es.state e text))
 
-pub others_reply_nothing : OthersReplyNothing
-others_reply_nothing s a es = (
-  λ t turn other c. let out = called es.state es.trapped t c es.pending in
+  pub mute_event : (es : EventState) (t : ℕ) (c : Call) → choice es.state ≡ Some t → ((fs : List Effect) → Mute (effect.Called t c ∷ fs)) → replied_in s a (event_step es c).effects ≡ []
+  mute_event es t c turn none =
+      let out = called es.state es.trapped t c es.pending in
       ap (λ (out : Outcome). replied_in s a out.effects) (event_is es t c turn)
-      ∙ mute_said s a out.state out.effects (reports_after es.state out.state es.reports out.effects) (mute_pending s a t other es.state es.trapped c es.pending turn),
-  λ e text. taken_mute s a es e text,
-)
+      ∙ mute_said out.state out.effects (reports_after es.state out.state es.reports out.effects) (mute_pending t c none es.state es.trapped es.pending turn)
+
+  -- another's call is none
+  mute_other : (t : ℕ) → eqb t s ≡ false → (c : Call) (es : List Effect) → Mute (effect.Called t c ∷ es)
+  mute_other t other c es ys none = rw other refl
+
+  -- nor is a call of s that is no reply to a
+  pub mute_unreplied : (c : Call) → reply_to a c ≡ [] → (es : List Effect) → Mute (effect.Called s c ∷ es)
+  mute_unreplied c none es ys rest = ap (λ xs. cond (eqb s s && list_any (told s is_zero) (es ++ ys)) xs []) none ∙ by_test (eqb s s && list_any (told s is_zero) (es ++ ys))
+    where
+      by_test : (b : Bool) → cond {A = List (List ℕ)} b [] [] ≡ []
+      by_test true = refl
+      by_test false = refl
+
+pub others_reply_nothing : OthersReplyNothing
+others_reply_nothing s a es = (λ t turn other c. mute_event s a es t c turn (mute_other s a t other c), λ e text. taken_mute s a es e text)
 
 -- ---- who is there
 
-alive_seen : (st : State) (u : ℕ) (b : Block) → (sight st u).waits ≡ Some b → is_thread st u ≡ true
+pub alive_seen : (st : State) (u : ℕ) (b : Block) → (sight st u).waits ≡ Some b → is_thread st u ≡ true
 alive_seen st u b seen = by_row (thread_of st u) seen
   where
     by_row : (o : Option ThreadRow) → option_map (λ (row : ThreadRow). row.block) o ≡ Some b → is_some o ≡ true
     by_row None e = absurd (cc)
     by_row (Some row) e = refl
 
-gone_thread : (st : State) (u : ℕ) → IsGone st u → is_thread st u ≡ false
-gone_thread st u gone = (either_of (is_thread st u) (is_agent st u) gone.dead).0
-
 -- ---- traps in the caller
 
 -- where it has no handler, a trap is its end
-sprung_is : (st : State) (trapped : List Bool) (t : ℕ) (c : Call) (e : ℕ) → marks_in st t ≡ mark.Frame ∷ []
+pub sprung_is : (st : State) (trapped : List Bool) (t : ℕ) (c : Call) (e : ℕ) → marks_in st t ≡ mark.Frame ∷ []
     → called st trapped t c (Some e) ≡ record { state = (step st (call.Destroy t)).after; trapped = trapped; effects = effect.Trapped t e ∷ drop 1 (step st (call.Destroy t)).effects }
 sprung_is st trapped t c e marks = let none = no_notice st t e marks in by_tests (passes is_given (notice st t e)) (passes is_catch (notice st t e)) none.0 none.1
   where
@@ -203,20 +210,26 @@ sprung_is st trapped t c e marks = let none = no_notice st t e marks in by_tests
     by_tests false false f g = refl
 
 -- a call that sets no trap and asks for no agent is the machine's
-made_plain : (st : State) (trapped : List Bool) (t : ℕ) (c : Call) → trap_of c ≡ None → agent_event_of c ≡ None → made st trapped t c ≡ stepped trapped (step st c)
+pub made_plain : (st : State) (trapped : List Bool) (t : ℕ) (c : Call) → trap_of c ≡ None → agent_event_of c ≡ None → made st trapped t c ≡ stepped trapped (step st c)
 made_plain st trapped t c none away = ap (made_as st trapped t c) none ∙ ap (λ o. cond (passes (is_trapped trapped) o) (refused_by st trapped t c error.InUse) (stepped trapped (step st c))) away
 
 -- ---- the store
 
-record Plain (c : Call) : Type 0 where
-  trap : trap_of c ≡ None
-  agent : agent_event_of c ≡ None
-  stop : goes_on_with c ≡ false → c ≡ call.Return
+pub record Replying (c : Call) : Type 0 where
+  pub to : ℕ
+  pub text : List ℕ
+  pub is : c ≡ call.Reply to text
+
+pub record Plain (c : Call) : Type 0 where
+  pub trap : trap_of c ≡ None
+  pub agent : agent_event_of c ≡ None
+  pub stop : goes_on_with c ≡ false → c ≡ call.Return
+  pub short : (is_short_reply c ≡ true) ⊎ Replying c
 
 plain_store : (turn : Turn StoreBody) → StoreDoes turn → Plain turn.0
-plain_store turn (DoesReceive body is) = subst (λ (t : Turn StoreBody). Plain t.0) (sym is) (record { trap = refl; agent = refl; stop = λ e. absurd (cc) })
-plain_store turn (DoesReply v text body is) = subst (λ (t : Turn StoreBody). Plain t.0) (sym is) (record { trap = refl; agent = refl; stop = λ e. absurd (cc) })
-plain_store turn (DoesStop is) = subst Plain (sym is) (record { trap = refl; agent = refl; stop = λ e. refl })
+plain_store turn (DoesReceive body is) = subst (λ (t : Turn StoreBody). Plain t.0) (sym is) (record { trap = refl; agent = refl; stop = λ e. absurd (cc); short = inl refl })
+plain_store turn (DoesReply v text body is) = subst (λ (t : Turn StoreBody). Plain t.0) (sym is) (record { trap = refl; agent = refl; stop = λ e. absurd (cc); short = inr (record { to = v; text = text; is = refl }) })
+plain_store turn (DoesStop is) = subst Plain (sym is) (record { trap = refl; agent = refl; stop = λ e. refl; short = inl refl })
 
 pub pods_stores_calls_are_events : PodsStoresCallsAreEvents
 unfolding store_next
@@ -253,19 +266,19 @@ pods_stores_calls_are_events s k a es was talk waiting h s_k turn x hears names 
 -- ---- the session
 
 -- what a session calls, by its place
-data Calls (place : SessionPlace) (c : Call) : Type 0 where
+pub data Calls (place : SessionPlace) (c : Call) : Type 0 where
   Asks : (e : ℕ) → place ≡ at.Start → c ≡ call.Agent e → Calls place c
   Plainly : Plain c → Calls place c
 
 module _ (body : SessionBody) (names : Names) (place : SessionPlace) where
   plain_stop : (c : Call) → c ≡ call.Return → Calls place c
-  plain_stop c e = Plainly (subst Plain (sym e) (record { trap = refl; agent = refl; stop = λ f. refl }))
+  plain_stop c e = Plainly (subst Plain (sym e) (record { trap = refl; agent = refl; stop = λ f. refl; short = inl refl }))
 
   plain_reply : (v : ℕ) (text : List ℕ) → Calls place (call.Reply v text)
-  plain_reply v text = Plainly (record { trap = refl; agent = refl; stop = λ f. absurd (cc) })
+  plain_reply v text = Plainly (record { trap = refl; agent = refl; stop = λ f. absurd (cc); short = inr (record { to = v; text = text; is = refl }) })
 
   plain_receives : (body : SessionBody) → Calls place (session_receives body).0
-  plain_receives body = Plainly (record { trap = refl; agent = refl; stop = λ f. absurd (cc) })
+  plain_receives body = Plainly (record { trap = refl; agent = refl; stop = λ f. absurd (cc); short = inl refl })
 
   plain_after : (b : Bool) (goes : Turn SessionBody) → Calls place goes.0 → Calls place (cond b goes (stops body)).0
   plain_after true goes h = h
@@ -273,7 +286,7 @@ module _ (body : SessionBody) (names : Names) (place : SessionPlace) where
 
   plain_sends : (text : List ℕ) (o : Option Command) → Calls place (session_sends body names text o).0
   plain_sends text None = plain_reply _ _
-  plain_sends text (Some c) = Plainly (record { trap = refl; agent = refl; stop = λ f. absurd (cc) })
+  plain_sends text (Some c) = Plainly (record { trap = refl; agent = refl; stop = λ f. absurd (cc); short = inl refl })
 
   plain_reads : (text : List ℕ) (b : Bool) → Calls place (cond b (call.Reply body.agent (codes "bye"), session_at body at.Bye) (session_sends body names text (command_of text))).0
   plain_reads text true = plain_reply _ _
@@ -315,7 +328,7 @@ module _ (body : SessionBody) (names : Names) (place : SessionPlace) where
   plain_told (answer.Caught d m p) = plain_stop _ refl
   plain_told (answer.Ids n ns) = plain_stop _ refl
 
-session_calls_by : (body : SessionBody) (names : Names) (x : Answer) (p : SessionPlace) → Calls p (session_by body names x p).0
+pub session_calls_by : (body : SessionBody) (names : Names) (x : Answer) (p : SessionPlace) → Calls p (session_by body names x p).0
 session_calls_by body names x at.Start = Asks body.event refl refl
 session_calls_by body names x at.Agent = plain_opened body names at.Agent x
 session_calls_by body names x at.Recv = plain_received body names at.Recv x
@@ -361,18 +374,6 @@ module _ (s a : ℕ) where
       by_armed false rs = refl
       by_armed true (dead ∷ later) = replied_more st c turn (map (as_rites dead) (deliver (step st c).after rites_event (report_text dead)).effects) (no_zero_said s dead (step st c).after was b seen attentive none)
 
-  -- a call of s that is no reply
-  mute_unreplied : (c : Call) → reply_to a c ≡ [] → (es : List Effect) → Mute s a (effect.Called s c ∷ es)
-  mute_unreplied c none es ys rest = ap (λ xs. cond (eqb s s && list_any (told s is_zero) (es ++ ys)) xs []) none ∙ by_test (eqb s s && list_any (told s is_zero) (es ++ ys))
-    where
-      by_test : (b : Bool) → cond {A = List (List ℕ)} b [] [] ≡ []
-      by_test true = refl
-      by_test false = refl
-
-  mute_unreplied_step : (st : State) (c : Call) → choice st ≡ Some s → reply_to a c ≡ [] → Mute s a (step st c).effects
-  unfolding step step_by
-  mute_unreplied_step st c turn none = subst (λ o. Mute s a (step_if st c o).effects) (sym turn) (mute_unreplied c none (drop 1 (step_by st s c).effects))
-
 pub pods_sessions_calls_are_events : PodsSessionsCallsAreEvents
 unfolding session_next
 pods_sessions_calls_are_events s k a es was talk waiting h s_k turn x hears names = subst Goal (sym (event_is es s c turn)) (by_pending es.pending)
@@ -397,7 +398,7 @@ pods_sessions_calls_are_events s k a es was talk waiting h s_k turn x hears name
         → SessionComes s k a talk waiting (session_next talk.session names x).1 out
 
     gone : (out : Trapping) → IsGone out.state s → Mute s a out.effects → Goal (done_by es out)
-    gone out off mute = λ short only given. Leaves (gone_said s out.state out.effects (reports_after es.state out.state es.reports out.effects) off) (mute_said s a out.state out.effects (reports_after es.state out.state es.reports out.effects) mute)
+    gone out off mute = λ short only given. Dies (gone_said s out.state out.effects (reports_after es.state out.state es.reports out.effects) off) (mute_said s a out.state out.effects (reports_after es.state out.state es.reports out.effects) mute)
 
     turned : (out : Trapping) → Lawful out.state None → OpensInVain s talk (record { after = out.state; effects = out.effects }) → Mute s a out.effects → SessionComes s k a talk waiting (session_next talk.session names x).1 (done_by es out)
     turned out then v mute =
@@ -423,10 +424,10 @@ pods_sessions_calls_are_events s k a es was talk waiting h s_k turn x hears name
         by_coming (inl b) = GoesOn (subst (λ xs. Becomes s k a talk (session_next talk.session names x).1 talk.store waiting (texts_in a None (done_by es (stepped es.trapped (step es.state c))).effects) xs (done_by es (stepped es.trapped (step es.state c))))
             (sym (replied_said s a es.state c turn (Lawful-step es.state was c) (block_of (Some a) (talked s a talk b.events).client) (ap (λ (v : Sight). v.waits) b.stands.client) (attentive (Some a) (talked s a talk b.events).client) b.stands.untimed reports))
             (becomes_said s k a talk waiting s_k (session_next talk.session names x).1 talk.store (replied_in s a (step es.state c).effects) (step es.state c).after (step es.state c).effects reports (Lawful-step es.state was c) (step_texts a es.state c) b))
-        by_coming (inr v) = turned (stepped es.trapped (step es.state c)) (Lawful-step es.state was c) v (mute_unreplied_step s a es.state c turn (starts v.place))
+        by_coming (inr v) = turned (stepped es.trapped (step es.state c)) (Lawful-step es.state was c) v (mute_step s a s c (mute_unreplied s a c (starts v.place)) es.state turn)
     stepped_by false off =
         let is = stop off kind in
-        gone (stepped es.trapped (step es.state c)) (subst (λ c. IsGone (step es.state c).after s) (sym is) (returned_is_gone es.state was s turn marks)) (mute_unreplied_step s a es.state c turn (ap (reply_to a) is))
+        gone (stepped es.trapped (step es.state c)) (subst (λ c. IsGone (step es.state c).after s) (sym is) (returned_is_gone es.state was s turn marks)) (mute_step s a s c (mute_unreplied s a c (ap (reply_to a) is)) es.state turn)
 
     made_by : Calls talk.session.place c → Goal (done_by es (made es.state es.trapped s c))
     made_by (Plainly plain) = subst (λ out. Goal (done_by es out)) (sym (made_plain es.state es.trapped s c plain.trap plain.agent)) (stepped_by (goes_on_with c) refl)

@@ -1,14 +1,16 @@
 -- What others do to a session and a store that talk, in a pod with its own events.
+use Rattle.answer_laws.proofs.Dying.{destroyed_is_gone, gone_thread, thread_said}
 use Rattle.answer_laws.proofs.Events.{but_same, rites_same}
 use Rattle.answer_laws.proofs.Others.{deliveries_leave_it}
 use Rattle.answer_laws.proofs.Sights.{answers_append}
-use Rattle.answer_laws.proofs.TalkSteps.{attends_seen, others_calls_are_events, talked_append, unheard}
+use Rattle.answer_laws.proofs.TalkSteps.{Ends, Ends.Destroys, Ends.Spared, attends_seen, ends_of, others_calls_are_events, talked_append, unheard}
 use Rattle.answer_laws.proofs.TalkTexts.{births_deliver, deliveries_are_events}
 use Rattle.answer_laws.specs.Agents.{deliveries_to, is_delivery_to, spares_agent}
 use Rattle.answer_laws.specs.Clients.{text_to}
 use Rattle.answer_laws.specs.Events.{machine_of}
+use Rattle.answer_laws.specs.Owns.{LivingCallsAreEvents}
 use Rattle.answer_laws.specs.Sights.{IsDelivered, IsLeft, IsWoken, answers_to, sight}
-use Rattle.answer_laws.specs.Stands.{Becomes, HeardAs, IsHeard, Leaves, PodsCallsAreEvents, Stands, TakesAreEvents, last_heard, texts_in}
+use Rattle.answer_laws.specs.Stands.{Becomes, HeardAs, IsHeard, Leaves, PodsCallsAreEvents, Stands, TakesAreEvents, block_of, last_heard, texts_in}
 use Rattle.answer_laws.specs.Talks.{Stand, Talk, talked}
 use Rattle.line_server.specs.Sessions.{SessionBody}
 use Rattle.line_server.specs.Stores.{StoreBody}
@@ -19,26 +21,28 @@ use Rattle.lwp_types.specs.CountLaws.{count-cons, one}
 use Rattle.lwp_types.specs.Counts.{timers_of}
 use Rattle.lwp_types.specs.Lawful.{Lawful}
 use Rattle.lwp_types.specs.Names.{null_id}
-use Rattle.lwp_types.specs.State.{Outcome, State, passes}
+use Rattle.lwp_types.specs.State.{Outcome, State, ThreadRow, is_thread, passes, thread_of}
 use Rattle.lwp_types.specs.Step.{case_of, end_effects, ends, own_effects, step, step_by, step_if}
 use Rattle.lwp_types.specs.Unblock.{is_timer_of, nonexist}
 use Rattle.lwp_types.specs.declared.call.Answer.{Answer}
 use Rattle.lwp_types.specs.declared.call.Call.{Call}
 use Rattle.lwp_types.specs.declared.call.Effect.{Effect}
 use Rattle.lwp_types.specs.declared.call.LwpErr.{LwpErr}
+use Rattle.lwp_types.specs.declared.rows.Block.{Block}
 use Rattle.pod_events.proofs.Mild.{mild_deliver}
 use Rattle.pod_events.proofs.MildCalls.{case_toll, is_tame, mild_tame}
-use Rattle.pod_events.specs.Events.{is_trapped, may_trap, passed_on, rites_event, take_event, trap_taken}
+use Rattle.pod_events.specs.Events.{EventState, is_trapped, may_trap, passed_on, rites_event, take_event, trap_taken}
 use Rattle.pod_events.specs.Rites.{as_rites, first_reported, report_text, reports_after, rites_said}
 use Rattle.pod_events.specs.Step.{event_step, event_step_by, event_step_if}
 use Rattle.pod_events.specs.Traps.{agent_event_of, but_call, called, is_catch, is_given, made, made_as, notice, refused_by, stepped, trap_made, trap_of, trap_refusal}
+use Rattle.pod_laws.proofs.Elements.{differ}
 use Rattle.pod_laws.proofs.EveryStep.{Lawful-step}
 use Rattle.pod_laws.proofs.TimerMoves.{no_timer_comes_unasked}
 use Rattle.std.proofs.Common.{Bool, List, None, Option, Some, [], ap, append-nil, append_assoc, arith, cond, drop, eqb, false, inl, inr, not, refl, subst, sym, true, ℕ, ◌&&◌, ◌++◌, ◌+◌, ◌∙◌, ◌∷◌, ◌≡◌, ◌≤◌, ◌⊎◌}
 use Rattle.std.proofs.Math.Numerals.{one-add}
-use Rattle.std.proofs.lemmas.Bool.{and_from, and_parts}
+use Rattle.std.proofs.lemmas.Bool.{and_from, and_parts, eqb-true}
 use Rattle.std.specs.List.{list_all}
-use Rattle.std.specs.Prelude.{map, nat_lt, replicate}
+use Rattle.std.specs.Prelude.{is_some, map, nat_lt, option_map, replicate}
 use Rattle.lwp_types.specs.declared.call.Call.TheVariants as call
 use Rattle.lwp_types.specs.declared.call.Effect.TheVariants as effect
 use Rattle.lwp_types.specs.declared.call.LwpErr.TheVariants as error
@@ -291,8 +295,34 @@ module _ (s k a : ℕ) (st : State) (was : Lawful st None) (talk : Talk) (waitin
       by_comes (inl b) = inl (becomes_same s k a talk waiting talk.session talk.store [] [] (record { after = after; effects = es }) fs same same_k b)
       by_comes (inr l) = inr (leaves_same s k a talk waiting (record { after = after; effects = es }) fs same l)
 
-  after_step : (c : Call) → spares_agent s k c ≡ true → Low (step st c).after → After (step st c).after (step st c).effects
-  after_step c spared low = record { comes = others_calls_are_events s k a st was talk waiting h t turn t_s t_k s_k c spared low; lawful = Lawful-step st was c; texts = step_texts a st c }
+  -- the call destroys neither of the two, or both are there behind it
+  abbrev Fine : Call → State → Type 0
+  Fine c after = (spares_agent s k c ≡ true) ⊎ ((is_thread after s ≡ true) × (is_thread after k ≡ true))
+
+  kept_by : (u v : ℕ) → is_thread st u ≡ true → (c : Call) → c ≡ call.Destroy v → is_thread (step st c).after u ≡ true → eqb v u ≡ false
+  kept_by u v lives c e alive = by_test (eqb v u) refl
+    where
+      by_test : (b : Bool) → eqb v u ≡ b → b ≡ false
+      by_test false is = refl
+      by_test true is = differ (sym alive ∙ ap (λ c. is_thread (step st c).after u) (e ∙ ap call.Destroy (eqb-true v u is)) ∙ gone_thread (step st (call.Destroy u)).after u (destroyed_is_gone st was t u turn lives))
+
+  lives_seen : (u : ℕ) (b : Block) → (sight st u).waits ≡ Some b → is_thread st u ≡ true
+  lives_seen u b seen = by_row (thread_of st u) seen
+    where
+      by_row : (o : Option ThreadRow) → option_map (λ (row : ThreadRow). row.block) o ≡ Some b → is_some o ≡ true
+      by_row None e = absurd (cc)
+      by_row (Some row) e = refl
+
+  spared_by : (c : Call) → Fine c (step st c).after → spares_agent s k c ≡ true
+  spared_by c (inl spared) = spared
+  spared_by c (inr alive) = by_end (ends_of c)
+    where
+      by_end : Ends c → spares_agent s k c ≡ true
+      by_end (Spared fine free) = free s k
+      by_end (Destroys v e) = subst (λ c. spares_agent s k c ≡ true) (sym e) (and_from _ _ (ap not (kept_by s v (lives_seen s (block_of (Some a) talk.client) (ap (λ x. x.waits) h.client)) c e alive.0)) (ap not (kept_by k v (lives_seen k (block_of None talk.keeper) (ap (λ x. x.waits) h.keeper)) c e alive.1)))
+
+  after_step : (c : Call) → Fine c (step st c).after → Low (step st c).after → After (step st c).after (step st c).effects
+  after_step c fine low = record { comes = others_calls_are_events s k a st was talk waiting h t turn t_s t_k s_k c (spared_by c fine) low; lawful = Lawful-step st was c; texts = step_texts a st c }
 
   -- a call that the machine doesn't see
   after_none : (c : Call) (x : Answer) → After st (effect.Called t c ∷ effect.Answered t x ∷ [])
@@ -318,34 +348,36 @@ module _ (s k a : ℕ) (st : State) (was : Lawful st None) (talk : Talk) (waitin
   after_trapped : (e : ℕ) (after : State) (es : List Effect) → After after es → After after (effect.Trapped t e ∷ es)
   after_trapped e after es m = after_as after es (effect.Trapped t e ∷ es) refl refl refl m
 
-  module _ (trapped : List Bool) (c : Call) (spared : spares_agent s k c ≡ true) where
-    after_made : Low (made st trapped t c).state → After (made st trapped t c).state (made st trapped t c).effects
+  module _ (trapped : List Bool) (c : Call) where
+    after_made : Fine c (made st trapped t c).state → Low (made st trapped t c).state → After (made st trapped t c).state (made st trapped t c).effects
     after_made = by_trap (trap_of c)
       where
-        by_refusal : (e : ℕ) (o : Option LwpErr) → Low (trap_made st trapped t c e o).state → After (trap_made st trapped t c e o).state (trap_made st trapped t c e o).effects
-        by_refusal e None low = after_none c _
-        by_refusal e (Some why) low = after_none c _
+        by_refusal : (e : ℕ) (o : Option LwpErr) → Fine c (trap_made st trapped t c e o).state → Low (trap_made st trapped t c e o).state → After (trap_made st trapped t c e o).state (trap_made st trapped t c e o).effects
+        by_refusal e None fine low = after_none c _
+        by_refusal e (Some why) fine low = after_none c _
 
-        by_agent : (b : Bool) → Low (cond b (refused_by st trapped t c error.InUse) (stepped trapped (step st c))).state → After (cond b (refused_by st trapped t c error.InUse) (stepped trapped (step st c))).state (cond b (refused_by st trapped t c error.InUse) (stepped trapped (step st c))).effects
-        by_agent true low = after_none c _
-        by_agent false low = after_step c spared low
+        by_agent : (b : Bool) → Fine c (cond b (refused_by st trapped t c error.InUse) (stepped trapped (step st c))).state → Low (cond b (refused_by st trapped t c error.InUse) (stepped trapped (step st c))).state
+            → After (cond b (refused_by st trapped t c error.InUse) (stepped trapped (step st c))).state (cond b (refused_by st trapped t c error.InUse) (stepped trapped (step st c))).effects
+        by_agent true fine low = after_none c _
+        by_agent false fine low = after_step c fine low
 
-        by_trap : (o : Option ℕ) → Low (made_as st trapped t c o).state → After (made_as st trapped t c o).state (made_as st trapped t c o).effects
-        by_trap None low = by_agent (passes (is_trapped trapped) (agent_event_of c)) low
-        by_trap (Some e) low = by_refusal e (trap_refusal st trapped e) low
+        by_trap : (o : Option ℕ) → Fine c (made_as st trapped t c o).state → Low (made_as st trapped t c o).state → After (made_as st trapped t c o).state (made_as st trapped t c o).effects
+        by_trap None fine low = by_agent (passes (is_trapped trapped) (agent_event_of c)) fine low
+        by_trap (Some e) fine low = by_refusal e (trap_refusal st trapped e) fine low
 
-    after_called : (pending : Option ℕ) → Low (called st trapped t c pending).state → After (called st trapped t c pending).state (called st trapped t c pending).effects
-    after_called None low = after_made low
-    after_called (Some e) low = by_given (passes is_given (notice st t e)) (passes is_catch (notice st t e)) low
+    after_called : (pending : Option ℕ) → Fine c (called st trapped t c pending).state → Low (called st trapped t c pending).state → After (called st trapped t c pending).state (called st trapped t c pending).effects
+    after_called None fine low = after_made fine low
+    after_called (Some e) fine low = by_given (passes is_given (notice st t e)) (passes is_catch (notice st t e)) fine low
       where
         by_given : (b d : Bool)
+            → Fine c (cond b (made st trapped t c) (cond d (stepped trapped (but_call (step st (call.ExcNotify e)))) (stepped trapped (but_call (step st (call.Destroy t)))))).state
             → Low (cond b (made st trapped t c) (cond d (stepped trapped (but_call (step st (call.ExcNotify e)))) (stepped trapped (but_call (step st (call.Destroy t)))))).state
             → After
             (cond b (made st trapped t c) (cond d (stepped trapped (but_call (step st (call.ExcNotify e)))) (stepped trapped (but_call (step st (call.Destroy t)))))).state
             (effect.Trapped t e ∷ (cond b (made st trapped t c) (cond d (stepped trapped (but_call (step st (call.ExcNotify e)))) (stepped trapped (but_call (step st (call.Destroy t)))))).effects)
-        by_given true d low = after_trapped e _ _ (after_made low)
-        by_given false true low = after_trapped e _ _ (after_but (call.ExcNotify e) (after_step (call.ExcNotify e) refl low))
-        by_given false false low = after_trapped e _ _ (after_but (call.Destroy t) (after_step (call.Destroy t) (and_from _ _ (ap not t_s) (ap not t_k)) low))
+        by_given true d fine low = after_trapped e _ _ (after_made fine low)
+        by_given false true fine low = after_trapped e _ _ (after_but (call.ExcNotify e) (after_step (call.ExcNotify e) (inl refl) low))
+        by_given false false fine low = after_trapped e _ _ (after_but (call.Destroy t) (after_step (call.Destroy t) (inl (and_from _ _ (ap not t_s) (ap not t_k))) low))
 
   -- and then the report
   abbrev Done : State → List Effect → Type 0
@@ -363,14 +395,28 @@ module _ (s k a : ℕ) (st : State) (was : Lawful st None) (talk : Talk) (waitin
   low_before : (after : State) (es : List Effect) (reports : List ℕ) → Low (rites_said after es reports).state → Low after
   low_before after es reports low place = omega (arith, low place, births_said after es reports)
 
+module _ (s k a : ℕ) (es : EventState) (was : Lawful es.state None) (talk : Talk) (waiting : List (List ℕ)) (h : Stands s k a es.state talk waiting) (t : ℕ) (turn : choice es.state ≡ Some t)
+    (t_s : eqb t s ≡ false) (t_k : eqb t k ≡ false) (s_k : eqb s k ≡ false) (c : Call) where
+  fine_before : (after : State) (fs : List Effect) (reports : List ℕ) → Fine s k a es.state was talk waiting h t turn t_s t_k s_k c (rites_said after fs reports).state → Fine s k a es.state was talk waiting h t turn t_s t_k s_k c after
+  fine_before after fs reports (inl spared) = inl spared
+  fine_before after fs reports (inr alive) = inr (sym (thread_said s after fs reports) ∙ alive.0, sym (thread_said k after fs reports) ∙ alive.1)
+
+  calls_fine : Fine s k a es.state was talk waiting h t turn t_s t_k s_k c (event_step es c).after.state → (talk.session.place ≡ at.Start → (event_step es c).after.state.births ≤ a)
+      → Becomes s k a talk talk.session talk.store waiting (texts_in a None (event_step es c).effects) [] (machine_of (event_step es c)) ⊎ Leaves s talk (machine_of (event_step es c))
+  unfolding event_step event_step_by
+  calls_fine fine low =
+      let out = called es.state es.trapped t c es.pending in
+      let reports = reports_after es.state out.state es.reports out.effects in
+      subst (λ o. Fine s k a es.state was talk waiting h t turn t_s t_k s_k c (event_step_if es c o).after.state → (talk.session.place ≡ at.Start → (event_step_if es c o).after.state.births ≤ a) → Becomes s k a talk talk.session talk.store waiting (texts_in a None (event_step_if es c o).effects) [] (machine_of (event_step_if es c o)) ⊎ Leaves s talk (machine_of (event_step_if es c o))) (sym turn)
+      (λ fine low. after_said s k a es.state was talk waiting h t turn t_s t_k s_k out.state out.effects reports (after_called s k a es.state was talk waiting h t turn t_s t_k s_k es.trapped c es.pending (fine_before out.state out.effects reports fine)
+      (low_before s k a es.state was talk waiting h t turn t_s t_k s_k out.state out.effects reports low))) fine low
+
 pub pods_calls_are_events : PodsCallsAreEvents
-unfolding event_step event_step_by
-pods_calls_are_events s k a es was talk waiting h t turn t_s t_k s_k c spared low =
-    let out = called es.state es.trapped t c es.pending in
-    let reports = reports_after es.state out.state es.reports out.effects in
-    subst (λ o. (talk.session.place ≡ at.Start → (event_step_if es c o).after.state.births ≤ a) → Becomes s k a talk talk.session talk.store waiting (texts_in a None (event_step_if es c o).effects) [] (machine_of (event_step_if es c o)) ⊎ Leaves s talk (machine_of (event_step_if es c o))) (sym turn)
-    (λ low. after_said s k a es.state was talk waiting h t turn t_s t_k s_k out.state out.effects reports (after_called s k a es.state was talk waiting h t turn t_s t_k s_k es.trapped c spared es.pending
-    (low_before s k a es.state was talk waiting h t turn t_s t_k s_k out.state out.effects reports low))) low
+pods_calls_are_events s k a es was talk waiting h t turn t_s t_k s_k c spared low = calls_fine s k a es was talk waiting h t turn t_s t_k s_k c (inl spared) low
+
+-- the same, where both are there behind it
+pub living_calls_are_events : LivingCallsAreEvents
+living_calls_are_events s k a es was talk waiting h t turn t_s t_k s_k c lives lives_k low = calls_fine s k a es was talk waiting h t turn t_s t_k s_k c (inr (lives, lives_k)) low
 
 pub takes_are_events : TakesAreEvents
 unfolding take_event

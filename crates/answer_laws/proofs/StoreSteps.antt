@@ -164,7 +164,7 @@ posted_received AwaitsLetter text h = absurd (cc)
 posted_received AwaitsReply text h = refl
 posted_received IsOver text h = absurd (cc)
 
-sends_at : (stand : Stand) (text : List ℕ) (place : SessionPlace) → is_posted stand (Received text) ≡ true → is_placed stand place ≡ true → place ≡ at.Send
+pub sends_at : (stand : Stand) (text : List ℕ) (place : SessionPlace) → is_posted stand (Received text) ≡ true → is_placed stand place ≡ true → place ≡ at.Send
 sends_at (Hears x) text place h p = absurd (cc)
 sends_at AwaitsLetter text place h p = absurd (cc)
 sends_at AwaitsReply text at.Start h p = absurd (cc)

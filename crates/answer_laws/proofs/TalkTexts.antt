@@ -66,7 +66,7 @@ becomes_as s k a talk session store waiting delivered replies out events later n
 pub line_is : (s a : ℕ) (text : List ℕ) (talk : Talk) → talk.client ≡ AwaitsLetter → talk.agent_lives ≡ true → talked s a talk (Line text ∷ []) ≡ record talk { client = Hears (answer.Letter a text 240); lines = talk.lines ++ text ∷ [] }
 line_is s a text talk waits lives = rw (waits, lives) refl
 
-placed_recv : (place : SessionPlace) → is_placed AwaitsLetter place ≡ true → place ≡ at.Recv
+pub placed_recv : (place : SessionPlace) → is_placed AwaitsLetter place ≡ true → place ≡ at.Recv
 placed_recv at.Start h = absurd (cc)
 placed_recv at.Agent h = absurd (cc)
 placed_recv at.Recv h = refl

@@ -1,7 +1,7 @@
 -- The calls of the two themselves, in a pod with its own events: with the trap before a call, and the report behind it.
 use Rattle.answer_laws.specs.Clients.{names_only, replied_in}
 use Rattle.answer_laws.specs.Events.{machine_of}
-use Rattle.answer_laws.specs.Stands.{Becomes, OpensInVain, Stands, is_short_reply, is_short_to, texts_in}
+use Rattle.answer_laws.specs.Stands.{Becomes, Leaves, OpensInVain, Stands, is_short_reply, is_short_to, texts_in}
 use Rattle.answer_laws.specs.Talks.{Mail.Received, Stand.Hears, Talk}
 use Rattle.line_server.specs.Sessions.{SessionBody, session_next}
 use Rattle.line_server.specs.Stores.{store_next}
@@ -18,11 +18,18 @@ use Rattle.pod_events.specs.Events.{EventState, take_event}
 use Rattle.pod_events.specs.Step.{event_step}
 use Rattle.pod_laws.specs.Forgotten.{IsGone}
 use Rattle.answer_laws.specs.Sights.{answers_to}
-use Rattle.std.specs.Prelude.{List, None, Some, [], false, true, ℕ, ◌==◌, ◌∷◌, ◌≡◌, ◌≤◌}
+use Rattle.std.specs.Prelude.{List, None, Some, [], false, true, ℕ, ◌==◌, ◌∷◌, ◌≡◌, ◌≤◌, ◌⊎◌}
 
 -- A call of another is no reply of s, and neither is a line that is taken.
 abbrev pub OthersReplyNothing : Type 0
 OthersReplyNothing = (s a : ℕ) (es : EventState) → ((t : ℕ) → choice es.state ≡ Some t → (t == s) ≡ false → (c : Call) → replied_in s a (event_step es c).effects ≡ []) × ((e : ℕ) (text : List ℕ) → replied_in s a (take_event es e text).effects ≡ [])
+
+-- A call of another, if the two are there behind it: it is a letter to the store, or the end of the agent, or nothing, and the report.
+abbrev pub LivingCallsAreEvents : Type 0
+LivingCallsAreEvents = (s k a : ℕ) (es : EventState) → Lawful es.state None → (talk : Talk) (waiting : List (List ℕ)) → Stands s k a es.state talk waiting
+    → (t : ℕ) → choice es.state ≡ Some t → (t == s) ≡ false → (t == k) ≡ false → (s == k) ≡ false → (c : Call) → is_thread (event_step es c).after.state s ≡ true → is_thread (event_step es c).after.state k ≡ true
+    → (talk.session.place ≡ at.Start → (event_step es c).after.state.births ≤ a)
+    → Becomes s k a talk talk.session talk.store waiting (texts_in a None (event_step es c).effects) [] (machine_of (event_step es c)) ⊎ Leaves s talk (machine_of (event_step es c))
 
 -- The store's call, if the store is still there behind it, and its reply to a letter of the session is short: as the talk says, and a
 -- letter with it if there is one, and the report.
@@ -36,7 +43,7 @@ PodsStoresCallsAreEvents = (s k a : ℕ) (es : EventState) → Lawful es.state N
 pub data SessionComes (s k a : ℕ) (talk : Talk) (waiting : List (List ℕ)) (body : SessionBody) (out : Outcome) : Type 0 where
   GoesOn : Becomes s k a talk body talk.store waiting (texts_in a None out.effects) (replied_in s a out.effects) out → SessionComes s k a talk waiting body out
   IsTurnedAway : OpensInVain s talk out → replied_in s a out.effects ≡ [] → SessionComes s k a talk waiting body out
-  Leaves : IsGone out.after s → replied_in s a out.effects ≡ [] → SessionComes s k a talk waiting body out
+  Dies : IsGone out.after s → replied_in s a out.effects ≡ [] → SessionComes s k a talk waiting body out
 
 -- The session's call, where its reply to its agent is short and it sends to nobody but the store.
 abbrev pub PodsSessionsCallsAreEvents : Type 0

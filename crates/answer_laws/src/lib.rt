@@ -29,7 +29,7 @@ ghost use Rattle.answer_laws.specs.Agents.{DeliveriesPassOthersBy, DeliveriesRea
 ghost use Rattle.answer_laws.specs.Events.{PodsLeaveIt, TakesLeaveIt};
 ghost use Rattle.answer_laws.specs.Lengths.{ShortLinesHaveShortAnswers};
 ghost use Rattle.answer_laws.specs.Owners.{OwnersOfNoneAreRefused, OwnersReceive, OwnersReply, SendsAreLetters};
-ghost use Rattle.answer_laws.specs.Owns.{OthersReplyNothing, PodsSessionsCallsAreEvents, PodsStoresCallsAreEvents};
+ghost use Rattle.answer_laws.specs.Owns.{LivingCallsAreEvents, OthersReplyNothing, PodsSessionsCallsAreEvents, PodsStoresCallsAreEvents};
 ghost use Rattle.answer_laws.specs.Replies.{EachHasOneLetter, ReadersLeaveTheRest, ReceivesAreTheLetters, RepliesAreTheAnswers};
 ghost use Rattle.answer_laws.specs.Sights.{DeliveriesLeaveIt, OthersLeaveIt};
 ghost use Rattle.answer_laws.specs.Stands.{DeliveriesAreEvents, OthersCallsAreEvents, PodsCallsAreEvents, SessionsCallsAreEvents, StoresCallsAreEvents, TakesAreEvents};
@@ -151,6 +151,11 @@ pub fn every_pod_call_beside_a_talk()
 /// And a line that is taken there.
 pub fn every_take_in_a_talk()
     ensures { TakesAreEvents }
+{}
+
+/// So it is of a call of another behind which the two are there, whatever it is.
+pub fn every_call_that_spares_a_talk()
+    ensures { LivingCallsAreEvents }
 {}
 
 /// Nothing that others do in a pod is a reply of the session, and no line that is taken is.
