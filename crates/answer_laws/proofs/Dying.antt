@@ -26,7 +26,7 @@ use Rattle.pod_laws.proofs.Fading.{deliver_fades, gone_stays}
 use Rattle.pod_laws.proofs.Holding.{no_thread}
 use Rattle.pod_laws.specs.Forgotten.{IsGone, is_died}
 use Rattle.std.proofs.Common.{Bool, List, None, Option, Some, [], ap, arith, cond, count_by, eqb, false, not, refl, subst, sym, true, ℕ, ◌∙◌, ◌∷◌, ◌≡◌, ◌≤◌, ◌||◌}
-use Rattle.std.proofs.lemmas.Bool.{eq-eqb}
+use Rattle.std.proofs.lemmas.Bool.{eq-eqb, eqb-true}
 use Rattle.std.specs.List.{find, list_any}
 use Rattle.std.specs.Prelude.{is_some, nat_le, nat_lt}
 use Rattle.lwp_types.specs.declared.call.Call.TheVariants as call
@@ -49,6 +49,13 @@ no_agent st was u lives = by_row (agent_of st.agents u) refl
     by_row None e = refl
     by_row (Some row) e = differ (sym lives ∙ no_thread st None was.nine u row e)
 
+pub gone_thread : (st : State) (u : ℕ) → IsGone st u → is_thread st u ≡ false
+gone_thread st u gone = by_or (is_thread st u) gone.dead
+  where
+    by_or : (b : Bool) → (b || is_agent st u) ≡ false → b ≡ false
+    by_or true e = absurd (cc)
+    by_or false e = refl
+
 pub destroyed_is_gone : (st : State) → Lawful st None → (t u : ℕ) → choice st ≡ Some t → is_thread st u ≡ true → IsGone (step st (call.Destroy u)).after u
 unfolding unless
 destroyed_is_gone st was t u turn lives = gone_by st was t u turn (call.Destroy u) (by_tests (is_thread st u) (is_agent st u) (eqb t u) lives (no_agent st was u lives))
@@ -58,6 +65,14 @@ destroyed_is_gone st was t u turn lives = gone_by st was t u turn (call.Destroy 
     by_tests true false false e f = refl
     by_tests true true d e f = absurd (cc)
     by_tests false c d e f = absurd (cc)
+
+-- so who is there behind a call wasn't destroyed by it
+pub not_destroyed : (st : State) → Lawful st None → (t u v : ℕ) → choice st ≡ Some t → is_thread st u ≡ true → (c : Call) → c ≡ call.Destroy v → is_thread (step st c).after u ≡ true → eqb v u ≡ false
+not_destroyed st was t u v turn lives c e alive = by_test (eqb v u) refl
+  where
+    by_test : (b : Bool) → eqb v u ≡ b → b ≡ false
+    by_test false is = refl
+    by_test true is = differ (sym alive ∙ ap (λ c. is_thread (step st c).after u) (e ∙ ap call.Destroy (eqb-true v u is)) ∙ gone_thread (step st (call.Destroy u)).after u (destroyed_is_gone st was t u turn lives))
 
 pub returned_is_gone : (st : State) → Lawful st None → (t : ℕ) → choice st ≡ Some t → marks_in st t ≡ mark.Frame ∷ [] → IsGone (step st call.Return).after t
 returned_is_gone st was t turn marks = gone_by st was t t turn call.Return (ap (λ ms. (cond (nat_le 2 (frames ms)) (leave_frame st t) (unanswered (death t st))).others) marks)
@@ -107,10 +122,3 @@ module _ (u : ℕ) where
       by_armed true [] = refl
       by_armed false rs = refl
       by_armed true (dead ∷ later) = thread_delivered after rites_event (report_text dead)
-
-pub gone_thread : (st : State) (u : ℕ) → IsGone st u → is_thread st u ≡ false
-gone_thread st u gone = by_or (is_thread st u) gone.dead
-  where
-    by_or : (b : Bool) → (b || is_agent st u) ≡ false → b ≡ false
-    by_or true e = absurd (cc)
-    by_or false e = refl

@@ -17,3 +17,5 @@ mod PodSteps
 mod Dying
 mod OwnSteps
 mod TalkShort
+mod Fadings
+mod Lost

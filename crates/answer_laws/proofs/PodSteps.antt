@@ -1,5 +1,5 @@
 -- What others do to a session and a store that talk, in a pod with its own events.
-use Rattle.answer_laws.proofs.Dying.{destroyed_is_gone, gone_thread, thread_said}
+use Rattle.answer_laws.proofs.Dying.{not_destroyed, thread_said}
 use Rattle.answer_laws.proofs.Events.{but_same, rites_same}
 use Rattle.answer_laws.proofs.Others.{deliveries_leave_it}
 use Rattle.answer_laws.proofs.Sights.{answers_append}
@@ -35,12 +35,11 @@ use Rattle.pod_events.specs.Events.{EventState, is_trapped, may_trap, passed_on,
 use Rattle.pod_events.specs.Rites.{as_rites, first_reported, report_text, reports_after, rites_said}
 use Rattle.pod_events.specs.Step.{event_step, event_step_by, event_step_if}
 use Rattle.pod_events.specs.Traps.{agent_event_of, but_call, called, is_catch, is_given, made, made_as, notice, refused_by, stepped, trap_made, trap_of, trap_refusal}
-use Rattle.pod_laws.proofs.Elements.{differ}
 use Rattle.pod_laws.proofs.EveryStep.{Lawful-step}
 use Rattle.pod_laws.proofs.TimerMoves.{no_timer_comes_unasked}
 use Rattle.std.proofs.Common.{Bool, List, None, Option, Some, [], ap, append-nil, append_assoc, arith, cond, drop, eqb, false, inl, inr, not, refl, subst, sym, true, ℕ, ◌&&◌, ◌++◌, ◌+◌, ◌∙◌, ◌∷◌, ◌≡◌, ◌≤◌, ◌⊎◌}
 use Rattle.std.proofs.Math.Numerals.{one-add}
-use Rattle.std.proofs.lemmas.Bool.{and_from, and_parts, eqb-true}
+use Rattle.std.proofs.lemmas.Bool.{and_from, and_parts}
 use Rattle.std.specs.List.{list_all}
 use Rattle.std.specs.Prelude.{is_some, map, nat_lt, option_map, replicate}
 use Rattle.lwp_types.specs.declared.call.Call.TheVariants as call
@@ -299,13 +298,6 @@ module _ (s k a : ℕ) (st : State) (was : Lawful st None) (talk : Talk) (waitin
   abbrev Fine : Call → State → Type 0
   Fine c after = (spares_agent s k c ≡ true) ⊎ ((is_thread after s ≡ true) × (is_thread after k ≡ true))
 
-  kept_by : (u v : ℕ) → is_thread st u ≡ true → (c : Call) → c ≡ call.Destroy v → is_thread (step st c).after u ≡ true → eqb v u ≡ false
-  kept_by u v lives c e alive = by_test (eqb v u) refl
-    where
-      by_test : (b : Bool) → eqb v u ≡ b → b ≡ false
-      by_test false is = refl
-      by_test true is = differ (sym alive ∙ ap (λ c. is_thread (step st c).after u) (e ∙ ap call.Destroy (eqb-true v u is)) ∙ gone_thread (step st (call.Destroy u)).after u (destroyed_is_gone st was t u turn lives))
-
   lives_seen : (u : ℕ) (b : Block) → (sight st u).waits ≡ Some b → is_thread st u ≡ true
   lives_seen u b seen = by_row (thread_of st u) seen
     where
@@ -319,7 +311,7 @@ module _ (s k a : ℕ) (st : State) (was : Lawful st None) (talk : Talk) (waitin
     where
       by_end : Ends c → spares_agent s k c ≡ true
       by_end (Spared fine free) = free s k
-      by_end (Destroys v e) = subst (λ c. spares_agent s k c ≡ true) (sym e) (and_from _ _ (ap not (kept_by s v (lives_seen s (block_of (Some a) talk.client) (ap (λ x. x.waits) h.client)) c e alive.0)) (ap not (kept_by k v (lives_seen k (block_of None talk.keeper) (ap (λ x. x.waits) h.keeper)) c e alive.1)))
+      by_end (Destroys v e) = subst (λ c. spares_agent s k c ≡ true) (sym e) (and_from _ _ (ap not (not_destroyed st was t s v turn (lives_seen s (block_of (Some a) talk.client) (ap (λ x. x.waits) h.client)) c e alive.0)) (ap not (not_destroyed st was t k v turn (lives_seen k (block_of None talk.keeper) (ap (λ x. x.waits) h.keeper)) c e alive.1)))
 
   after_step : (c : Call) → Fine c (step st c).after → Low (step st c).after → After (step st c).after (step st c).effects
   after_step c fine low = record { comes = others_calls_are_events s k a st was talk waiting h t turn t_s t_k s_k c (spared_by c fine) low; lawful = Lawful-step st was c; texts = step_texts a st c }
