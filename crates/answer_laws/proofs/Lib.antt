@@ -19,3 +19,4 @@ mod OwnSteps
 mod TalkShort
 mod Fadings
 mod Lost
+mod Phases
