@@ -20,3 +20,4 @@ mod TalkShort
 mod Fadings
 mod Lost
 mod Phases
+mod Rows

@@ -376,7 +376,7 @@ module _ (s a : ℕ) where
 
 pub pods_sessions_calls_are_events : PodsSessionsCallsAreEvents
 unfolding session_next
-pods_sessions_calls_are_events s k a es was talk waiting h s_k turn x hears names = subst Goal (sym (event_is es s c turn)) (by_pending es.pending)
+pods_sessions_calls_are_events s k a es was talk waiting h s_k turn x hears names = subst Goal (sym (event_is es s c turn)) (by_pending es.pending refl)
   where
     c : Call
     c = (session_next talk.session names x).0
@@ -394,7 +394,7 @@ pods_sessions_calls_are_events s k a es was talk waiting h s_k turn x hears name
     seen = h.client ∙ (λ i. record { waits = Some (block_of (Some a) (hears i)); marks = mark.Frame ∷ []; letters = mail_letters s k (hears_no_mail x talk.mail (subst (λ c. is_posted c talk.mail ≡ true) hears h.posted) i) })
 
     Goal : Outcome → Type 0
-    Goal out = (talk.agent_lives ≡ true → is_short_reply c ≡ true) → names_only k c ≡ true → (talk.session.place ≡ at.Start → (b : ℕ) → answers_to s (step es.state c).effects ≡ answer.Thread b ∷ [] → b ≡ a)
+    Goal out = (talk.agent_lives ≡ true → is_short_reply c ≡ true) → (es.pending ≡ None → names_only k c ≡ true) → (talk.session.place ≡ at.Start → (b : ℕ) → answers_to s (step es.state c).effects ≡ answer.Thread b ∷ [] → b ≡ a)
         → SessionComes s k a talk waiting (session_next talk.session names x).1 out
 
     gone : (out : Trapping) → IsGone out.state s → Mute s a out.effects → Goal (done_by es out)
@@ -413,8 +413,8 @@ pods_sessions_calls_are_events s k a es was talk waiting h s_k turn x hears name
     stop off (Asks e place is) = differ (sym (ap goes_on_with is) ∙ off)
     stop off (Plainly plain) = plain.stop off
 
-    stepped_by : (b : Bool) → goes_on_with c ≡ b → Goal (done_by es (stepped es.trapped (step es.state c)))
-    stepped_by true on = λ short only given. by_coming (sessions_calls_are_events s k a es.state was talk waiting h s_k turn x hears names on short only given)
+    stepped_by : es.pending ≡ None → (b : Bool) → goes_on_with c ≡ b → Goal (done_by es (stepped es.trapped (step es.state c)))
+    stepped_by free true on = λ short only given. by_coming (sessions_calls_are_events s k a es.state was talk waiting h s_k turn x hears names on short (only free) given)
       where
         reports : List ℕ
         reports = reports_after es.state (step es.state c).after es.reports (step es.state c).effects
@@ -425,20 +425,20 @@ pods_sessions_calls_are_events s k a es was talk waiting h s_k turn x hears name
             (sym (replied_said s a es.state c turn (Lawful-step es.state was c) (block_of (Some a) (talked s a talk b.events).client) (ap (λ (v : Sight). v.waits) b.stands.client) (attentive (Some a) (talked s a talk b.events).client) b.stands.untimed reports))
             (becomes_said s k a talk waiting s_k (session_next talk.session names x).1 talk.store (replied_in s a (step es.state c).effects) (step es.state c).after (step es.state c).effects reports (Lawful-step es.state was c) (step_texts a es.state c) b))
         by_coming (inr v) = turned (stepped es.trapped (step es.state c)) (Lawful-step es.state was c) v (mute_step s a s c (mute_unreplied s a c (starts v.place)) es.state turn)
-    stepped_by false off =
+    stepped_by free false off =
         let is = stop off kind in
         gone (stepped es.trapped (step es.state c)) (subst (λ c. IsGone (step es.state c).after s) (sym is) (returned_is_gone es.state was s turn marks)) (mute_step s a s c (mute_unreplied s a c (ap (reply_to a) is)) es.state turn)
 
-    made_by : Calls talk.session.place c → Goal (done_by es (made es.state es.trapped s c))
-    made_by (Plainly plain) = subst (λ out. Goal (done_by es out)) (sym (made_plain es.state es.trapped s c plain.trap plain.agent)) (stepped_by (goes_on_with c) refl)
-    made_by (Asks e place is) = subst (λ out. Goal (done_by es out)) (sym (ap (made_as es.state es.trapped s c) (ap trap_of is))) (by_agent (passes (is_trapped es.trapped) (agent_event_of c)))
+    made_by : es.pending ≡ None → Calls talk.session.place c → Goal (done_by es (made es.state es.trapped s c))
+    made_by free (Plainly plain) = subst (λ out. Goal (done_by es out)) (sym (made_plain es.state es.trapped s c plain.trap plain.agent)) (stepped_by free (goes_on_with c) refl)
+    made_by free (Asks e place is) = subst (λ out. Goal (done_by es out)) (sym (ap (made_as es.state es.trapped s c) (ap trap_of is))) (by_agent (passes (is_trapped es.trapped) (agent_event_of c)))
       where
         by_agent : (b : Bool) → Goal (done_by es (cond b (refused_by es.state es.trapped s c error.InUse) (stepped es.trapped (step es.state c))))
-        by_agent false = stepped_by (goes_on_with c) refl
+        by_agent false = stepped_by free (goes_on_with c) refl
         by_agent true = λ short only given. turned (refused_by es.state es.trapped s c error.InUse) was (record { client = seen; untimed = h.untimed; place = place; why = error.InUse; told = rw (eq-eqb s s refl) refl })
             (mute_unreplied s a c (starts place) (effect.Answered s (answer.Refused error.InUse) ∷ []))
 
-    by_pending : (p : Option ℕ) → Goal (done_by es (called es.state es.trapped s c p))
-    by_pending None = made_by kind
-    by_pending (Some e) = subst (λ out. Goal (done_by es out)) (sym (sprung_is es.state es.trapped s c e marks)) (gone (record { state = (step es.state (call.Destroy s)).after; trapped = es.trapped; effects = effect.Trapped s e ∷ drop 1 (step es.state (call.Destroy s)).effects })
+    by_pending : (p : Option ℕ) → es.pending ≡ p → Goal (done_by es (called es.state es.trapped s c p))
+    by_pending None free = made_by free kind
+    by_pending (Some e) is = subst (λ out. Goal (done_by es out)) (sym (sprung_is es.state es.trapped s c e marks)) (gone (record { state = (step es.state (call.Destroy s)).after; trapped = es.trapped; effects = effect.Trapped s e ∷ drop 1 (step es.state (call.Destroy s)).effects })
         (destroyed_is_gone es.state was s s turn lives) (λ ys none. mute_but s a es.state (call.Destroy s) ys none))

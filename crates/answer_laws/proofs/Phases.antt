@@ -416,7 +416,7 @@ module _ (s k : ℕ) (s_k : eqb s k ≡ false) (es : EventState) (was : Lawful e
 
   module _ (s_on : is_thread made_out.after s ≡ true → S2 (session_next sb0 names sz0).1 (last_heard sz0 (answers_to s made_out.effects)))
       (k_on : (b : StoreBody) (z : Answer) → K b z → K2 b (last_heard z (answers_to k made_out.effects)))
-      (short : (b : ℕ) → list_all is_short (got b) ≡ true) (only : names_only k own ≡ true) (low : eqb null_id es.state.births ≡ false) where
+      (short : (b : ℕ) → list_all is_short (got b) ≡ true) (only : es.pending ≡ None → names_only k own ≡ true) (low : eqb null_id es.state.births ≡ false) where
     abbrev PhaseOwn : Type 0
     PhaseOwn = Phase s k made_out.after S2 K2 (λ b. got b ++ new_texts b) (λ b. said b ++ replied_in s b made_out.effects)
 
@@ -442,7 +442,7 @@ module _ (s k : ℕ) (s_k : eqb s k ≡ false) (es : EventState) (was : Lawful e
       answer_is = sym (subst (λ c. HeardAs c sz) hearing.is t.heard) ∙ (same sb sz row).1
 
       Comes : SessionBody → Answer → Type 0
-      Comes b z = names_only k (session_next b names z).0 ≡ true → (b.place ≡ at.Start → (n : ℕ) → answers_to s (step es.state (session_next b names z).0).effects ≡ answer.Thread n ∷ [] → n ≡ a)
+      Comes b z = (es.pending ≡ None → names_only k (session_next b names z).0 ≡ true) → (b.place ≡ at.Start → (n : ℕ) → answers_to s (step es.state (session_next b names z).0).effects ≡ answer.Thread n ∷ [] → n ≡ a)
           → SessionComes s k a t.talk t.waiting (session_next b names z).1 (machine_of (event_step es (session_next b names z).0))
 
       given_agent : sb0.place ≡ at.Start → (n : ℕ) → answers_to s (step es.state own).effects ≡ answer.Thread n ∷ [] → n ≡ a

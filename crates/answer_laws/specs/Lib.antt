@@ -10,3 +10,4 @@ pub mod Agents
 pub mod Owners
 pub mod Stands
 pub mod Owns
+pub mod Served

@@ -45,9 +45,9 @@ pub data SessionComes (s k a : ℕ) (talk : Talk) (waiting : List (List ℕ)) (b
   IsTurnedAway : OpensInVain s talk out → replied_in s a out.effects ≡ [] → SessionComes s k a talk waiting body out
   Dies : IsGone out.after s → replied_in s a out.effects ≡ [] → SessionComes s k a talk waiting body out
 
--- The session's call, where its reply to its agent is short and it sends to nobody but the store.
+-- The session's call, where its reply to its agent is short and it sends to nobody but the store, unless a trap is raised before it.
 abbrev pub PodsSessionsCallsAreEvents : Type 0
 PodsSessionsCallsAreEvents = (s k a : ℕ) (es : EventState) → Lawful es.state None → (talk : Talk) (waiting : List (List ℕ)) → Stands s k a es.state talk waiting → (s == k) ≡ false
-    → choice es.state ≡ Some s → (x : Answer) → talk.client ≡ Hears x → (names : Names) → (talk.agent_lives ≡ true → is_short_reply (session_next talk.session names x).0 ≡ true) → names_only k (session_next talk.session names x).0 ≡ true
+    → choice es.state ≡ Some s → (x : Answer) → talk.client ≡ Hears x → (names : Names) → (talk.agent_lives ≡ true → is_short_reply (session_next talk.session names x).0 ≡ true) → (es.pending ≡ None → names_only k (session_next talk.session names x).0 ≡ true)
     → (talk.session.place ≡ at.Start → (b : ℕ) → answers_to s (step es.state (session_next talk.session names x).0).effects ≡ answer.Thread b ∷ [] → b ≡ a)
     → SessionComes s k a talk waiting (session_next talk.session names x).1 (machine_of (event_step es (session_next talk.session names x).0))
