@@ -42,7 +42,7 @@ gone_by : (st : State) → Lawful st None → (t u : ℕ) → choice st ≡ Some
 gone_by st was t u turn c dies = (the_dead_are_forgotten st was c u (dies_told st t u turn c dies)).gone
 
 -- a thread is no agent
-no_agent : (st : State) → Lawful st None → (u : ℕ) → is_thread st u ≡ true → is_agent st u ≡ false
+pub no_agent : (st : State) → Lawful st None → (u : ℕ) → is_thread st u ≡ true → is_agent st u ≡ false
 no_agent st was u lives = by_row (agent_of st.agents u) refl
   where
     by_row : (o : Option AgentRow) → agent_of st.agents u ≡ o → is_some o ≡ false

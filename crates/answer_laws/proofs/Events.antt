@@ -83,10 +83,10 @@ is_send (call.Send u room text) = true
 is_send _ = false
 
 -- how the machine stands before the report
-record Calls (u : ℕ) (Fits : Option ℕ → Answer → Type 0) (s after : State) (es : List Effect) : Type 0 where
-  turn : Turn u Fits s (record { after = after; effects = es })
-  lawful : Lawful after None
-  timers : timers_of after.timers u ≡ 0
+pub record Calls (u : ℕ) (Fits : Option ℕ → Answer → Type 0) (s after : State) (es : List Effect) : Type 0 where
+  pub turn : Turn u Fits s (record { after = after; effects = es })
+  pub lawful : Lawful after None
+  pub timers : timers_of after.timers u ≡ 0
 
 module _ (u t : ℕ) (Fits : Option ℕ → Answer → Type 0) (s : State) (was : Lawful s None) (turn : choice s ≡ Some t) (apart : t ≢ u) (ready : Ready u Fits t s) (none : timers_of s.timers u ≡ 0) where
   abbrev After : State → List Effect → Type 0
@@ -144,7 +144,7 @@ module _ (u t : ℕ) (Fits : Option ℕ → Answer → Type 0) (s : State) (was 
         by_trap None fine = by_agent (passes (is_trapped trapped) (agent_event_of c)) fine
         by_trap (Some e) fine = by_refusal e (trap_refusal s trapped e) fine
 
-    after_called : (pending : Option ℕ) → Fine c (called s trapped t c pending).state → After (called s trapped t c pending).state (called s trapped t c pending).effects
+    pub after_called : (pending : Option ℕ) → Fine c (called s trapped t c pending).state → After (called s trapped t c pending).state (called s trapped t c pending).effects
     after_called None fine = after_made fine
     after_called (Some e) fine = by_given (passes is_given (notice s t e)) (passes is_catch (notice s t e)) fine
       where

@@ -20,4 +20,5 @@ mod TalkShort
 mod Fadings
 mod Lost
 mod Phases
-mod Rows
+mod Alone
+mod ThreadRows

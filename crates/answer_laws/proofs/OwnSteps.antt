@@ -226,7 +226,7 @@ pub record Plain (c : Call) : Type 0 where
   pub stop : goes_on_with c ≡ false → c ≡ call.Return
   pub short : (is_short_reply c ≡ true) ⊎ Replying c
 
-plain_store : (turn : Turn StoreBody) → StoreDoes turn → Plain turn.0
+pub plain_store : (turn : Turn StoreBody) → StoreDoes turn → Plain turn.0
 plain_store turn (DoesReceive body is) = subst (λ (t : Turn StoreBody). Plain t.0) (sym is) (record { trap = refl; agent = refl; stop = λ e. absurd (cc); short = inl refl })
 plain_store turn (DoesReply v text body is) = subst (λ (t : Turn StoreBody). Plain t.0) (sym is) (record { trap = refl; agent = refl; stop = λ e. absurd (cc); short = inr (record { to = v; text = text; is = refl }) })
 plain_store turn (DoesStop is) = subst Plain (sym is) (record { trap = refl; agent = refl; stop = λ e. refl; short = inl refl })

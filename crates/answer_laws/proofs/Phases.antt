@@ -131,7 +131,7 @@ knows_late a b at.End c late is = eqb-true b a is
 -- ---- whose turn it is
 
 -- who is chosen waits for nothing
-chosen_waits : (st : State) → Lawful st None → (u : ℕ) → choice st ≡ Some u → (b : Block) → (sight st u).waits ≡ Some b → is_not_blocked b ≡ true
+pub chosen_waits : (st : State) → Lawful st None → (u : ℕ) → choice st ≡ Some u → (b : Block) → (sight st u).waits ≡ Some b → is_not_blocked b ≡ true
 chosen_waits st was u turn b seen =
     let run = chosen st was.nine u turn in
     let same : run.row.block ≡ b = unsome (sym (ap (option_map (λ (row : ThreadRow). row.block)) run.known) ∙ seen) in
@@ -192,7 +192,7 @@ still_first said got new replies none first =
 both_none : (said replies : Texts) → said ≡ [] → replies ≡ [] → said ++ replies ≡ []
 both_none said replies one two = λ i. one i ++ two i
 
-born_below : (st : State) → Lawful st None → (u : ℕ) → is_thread st u ≡ true → u < st.births
+pub born_below : (st : State) → Lawful st None → (u : ℕ) → is_thread st u ≡ true → u < st.births
 born_below st was u lives = by_age (nat_le st.births u) refl
   where
     away : (b : Bool) → (b || is_agent st u) ≡ false → b ≡ false

@@ -545,7 +545,7 @@ module _ (s a : ℕ) where
   inv_session names talk (Waits done text known l q m p c sp k) = subst (λ st. Inv s (session_turn a names talk st)) (sym c) (Waits done text known l q m p c sp k)
   inv_session names talk (Ends first closing) = ends_turn s a talk first names closing (Ends first closing) talk.client refl
 
-  inv_store : (refusal : Option LwpErr) (names : Names) (talk : Talk) → Inv s talk → Inv s (store_turn s refusal names talk talk.keeper)
+  pub inv_store : (refusal : Option LwpErr) (names : Names) (talk : Talk) → Inv s talk → Inv s (store_turn s refusal names talk talk.keeper)
   inv_store refusal names talk (Goes phase stand) = inv_apart s refusal names talk _ phase (apart_turn s refusal names talk (phase_free phase) talk.keeper stand refl)
   inv_store refusal names talk (Waits done text known l q m p c sp k) = inv_told s refusal names talk done text known l q m p sp k
   inv_store refusal names talk (Ends first closing) = ends_store s a talk first refusal names closing (Ends first closing) talk.keeper
