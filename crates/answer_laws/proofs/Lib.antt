@@ -22,3 +22,4 @@ mod Lost
 mod Phases
 mod Alone
 mod ThreadRows
+mod Servings

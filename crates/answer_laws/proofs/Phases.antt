@@ -84,7 +84,7 @@ module _ (s k a : ℕ) (st : State) (sb : SessionBody) (sz : Answer) (kb : Store
       let first = first_more t.talk.told t.talk.lines t.waiting (inv_first s t.talk t.inv) in
       record { rest = first.rest; whole = ap (λ xs. xs ++ first.rest) (sym t.told) ∙ first.whole ∙ ap line_answers t.texts }
 
-  lines_short : list_all is_short got ≡ true → list_all is_short t.talk.lines ≡ true
+  pub lines_short : list_all is_short got ≡ true → list_all is_short t.talk.lines ≡ true
   lines_short all = (and_parts (list_all is_short t.talk.lines) (list_all is_short t.waiting) (sym (list_all-append is_short t.talk.lines t.waiting) ∙ ap (list_all is_short) t.texts ∙ all)).0
 
   place_is : t.talk.session.place ≡ sb.place
@@ -167,7 +167,7 @@ resting = record { waits = Some block.Not; marks = mark.Frame ∷ []; letters = 
 -- each agent, and what the session has replied to it
 pub data Phase (s k : ℕ) (st : State) (S : SessionBody → Answer → Type 0) (K : StoreBody → Answer → Type 0) (got said : ℕ → Texts) : Type 0 where
   -- it has not been polled yet
-  Starting : (sb : SessionBody) (sz : Answer) (kb : StoreBody) (kz : Answer) → S sb sz → K kb kz → ((a : ℕ) → st.births ≤ a → eqb null_id a ≡ false → TellsAt s k a st sb sz kb kz (got a) (said a)) → sb.place ≡ at.Start → ((a : ℕ) → said a ≡ [])
+  Starting : is_thread st s ≡ true → (sb : SessionBody) (sz : Answer) (kb : StoreBody) (kz : Answer) → S sb sz → K kb kz → ((a : ℕ) → st.births ≤ a → eqb null_id a ≡ false → TellsAt s k a st sb sz kb kz (got a) (said a)) → sb.place ≡ at.Start → ((a : ℕ) → said a ≡ [])
       → Phase s k st S K got said
   -- it talks, with this agent
   Talking : (a : ℕ) (sb : SessionBody) (sz : Answer) (kb : StoreBody) (kz : Answer) → S sb sz → K kb kz → (t : TellsAt s k a st sb sz kb kz (got a) (said a)) → eqb null_id a ≡ false → (sb.place ≡ at.Start → ⊥) → (t.talk.agent_lives ≡ true) ⊎ (sb.place ≡ at.Agent)
@@ -175,7 +175,7 @@ pub data Phase (s k : ℕ) (st : State) (S : SessionBody → Answer → Type 0) 
   -- it returns next
   Ending : (sb : SessionBody) (sz : Answer) → S sb sz → ((names : Names) → (session_next sb names sz).0 ≡ call.Return) → sight st s ≡ resting → ((a : ℕ) → AreFirst (said a) (line_answers (got a))) → Phase s k st S K got said
   -- its agent is gone
-  Lost : (a : ℕ) (sb : SessionBody) (sz : Answer) → S sb sz → sb.agent ≡ a → is_late sb.place ≡ true → IsGone st a → ((b : ℕ) → AreFirst (said b) (line_answers (got b))) → Phase s k st S K got said
+  Lost : is_thread st s ≡ true → (a : ℕ) (sb : SessionBody) (sz : Answer) → S sb sz → sb.agent ≡ a → is_late sb.place ≡ true → IsGone st a → ((b : ℕ) → AreFirst (said b) (line_answers (got b))) → Phase s k st S K got said
   -- it is dead
   Over : s < st.births → is_thread st s ≡ false → ((a : ℕ) → AreFirst (said a) (line_answers (got a))) → Phase s k st S K got said
 
@@ -231,7 +231,7 @@ module _ (s k : ℕ) (st : State) (was : Lawful st None) (S S2 : SessionBody →
           by_test false e = none_first (said2 b) (got2 b) (others b e)
 
       lost : t.talk.agent_lives ≡ false → is_late sb.place ≡ true → Phase2
-      lost ends late = Lost a sb sz row (knows_late a sb.agent sb.place t.talk.client late (known s k a out.after sb sz kb kz (got2 a) (said2 a) t started)) late (gone_now s k a out.after sb sz kb kz (got2 a) (said2 a) t started ends) firsts
+      lost ends late = Lost (alive_seen out.after s (block_of (Some a) t.talk.client) (ap (λ (v : Sight). v.waits) t.stands.client)) a sb sz row (knows_late a sb.agent sb.place t.talk.client late (known s k a out.after sb sz kb kz (got2 a) (said2 a) t started)) late (gone_now s k a out.after sb sz kb kz (got2 a) (said2 a) t started ends) firsts
 
       by_place : t.talk.agent_lives ≡ false → (p : SessionPlace) → sb.place ≡ p → Phase2
       by_place ends at.Start e = absurd (started e)
@@ -260,7 +260,7 @@ module _ (s k : ℕ) (st : State) (was : Lawful st None) (S S2 : SessionBody →
       (k_on : (b : StoreBody) (z : Answer) → K b z → K2 (knext b z) (last_heard z (answers_to k out.effects)))
       (goes : (a : ℕ) (sb : SessionBody) (sz : Answer) (kb : StoreBody) (kz : Answer) → K kb kz → (t : TellsAt s k a st sb sz kb kz (got a) (said a)) → eqb null_id a ≡ false → (t.talk.agent_lives ≡ true) ⊎ (sb.place ≡ at.Agent) → (sb.place ≡ at.Start → out.after.births ≤ a) → is_thread out.after s ≡ true
           → Becomes s k a t.talk t.talk.session (knext kb kz) t.waiting (new a) [] out ⊎ Leaves s t.talk out)
-      (left : sight st s ≡ resting → is_thread out.after s ≡ true → IsLeft s st out) (row_lives : (b : SessionBody) (z : Answer) → S b z → is_thread st s ≡ false → ⊥) where
+      (left : sight st s ≡ resting → is_thread out.after s ≡ true → IsLeft s st out) where
     firsts_on : ((b : ℕ) → AreFirst (said b) (line_answers (got b))) → (b : ℕ) → AreFirst (said2 b) (line_answers (got2 b))
     firsts_on firsts b = still_first (said b) (got b) (new b) (replied_in s b out.effects) (silent b) (firsts b)
 
@@ -272,15 +272,11 @@ module _ (s k : ℕ) (st : State) (was : Lawful st None) (S S2 : SessionBody →
 
     pub phase_other : Phase s k st S K got said → Phase2
     phase_other (Over below off firsts) = still_dead below off (firsts_on firsts)
-    phase_other (Lost a sb sz row its late gone firsts) = by_lives (is_thread out.after s) refl
+    phase_other (Lost lives a sb sz row its late gone firsts) = by_lives (is_thread out.after s) refl
       where
         by_lives : (d : Bool) → is_thread out.after s ≡ d → Phase2
-        by_lives true e = Lost a sb (last_heard sz (answers_to s out.effects)) (s_on e sb sz row) its late (gone_stays a st out.after (fades a) gone) (firsts_on firsts)
-        by_lives false e = dies_lost (is_thread st s) refl
-          where
-            dies_lost : (d : Bool) → is_thread st s ≡ d → Phase2
-            dies_lost true lives = dead_now lives e (firsts_on firsts)
-            dies_lost false off = absurd (row_lives sb sz row off)
+        by_lives true e = Lost e a sb (last_heard sz (answers_to s out.effects)) (s_on e sb sz row) its late (gone_stays a st out.after (fades a) gone) (firsts_on firsts)
+        by_lives false e = dead_now lives e (firsts_on firsts)
     phase_other (Ending sb sz row returns seen firsts) = by_lives (is_thread out.after s) refl
       where
         by_lives : (d : Bool) → is_thread out.after s ≡ d → Phase2
@@ -288,7 +284,7 @@ module _ (s k : ℕ) (st : State) (was : Lawful st None) (S S2 : SessionBody →
         by_lives true e =
             let l = left seen e in
             Ending sb (last_heard sz (answers_to s out.effects)) (s_on e sb sz row) (λ names. ap (λ xs. (session_next sb names (last_heard sz xs)).0) l.quiet ∙ returns names) (l.same ∙ seen) (firsts_on firsts)
-    phase_other (Starting sb sz kb kz row row_k tells place nothing) = by_lives (is_thread out.after s) refl
+    phase_other (Starting lives sb sz kb kz row row_k tells place nothing) = by_lives (is_thread out.after s) refl
       where
         one : (a : ℕ) → out.after.births ≤ a → eqb null_id a ≡ false → is_thread out.after s ≡ true → TellsAt s k a out.after sb (last_heard sz (answers_to s out.effects)) (knext kb kz) (last_heard kz (answers_to k out.effects)) (got2 a) (said2 a)
         one a low away e =
@@ -303,12 +299,8 @@ module _ (s k : ℕ) (st : State) (was : Lawful st None) (S S2 : SessionBody →
                 absurd (let bad : false ≡ true = ap is_late (sym place ∙ sym (place_is s k a st sb sz kb kz (got a) (said a) t) ∙ recv) in cc)
 
         by_lives : (d : Bool) → is_thread out.after s ≡ d → Phase2
-        by_lives true e = Starting sb (last_heard sz (answers_to s out.effects)) (knext kb kz) (last_heard kz (answers_to k out.effects)) (s_on e sb sz row) (k_on kb kz row_k) (λ a low away. one a low away e) place (λ a. both_none (said a) (replied_in s a out.effects) (nothing a) (silent a))
-        by_lives false e = by_alive (is_thread st s) refl
-          where
-            by_alive : (d : Bool) → is_thread st s ≡ d → Phase2
-            by_alive true lives = dead_now lives e (firsts_on (λ b. none_first (said b) (got b) (nothing b)))
-            by_alive false off = absurd (row_lives sb sz row off)
+        by_lives true e = Starting e sb (last_heard sz (answers_to s out.effects)) (knext kb kz) (last_heard kz (answers_to k out.effects)) (s_on e sb sz row) (k_on kb kz row_k) (λ a low away. one a low away e) place (λ a. both_none (said a) (replied_in s a out.effects) (nothing a) (silent a))
+        by_lives false e = dead_now lives e (firsts_on (λ b. none_first (said b) (got b) (nothing b)))
     phase_other (Talking a sb sz kb kz row row_k t away started lives others) = by_lives (is_thread out.after s) refl
       where
         by_fate : is_thread out.after s ≡ true → Becomes s k a t.talk t.talk.session (knext kb kz) t.waiting (new a) [] out ⊎ Leaves s t.talk out → Phase2
@@ -495,7 +487,7 @@ module _ (s k : ℕ) (s_k : eqb s k ≡ false) (es : EventState) (was : Lawful e
     pub phase_own : Phase s k es.state S K got said → PhaseOwn
     unfolding session_next
     phase_own (Over below off firsts) = differ (sym lives_now ∙ off)
-    phase_own (Lost a sb sz row its late gone firsts) = by_lives (is_thread made_out.after s) refl
+    phase_own (Lost lives a sb sz row its late gone firsts) = by_lives (is_thread made_out.after s) refl
       where
         body_is : sb ≡ sb0
         body_is = (same sb sz row).0
@@ -513,16 +505,41 @@ module _ (s k : ℕ) (s_k : eqb s k ≡ false) (es : EventState) (was : Lawful e
         firsts2 b = still_first (said b) (got b) (new_texts b) (replied_in s b made_out.effects) (late_unheard s b es turn a gone own (subst (λ n. LateCall n own) agent0 next.calls)) (firsts b)
 
         by_lives : (d : Bool) → is_thread made_out.after s ≡ d → PhaseOwn
-        by_lives true e = Lost a (session_next sb0 names sz0).1 (last_heard sz0 (answers_to s made_out.effects)) (s_on e) (next.agent_is ∙ agent0) next.late (gone_stays a es.state made_out.after (event_fades a es own) gone) firsts2
+        by_lives true e = Lost e a (session_next sb0 names sz0).1 (last_heard sz0 (answers_to s made_out.effects)) (s_on e) (next.agent_is ∙ agent0) next.late (gone_stays a es.state made_out.after (event_fades a es own) gone) firsts2
         by_lives false e = own_dead e firsts2
     phase_own (Ending sb sz row returns seen firsts) =
         let both = same sb sz row in
         let is : own ≡ call.Return = (λ i. (session_next (sym both.0 i) names (sym both.1 i)).0) ∙ returns names in
         own_dead (gone_thread made_out.after s (subst (λ c. IsGone (event_step es c).after.state s) (sym is) (returns_end s es was turn (ap (λ (v : Sight). v.marks) seen) lives_now)))
         (λ b. still_first (said b) (got b) (new_texts b) (replied_in s b made_out.effects) (unreplied b (ap (reply_to b) is)) (firsts b))
-    phase_own (Starting sb sz kb kz row row_k tells place nothing) =
+    phase_own (Starting lives sb sz kb kz row row_k tells place nothing) =
         let start = ap (λ (b : SessionBody). b.place) (sym (same sb sz row).0) ∙ place in
         own_talk es.state.births sb sz kb kz row row_k (tells es.state.births (omega arith) low) low (λ b. none_first (said b) (got b) (nothing b)) (λ b apart. nothing b) (λ b apart. own_start start b) (λ start. refl)
     phase_own (Talking a sb sz kb kz row row_k t away started lives others) =
         let is = (same sb sz row).0 in
         own_talk a sb sz kb kz row row_k t away (all_first s k es.state was S S2 K K2 got said new_texts made_out (λ n. event_fades n es own) a sb sz kb kz t others) others (own_late a sb sz kb kz t is started) (λ start. absurd (started (ap (λ (b : SessionBody). b.place) is ∙ start)))
+
+-- who is there has a row
+pub record HasRow (S : SessionBody → Answer → Type 0) : Type 0 where
+  pub body : SessionBody
+  pub answer : Answer
+  pub row : S body answer
+
+pub phase_row : (s k : ℕ) (st : State) (S : SessionBody → Answer → Type 0) (K : StoreBody → Answer → Type 0) (got said : ℕ → Texts) → Phase s k st S K got said → is_thread st s ≡ true → HasRow S
+phase_row s k st S K got said (Starting l sb sz kb kz row row_k tells place nothing) lives = record { body = sb; answer = sz; row = row }
+phase_row s k st S K got said (Talking a sb sz kb kz row row_k t away started l others) lives = record { body = sb; answer = sz; row = row }
+phase_row s k st S K got said (Ending sb sz row returns seen firsts) lives = record { body = sb; answer = sz; row = row }
+phase_row s k st S K got said (Lost l a sb sz row its late gone firsts) lives = record { body = sb; answer = sz; row = row }
+phase_row s k st S K got said (Over below off firsts) lives = differ (sym lives ∙ off)
+
+-- in each of them what was said is a first part of the answers
+pub phase_first : (s k : ℕ) (st : State) (S : SessionBody → Answer → Type 0) (K : StoreBody → Answer → Type 0) (got said : ℕ → Texts) → Phase s k st S K got said → (b : ℕ) → AreFirst (said b) (line_answers (got b))
+phase_first s k st S K got said (Starting l sb sz kb kz row row_k tells place nothing) b = none_first (said b) (got b) (nothing b)
+phase_first s k st S K got said (Talking a sb sz kb kz row row_k t away started l others) b = by_test (eqb a b) refl
+  where
+    by_test : (d : Bool) → eqb a b ≡ d → AreFirst (said b) (line_answers (got b))
+    by_test true e = subst (λ n. AreFirst (said n) (line_answers (got n))) (eqb-true a b e) (tells_first s k a st sb sz kb kz (got a) (said a) t)
+    by_test false e = none_first (said b) (got b) (others b e)
+phase_first s k st S K got said (Ending sb sz row returns seen firsts) b = firsts b
+phase_first s k st S K got said (Lost l a sb sz row its late gone firsts) b = firsts b
+phase_first s k st S K got said (Over below off firsts) b = firsts b
