@@ -36,10 +36,11 @@ use Rattle.lwp_types.specs.declared.call.Answer.{Answer}
 use Rattle.lwp_types.specs.declared.call.Call.{Call}
 use Rattle.lwp_types.specs.declared.call.Effect.{Effect}
 use Rattle.lwp_types.specs.declared.call.LwpErr.{LwpErr}
-use Rattle.pod_events.specs.Events.{EventState, is_trapped, rites_event, take_event}
+use Rattle.pod_events.specs.Events.{EventState, is_takeable, is_trapped, rites_event, take_event}
 use Rattle.pod_events.specs.Rites.{as_rites, first_reported, report_text, reports_after, rites_said}
 use Rattle.pod_events.specs.Step.{event_step}
 use Rattle.pod_events.specs.Traps.{Trapping, agent_event_of, called as traps_called, made, made_as, refused_by, stepped, trap_made, trap_of, trap_refusal}
+use Rattle.pod_laws.proofs.Chosen.{chosen}
 use Rattle.pod_laws.proofs.Rowed.{once_threads}
 use Rattle.pod_laws.proofs.Elements.{differ}
 use Rattle.pod_laws.proofs.Fading.{Fades, fades_still, fades_then}
@@ -133,6 +134,14 @@ keeper_hears st was k turn AwaitsLetter seen reads = absurd (let bad = chosen_wa
 keeper_hears st was k turn AwaitsReply seen reads = absurd (cc)
 keeper_hears st was k turn IsOver seen reads = absurd (cc)
 
+chosen_lives : (st : State) → Lawful st None → (t : ℕ) → choice st ≡ Some t → is_thread st t ≡ true
+chosen_lives st was t turn = let run = chosen st was.nine t turn in ap is_some run.known
+
+-- the last step sends to nobody but k
+sends_last : (s k : ℕ) (steps : List Made) (m : Made) → all_sends_to s k (steps_of (steps ++ m ∷ [])) ≡ true → list_all (sends_only s k) m.effects ≡ true
+sends_last s k steps m all = (and_parts (list_all (sends_only s k) m.effects) true (and_parts (all_sends_to s k (steps_of steps)) (list_all (sends_only s k) m.effects && true)
+    (sym (list_all-append (λ (step : Step). list_all (sends_only s k) step.effects) (steps_of steps) (step_of m ∷ [])) ∙ ap (all_sends_to s k) (sym (map-append step_of steps (m ∷ []))) ∙ all)).1).0
+
 -- ---- a session of a pod
 
 module _ {B : Type 0} (setting : Setting B) (server : LineServer setting.next) (s k : ℕ) (s_k : eqb s k ≡ false) where
@@ -174,12 +183,6 @@ module _ {B : Type 0} (setting : Setting B) (server : LineServer setting.next) (
       (subst (λ g. Phase s k live.pod.state (S_of live.rows) (K_of live.rows) (got_in steps) g) (λ i b. sym (append-nil (said_in steps b)) i) phase))
 
   module _ (live : Live B) (steps : List Made) (was : Lawful live.pod.state None) (stood : Stood (record { live = live; steps = steps })) (lives_k : is_thread live.pod.state k ≡ true) where
-    abbrev Then : Option Took → Live B → List Effect → Type 0
-    Then took after fs = is_thread after.pod.state k ≡ true → list_all (sends_only s k) fs ≡ true → Stood (record { live = after; steps = steps ++ record { take = took; effects = fs } ∷ [] })
-
-    abbrev Stays : ℕ → Type 0
-    Stays u = (sight live.pod.state u).waits ≡ Some block.Not
-
     never_woken : {Fits : Option ℕ → Answer → Type 0} {out : Outcome} → sight live.pod.state s ≡ resting → IsLeft s live.pod.state out ⊎ IsWoken s Fits live.pod.state out → IsLeft s live.pod.state out
     never_woken {Fits} {out} seen (inl left) = left
     never_woken {Fits} {out} seen (inr woken) = absurd (let bad : Some block.Not ≡ Some (block.Receiving woken.from) = ap (λ (v : Sight). v.waits) (sym seen) ∙ woken.waited in cc)
@@ -269,3 +272,199 @@ module _ {B : Type 0} (setting : Setting B) (server : LineServer setting.next) (
 
               now : Comes x.talk.store hearing.answer
               now lives low = pods_stores_calls_are_events s k a live.pod was x.talk x.waiting x.stands s_k turn hearing.answer hearing.is names lives (short_now ok) (λ start. low (sym (ap (λ (b : SessionBody). b.place) x.session) ∙ start))
+
+    -- the session's call
+    module _ (turn : choice live.pod.state ≡ Some s) (names : Names) (row : Row B) (found : row_of s live.rows ≡ Some row) where
+      its : HasRow (S_of live.rows)
+      its = phase_row s k live.pod.state (S_of live.rows) (K_of live.rows) (got_in steps) (said_in steps) stood (chosen_lives live.pod.state was s turn)
+
+      abbrev next_s : Polled SessionBody
+      next_s = session_next its.body names its.answer
+
+      reply_s : setting.next row.body names row.answer ≡ (next_s.0, server.serving next_s.1, next_s.2)
+      reply_s = let same = unsome (sym found ∙ its.row) in (λ i. setting.next (same i).body names (same i).answer) ∙ server.serves its.body names its.answer
+
+      abbrev out_s : Outcome
+      out_s = machine_of (event_step live.pod next_s.0)
+
+      abbrev rows_s : List (Row B)
+      rows_s = settled setting.bodies (proc_of next_s.0) (event_step live.pod next_s.0).effects (polled s (server.serving next_s.1) live.rows)
+
+      same_row : (b : SessionBody) (z : Answer) → S_of live.rows b z → (b ≡ its.body) × (z ≡ its.answer)
+      same_row b z is = let same = unsome (sym is ∙ its.row) in (server.one_session b its.body (ap (λ (r : Row B). r.body) same), ap (λ (r : Row B). r.answer) same)
+
+      session_call : ((b : ℕ) → list_all is_short (got_in steps b) ≡ true) → eqb null_id live.pod.state.births ≡ false → is_thread out_s.after k ≡ true → list_all (sends_only s k) out_s.effects ≡ true
+          → Phase s k out_s.after (S_of rows_s) (K_of rows_s) (λ b. got_in steps b ++ texts_in b None out_s.effects) (λ b. said_in steps b ++ replied_in s b out_s.effects)
+      session_call short low lives sends = phase_own s k s_k live.pod was turn (S_of live.rows) (S_of rows_s) (K_of live.rows) (K_of rows_s) (got_in steps) (said_in steps) its.body its.answer names same_row
+          (λ lives_s. row_settled s setting.bodies (proc_of next_s.0) out_s.effects (polled s (server.serving next_s.1) live.rows) (record { tid = s; body = server.serving next_s.1; answer = its.answer })
+              (row_polled_own s (server.serving next_s.1) live.rows (record { tid = s; body = server.serving its.body; answer = its.answer }) its.row) (alive_then live.pod.state out_s.after out_s.effects (call_moved live.pod was next_s.0) s lives_s))
+          (λ b z is. row_settled k setting.bodies (proc_of next_s.0) out_s.effects (polled s (server.serving next_s.1) live.rows) (record { tid = k; body = server.storing b; answer = z })
+              (row_polled_other k s s_k (server.serving next_s.1) live.rows ∙ is) (alive_then live.pod.state out_s.after out_s.effects (call_moved live.pod was next_s.0) k lives))
+          short (λ free. sends_named s k live.pod turn next_s.0 free sends) low stood
+
+    -- ---- a call, whoever makes it
+
+    abbrev Behind : Option Took → Live B → List Effect → Type 0
+    Behind took after fs = is_thread after.pod.state k ≡ true → list_all (sends_only s k) fs ≡ true → Stood (record { live = after; steps = steps ++ record { take = took; effects = fs } ∷ [] })
+
+    module _ (short : (b : ℕ) → list_all is_short (got_in steps b) ≡ true) (low : eqb null_id live.pod.state.births ≡ false) where
+      called_stood : (t : ℕ) → choice live.pod.state ≡ Some t → (row : Row B) → row_of t live.rows ≡ Some row → (names : Names) → (d e : Bool) → eqb t s ≡ d → eqb t k ≡ e
+          → Behind None (called setting.bodies live t (setting.next row.body names row.answer)).live (called setting.bodies live t (setting.next row.body names row.answer)).effects
+      unfolding called
+      called_stood t turn row found names true e is is_k =
+          let same = eqb-true t s is in
+          let turn_s = turn ∙ ap Some same in
+          let found_s = ap (λ n. row_of n live.rows) (sym same) ∙ found in
+          subst (λ (r : Polled B). Behind None (called setting.bodies live t r).live (called setting.bodies live t r).effects) (sym (reply_s turn_s names row found_s))
+          (subst (λ n. Behind None (called setting.bodies live n ((next_s turn_s names row found_s).0, server.serving (next_s turn_s names row found_s).1, (next_s turn_s names row found_s).2)).live (called setting.bodies live n ((next_s turn_s names row found_s).0, server.serving (next_s turn_s names row found_s).1, (next_s turn_s names row found_s).2)).effects) (sym same)
+          (λ lives sends. stood_push steps (record { take = None; effects = (out_s turn_s names row found_s).effects }) (called setting.bodies live s ((next_s turn_s names row found_s).0, server.serving (next_s turn_s names row found_s).1, (next_s turn_s names row found_s).2)).live
+              (session_call turn_s names row found_s short low lives sends)))
+      called_stood t turn row found names false true is is_k =
+          let same = eqb-true t k is_k in
+          let turn_k = turn ∙ ap Some same in
+          let found_k = ap (λ n. row_of n live.rows) (sym same) ∙ found in
+          subst (λ n. Behind None (called setting.bodies live n (setting.next row.body names row.answer)).live (called setting.bodies live n (setting.next row.body names row.answer)).effects) (sym same)
+          (λ lives sends. stood_push steps (record { take = None; effects = (out_k turn_k names row found_k).effects }) (called setting.bodies live k (setting.next row.body names row.answer)).live (store_call turn_k names row found_k short lives))
+      called_stood t turn row found names false false is is_k =
+          λ lives sends. stood_push steps (record { take = None; effects = (out t turn is (setting.next row.body names row.answer)).effects }) (called setting.bodies live t (setting.next row.body names row.answer)).live (other_call t turn is (setting.next row.body names row.answer) is_k lives)
+
+      row_stood : (t : ℕ) → choice live.pod.state ≡ Some t → (o : Option (Row B)) → row_of t live.rows ≡ o → Behind None (move_row setting.next setting.bodies live t o).live (move_row setting.next setting.bodies live t o).effects
+      row_stood t turn None found = λ lives sends. stood_idle live steps stood
+      row_stood t turn (Some row) found = called_stood t turn row found (polled_as t live.names) (eqb t s) (eqb t k) refl refl
+
+      pub call_stood : Behind None (move setting.next setting.bodies live).live (move setting.next setting.bodies live).effects
+      unfolding move
+      call_stood = by_choice (choice live.pod.state) refl
+        where
+          by_choice : (o : Option ℕ) → choice live.pod.state ≡ o → Behind None (move_by setting.next setting.bodies live o).live (move_by setting.next setting.bodies live o).effects
+          by_choice None e = λ lives sends. stood_idle live steps stood
+          by_choice (Some t) e = row_stood t e (row_of t live.rows) refl
+
+    -- ---- a take
+
+    module _ (took : Took) (may : is_takeable live.pod took.event ≡ true) where
+      abbrev out_t : Outcome
+      out_t = machine_of (take_event live.pod took.event took.line.text)
+
+      abbrev rows_t : List (Row B)
+      rows_t = settled setting.bodies None (take_event live.pod took.event took.line.text).effects live.rows
+
+      moved_t : Moved live.pod.state out_t.after out_t.effects
+      moved_t = take_moved live.pod was took.event took.line.text may
+
+      take_phase : is_thread out_t.after k ≡ true → Phase s k out_t.after (S_of rows_t) (K_of rows_t) (λ b. got_in steps b ++ texts_in b (Some took.line.text) out_t.effects) (λ b. said_in steps b ++ replied_in s b out_t.effects)
+      take_phase lives = phase_other s k live.pod.state was (S_of live.rows) (S_of rows_t) (K_of live.rows) (K_of rows_t) (got_in steps) (said_in steps) (λ b. texts_in b (Some took.line.text) out_t.effects) out_t (λ n. take_fades n live.pod took.event took.line.text)
+          (λ b. (others_reply_nothing s b live.pod).1 took.event took.line.text) (λ b z. b)
+          (λ lives_s b z row. row_settled s setting.bodies None out_t.effects live.rows (record { tid = s; body = server.serving b; answer = z }) row (alive_then live.pod.state out_t.after out_t.effects moved_t s lives_s))
+          (λ b z row. row_settled k setting.bodies None out_t.effects live.rows (record { tid = k; body = server.storing b; answer = z }) row (alive_then live.pod.state out_t.after out_t.effects moved_t k lives))
+          goes
+          (λ seen lives_s. never_woken seen (takes_leave_it live.pod was s (attends_seen live.pod.state s block.Not (ap (λ (v : Sight). v.waits) seen) refl) (rests_untimed live.pod.state was s seen) took.event took.line.text)) stood
+        where
+          goes : (a : ℕ) (sb : SessionBody) (sz : Answer) (kb : StoreBody) (kz : Answer) → K_of live.rows kb kz → (x : TellsAt s k a live.pod.state sb sz kb kz (got_in steps a) (said_in steps a)) → eqb null_id a ≡ false → (x.talk.agent_lives ≡ true) ⊎ (sb.place ≡ at.Agent) → (sb.place ≡ at.Start → out_t.after.births ≤ a) → is_thread out_t.after s ≡ true
+              → Becomes s k a x.talk x.talk.session kb x.waiting (texts_in a (Some took.line.text) out_t.effects) [] out_t ⊎ Leaves s x.talk out_t
+          goes a sb sz kb kz row x away ok low lives_s = inl (subst (λ body. Becomes s k a x.talk x.talk.session body x.waiting (texts_in a (Some took.line.text) out_t.effects) [] out_t) x.store
+              (takes_are_events s k a live.pod was x.talk x.waiting x.stands s_k away took.event took.line.text may))
+
+      pub take_stood : Behind (Some took) (taken setting.bodies took live).live (taken setting.bodies took live).effects
+      unfolding taken
+      take_stood = λ lives sends. stood_push steps (record { take = Some took; effects = out_t.effects }) (taken setting.bodies took live).live (take_phase lives)
+
+  -- ---- moves
+
+  -- a move, where it may be made
+  pub moved_stood : (session : Session B) (m : Option Took) → Lawful session.live.pod.state None → is_move_due session m ≡ true → Stood session → is_thread session.live.pod.state k ≡ true → ((b : ℕ) → list_all is_short (got_in session.steps b) ≡ true) → eqb null_id session.live.pod.state.births ≡ false
+      → is_thread (moved_by setting session m).live.pod.state k ≡ true → all_sends_to s k (steps_of (moved_by setting session m).steps) ≡ true → Stood (moved_by setting session m)
+  moved_stood session None was due stood lives short low then sends = call_stood session.live session.steps was stood lives short low then (sends_last s k session.steps (record { take = None; effects = (move setting.next setting.bodies session.live).effects }) sends)
+  moved_stood session (Some took) was due stood lives short low then sends = take_stood session.live session.steps was stood lives took due then (sends_last s k session.steps (record { take = Some took; effects = (taken setting.bodies took session.live).effects }) sends)
+
+module _ {B : Type 0} (setting : Setting B) where
+  row_lawful : (live : Live B) (t : ℕ) (o : Option (Row B)) → Lawful live.pod.state None → Lawful (move_row setting.next setting.bodies live t o).live.pod.state None
+  unfolding called
+  row_lawful live t None was = was
+  row_lawful live t (Some row) was = (call_moved live.pod was (setting.next row.body (polled_as t live.names) row.answer).0).lawful
+
+  call_lawful : (live : Live B) → Lawful live.pod.state None → Lawful (move setting.next setting.bodies live).live.pod.state None
+  unfolding move
+  call_lawful live was = by_choice (choice live.pod.state)
+    where
+      by_choice : (o : Option ℕ) → Lawful (move_by setting.next setting.bodies live o).live.pod.state None
+      by_choice None = was
+      by_choice (Some t) = row_lawful live t (row_of t live.rows) was
+
+  pub moved_lawful : (session : Session B) (m : Option Took) → is_move_due session m ≡ true → Lawful session.live.pod.state None → Lawful (moved_by setting session m).live.pod.state None
+  unfolding taken
+  moved_lawful session None due was = call_lawful session.live was
+  moved_lawful session (Some took) due was = (take_moved session.live.pod was took.event took.line.text due).lawful
+
+  module _ (n : ℕ) where
+    row_fades : (live : Live B) (t : ℕ) (o : Option (Row B)) → Fades n live.pod.state (move_row setting.next setting.bodies live t o).live.pod.state
+    unfolding called
+    row_fades live t None = fades_still n live.pod.state
+    row_fades live t (Some row) = event_fades n live.pod (setting.next row.body (polled_as t live.names) row.answer).0
+
+    call_fades : (live : Live B) → Fades n live.pod.state (move setting.next setting.bodies live).live.pod.state
+    unfolding move
+    call_fades live = by_choice (choice live.pod.state)
+      where
+        by_choice : (o : Option ℕ) → Fades n live.pod.state (move_by setting.next setting.bodies live o).live.pod.state
+        by_choice None = fades_still n live.pod.state
+        by_choice (Some t) = row_fades live t (row_of t live.rows)
+
+    pub moved_fades : (session : Session B) (m : Option Took) → Fades n session.live.pod.state (moved_by setting session m).live.pod.state
+    unfolding taken
+    moved_fades session None = call_fades session.live
+    moved_fades session (Some took) = take_fades n session.live.pod took.event took.line.text
+
+    pub gone_fades : (moves : List (Option Took)) (session : Session B) → Fades n session.live.pod.state (gone_on setting moves session).live.pod.state
+    gone_fades [] session = fades_still n session.live.pod.state
+    gone_fades (m ∷ ms) session = fades_then n session.live.pod.state (moved_by setting session m).live.pod.state (gone_on setting ms (moved_by setting session m)).live.pod.state (moved_fades session m) (gone_fades ms (moved_by setting session m))
+
+    -- who is there in the end, and was born, was there before
+    pub there_before : (moves : List (Option Took)) (session : Session B) → n < session.live.pod.state.births → is_thread (gone_on setting moves session).live.pod.state n ≡ true → is_thread session.live.pod.state n ≡ true
+    there_before moves session below lives = by_lives (is_thread session.live.pod.state n) refl
+      where
+        by_lives : (b : Bool) → is_thread session.live.pod.state n ≡ b → b ≡ true
+        by_lives true e = refl
+        by_lives false e = differ (sym lives ∙ (gone_fades moves session).threads below e)
+
+  -- the steps so far stay
+  pub record Grows (before after : List Made) : Type 0 where
+    pub rest : List Made
+    pub is : after ≡ before ++ rest
+
+  moved_grows : (session : Session B) (m : Option Took) → Grows session.steps (moved_by setting session m).steps
+  moved_grows session None = record { rest = record { take = None; effects = (move setting.next setting.bodies session.live).effects } ∷ []; is = refl }
+  moved_grows session (Some took) = record { rest = record { take = Some took; effects = (taken setting.bodies took session.live).effects } ∷ []; is = refl }
+
+  pub gone_grows : (moves : List (Option Took)) (session : Session B) → Grows session.steps (gone_on setting moves session).steps
+  gone_grows [] session = record { rest = []; is = sym (append-nil session.steps) }
+  gone_grows (m ∷ ms) session =
+      let one = moved_grows session m in
+      let more = gone_grows ms (moved_by setting session m) in
+      record { rest = one.rest ++ more.rest; is = more.is ∙ ap (λ xs. xs ++ more.rest) one.is ∙ append_assoc session.steps one.rest more.rest }
+
+-- ---- from where the two stand, on and on
+
+module _ {B : Type 0} (setting : Setting B) (server : LineServer setting.next) (s k : ℕ) (s_k : eqb s k ≡ false) where
+  -- what is said of all steps is said of the first
+  sends_before : (before after : List Made) → Grows setting before after → all_sends_to s k (steps_of after) ≡ true → all_sends_to s k (steps_of before) ≡ true
+  sends_before before after grows all = (and_parts (all_sends_to s k (steps_of before)) (all_sends_to s k (steps_of grows.rest))
+      (sym (list_all-append (λ (step : Step). list_all (sends_only s k) step.effects) (steps_of before) (steps_of grows.rest)) ∙ ap (all_sends_to s k) (sym (map-append step_of before grows.rest)) ∙ ap (λ xs. all_sends_to s k (steps_of xs)) (sym grows.is) ∙ all)).0
+
+  short_before : (a : ℕ) (before after : List Made) → Grows setting before after → list_all is_short (delivered_to a (steps_of after)) ≡ true → list_all is_short (delivered_to a (steps_of before)) ≡ true
+  short_before a before after grows all = (and_parts (list_all is_short (delivered_to a (steps_of before))) (list_all is_short (delivered_to a (steps_of grows.rest)))
+      (sym (list_all-append is_short (delivered_to a (steps_of before)) (delivered_to a (steps_of grows.rest)))
+      ∙ ap (list_all is_short) (sym (flat_map-append (λ (step : Step). flat_map (text_to a step.text) step.effects) (steps_of before) (steps_of grows.rest)) ∙ ap (delivered_to a) (sym (map-append step_of before grows.rest)) ∙ ap (λ xs. delivered_to a (steps_of xs)) (sym grows.is)) ∙ all)).0
+
+  pub gone_stood : (moves : List (Option Took)) (session : Session B) → Lawful session.live.pod.state None → CanGoOn setting moves session → Stood setting server s k s_k session → is_thread session.live.pod.state k ≡ true
+      → is_thread (gone_on setting moves session).live.pod.state k ≡ true → all_sends_to s k (steps_of (gone_on setting moves session).steps) ≡ true → ((a : ℕ) → list_all is_short (delivered_to a (steps_of (gone_on setting moves session).steps)) ≡ true) → (gone_on setting moves session).live.pod.state.births < null_id
+      → Stood setting server s k s_k (gone_on setting moves session)
+  gone_stood [] session was can stood lives in_end sends short few = stood
+  gone_stood (m ∷ ms) session was can stood lives in_end sends short few =
+      let next = moved_by setting session m in
+      let born = born_below session.live.pod.state was k lives in
+      let lives_next = there_before setting k ms next (omega (arith, born, (moved_fades setting k session m).births)) in_end in
+      let low = ne_eqb null_id session.live.pod.state.births (λ e. omega (arith, few, e, (gone_fades setting k (m ∷ ms) session).births)) in
+      gone_stood ms next (moved_lawful setting session m can.0 was) can.1
+      (moved_stood setting server s k s_k session m was can.0 stood lives (λ a. short_before a session.steps (gone_on setting (m ∷ ms) session).steps (gone_grows setting (m ∷ ms) session) (short a)) low lives_next (sends_before next.steps (gone_on setting ms next).steps (gone_grows setting ms next) sends))
+      lives_next in_end sends short few
