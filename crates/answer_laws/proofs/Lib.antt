@@ -23,3 +23,4 @@ mod Phases
 mod Alone
 mod ThreadRows
 mod Servings
+mod Meetings

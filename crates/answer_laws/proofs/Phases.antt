@@ -13,7 +13,7 @@ use Rattle.answer_laws.specs.Events.{machine_of}
 use Rattle.answer_laws.specs.Lengths.{is_short}
 use Rattle.answer_laws.specs.Owns.{SessionComes, SessionComes.Dies, SessionComes.GoesOn, SessionComes.IsTurnedAway}
 use Rattle.answer_laws.specs.Sights.{IsLeft, Sight, answers_to, sight}
-use Rattle.answer_laws.specs.Stands.{AgentIs, AgentIs.Gone, AgentIs.Made, AgentIs.Unmade, Becomes, HeardAs, Leaves, Stands, block_of, is_placed, is_posted, knows, last_heard, texts_in}
+use Rattle.answer_laws.specs.Stands.{AgentIs, AgentIs.Gone, AgentIs.Made, AgentIs.Unmade, Becomes, HeardAs, Leaves, Stands, block_of, is_placed, is_posted, is_reading, knows, last_heard, texts_in}
 use Rattle.answer_laws.specs.Talks.{AreFirst, Mail, Mail.Nothing, Mail.Received, Mail.Sent, Stand, Stand.AwaitsLetter, Stand.AwaitsReply, Stand.Hears, Stand.IsOver, Talk, talked}
 use Rattle.line_server.specs.Sessions.{SessionBody, session_by, session_next, session_opened}
 use Rattle.line_server.specs.Stores.{StoreBody}
@@ -151,6 +151,13 @@ client_hears a IsOver (Received text) posted free = absurd (cc)
 
 pub session_hears : (s k a : ℕ) (st : State) → Lawful st None → (talk : Talk) (waiting : Texts) → Stands s k a st talk waiting → choice st ≡ Some s → IsHearing talk.client
 session_hears s k a st was talk waiting h turn = client_hears a talk.client talk.mail h.posted (chosen_waits st was s turn (block_of (Some a) talk.client) (ap (λ (v : Sight). v.waits) h.client))
+
+-- and so does a store
+pub reader_hears : (st : State) → Lawful st None → (k : ℕ) → choice st ≡ Some k → (c : Stand) → (sight st k).waits ≡ Some (block_of None c) → is_reading c ≡ true → IsHearing c
+reader_hears st was k turn (Hears x) seen reads = record { answer = x; is = refl }
+reader_hears st was k turn AwaitsLetter seen reads = absurd (let bad = chosen_waits st was k turn (block.Receiving None) seen in cc)
+reader_hears st was k turn AwaitsReply seen reads = absurd (cc)
+reader_hears st was k turn IsOver seen reads = absurd (cc)
 
 -- told that nobody is there, a session that waits for a line returns
 returned : (sb : SessionBody) (names : Names) → sb.place ≡ at.Recv → (session_next sb names nonexist).0 ≡ call.Return

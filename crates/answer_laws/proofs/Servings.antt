@@ -4,7 +4,7 @@ use Rattle.answer_laws.proofs.Dying.{gone_thread}
 use Rattle.answer_laws.proofs.Events.{living_is_left, takes_leave_it}
 use Rattle.answer_laws.proofs.Fadings.{event_fades, take_fades}
 use Rattle.answer_laws.proofs.OwnSteps.{done_by, event_is, others_reply_nothing, pods_stores_calls_are_events}
-use Rattle.answer_laws.proofs.Phases.{HasRow, IsHearing, Phase, TellsAt, lines_short, born_below, chosen_waits, phase_other, phase_own, phase_row, resting}
+use Rattle.answer_laws.proofs.Phases.{HasRow, IsHearing, Phase, TellsAt, lines_short, born_below, phase_other, phase_own, phase_row, reader_hears, resting}
 use Rattle.answer_laws.proofs.PodSteps.{living_calls_are_events, takes_are_events}
 use Rattle.answer_laws.proofs.TalkShort.{store_short}
 use Rattle.answer_laws.proofs.TalkSteps.{attends_seen, unsome}
@@ -66,7 +66,7 @@ use Rattle.lwp_types.specs.declared.rows.Block.TheVariants as block
 -- ---- one step of a pod
 
 -- whoever is there behind it hasn't died in it
-alive_then : (s after : State) (es : List Effect) → Moved s after es → (u : ℕ) → is_thread after u ≡ true → count_by (is_died u) es ≡ 0
+pub alive_then : (s after : State) (es : List Effect) → Moved s after es → (u : ℕ) → is_thread after u ≡ true → count_by (is_died u) es ≡ 0
 alive_then s after es moved u lives = by_count (count_by (is_died u) es) refl
   where
     by_count : (n : ℕ) → count_by (is_died u) es ≡ n → n ≡ 0
@@ -74,7 +74,7 @@ alive_then s after es moved u lives = by_count (count_by (is_died u) es) refl
     by_count (suc n) e = differ (sym lives ∙ gone_thread after u (moved.does.gone u (omega (arith, e))))
 
 -- who rests has no timer
-rests_untimed : (st : State) → Lawful st None → (u : ℕ) → sight st u ≡ resting → timers_of st.timers u ≡ 0
+pub rests_untimed : (st : State) → Lawful st None → (u : ℕ) → sight st u ≡ resting → timers_of st.timers u ≡ 0
 rests_untimed st was u seen = by_row (thread_of st u) refl (ap (λ (v : Sight). v.waits) seen)
   where
     by_row : (o : Option ThreadRow) → thread_of st u ≡ o → option_map (λ (row : ThreadRow). row.block) o ≡ Some block.Not → timers_of st.timers u ≡ 0
@@ -126,13 +126,6 @@ module _ (s k : ℕ) (es : EventState) (turn : choice es.state ≡ Some s) (c : 
       let out = made es.state es.trapped s c in
       let whole = event_is es s c turn ∙ ap (λ p. done_by es (traps_called es.state es.trapped s c p)) free in
       head_said out.state out.effects (reports_after es.state out.state es.reports out.effects) (head_made es.trapped) (ap (λ (o : Outcome). list_all (sends_only s k) o.effects) (sym whole) ∙ all)
-
--- who is chosen hears something, if it is a store
-keeper_hears : (st : State) → Lawful st None → (k : ℕ) → choice st ≡ Some k → (c : Stand) → (sight st k).waits ≡ Some (block_of None c) → is_reading c ≡ true → IsHearing c
-keeper_hears st was k turn (Hears x) seen reads = record { answer = x; is = refl }
-keeper_hears st was k turn AwaitsLetter seen reads = absurd (let bad = chosen_waits st was k turn (block.Receiving None) seen in cc)
-keeper_hears st was k turn AwaitsReply seen reads = absurd (cc)
-keeper_hears st was k turn IsOver seen reads = absurd (cc)
 
 chosen_lives : (st : State) → Lawful st None → (t : ℕ) → choice st ≡ Some t → is_thread st t ≡ true
 chosen_lives st was t turn = let run = chosen st was.nine t turn in ap is_some run.known
@@ -257,7 +250,7 @@ module _ {B : Type 0} (setting : Setting B) (server : LineServer setting.next) (
               (sym (ap (λ (r : Polled B). r.0) (reply_is kb kz is))) (subst (λ z. Comes kb z) heard_is (subst (λ b. Comes b hearing.answer) x.store now)) lives low)
             where
               hearing : IsHearing x.talk.keeper
-              hearing = keeper_hears live.pod.state was k turn x.talk.keeper (ap (λ (v : Sight). v.waits) x.stands.keeper) x.stands.reads
+              hearing = reader_hears live.pod.state was k turn x.talk.keeper (ap (λ (v : Sight). v.waits) x.stands.keeper) x.stands.reads
 
               heard_is : hearing.answer ≡ kz
               heard_is = sym (subst (λ c. HeardAs c kz) hearing.is x.heard_keeper)

@@ -132,7 +132,7 @@ at_head o z x true e f = cc f
 at_head o z x false e f = absurd (cc)
 
 -- none is found that passes where none passes
-found_none : (p r q : Letter → Bool) (letters : List Letter) (x : Letter) → find p (filter r letters) ≡ Some x → q x ≡ true → filter q letters ≡ [] → ⊥
+pub found_none : (p r q : Letter → Bool) (letters : List Letter) (x : Letter) → find p (filter r letters) ≡ Some x → q x ≡ true → filter q letters ≡ [] → ⊥
 found_none p r q [] x found passed none = cc
 found_none p r q (w ∷ ws) x found passed none = by_tests (r w) (p w) refl (q w) refl found none (found_none p r q ws x)
   where

@@ -1,14 +1,22 @@
 -- Sessions of pods in which a store and a client's session are among the threads.
-use Rattle.answer_laws.specs.Clients.{Step}
-use Rattle.line_server.specs.Sessions.{SessionBody, session_next}
-use Rattle.line_server.specs.Stores.{StoreBody, store_next}
-use Rattle.lwp_types.specs.Names.{Names}
+use Rattle.answer_laws.specs.Clients.{IsAnsweredInTurn, Step, all_sends_to, delivered_to}
+use Rattle.answer_laws.specs.Lengths.{is_short}
+use Rattle.answer_laws.specs.Sights.{sight}
+use Rattle.line_server.specs.Sessions.{SessionBody, session_next, session_opening}
+use Rattle.line_server.specs.Stores.{StoreBody, store_next, store_opening}
+use Rattle.lwp_types.specs.Lawful.{Lawful}
+use Rattle.lwp_types.specs.Names.{Names, null_id}
 use Rattle.lwp_types.specs.Poll.{Next}
+use Rattle.lwp_types.specs.State.{is_thread}
+use Rattle.lwp_types.specs.Unblock.{zero_answer}
 use Rattle.lwp_types.specs.declared.call.Answer.{Answer}
 use Rattle.pod_runner.specs.Due.{is_call_due, is_take_due}
-use Rattle.pod_runner.specs.Session.{Made, Session, Setting, call_step, take_step}
+use Rattle.pod_runner.specs.Session.{Live, Made, Session, Setting, call_step, row_of, take_step}
 use Rattle.pod_runner.specs.declared.session.Took.{Took}
-use Rattle.std.specs.Prelude.{Bool, IsTrue, List, None, Option, Some, [], map, option_map, ◌∷◌, ◌≡◌}
+use Rattle.std.specs.List.{list_all}
+use Rattle.std.specs.Prelude.{Bool, IsTrue, List, None, Option, Some, [], false, map, option_map, true, ℕ, ◌++◌, ◌<◌, ◌==◌, ◌∷◌, ◌≡◌, ◌≤◌}
+use Rattle.lwp_types.specs.declared.rows.Block.TheVariants as block
+use Rattle.lwp_types.specs.declared.rows.Mark.TheVariants as mark
 
 -- among the bodies are sessions and stores, and these mean what the built-in ones do
 pub record LineServer {B : Type 0} (next : Next B) : Type 0 where
@@ -46,3 +54,41 @@ step_of made = record { text = option_map (λ took. took.line.text) made.take; e
 
 abbrev pub steps_of : List Made → List Step
 steps_of steps = map step_of steps
+
+-- ---- where they begin
+
+-- the thread has this body and was not polled yet; it waits for nothing, has the frame that it begins with, and has sent nothing
+pub record Begins {B : Type 0} (u : ℕ) (body : B) (live : Live B) : Type 0 where
+  pub row : row_of u live.rows ≡ Some (record { tid = u; body = body; answer = zero_answer })
+  pub thread : sight live.pod.state u ≡ record { waits = Some block.Not; marks = mark.Frame ∷ []; letters = [] }
+
+-- a session that begins here, with no steps so far
+abbrev pub begun : {B : Type 0} → Live B → Session B
+begun live = record { live = live; steps = [] }
+
+-- ---- what is asked of a session up to its end
+
+-- the store lives, all that s has sent went to it, the texts for each agent have room in a letter, and no number is that of nobody
+pub record Serves {B : Type 0} (s k : ℕ) (end : Session B) : Type 0 where
+  pub lives : is_thread end.live.pod.state k ≡ true
+  pub sends : all_sends_to s k (steps_of end.steps) ≡ true
+  pub short : (a : ℕ) → list_all is_short (delivered_to a (steps_of end.steps)) ≡ true
+  pub few : end.live.pod.state.births < null_id
+
+-- Where a store and a client's session begin, whatever the others do and whenever lines are taken from there on: the accepted replies of the
+-- session to its agent are a first part of the answers to the lines delivered to that.
+abbrev pub ClientsAreAnsweredInTurn : Type 0 → Type 0
+ClientsAreAnsweredInTurn B = (setting : Setting B) (server : LineServer setting.next) (s k event place : ℕ) → (s == k) ≡ false
+    → (live : Live B) → Lawful live.pod.state None → Begins k (server.storing store_opening) live → Begins s (server.serving (session_opening event place)) live
+    → (moves : List (Option Took)) → CanGoOn setting moves (begun live) → Serves s k (gone_on setting moves (begun live))
+    → (a : ℕ) → IsAnsweredInTurn s a (steps_of (gone_on setting moves (begun live)).steps)
+
+-- So it is where the session begins by a move behind some others since the store began, before which it wasn't born; whoever else the store
+-- has served till then.
+abbrev pub LaterClientsAreAnsweredInTurn : Type 0 → Type 0
+LaterClientsAreAnsweredInTurn B = (setting : Setting B) (server : LineServer setting.next) (s k event place : ℕ)
+    → (first : Live B) → Lawful first.pod.state None → Begins k (server.storing store_opening) first
+    → (moves : List (Option Took)) (birth : Option Took) → CanGoOn setting (moves ++ birth ∷ []) (begun first) → (gone_on setting moves (begun first)).live.pod.state.births ≤ s
+    → (live : Live B) → live ≡ (gone_on setting (moves ++ birth ∷ []) (begun first)).live → Begins s (server.serving (session_opening event place)) live
+    → (later : List (Option Took)) → CanGoOn setting later (begun live) → Serves s k (gone_on setting later (begun live))
+    → (a : ℕ) → IsAnsweredInTurn s a (steps_of (gone_on setting later (begun live)).steps)

@@ -31,9 +31,18 @@ ghost use Rattle.answer_laws.specs.Lengths.{ShortLinesHaveShortAnswers};
 ghost use Rattle.answer_laws.specs.Owners.{OwnersOfNoneAreRefused, OwnersReceive, OwnersReply, SendsAreLetters};
 ghost use Rattle.answer_laws.specs.Owns.{LivingCallsAreEvents, OthersReplyNothing, PodsSessionsCallsAreEvents, PodsStoresCallsAreEvents};
 ghost use Rattle.answer_laws.specs.Replies.{EachHasOneLetter, ReadersLeaveTheRest, ReceivesAreTheLetters, RepliesAreTheAnswers};
+ghost use Rattle.answer_laws.specs.Served.{ClientsAreAnsweredInTurn, LaterClientsAreAnsweredInTurn};
 ghost use Rattle.answer_laws.specs.Sights.{DeliveriesLeaveIt, OthersLeaveIt};
 ghost use Rattle.answer_laws.specs.Stands.{DeliveriesAreEvents, OthersCallsAreEvents, PodsCallsAreEvents, SessionsCallsAreEvents, StoresCallsAreEvents, TakesAreEvents};
 ghost use Rattle.answer_laws.specs.Talks.{TalksAreAnswers};
+
+use lwp_types::Body;
+
+/// From where a store and a client's session begin in a session of a pod, whatever else happens in it: what the client is told is a first
+/// part of the answers to its lines.
+pub fn every_client<B: Body>()
+    ensures { ClientsAreAnsweredInTurn B }
+{}
 
 /// A session and a store that talk, whatever else is sent to the store and whoever ends: the accepted replies to the session's client
 /// are a first part of the answers to its lines.
