@@ -127,7 +127,7 @@ module _ (s k : ℕ) (es : EventState) (turn : choice es.state ≡ Some s) (c : 
       let whole = event_is es s c turn ∙ ap (λ p. done_by es (traps_called es.state es.trapped s c p)) free in
       head_said out.state out.effects (reports_after es.state out.state es.reports out.effects) (head_made es.trapped) (ap (λ (o : Outcome). list_all (sends_only s k) o.effects) (sym whole) ∙ all)
 
-chosen_lives : (st : State) → Lawful st None → (t : ℕ) → choice st ≡ Some t → is_thread st t ≡ true
+pub chosen_lives : (st : State) → Lawful st None → (t : ℕ) → choice st ≡ Some t → is_thread st t ≡ true
 chosen_lives st was t turn = let run = chosen st was.nine t turn in ap is_some run.known
 
 -- the last step sends to nobody but k

@@ -44,6 +44,11 @@ pub fn every_client<B: Body>()
     ensures { ClientsAreAnsweredInTurn B }
 {}
 
+/// So it is where the store has begun before and served others, and the session is born then.
+pub fn every_later_client<B: Body>()
+    ensures { LaterClientsAreAnsweredInTurn B }
+{}
+
 /// A session and a store that talk, whatever else is sent to the store and whoever ends: the accepted replies to the session's client
 /// are a first part of the answers to its lines.
 pub fn every_talk()
