@@ -24,3 +24,4 @@ mod Alone
 mod ThreadRows
 mod Servings
 mod Meetings
+mod Openings

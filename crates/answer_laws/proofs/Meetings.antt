@@ -32,7 +32,7 @@ use Rattle.std.proofs.lemmas.Bool.{eqb-true, ne_eqb}
 use Rattle.lwp_types.specs.declared.rows.Block.TheVariants as block
 
 -- a session at its beginning, and a store that has no table of it and reads no letter of it
-meet : (s k event place a : ℕ) (st : State) → Lawful st None → sight st s ≡ resting → (kb : StoreBody) (kz : Answer) → AloneAt s k st kb kz → st.births ≤ a → TellsAt s k a st (session_opening event place) zero_answer kb kz [] []
+pub meet : (s k event place a : ℕ) (st : State) → Lawful st None → sight st s ≡ resting → (kb : StoreBody) (kz : Answer) → AloneAt s k st kb kz → st.births ≤ a → TellsAt s k a st (session_opening event place) zero_answer kb kz [] []
 meet s k event place a st was seen kb kz h low = record {
   talk = record { session = session_opening event place; client = Hears zero_answer; store = kb; keeper = h.stand; mail = Nothing; agent_lives = true; lines = []; told = [] };
   waiting = [];
@@ -56,7 +56,7 @@ meet s k event place a st was seen kb kz h low = record {
 }
 
 -- a store that begins is so
-begin_alone : (s k : ℕ) (st : State) → Lawful st None → sight st k ≡ resting → AloneAt s k st store_opening zero_answer
+pub begin_alone : (s k : ℕ) (st : State) → Lawful st None → sight st k ≡ resting → AloneAt s k st store_opening zero_answer
 begin_alone s k st was seen = record { stand = Hears zero_answer; seen = seen; reads = refl; untimed = rests_untimed st was k seen; heard = refl; table = refl; apart = refl }
 
 module _ {B : Type 0} (setting : Setting B) (server : LineServer setting.next) (s k event place : ℕ) (s_k : eqb s k ≡ false) (live : Live B) (was : Lawful live.pod.state None) (begins : Begins s (server.serving (session_opening event place)) live)
@@ -79,11 +79,11 @@ clients_are_answered_in_turn B setting server s k event place s_k live was begin
 
 module _ {B : Type 0} (setting : Setting B) (server : LineServer setting.next) (s k : ℕ) (s_k : eqb s k ≡ false) where
   -- it is there, and has served others alone
-  record IsAlone (live : Live B) : Type 0 where
-    body : StoreBody
-    answer : Answer
-    row : K_of setting server s k s_k live.rows body answer
-    alone : AloneAt s k live.pod.state body answer
+  pub record IsAlone (live : Live B) : Type 0 where
+    pub body : StoreBody
+    pub answer : Answer
+    pub row : K_of setting server s k s_k live.rows body answer
+    pub alone : AloneAt s k live.pod.state body answer
 
   module _ (live : Live B) (was : Lawful live.pod.state None) (h : IsAlone live) (low : live.pod.state.births ≤ s) where
     unborn : is_id live.pod.state s ≡ false
@@ -151,12 +151,12 @@ module _ {B : Type 0} (setting : Setting B) (server : LineServer setting.next) (
       alone = alone_taken s k live.pod was h.body h.answer h.alone (either_of (is_thread live.pod.state s) (is_agent live.pod.state s) unborn).1 took.event took.line.text;
     }
 
-  move_alone : (session : Session B) (m : Option Took) → Lawful session.live.pod.state None → is_move_due session m ≡ true → IsAlone session.live → session.live.pod.state.births ≤ s
+  pub move_alone : (session : Session B) (m : Option Took) → Lawful session.live.pod.state None → is_move_due session m ≡ true → IsAlone session.live → session.live.pod.state.births ≤ s
       → is_thread (moved_by setting session m).live.pod.state k ≡ true → ((moved_by setting session m).live.pod.state.births ≤ s) ⊎ (is_thread (moved_by setting session m).live.pod.state s ≡ true) → IsAlone (moved_by setting session m).live
   move_alone session None was due h low lives free = call_alone session.live was h low lives free
   move_alone session (Some took) was due h low lives free = take_alone session.live was h low took due lives free
 
-  moves_alone : (moves : List (Option Took)) (session : Session B) → Lawful session.live.pod.state None → CanGoOn setting moves session → IsAlone session.live → (gone_on setting moves session).live.pod.state.births ≤ s → is_thread (gone_on setting moves session).live.pod.state k ≡ true
+  pub moves_alone : (moves : List (Option Took)) (session : Session B) → Lawful session.live.pod.state None → CanGoOn setting moves session → IsAlone session.live → (gone_on setting moves session).live.pod.state.births ≤ s → is_thread (gone_on setting moves session).live.pod.state k ≡ true
       → IsAlone (gone_on setting moves session).live
   moves_alone [] session was can h low lives = h
   moves_alone (m ∷ ms) session was can h low lives =
@@ -168,19 +168,19 @@ module _ {B : Type 0} (setting : Setting B) (server : LineServer setting.next) (
 
 -- some moves, and one more
 module _ {B : Type 0} (setting : Setting B) where
-  can_first : (moves : List (Option Took)) (m : Option Took) (session : Session B) → CanGoOn setting (moves ++ m ∷ []) session → CanGoOn setting moves session
+  pub can_first : (moves : List (Option Took)) (m : Option Took) (session : Session B) → CanGoOn setting (moves ++ m ∷ []) session → CanGoOn setting moves session
   can_first [] m session can = tt
   can_first (n ∷ ns) m session can = (can.0, can_first ns m (moved_by setting session n) can.1)
 
-  can_last : (moves : List (Option Took)) (m : Option Took) (session : Session B) → CanGoOn setting (moves ++ m ∷ []) session → is_move_due (gone_on setting moves session) m ≡ true
+  pub can_last : (moves : List (Option Took)) (m : Option Took) (session : Session B) → CanGoOn setting (moves ++ m ∷ []) session → is_move_due (gone_on setting moves session) m ≡ true
   can_last [] m session can = can.0
   can_last (n ∷ ns) m session can = can_last ns m (moved_by setting session n) can.1
 
-  gone_push : (moves : List (Option Took)) (m : Option Took) (session : Session B) → gone_on setting (moves ++ m ∷ []) session ≡ moved_by setting (gone_on setting moves session) m
+  pub gone_push : (moves : List (Option Took)) (m : Option Took) (session : Session B) → gone_on setting (moves ++ m ∷ []) session ≡ moved_by setting (gone_on setting moves session) m
   gone_push [] m session = refl
   gone_push (n ∷ ns) m session = gone_push ns m (moved_by setting session n)
 
-  gone_lawful : (moves : List (Option Took)) (session : Session B) → CanGoOn setting moves session → Lawful session.live.pod.state None → Lawful (gone_on setting moves session).live.pod.state None
+  pub gone_lawful : (moves : List (Option Took)) (session : Session B) → CanGoOn setting moves session → Lawful session.live.pod.state None → Lawful (gone_on setting moves session).live.pod.state None
   gone_lawful [] session can was = was
   gone_lawful (m ∷ ms) session can was = gone_lawful ms (moved_by setting session m) can.1 (moved_lawful setting session m can.0 was)
 

@@ -81,7 +81,7 @@ module _ (a : ℕ) where
       by_effect (effect.Rites b d) h rest = absurd (cc)
 
   -- a line is one as often as it was delivered
-  lines_told : (text : List ℕ) (es : List Effect) → list_all is_tame es ≡ true → texts_in a (Some text) es ≡ replicate (deliveries_to a es) text
+  pub lines_told : (text : List ℕ) (es : List Effect) → list_all is_tame es ≡ true → texts_in a (Some text) es ≡ replicate (deliveries_to a es) text
   lines_told text [] tame = refl
   lines_told text (e ∷ es) tame = let parts = and_parts (is_tame e) (list_all is_tame es) tame in by_effect e parts.0 (lines_told text es parts.1)
     where
@@ -103,7 +103,7 @@ module _ (a : ℕ) where
       by_effect (effect.Rites b d) h rest = absurd (cc)
 
   -- and so is a report
-  reports_told : (dead : ℕ) (es : List Effect) → list_all is_tame es ≡ true → texts_in a None (map (as_rites dead) es) ≡ texts_in a (Some (report_text dead)) es
+  pub reports_told : (dead : ℕ) (es : List Effect) → list_all is_tame es ≡ true → texts_in a None (map (as_rites dead) es) ≡ texts_in a (Some (report_text dead)) es
   reports_told dead [] tame = refl
   reports_told dead (e ∷ es) tame = let parts = and_parts (is_tame e) (list_all is_tame es) tame in by_effect e parts.0 (reports_told dead es parts.1)
     where

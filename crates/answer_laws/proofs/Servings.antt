@@ -153,12 +153,12 @@ module _ {B : Type 0} (setting : Setting B) (server : LineServer setting.next) (
   abbrev pub Stood : Session B → Type 0
   Stood session = Phase s k session.live.pod.state (S_of session.live.rows) (K_of session.live.rows) (got_in session.steps) (said_in session.steps)
 
-  got_push : (steps : List Made) (made : Made) (a : ℕ) → got_in steps a ++ texts_in a (option_map (λ (took : Took). took.line.text) made.take) made.effects ≡ got_in (steps ++ made ∷ []) a
+  pub got_push : (steps : List Made) (made : Made) (a : ℕ) → got_in steps a ++ texts_in a (option_map (λ (took : Took). took.line.text) made.take) made.effects ≡ got_in (steps ++ made ∷ []) a
   got_push steps made a = sym (ap (delivered_to a) (map-append step_of steps (made ∷ []))
       ∙ flat_map-append (λ (step : Step). flat_map (text_to a step.text) step.effects) (steps_of steps) (step_of made ∷ [])
       ∙ ap (λ xs. got_in steps a ++ xs) (append-nil (texts_in a (option_map (λ (took : Took). took.line.text) made.take) made.effects)))
 
-  said_push : (steps : List Made) (made : Made) (a : ℕ) → said_in steps a ++ replied_in s a made.effects ≡ said_in (steps ++ made ∷ []) a
+  pub said_push : (steps : List Made) (made : Made) (a : ℕ) → said_in steps a ++ replied_in s a made.effects ≡ said_in (steps ++ made ∷ []) a
   said_push steps made a = sym (ap (replied_to s a) (map-append step_of steps (made ∷ []))
       ∙ flat_map-append (λ (step : Step). replied_in s a step.effects) (steps_of steps) (step_of made ∷ [])
       ∙ ap (λ xs. said_in steps a ++ xs) (append-nil (replied_in s a made.effects)))

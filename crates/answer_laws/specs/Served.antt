@@ -10,9 +10,14 @@ use Rattle.lwp_types.specs.Poll.{Next}
 use Rattle.lwp_types.specs.State.{is_thread}
 use Rattle.lwp_types.specs.Unblock.{zero_answer}
 use Rattle.lwp_types.specs.declared.call.Answer.{Answer}
-use Rattle.pod_runner.specs.Due.{is_call_due, is_take_due}
-use Rattle.pod_runner.specs.Session.{Live, Made, Session, Setting, call_step, row_of, take_step}
+use Rattle.pod_runner.specs.Due.{IsDefined, is_call_due, is_take_due}
+use Rattle.pod_runner.specs.Play.{play}
+use Rattle.pod_runner.specs.Session.{Live, Made, Session, Setting, call_step, opening_session, row_of, take_step}
 use Rattle.pod_runner.specs.declared.session.Took.{Took}
+use Rattle.lwp_types.specs.declared.call.PodParams.{PodParams}
+use Rattle.script_program.specs.Bodies.{body_next}
+use Rattle.script_program.specs.declared.body.ThreadBody.{ThreadBody}
+use Rattle.script_program.specs.declared.body.ThreadBody.TheVariants.{Serving, Storing}
 use Rattle.std.specs.List.{list_all}
 use Rattle.std.specs.Prelude.{Bool, IsTrue, List, None, Option, Some, [], false, map, option_map, true, ℕ, ◌++◌, ◌<◌, ◌==◌, ◌∷◌, ◌≡◌, ◌≤◌}
 use Rattle.lwp_types.specs.declared.rows.Block.TheVariants as block
@@ -92,3 +97,34 @@ LaterClientsAreAnsweredInTurn B = (setting : Setting B) (server : LineServer set
     → (live : Live B) → live ≡ (gone_on setting (moves ++ birth ∷ []) (begun first)).live → Begins s (server.serving (session_opening event place)) live
     → (later : List (Option Took)) → CanGoOn setting later (begun live) → Serves s k (gone_on setting later (begun live))
     → (a : ℕ) → IsAnsweredInTurn s a (steps_of (gone_on setting later (begun live)).steps)
+
+-- ---- whole sessions
+
+-- At the opening of a session and from there on: the store begins behind some moves, and the client's session behind some more, the last of
+-- which bears it; then the rest follows. Of all steps from the opening on: what the session's client is told is a first part of the answers
+-- to its lines.
+abbrev pub IsAnsweredInIt : {B : Type 0} → Setting B → (SessionBody → B) → (StoreBody → B) → Type 0
+IsAnsweredInIt setting serving storing = 1 ≤ setting.params.maxpri → setting.params.maxpri ≤ 255 → (s k event place : ℕ)
+    → (first moves : List (Option Took)) (birth : Option Took) (later : List (Option Took)) → CanGoOn setting (first ++ (moves ++ birth ∷ later)) (opening_session setting)
+    → Begins k (storing store_opening) (gone_on setting first (opening_session setting)).live
+    → (gone_on setting (first ++ moves) (opening_session setting)).live.pod.state.births ≤ s
+    → Begins s (serving (session_opening event place)) (gone_on setting (first ++ (moves ++ birth ∷ [])) (opening_session setting)).live
+    → Serves s k (gone_on setting (first ++ (moves ++ birth ∷ later)) (opening_session setting))
+    → (a : ℕ) → IsAnsweredInTurn s a (steps_of (gone_on setting (first ++ (moves ++ birth ∷ later)) (opening_session setting)).steps)
+
+abbrev pub InWholeSessions : Type 0 → Type 0
+InWholeSessions B = (setting : Setting B) (server : LineServer setting.next) → IsAnsweredInIt setting server.serving server.storing
+
+-- So it is of the threads of scripts, whatever procedures and names there are.
+abbrev pub InScripts : Type 0
+InScripts = (bodies : List ThreadBody) (params : PodParams) (names : Names) → IsAnsweredInIt (record { next = body_next; bodies = bodies; params = params; names = names }) Serving Storing
+
+-- some moves from the opening come to this session
+pub record IsReached {B : Type 0} (setting : Setting B) (session : Session B) : Type 0 where
+  pub moves : List (Option Took)
+  pub can : CanGoOn setting moves (opening_session setting)
+  pub is : session ≡ gone_on setting moves (opening_session setting)
+
+-- Every session is reached so.
+abbrev pub SessionsAreReached : Type 0 → Type 0
+SessionsAreReached B = (setting : Setting B) (takes : List Took) (n : ℕ) → IsDefined setting takes n → IsReached setting (play setting takes n)

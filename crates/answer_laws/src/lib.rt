@@ -31,7 +31,7 @@ ghost use Rattle.answer_laws.specs.Lengths.{ShortLinesHaveShortAnswers};
 ghost use Rattle.answer_laws.specs.Owners.{OwnersOfNoneAreRefused, OwnersReceive, OwnersReply, SendsAreLetters};
 ghost use Rattle.answer_laws.specs.Owns.{LivingCallsAreEvents, OthersReplyNothing, PodsSessionsCallsAreEvents, PodsStoresCallsAreEvents};
 ghost use Rattle.answer_laws.specs.Replies.{EachHasOneLetter, ReadersLeaveTheRest, ReceivesAreTheLetters, RepliesAreTheAnswers};
-ghost use Rattle.answer_laws.specs.Served.{ClientsAreAnsweredInTurn, LaterClientsAreAnsweredInTurn};
+ghost use Rattle.answer_laws.specs.Served.{ClientsAreAnsweredInTurn, InScripts, InWholeSessions, LaterClientsAreAnsweredInTurn, SessionsAreReached};
 ghost use Rattle.answer_laws.specs.Sights.{DeliveriesLeaveIt, OthersLeaveIt};
 ghost use Rattle.answer_laws.specs.Stands.{DeliveriesAreEvents, OthersCallsAreEvents, PodsCallsAreEvents, SessionsCallsAreEvents, StoresCallsAreEvents, TakesAreEvents};
 ghost use Rattle.answer_laws.specs.Talks.{TalksAreAnswers};
@@ -47,6 +47,21 @@ pub fn every_client<B: Body>()
 /// So it is where the store has begun before and served others, and the session is born then.
 pub fn every_later_client<B: Body>()
     ensures { LaterClientsAreAnsweredInTurn B }
+{}
+
+/// So it is in a whole session, of all its steps.
+pub fn every_client_of_a_session<B: Body>()
+    ensures { InWholeSessions B }
+{}
+
+/// So it is of the threads of a script.
+pub fn every_client_of_a_script()
+    ensures { InScripts }
+{}
+
+/// Each session, with its takes and calls, is one of those that moves from the opening come to.
+pub fn every_session<B: Body>()
+    ensures { SessionsAreReached B }
 {}
 
 /// A session and a store that talk, whatever else is sent to the store and whoever ends: the accepted replies to the session's client
