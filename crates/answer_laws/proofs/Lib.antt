@@ -25,3 +25,5 @@ mod ThreadRows
 mod Servings
 mod Meetings
 mod Openings
+mod Reports
+mod Wholes

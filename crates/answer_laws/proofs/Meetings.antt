@@ -7,7 +7,7 @@ use Rattle.answer_laws.proofs.TalkLaws.{Inv, Inv.Goes, Phase.Idle}
 use Rattle.answer_laws.proofs.TalkSteps.{either_of, unborn_absent, unsome}
 use Rattle.answer_laws.proofs.ThreadRows.{row_polled_other, row_polled_own, row_settled}
 use Rattle.answer_laws.specs.Clients.{IsAnsweredInTurn}
-use Rattle.answer_laws.specs.Served.{Begins, CanGoOn, ClientsAreAnsweredInTurn, LaterClientsAreAnsweredInTurn, LineServer, Serves, begun, gone_on, is_move_due, moved_by, steps_of}
+use Rattle.answer_laws.specs.Served.{Begins, CanGoOn, ClientsAreAnsweredInTurn, LaterClientsAreAnsweredInTurn, LineServer, Serves, TextsAreShort, begun, gone_on, is_move_due, moved_by, steps_of}
 use Rattle.answer_laws.specs.Sights.{Sight, answers_to, sight}
 use Rattle.answer_laws.specs.Stands.{AgentIs.Unmade, block_of, last_heard}
 use Rattle.answer_laws.specs.Talks.{Mail.Nothing, Stand.Hears, Talk}
@@ -65,15 +65,15 @@ module _ {B : Type 0} (setting : Setting B) (server : LineServer setting.next) (
   met = Starting (alive_seen live.pod.state s block.Not (ap (λ (v : Sight). v.waits) begins.thread)) (session_opening event place) zero_answer kb kz begins.row row_k
       (λ a low away. meet s k event place a live.pod.state was begins.thread kb kz alone low) refl (λ a. refl)
 
-  pub met_answers : (moves : List (Option Took)) → CanGoOn setting moves (begun live) → Serves s k (gone_on setting moves (begun live)) → (a : ℕ) → IsAnsweredInTurn s a (steps_of (gone_on setting moves (begun live)).steps)
-  met_answers moves can serves a =
+  pub met_answers : (moves : List (Option Took)) → CanGoOn setting moves (begun live) → Serves s k (gone_on setting moves (begun live)) → TextsAreShort (gone_on setting moves (begun live)) → (a : ℕ) → IsAnsweredInTurn s a (steps_of (gone_on setting moves (begun live)).steps)
+  met_answers moves can serves short a =
       let end = gone_on setting moves (begun live) in
-      let stood = gone_stood setting server s k s_k moves (begun live) was can met (alive_seen live.pod.state k (block_of None alone.stand) (ap (λ (v : Sight). v.waits) alone.seen)) serves.lives serves.sends serves.short serves.few in
+      let stood = gone_stood setting server s k s_k moves (begun live) was can met (alive_seen live.pod.state k (block_of None alone.stand) (ap (λ (v : Sight). v.waits) alone.seen)) serves.lives serves.sends short serves.few in
       phase_first s k end.live.pod.state (S_of setting server s k s_k end.live.rows) (K_of setting server s k s_k end.live.rows) _ _ stood a
 
 pub clients_are_answered_in_turn : (B : Type 0) → ClientsAreAnsweredInTurn B
-clients_are_answered_in_turn B setting server s k event place s_k live was begins_k begins moves can serves a =
-    met_answers setting server s k event place s_k live was begins store_opening zero_answer begins_k.row (begin_alone s k live.pod.state was begins_k.thread) moves can serves a
+clients_are_answered_in_turn B setting server s k event place s_k live was begins_k begins moves can serves short a =
+    met_answers setting server s k event place s_k live was begins store_opening zero_answer begins_k.row (begin_alone s k live.pod.state was begins_k.thread) moves can serves short a
 
 -- ---- a store that has begun before
 
@@ -185,8 +185,8 @@ module _ {B : Type 0} (setting : Setting B) where
   gone_lawful (m ∷ ms) session can was = gone_lawful ms (moved_by setting session m) can.1 (moved_lawful setting session m can.0 was)
 
 pub later_clients_are_answered_in_turn : (B : Type 0) → LaterClientsAreAnsweredInTurn B
-later_clients_are_answered_in_turn B setting server s k event place first was begins_k moves birth can low live is begins later can_later serves a =
-    met_answers setting server s k event place s_k live was_live begins alone.body alone.answer alone.row alone.alone later can_later serves a
+later_clients_are_answered_in_turn B setting server s k event place first was begins_k moves birth can low live is begins later can_later serves short a =
+    met_answers setting server s k event place s_k live was_live begins alone.body alone.answer alone.row alone.alone later can_later serves short a
   where
     before : Session B
     before = gone_on setting moves (begun first)

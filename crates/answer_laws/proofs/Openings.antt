@@ -90,7 +90,7 @@ module _ (a : ℕ) where
       by_trap None = by_agent (passes (is_trapped trapped) (agent_event_of c))
       by_trap (Some e) = by_refusal e (trap_refusal st trapped e)
 
-  texts_called : (st : State) (trapped : List Bool) (t : ℕ) (c : Call) (pending : Option ℕ) → texts_in a None (traps_called st trapped t c pending).effects ≡ []
+  pub texts_called : (st : State) (trapped : List Bool) (t : ℕ) (c : Call) (pending : Option ℕ) → texts_in a None (traps_called st trapped t c pending).effects ≡ []
   texts_called st trapped t c None = texts_made st trapped t c
   texts_called st trapped t c (Some e) = by_given (passes is_given (notice st t e)) (passes is_catch (notice st t e))
     where
@@ -173,25 +173,25 @@ module _ {B : Type 0} (setting : Setting B) where
       by_choice (Some t) e = by_row t e (row_of t live.rows)
 
 module _ {B : Type 0} (setting : Setting B) (server : LineServer setting.next) (s k : ℕ) (s_k : eqb s k ≡ false) where
-  move_untold : (session : Session B) (m : Option Took) → Lawful session.live.pod.state None → IsUntold setting session → IsUntold setting (moved_by setting session m)
+  pub move_untold : (session : Session B) (m : Option Took) → Lawful session.live.pod.state None → IsUntold setting session → IsUntold setting (moved_by setting session m)
   unfolding taken
   move_untold session None was untold a low away = sym (got_push setting server s k s_k session.steps (record { take = None; effects = (move setting.next setting.bodies session.live).effects }) a)
       ∙ (λ i. untold a (omega (arith, low, (moved_fades setting a session None).births)) away i ++ call_texts setting session.live was a low i)
   move_untold session (Some took) was untold a low away = sym (got_push setting server s k s_k session.steps (record { take = Some took; effects = (taken setting.bodies took session.live).effects }) a)
       ∙ (λ i. untold a (omega (arith, low, (moved_fades setting a session (Some took)).births)) away i ++ unborn_line a away session.live.pod was (omega (arith, low, (moved_fades setting a session (Some took)).births)) took.event took.line.text i)
 
-  move_silent : (session : Session B) (m : Option Took) → Lawful session.live.pod.state None → session.live.pod.state.births ≤ s → ((a : ℕ) → replied_to s a (steps_of session.steps) ≡ []) → (a : ℕ) → replied_to s a (steps_of (moved_by setting session m).steps) ≡ []
+  pub move_silent : (session : Session B) (m : Option Took) → Lawful session.live.pod.state None → session.live.pod.state.births ≤ s → ((a : ℕ) → replied_to s a (steps_of session.steps) ≡ []) → (a : ℕ) → replied_to s a (steps_of (moved_by setting session m).steps) ≡ []
   unfolding taken
   move_silent session None was low silent a = sym (said_push setting server s k s_k session.steps (record { take = None; effects = (move setting.next setting.bodies session.live).effects }) a)
       ∙ (λ i. silent a i ++ call_silent setting session.live was s a low i)
   move_silent session (Some took) was low silent a = sym (said_push setting server s k s_k session.steps (record { take = Some took; effects = (taken setting.bodies took session.live).effects }) a)
       ∙ (λ i. silent a i ++ (others_reply_nothing s a session.live.pod).1 took.event took.line.text i)
 
-  moves_untold : (moves : List (Option Took)) (session : Session B) → Lawful session.live.pod.state None → CanGoOn setting moves session → IsUntold setting session → IsUntold setting (gone_on setting moves session)
+  pub moves_untold : (moves : List (Option Took)) (session : Session B) → Lawful session.live.pod.state None → CanGoOn setting moves session → IsUntold setting session → IsUntold setting (gone_on setting moves session)
   moves_untold [] session was can untold = untold
   moves_untold (m ∷ ms) session was can untold = moves_untold ms (moved_by setting session m) (moved_lawful setting session m can.0 was) can.1 (move_untold session m was untold)
 
-  moves_silent : (moves : List (Option Took)) (session : Session B) → Lawful session.live.pod.state None → CanGoOn setting moves session → (gone_on setting moves session).live.pod.state.births ≤ s → ((a : ℕ) → replied_to s a (steps_of session.steps) ≡ []) → (a : ℕ) → replied_to s a (steps_of (gone_on setting moves session).steps) ≡ []
+  pub moves_silent : (moves : List (Option Took)) (session : Session B) → Lawful session.live.pod.state None → CanGoOn setting moves session → (gone_on setting moves session).live.pod.state.births ≤ s → ((a : ℕ) → replied_to s a (steps_of session.steps) ≡ []) → (a : ℕ) → replied_to s a (steps_of (gone_on setting moves session).steps) ≡ []
   moves_silent [] session was can low silent = silent
   moves_silent (m ∷ ms) session was can low silent = moves_silent ms (moved_by setting session m) (moved_lawful setting session m can.0 was) can.1 low
       (move_silent session m was (omega (arith, low, (gone_fades setting s (m ∷ ms) session).births)) silent)
@@ -199,15 +199,15 @@ module _ {B : Type 0} (setting : Setting B) (server : LineServer setting.next) (
 -- ---- moves behind moves
 
 module _ {B : Type 0} (setting : Setting B) where
-  gone_append : (one two : List (Option Took)) (session : Session B) → gone_on setting (one ++ two) session ≡ gone_on setting two (gone_on setting one session)
+  pub gone_append : (one two : List (Option Took)) (session : Session B) → gone_on setting (one ++ two) session ≡ gone_on setting two (gone_on setting one session)
   gone_append [] two session = refl
   gone_append (m ∷ ms) two session = gone_append ms two (moved_by setting session m)
 
-  can_before : (one two : List (Option Took)) (session : Session B) → CanGoOn setting (one ++ two) session → CanGoOn setting one session
+  pub can_before : (one two : List (Option Took)) (session : Session B) → CanGoOn setting (one ++ two) session → CanGoOn setting one session
   can_before [] two session can = tt
   can_before (m ∷ ms) two session can = (can.0, can_before ms two (moved_by setting session m) can.1)
 
-  can_behind : (one two : List (Option Took)) (session : Session B) → CanGoOn setting (one ++ two) session → CanGoOn setting two (gone_on setting one session)
+  pub can_behind : (one two : List (Option Took)) (session : Session B) → CanGoOn setting (one ++ two) session → CanGoOn setting two (gone_on setting one session)
   can_behind [] two session can = can
   can_behind (m ∷ ms) two session can = can_behind ms two (moved_by setting session m) can.1
 
@@ -252,97 +252,3 @@ module _ {B : Type 0} (setting : Setting B) where
 pub sessions_are_reached : (B : Type 0) → SessionsAreReached B
 unfolding play IsDefined
 sessions_are_reached B setting takes n h = played_reached setting (reverse takes) n h
-
--- ---- the whole
-
-pub in_whole_sessions : (B : Type 0) → InWholeSessions B
-in_whole_sessions B setting server least most s k event place first moves birth later can begins_k low begins serves a =
-    subst (λ (x : Session B). Serves s k x → AreAnswered x) (sym whole) answers serves
-  where
-    AreAnswered : Session B → Type 0
-    AreAnswered end = IsAnsweredInTurn s a (steps_of end.steps)
-
-    start : Session B
-    start = opening_session setting
-
-    was : Lawful start.live.pod.state None
-    was = Lawful-opening setting.params least most
-
-    one : Session B
-    one = gone_on setting first start
-
-    before : Session B
-    before = gone_on setting moves one
-
-    after : Session B
-    after = moved_by setting before birth
-
-    before_is : gone_on setting (first ++ moves) start ≡ before
-    before_is = gone_append setting first moves start
-
-    after_is : gone_on setting (first ++ (moves ++ birth ∷ [])) start ≡ after
-    after_is = gone_append setting first (moves ++ birth ∷ []) start ∙ gone_push setting moves birth one
-
-    whole : gone_on setting (first ++ (moves ++ birth ∷ later)) start ≡ gone_on setting later after
-    whole = gone_append setting first (moves ++ birth ∷ later) start ∙ gone_append setting moves (birth ∷ later) one
-
-    can_first_part : CanGoOn setting first start
-    can_first_part = can_before setting first (moves ++ birth ∷ later) start can
-
-    can_rest : CanGoOn setting (moves ++ birth ∷ later) one
-    can_rest = can_behind setting first (moves ++ birth ∷ later) start can
-
-    can_moves : CanGoOn setting moves one
-    can_moves = can_before setting moves (birth ∷ later) one can_rest
-
-    can_end : CanGoOn setting (birth ∷ later) before
-    can_end = can_behind setting moves (birth ∷ later) one can_rest
-
-    was_one : Lawful one.live.pod.state None
-    was_one = gone_lawful setting first start can_first_part was
-
-    was_before : Lawful before.live.pod.state None
-    was_before = gone_lawful setting moves one can_moves was_one
-
-    was_after : Lawful after.live.pod.state None
-    was_after = moved_lawful setting before birth can_end.0 was_before
-
-    low_before : before.live.pod.state.births ≤ s
-    low_before = subst (λ (x : Session B). x.live.pod.state.births ≤ s) before_is low
-
-    begins_s : Begins s (server.serving (session_opening event place)) after.live
-    begins_s = subst (λ (x : Session B). Begins s (server.serving (session_opening event place)) x.live) after_is begins
-
-    born : k < before.live.pod.state.births
-    born = omega (arith, born_below one.live.pod.state was_one k (alive_seen one.live.pod.state k block.Not (ap (λ (v : Sight). v.waits) begins_k.thread)), (gone_fades setting k moves one).births)
-
-    s_k : eqb s k ≡ false
-    s_k = ne_eqb s k (λ e. omega (arith, e, low_before, born))
-
-    answers : Serves s k (gone_on setting later after) → AreAnswered (gone_on setting later after)
-    answers ends =
-        let lives_after = there_before setting k later after (omega (arith, born, (moved_fades setting k before birth).births)) ends.lives in
-        let lives_before = there_before setting k (birth ∷ []) before born lives_after in
-        let lives_s = alive_seen after.live.pod.state s block.Not (ap (λ (v : Sight). v.waits) begins_s.thread) in
-        let alone = move_alone setting server s k s_k before birth was_before can_end.0
-            (moves_alone setting server s k s_k moves one was_one can_moves (record { body = store_opening; answer = zero_answer; row = begins_k.row; alone = begin_alone s k one.live.pod.state was_one begins_k.thread }) low_before lives_before) low_before lives_after (inr lives_s) in
-        let untold = move_untold setting server s k s_k before birth was_before (moves_untold setting server s k s_k moves one was_one can_moves (moves_untold setting server s k s_k first start was can_first_part (λ a low away. refl))) in
-        let silent = move_silent setting server s k s_k before birth was_before low_before
-            (moves_silent setting server s k s_k moves one was_one can_moves low_before (moves_silent setting server s k s_k first start was can_first_part (omega (arith, low_before, (gone_fades setting s moves one).births)) (λ a. refl))) in
-        let stood = Starting lives_s (session_opening event place) zero_answer alone.body alone.answer begins_s.row alone.row
-            (λ a low away. subst (λ xs. TellsAt s k a after.live.pod.state (session_opening event place) zero_answer alone.body alone.answer xs (replied_to s a (steps_of after.steps))) (sym (untold a low away))
-                (subst (λ xs. TellsAt s k a after.live.pod.state (session_opening event place) zero_answer alone.body alone.answer [] xs) (sym (silent a)) (meet s k event place a after.live.pod.state was_after begins_s.thread alone.body alone.answer alone.alone low)))
-            refl silent in
-        let end = gone_on setting later after in
-        phase_first s k end.live.pod.state (S_of setting server s k s_k end.live.rows) (K_of setting server s k s_k end.live.rows) (λ b. delivered_to b (steps_of end.steps)) (λ b. replied_to s b (steps_of end.steps))
-        (gone_stood setting server s k s_k later after was_after can_end.1 stood (alive_seen after.live.pod.state k (block_of None alone.alone.stand) (ap (λ (v : Sight). v.waits) alone.alone.seen)) ends.lives ends.sends ends.short ends.few) a
-
-pub in_scripts : InScripts
-in_scripts bodies params names = in_whole_sessions ThreadBody (record { next = body_next; bodies = bodies; params = params; names = names }) (record {
-  serving = Serving;
-  storing = Storing;
-  serves = λ body names x. refl;
-  stores = λ body names x. refl;
-  one_session = λ b c e. cc e;
-  one_store = λ b c e. cc e;
-})

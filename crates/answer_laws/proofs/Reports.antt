@@ -2,18 +2,20 @@
 use Rattle.answer_laws.proofs.OwnSteps.{event_is}
 use Rattle.answer_laws.proofs.Openings.{texts_called}
 use Rattle.answer_laws.proofs.PodSteps.{births_said, lines_told, reports_told, tame_deliver, texts_append}
-use Rattle.answer_laws.proofs.Servings.{gone_fades, got_push_plain, moved_fades, moved_lawful}
+use Rattle.answer_laws.proofs.Fadings.{event_fades}
+use Rattle.answer_laws.proofs.Servings.{gone_fades, got_more, moved_lawful}
+use Rattle.answer_laws.proofs.TalkTexts.{births_deliver}
 use Rattle.answer_laws.specs.Agents.{deliveries_to}
 use Rattle.answer_laws.specs.Clients.{delivered_to}
 use Rattle.answer_laws.specs.Lengths.{is_short}
-use Rattle.answer_laws.specs.Served.{CanGoOn, gone_on, is_move_due, line_is_short, lines_are_short, moved_by, step_of, steps_of}
+use Rattle.answer_laws.specs.Served.{CanGoOn, gone_on, line_is_short, moved_by, steps_of}
 use Rattle.answer_laws.specs.Stands.{texts_in}
 use Rattle.lwp_types.specs.Agents.{armed, deliver}
 use Rattle.lwp_types.specs.Choice.{choice}
 use Rattle.lwp_types.specs.CountLaws.{count-append, count-cons, one}
 use Rattle.lwp_types.specs.Lawful.{Lawful}
 use Rattle.lwp_types.specs.Names.{null_id, polled_as}
-use Rattle.lwp_types.specs.State.{State, all_below}
+use Rattle.lwp_types.specs.State.{Outcome, State, all_below}
 use Rattle.lwp_types.specs.declared.call.Call.{Call}
 use Rattle.lwp_types.specs.declared.call.Effect.{Effect}
 use Rattle.pod_events.specs.Events.{EventState, has_agent, is_trapped, passed_on, rites_event, take_event, trap_taken}
@@ -101,3 +103,81 @@ module _ (a : ℕ) (es : EventState) (was : Lawful es.state None) (h : Below es)
           let tame = tame_deliver now rites_event (report_text dead) in
           let is = texts_append a None fs (map (as_rites dead) sent) ∙ (λ i. none i ++ (reports_told a dead sent tame ∙ lines_told a (report_text dead) sent tame) i) in
           ap (list_all is_short) is ∙ all_replicate (report_text dead) (deliveries_to a sent) (report_short dead (omega (arith, few, ltb-true dead now.births (and_parts (nat_lt dead now.births) (all_below now.births later) low).0)))
+
+-- ---- a call, and a take
+
+died_by : (now : State) (fs : List Effect) (reports : List ℕ) → ((n : ℕ) → 1 ≤ count_by (is_died n) (rites_said now fs reports).effects → n < (rites_said now fs reports).state.births) → (n : ℕ) → 1 ≤ count_by (is_died n) fs → n < now.births
+died_by now fs reports died n some = subst (λ m. n < m) (births_said now fs reports) (died n (by_armed (armed now rites_event) reports))
+  where
+    by_armed : (b : Bool) (rs : List ℕ) → 1 ≤ count_by (is_died n) (cond b (first_reported now fs rs) (record { state = now; reports = rs; effects = fs })).effects
+    by_armed true [] = some
+    by_armed false rs = some
+    by_armed true (dead ∷ later) = omega (arith, some, count-append (is_died n) fs (map (as_rites dead) (deliver now rites_event (report_text dead)).effects))
+
+call_reported : (a : ℕ) (es : EventState) → Lawful es.state None → Below es → (c : Call) → Reported a es (event_step es c).after (event_step es c).effects
+unfolding event_step event_step_by
+call_reported a es was h c = by_choice (choice es.state) refl
+  where
+    by_choice : (o : Option ℕ) → choice es.state ≡ o → Reported a es (event_step_if es c o).after (event_step_if es c o).effects
+    by_choice None e = record { below = h; short = λ few. refl }
+    by_choice (Some t) e =
+        let out = traps_called es.state es.trapped t c es.pending in
+        let reports = reports_after es.state out.state es.reports out.effects in
+        let died = subst (λ (o : Outcome). (n : ℕ) → 1 ≤ count_by (is_died n) o.effects → n < o.after.births) (event_is es t c e) (λ n some. ((call_moved es was c).does.gone n some).born) in
+        let more = subst (λ (o : Outcome). es.state.births ≤ o.after.births) (event_is es t c e) (event_fades 0 es c).births in
+        let below = after_below a es was h c t e out.state out.effects (omega (arith, more, births_said out.state out.effects reports)) (died_by out.state out.effects reports died) in
+        let both = said a es was h c t e out.state out.effects reports below (texts_called a es.state es.trapped t c es.pending) in
+        record { below = both.0; short = both.1 }
+
+take_reported : (a : ℕ) (es : EventState) → Below es → (e : ℕ) (text : List ℕ) → is_short text ≡ true → Below (take_event es e text).after × (list_all is_short (texts_in a (Some text) (take_event es e text).effects) ≡ true)
+unfolding take_event
+take_reported a es h e text short = by_trapped (is_trapped es.trapped e)
+  where
+    by_test : (b : Bool) → list_all is_short (cond b (text ∷ []) [] ++ []) ≡ true
+    by_test true = and_from _ _ short refl
+    by_test false = refl
+
+    by_trapped : (b : Bool) → Below (cond b (trap_taken es e) (passed_on es (deliver es.state e text))).after × (list_all is_short (texts_in a (Some text) (cond b (trap_taken es e) (passed_on es (deliver es.state e text))).effects) ≡ true)
+    by_trapped true = (h, by_test (eqb null_id a))
+    by_trapped false = (subst (λ n. all_below n es.reports ≡ true) (sym (births_deliver es.state e text)) h,
+        ap (list_all is_short) (lines_told a text (deliver es.state e text).effects (tame_deliver es.state e text)) ∙ all_replicate text (deliveries_to a (deliver es.state e text).effects) short)
+
+-- ---- a session
+
+module _ {B : Type 0} (setting : Setting B) where
+  -- so far all that was delivered is short, and the dead that are to be reported are below the births
+  pub record IsShortSoFar (session : Session B) : Type 0 where
+    pub below : Below session.live.pod
+    pub short : (a : ℕ) → list_all is_short (delivered_to a (steps_of session.steps)) ≡ true
+
+  pushed : (steps : List Made) (m : Made) (a : ℕ) → list_all is_short (delivered_to a (steps_of steps)) ≡ true → list_all is_short (texts_in a (option_map (λ (took : Took). took.line.text) m.take) m.effects) ≡ true → list_all is_short (delivered_to a (steps_of (steps ++ m ∷ []))) ≡ true
+  pushed steps m a one two = ap (list_all is_short) (sym (got_more steps m a)) ∙ all_both (delivered_to a (steps_of steps)) (texts_in a (option_map (λ (took : Took). took.line.text) m.take) m.effects) one two
+
+  call_short : (live : Live B) → Lawful live.pod.state None → Below live.pod → (a : ℕ) → Reported a live.pod (move setting.next setting.bodies live).live.pod (move setting.next setting.bodies live).effects
+  unfolding move called
+  call_short live was h a = by_choice (choice live.pod.state)
+    where
+      by_row : (t : ℕ) (o : Option (Row B)) → Reported a live.pod (move_row setting.next setting.bodies live t o).live.pod (move_row setting.next setting.bodies live t o).effects
+      by_row t None = record { below = h; short = λ few. refl }
+      by_row t (Some row) = call_reported a live.pod was h (setting.next row.body (polled_as t live.names) row.answer).0
+
+      by_choice : (o : Option ℕ) → Reported a live.pod (move_by setting.next setting.bodies live o).live.pod (move_by setting.next setting.bodies live o).effects
+      by_choice None = record { below = h; short = λ few. refl }
+      by_choice (Some t) = by_row t (row_of t live.rows)
+
+  move_short : (session : Session B) (m : Option Took) → Lawful session.live.pod.state None → IsShortSoFar session → (moved_by setting session m).live.pod.state.births < null_id → line_is_short m ≡ true → IsShortSoFar (moved_by setting session m)
+  unfolding taken
+  move_short session None was h few line = record {
+    below = (call_short session.live was h.below 0).below;
+    short = λ a. pushed session.steps (record { take = None; effects = (move setting.next setting.bodies session.live).effects }) a (h.short a) ((call_short session.live was h.below a).short few);
+  }
+  move_short session (Some took) was h few line = record {
+    below = (take_reported 0 session.live.pod h.below took.event took.line.text line).0;
+    short = λ a. pushed session.steps (record { take = Some took; effects = (taken setting.bodies took session.live).effects }) a (h.short a) (take_reported a session.live.pod h.below took.event took.line.text line).1;
+  }
+
+  pub moves_short : (moves : List (Option Took)) (session : Session B) → Lawful session.live.pod.state None → CanGoOn setting moves session → IsShortSoFar session → (gone_on setting moves session).live.pod.state.births < null_id → list_all line_is_short moves ≡ true → IsShortSoFar (gone_on setting moves session)
+  moves_short [] session was can h few lines = h
+  moves_short (m ∷ ms) session was can h few lines =
+      let parts = and_parts (line_is_short m) (list_all line_is_short ms) lines in
+      moves_short ms (moved_by setting session m) (moved_lawful setting session m can.0 was) can.1 (move_short session m was h (omega (arith, few, (gone_fades setting 0 ms (moved_by setting session m)).births)) parts.0) few parts.1

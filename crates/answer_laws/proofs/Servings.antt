@@ -135,6 +135,12 @@ sends_last : (s k : ℕ) (steps : List Made) (m : Made) → all_sends_to s k (st
 sends_last s k steps m all = (and_parts (list_all (sends_only s k) m.effects) true (and_parts (all_sends_to s k (steps_of steps)) (list_all (sends_only s k) m.effects && true)
     (sym (list_all-append (λ (step : Step). list_all (sends_only s k) step.effects) (steps_of steps) (step_of m ∷ [])) ∙ ap (all_sends_to s k) (sym (map-append step_of steps (m ∷ []))) ∙ all)).1).0
 
+-- what one step more delivers
+pub got_more : (steps : List Made) (m : Made) (a : ℕ) → delivered_to a (steps_of steps) ++ texts_in a (option_map (λ (took : Took). took.line.text) m.take) m.effects ≡ delivered_to a (steps_of (steps ++ m ∷ []))
+got_more steps m a = sym (ap (delivered_to a) (map-append step_of steps (m ∷ []))
+    ∙ flat_map-append (λ (step : Step). flat_map (text_to a step.text) step.effects) (steps_of steps) (step_of m ∷ [])
+    ∙ ap (λ xs. delivered_to a (steps_of steps) ++ xs) (append-nil (texts_in a (option_map (λ (took : Took). took.line.text) m.take) m.effects)))
+
 -- ---- a session of a pod
 
 module _ {B : Type 0} (setting : Setting B) (server : LineServer setting.next) (s k : ℕ) (s_k : eqb s k ≡ false) where
@@ -154,9 +160,7 @@ module _ {B : Type 0} (setting : Setting B) (server : LineServer setting.next) (
   Stood session = Phase s k session.live.pod.state (S_of session.live.rows) (K_of session.live.rows) (got_in session.steps) (said_in session.steps)
 
   pub got_push : (steps : List Made) (made : Made) (a : ℕ) → got_in steps a ++ texts_in a (option_map (λ (took : Took). took.line.text) made.take) made.effects ≡ got_in (steps ++ made ∷ []) a
-  got_push steps made a = sym (ap (delivered_to a) (map-append step_of steps (made ∷ []))
-      ∙ flat_map-append (λ (step : Step). flat_map (text_to a step.text) step.effects) (steps_of steps) (step_of made ∷ [])
-      ∙ ap (λ xs. got_in steps a ++ xs) (append-nil (texts_in a (option_map (λ (took : Took). took.line.text) made.take) made.effects)))
+  got_push steps made a = got_more steps made a
 
   pub said_push : (steps : List Made) (made : Made) (a : ℕ) → said_in steps a ++ replied_in s a made.effects ≡ said_in (steps ++ made ∷ []) a
   said_push steps made a = sym (ap (replied_to s a) (map-append step_of steps (made ∷ []))

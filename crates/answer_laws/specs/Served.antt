@@ -73,19 +73,22 @@ begun live = record { live = live; steps = [] }
 
 -- ---- what is asked of a session up to its end
 
--- the store lives, all that s has sent went to it, the texts for each agent have room in a letter, and no number is that of nobody
+-- the store lives, all that s has sent went to it, and fewer were born than there are numbers
 pub record Serves {B : Type 0} (s k : ℕ) (end : Session B) : Type 0 where
   pub lives : is_thread end.live.pod.state k ≡ true
   pub sends : all_sends_to s k (steps_of end.steps) ≡ true
-  pub short : (a : ℕ) → list_all is_short (delivered_to a (steps_of end.steps)) ≡ true
   pub few : end.live.pod.state.births < null_id
+
+-- the texts for each agent have room in a letter
+abbrev pub TextsAreShort : {B : Type 0} → Session B → Type 0
+TextsAreShort end = (a : ℕ) → list_all is_short (delivered_to a (steps_of end.steps)) ≡ true
 
 -- Where a store and a client's session begin, whatever the others do and whenever lines are taken from there on: the accepted replies of the
 -- session to its agent are a first part of the answers to the lines delivered to that.
 abbrev pub ClientsAreAnsweredInTurn : Type 0 → Type 0
 ClientsAreAnsweredInTurn B = (setting : Setting B) (server : LineServer setting.next) (s k event place : ℕ) → (s == k) ≡ false
     → (live : Live B) → Lawful live.pod.state None → Begins k (server.storing store_opening) live → Begins s (server.serving (session_opening event place)) live
-    → (moves : List (Option Took)) → CanGoOn setting moves (begun live) → Serves s k (gone_on setting moves (begun live))
+    → (moves : List (Option Took)) → CanGoOn setting moves (begun live) → Serves s k (gone_on setting moves (begun live)) → TextsAreShort (gone_on setting moves (begun live))
     → (a : ℕ) → IsAnsweredInTurn s a (steps_of (gone_on setting moves (begun live)).steps)
 
 -- So it is where the session begins by a move behind some others since the store began, before which it wasn't born; whoever else the store
@@ -95,10 +98,15 @@ LaterClientsAreAnsweredInTurn B = (setting : Setting B) (server : LineServer set
     → (first : Live B) → Lawful first.pod.state None → Begins k (server.storing store_opening) first
     → (moves : List (Option Took)) (birth : Option Took) → CanGoOn setting (moves ++ birth ∷ []) (begun first) → (gone_on setting moves (begun first)).live.pod.state.births ≤ s
     → (live : Live B) → live ≡ (gone_on setting (moves ++ birth ∷ []) (begun first)).live → Begins s (server.serving (session_opening event place)) live
-    → (later : List (Option Took)) → CanGoOn setting later (begun live) → Serves s k (gone_on setting later (begun live))
+    → (later : List (Option Took)) → CanGoOn setting later (begun live) → Serves s k (gone_on setting later (begun live)) → TextsAreShort (gone_on setting later (begun live))
     → (a : ℕ) → IsAnsweredInTurn s a (steps_of (gone_on setting later (begun live)).steps)
 
 -- ---- whole sessions
+
+-- the line that was taken, if one was, has room in a letter
+abbrev pub line_is_short : Option Took → Bool
+line_is_short None = true
+line_is_short (Some took) = is_short took.line.text
 
 -- At the opening of a session and from there on: the store begins behind some moves, and the client's session behind some more, the last of
 -- which bears it; then the rest follows. Of all steps from the opening on: what the session's client is told is a first part of the answers
@@ -109,7 +117,7 @@ IsAnsweredInIt setting serving storing = 1 ≤ setting.params.maxpri → setting
     → Begins k (storing store_opening) (gone_on setting first (opening_session setting)).live
     → (gone_on setting (first ++ moves) (opening_session setting)).live.pod.state.births ≤ s
     → Begins s (serving (session_opening event place)) (gone_on setting (first ++ (moves ++ birth ∷ [])) (opening_session setting)).live
-    → Serves s k (gone_on setting (first ++ (moves ++ birth ∷ later)) (opening_session setting))
+    → Serves s k (gone_on setting (first ++ (moves ++ birth ∷ later)) (opening_session setting)) → list_all line_is_short (first ++ (moves ++ birth ∷ later)) ≡ true
     → (a : ℕ) → IsAnsweredInTurn s a (steps_of (gone_on setting (first ++ (moves ++ birth ∷ later)) (opening_session setting)).steps)
 
 abbrev pub InWholeSessions : Type 0 → Type 0

@@ -1,4 +1,4 @@
-use Rattle.answer_laws.proofs.Openings.{in_scripts}
+use Rattle.answer_laws.proofs.Wholes.{in_scripts}
 use Rattle.answer_laws.proofs.every_client_of_a_script.Goals as goal
 
 pub returns : goal.returns

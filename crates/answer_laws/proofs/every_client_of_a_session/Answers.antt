@@ -1,4 +1,4 @@
-use Rattle.answer_laws.proofs.Openings.{in_whole_sessions}
+use Rattle.answer_laws.proofs.Wholes.{in_whole_sessions}
 use Rattle.answer_laws.proofs.every_client_of_a_session.Goals as goal
 
 pub returns : goal.returns
