@@ -180,7 +180,7 @@ module _ (s k : ℕ) (es : EventState) (was : Lawful es.state None) (kb : StoreB
 -- ---- the store's own call
 
 -- nobody who isn't born has sent anything
-unborn_silent : (st : State) → Lawful st None → (s : ℕ) → st.births ≤ s → filter (is_letter_of s) st.letters ≡ []
+pub unborn_silent : (st : State) → Lawful st None → (s : ℕ) → st.births ≤ s → filter (is_letter_of s) st.letters ≡ []
 unborn_silent st was s low = none_kept (is_letter_of s) st.letters (omega (
   arith,
   was.nine.blocks.1 s,

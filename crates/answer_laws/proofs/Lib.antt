@@ -26,4 +26,5 @@ mod Servings
 mod Meetings
 mod Openings
 mod Reports
+mod Creating
 mod Wholes

@@ -65,7 +65,7 @@ lawful_made st was trapped t c = by_trap (trap_of c)
     by_trap None = by_agent (passes (is_trapped trapped) (agent_event_of c))
     by_trap (Some e) = by_refusal e (trap_refusal st trapped e)
 
-lawful_called : (st : State) → Lawful st None → (trapped : List Bool) (t : ℕ) (c : Call) (pending : Option ℕ) → Lawful (traps_called st trapped t c pending).state None
+pub lawful_called : (st : State) → Lawful st None → (trapped : List Bool) (t : ℕ) (c : Call) (pending : Option ℕ) → Lawful (traps_called st trapped t c pending).state None
 lawful_called st was trapped t c None = lawful_made st was trapped t c
 lawful_called st was trapped t c (Some e) = by_given (passes is_given (notice st t e)) (passes is_catch (notice st t e))
   where

@@ -11,3 +11,4 @@ pub mod Owners
 pub mod Stands
 pub mod Owns
 pub mod Served
+pub mod Births
