@@ -139,7 +139,7 @@ module _ {B : Type 0} (u : ℕ) where
   none_append [] ys none = refl
   none_append (r ∷ rs) ys none = let parts = none_head r rs none in ap (λ b. cond b (Some r) (row_of u (rs ++ ys))) parts.0 ∙ none_append rs ys parts.1
 
-  none_opened : (v : ℕ) (o : Option B) → eqb v u ≡ false → row_of u (row_opened v o) ≡ None
+  pub none_opened : (v : ℕ) (o : Option B) → eqb v u ≡ false → row_of u (row_opened v o) ≡ None
   none_opened v None e = refl
   none_opened v (Some body) e = ap (λ b. cond b (Some (record { tid = v; body = body; answer = zero_answer })) None) e
 

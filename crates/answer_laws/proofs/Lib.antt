@@ -28,3 +28,4 @@ mod Openings
 mod Reports
 mod Creating
 mod Wholes
+mod Naming

@@ -1,10 +1,10 @@
 -- The first step of a session that names a thread, and the session behind it.
 use Rattle.answer_laws.proofs.Creating.{Bore, call_bears, none_opened, none_settled, none_with, take_bears}
-use Rattle.answer_laws.proofs.Meetings.{gone_lawful}
-use Rattle.answer_laws.proofs.Openings.{can_before, can_behind, gone_append, sessions_are_reached}
+use Rattle.answer_laws.proofs.Meetings.{gone_lawful, gone_push}
+use Rattle.answer_laws.proofs.Openings.{can_before, gone_append, sessions_are_reached}
 use Rattle.answer_laws.proofs.Servings.{gone_fades, moved_fades}
 use Rattle.answer_laws.proofs.TalkSteps.{unsome}
-use Rattle.answer_laws.proofs.Wholes.{in_whole_sessions}
+use Rattle.answer_laws.proofs.Wholes.{in_whole_sessions, line_server}
 use Rattle.answer_laws.specs.Births.{InEveryScript, InEverySession, begins_in, born_in, is_named}
 use Rattle.answer_laws.specs.Clients.{IsAnsweredInTurn}
 use Rattle.answer_laws.specs.Served.{Begins, CanGoOn, IsReached, LineServer, Serves, gone_on, line_is_short, moved_by, steps_of}
@@ -23,8 +23,7 @@ use Rattle.pod_runner.specs.declared.session.Row.{Row}
 use Rattle.pod_runner.specs.declared.session.Took.{Took}
 use Rattle.script_program.specs.Bodies.{body_next}
 use Rattle.script_program.specs.declared.body.ThreadBody.{ThreadBody}
-use Rattle.script_program.specs.declared.body.ThreadBody.TheVariants.{Serving, Storing}
-use Rattle.std.proofs.Common.{Bool, List, None, Option, Some, [], ap, append-nil, append_assoc, arith, cond, eqb, false, inl, inr, refl, subst, sym, true, ℕ, ◌++◌, ◌<◌, ◌∙◌, ◌∷◌, ◌≡◌, ◌≤◌, ◌≢◌, ◌⊎◌}
+use Rattle.std.proofs.Common.{Bool, List, None, Option, Some, [], ap, append-nil, append_assoc, arith, cond, eqb, false, inl, inr, refl, subst, sym, true, ℕ, ◌&&◌, ◌++◌, ◌<◌, ◌∙◌, ◌∷◌, ◌≡◌, ◌≤◌, ◌≢◌, ◌⊎◌}
 use Rattle.std.proofs.lemmas.Bool.{eqb-true, ne_eqb}
 use Rattle.std.specs.List.{list_all}
 use Rattle.std.specs.Prelude.{slice_get}
@@ -158,3 +157,83 @@ split_two (y ∷ ys) x1 l1 (z ∷ zs) x2 l2 e = by_rest (split_two ys x1 l1 zs x
     by_rest : Inside ys x1 zs ⊎ Short ys zs → Inside (y ∷ ys) x1 (z ∷ zs) ⊎ Short (y ∷ ys) (z ∷ zs)
     by_rest (inl i) = inl (record { between = i.between; is = (λ j. sym (head e) j ∷ i.is j) })
     by_rest (inr s) = inr (record { between = s.between; is = (λ j. head e j ∷ s.is j) })
+
+-- ---- every session
+
+module _ {B : Type 0} (setting : Setting B) (server : LineServer setting.next) (least : 1 ≤ setting.params.maxpri) (most : setting.params.maxpri ≤ 255) where
+  lines_of : (moves : List (Option Took)) (session : Session B) → list_all (λ (m : Made). line_is_short m.take) (made_in setting moves session) ≡ list_all line_is_short moves
+  lines_of [] session = refl
+  lines_of (None ∷ ms) session = lines_of ms (moved_by setting session None)
+  lines_of (Some took ∷ ms) session = ap (λ b. line_is_short (Some took) && b) (lines_of ms (moved_by setting session (Some took)))
+
+  module _ (moves : List (Option Took)) (can : CanGoOn setting moves (opening_session setting)) where
+    -- a thread that begins in a procedure begins with its body behind the move that bears it
+    born_at : (u p : ℕ) (n : Named setting u p moves (opening_session setting)) → Birth setting u p (gone_on setting n.before (opening_session setting)).live (moved_by setting (gone_on setting n.before (opening_session setting)) n.birth).live
+    born_at u p n = move_bears setting u p (gone_on setting n.before (opening_session setting)) n.birth
+        (gone_lawful setting n.before (opening_session setting) (can_before setting n.before (n.birth ∷ n.later) (opening_session setting) (subst (λ ms. CanGoOn setting ms (opening_session setting)) n.is can)) (Lawful-opening setting.params least most)) n.bears
+
+    begins_at : (u p : ℕ) (n : Named setting u p moves (opening_session setting)) (body : B) → slice_get setting.bodies p ≡ Some body → Begins u body (moved_by setting (gone_on setting n.before (opening_session setting)) n.birth).live
+    begins_at u p n body is =
+        let b = born_at u p n in
+        let apart : u ≢ 0 = λ e. omega (arith, e, b.number, (gone_fades setting 0 n.before (opening_session setting)).births) in
+        b.begins (gone_none setting u n.before (opening_session setting) (opening_none setting u apart) n.unnamed) body is
+
+    module _ (s k in_s in_k event place : ℕ) (below : k < s) (ns : Named setting s in_s moves (opening_session setting)) (nk : Named setting k in_k moves (opening_session setting))
+        (body_s : slice_get setting.bodies in_s ≡ Some (server.serving (session_opening event place))) (body_k : slice_get setting.bodies in_k ≡ Some (server.storing store_opening))
+        (serves : Serves s k (gone_on setting moves (opening_session setting))) (lines : list_all line_is_short moves ≡ true) (a : ℕ) where
+      later_answers : Inside nk.before nk.birth ns.before → IsAnsweredInTurn s a (steps_of (gone_on setting moves (opening_session setting)).steps)
+      later_answers i = subst (λ ms. IsAnsweredInTurn s a (steps_of (gone_on setting ms (opening_session setting)).steps)) (sym moves_are)
+          (in_whole_sessions B setting server least most s k event place (nk.before ++ nk.birth ∷ []) i.between ns.birth ns.later (subst (λ ms. CanGoOn setting ms (opening_session setting)) moves_are can)
+          (subst (λ (x : Session B). Begins k (server.storing store_opening) x.live) (sym (gone_push setting nk.before nk.birth (opening_session setting))) (begins_at k in_k nk (server.storing store_opening) body_k))
+          (omega (arith, ap (λ ms. (gone_on setting ms (opening_session setting)).live.pod.state.births) before_are, (born_at s in_s ns).number))
+          (subst (λ (x : Session B). Begins s (server.serving (session_opening event place)) x.live) (sym (ap (λ ms. gone_on setting ms (opening_session setting)) birth_are ∙ gone_push setting ns.before ns.birth (opening_session setting))) (begins_at s in_s ns (server.serving (session_opening event place)) body_s))
+          (subst (λ ms. Serves s k (gone_on setting ms (opening_session setting))) moves_are serves) (subst (λ ms. list_all line_is_short ms ≡ true) moves_are lines) a)
+        where
+          before_are : (nk.before ++ nk.birth ∷ []) ++ i.between ≡ ns.before
+          before_are = append_assoc nk.before (nk.birth ∷ []) i.between ∙ sym i.is
+
+          birth_are : (nk.before ++ nk.birth ∷ []) ++ (i.between ++ ns.birth ∷ []) ≡ ns.before ++ ns.birth ∷ []
+          birth_are = sym (append_assoc (nk.before ++ nk.birth ∷ []) i.between (ns.birth ∷ [])) ∙ ap (λ xs. xs ++ ns.birth ∷ []) before_are
+
+          moves_are : moves ≡ (nk.before ++ nk.birth ∷ []) ++ (i.between ++ ns.birth ∷ ns.later)
+          moves_are = ns.is ∙ ap (λ xs. xs ++ ns.birth ∷ ns.later) (sym before_are) ∙ append_assoc (nk.before ++ nk.birth ∷ []) i.between (ns.birth ∷ ns.later)
+
+      -- the store was born first
+      never_short : Short nk.before ns.before → ⊥
+      never_short sh = omega (
+        arith,
+        below,
+        (born_at s in_s ns).number,
+        (born_at k in_k nk).number,
+        ap (λ ms. (gone_on setting ms (opening_session setting)).live.pod.state.births) sh.is,
+        ap (λ (x : Session B). x.live.pod.state.births) (gone_append setting ns.before sh.between (opening_session setting)),
+        (gone_fades setting 0 sh.between (gone_on setting ns.before (opening_session setting))).births,
+      )
+
+      both_answers : IsAnsweredInTurn s a (steps_of (gone_on setting moves (opening_session setting)).steps)
+      both_answers = by_split (split_two nk.before nk.birth nk.later ns.before ns.birth ns.later (sym nk.is ∙ ns.is))
+        where
+          by_split : Inside nk.before nk.birth ns.before ⊎ Short nk.before ns.before → IsAnsweredInTurn s a (steps_of (gone_on setting moves (opening_session setting)).steps)
+          by_split (inl i) = later_answers i
+          by_split (inr sh) = absurd (never_short sh)
+
+pub in_every_session : (B : Type 0) → InEverySession B
+in_every_session B setting server least most takes n defined s k in_s in_k event place below begins_s body_s begins_k body_k serves lines a =
+    subst Goal (sym r.is) core begins_s begins_k serves lines
+  where
+    r : IsReached setting (play setting takes n)
+    r = sessions_are_reached B setting takes n defined
+
+    Goal : Session B → Type 0
+    Goal x = begins_in s x.steps ≡ Some in_s → begins_in k x.steps ≡ Some in_k → Serves s k x → list_all (λ (m : Made). line_is_short m.take) x.steps ≡ true → IsAnsweredInTurn s a (steps_of x.steps)
+
+    core : Goal (gone_on setting r.moves (opening_session setting))
+    core begins_s begins_k serves lines =
+        let steps = steps_are setting r.moves (opening_session setting) in
+        both_answers setting server least most r.moves r.can s k in_s in_k event place below
+        (named_by setting s in_s r.moves (opening_session setting) (ap (begins_in s) (sym steps) ∙ begins_s)) (named_by setting k in_k r.moves (opening_session setting) (ap (begins_in k) (sym steps) ∙ begins_k))
+        body_s body_k serves (sym (lines_of setting server least most r.moves (opening_session setting)) ∙ ap (list_all (λ (m : Made). line_is_short m.take)) (sym steps) ∙ lines) a
+
+pub in_every_script : InEveryScript
+unfolding line_server
+in_every_script bodies params names = in_every_session ThreadBody (record { next = body_next; bodies = bodies; params = params; names = names }) line_server

@@ -107,12 +107,17 @@ in_whole_sessions B setting server least most s k event place first moves birth 
         phase_first s k end.live.pod.state (S_of setting server s k s_k end.live.rows) (K_of setting server s k s_k end.live.rows) (λ b. delivered_to b (steps_of end.steps)) (λ b. replied_to s b (steps_of end.steps))
         (gone_stood setting server s k s_k later after was_after can_end.1 stood (alive_seen after.live.pod.state k (block_of None alone.alone.stand) (ap (λ (v : Sight). v.waits) alone.alone.seen)) ends.lives ends.sends short ends.few) a
 
-pub in_scripts : InScripts
-in_scripts bodies params names = in_whole_sessions ThreadBody (record { next = body_next; bodies = bodies; params = params; names = names }) (record {
+-- the two of the line server among the threads of scripts
+unfoldable pub line_server : LineServer body_next
+line_server = record {
   serving = Serving;
   storing = Storing;
   serves = λ body names x. refl;
   stores = λ body names x. refl;
   one_session = λ b c e. cc e;
   one_store = λ b c e. cc e;
-})
+}
+
+pub in_scripts : InScripts
+unfolding line_server
+in_scripts bodies params names = in_whole_sessions ThreadBody (record { next = body_next; bodies = bodies; params = params; names = names }) line_server

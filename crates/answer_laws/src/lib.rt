@@ -26,6 +26,7 @@
 pub mod rows;
 
 ghost use Rattle.answer_laws.specs.Agents.{DeliveriesPassOthersBy, DeliveriesReachAgents, DestroyedAgentsAreGone, OthersLeaveAgents};
+ghost use Rattle.answer_laws.specs.Births.{InEveryScript, InEverySession};
 ghost use Rattle.answer_laws.specs.Events.{PodsLeaveIt, TakesLeaveIt};
 ghost use Rattle.answer_laws.specs.Lengths.{ShortLinesHaveShortAnswers};
 ghost use Rattle.answer_laws.specs.Owners.{OwnersOfNoneAreRefused, OwnersReceive, OwnersReply, SendsAreLetters};
@@ -57,6 +58,17 @@ pub fn every_client_of_a_session<B: Body>()
 /// So it is of the threads of a script.
 pub fn every_client_of_a_script()
     ensures { InScripts }
+{}
+
+/// In every session, whatever its bodies do and whenever lines are taken: what the client is told of a session that begins behind its store
+/// is a first part of the answers to its lines.
+pub fn every_answered_client<B: Body>()
+    ensures { InEverySession B }
+{}
+
+/// So it is in every session of every script.
+pub fn every_answered_client_of_a_script()
+    ensures { InEveryScript }
 {}
 
 /// Each session, with its takes and calls, is one of those that moves from the opening come to.
