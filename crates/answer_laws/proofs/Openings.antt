@@ -8,7 +8,7 @@ use Rattle.answer_laws.proofs.Servings.{K_of, S_of, Stood, chosen_lives, gone_fa
 use Rattle.answer_laws.proofs.TalkSteps.{either_of, unborn_absent}
 use Rattle.answer_laws.specs.Agents.{deliveries_to}
 use Rattle.answer_laws.specs.Clients.{IsAnsweredInTurn, delivered_to, replied_in, replied_to}
-use Rattle.answer_laws.specs.Served.{Begins, CanGoOn, InScripts, InWholeSessions, IsReached, LineServer, Serves, SessionsAreReached, gone_on, is_move_due, moved_by, steps_of}
+use Rattle.answer_laws.specs.Served.{Begins, CanGoOn, IsReached, LineServer, Serves, SessionsAreReached, gone_on, is_move_due, moved_by, steps_of}
 use Rattle.answer_laws.specs.Sights.{Sight}
 use Rattle.answer_laws.specs.Stands.{block_of, texts_in}
 use Rattle.line_server.specs.Sessions.{session_opening}

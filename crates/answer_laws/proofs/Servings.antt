@@ -305,25 +305,39 @@ module _ {B : Type 0} (setting : Setting B) (server : LineServer setting.next) (
     Behind took after fs = is_thread after.pod.state k ≡ true → list_all (sends_only s k) fs ≡ true → Stood (record { live = after; steps = steps ++ record { take = took; effects = fs } ∷ [] })
 
     module _ (short : (b : ℕ) → list_all is_short (got_in steps b) ≡ true) (low : eqb null_id live.pod.state.births ≡ false) where
-      called_stood : (t : ℕ) → choice live.pod.state ≡ Some t → (row : Row B) → row_of t live.rows ≡ Some row → (names : Names) → (d e : Bool) → eqb t s ≡ d → eqb t k ≡ e
-          → Behind None (called setting.bodies live t (setting.next row.body names row.answer)).live (called setting.bodies live t (setting.next row.body names row.answer)).effects
+      abbrev CalledBehind : ℕ → Polled B → Type 0
+      CalledBehind t r = Behind None (called setting.bodies live t r).live (called setting.bodies live t r).effects
+
+      reply_behind : (t : ℕ) (r q : Polled B) → r ≡ q → CalledBehind t q → CalledBehind t r
+      reply_behind t r q e = subst (CalledBehind t) (sym e)
+
+      thread_behind : (t n : ℕ) (r : Polled B) → t ≡ n → CalledBehind n r → CalledBehind t r
+      thread_behind t n r e = subst (λ m. CalledBehind m r) (sym e)
+
+      session_behind : (turn : choice live.pod.state ≡ Some s) (row : Row B) (found : row_of s live.rows ≡ Some row) (names : Names) → CalledBehind s ((next_s turn names row found).0, server.serving (next_s turn names row found).1, (next_s turn names row found).2)
       unfolding called
+      session_behind turn row found names lives sends = stood_push steps (record { take = None; effects = (out_s turn names row found).effects }) (called setting.bodies live s ((next_s turn names row found).0, server.serving (next_s turn names row found).1, (next_s turn names row found).2)).live
+          (session_call turn names row found short low lives sends)
+
+      store_behind : (turn : choice live.pod.state ≡ Some k) (row : Row B) (found : row_of k live.rows ≡ Some row) (names : Names) → CalledBehind k (setting.next row.body names row.answer)
+      unfolding called
+      store_behind turn row found names lives sends = stood_push steps (record { take = None; effects = (out_k turn names row found).effects }) (called setting.bodies live k (setting.next row.body names row.answer)).live (store_call turn names row found short lives)
+
+      other_behind : (t : ℕ) (turn : choice live.pod.state ≡ Some t) → eqb t s ≡ false → eqb t k ≡ false → (reply : Polled B) → CalledBehind t reply
+      unfolding called
+      other_behind t turn t_s t_k reply lives sends = stood_push steps (record { take = None; effects = (out t turn t_s reply).effects }) (called setting.bodies live t reply).live (other_call t turn t_s reply t_k lives)
+
+      called_stood : (t : ℕ) → choice live.pod.state ≡ Some t → (row : Row B) → row_of t live.rows ≡ Some row → (names : Names) → (d e : Bool) → eqb t s ≡ d → eqb t k ≡ e → CalledBehind t (setting.next row.body names row.answer)
       called_stood t turn row found names true e is is_k =
           let same = eqb-true t s is in
           let turn_s = turn ∙ ap Some same in
           let found_s = ap (λ n. row_of n live.rows) (sym same) ∙ found in
-          subst (λ (r : Polled B). Behind None (called setting.bodies live t r).live (called setting.bodies live t r).effects) (sym (reply_s turn_s names row found_s))
-          (subst (λ n. Behind None (called setting.bodies live n ((next_s turn_s names row found_s).0, server.serving (next_s turn_s names row found_s).1, (next_s turn_s names row found_s).2)).live (called setting.bodies live n ((next_s turn_s names row found_s).0, server.serving (next_s turn_s names row found_s).1, (next_s turn_s names row found_s).2)).effects) (sym same)
-          (λ lives sends. stood_push steps (record { take = None; effects = (out_s turn_s names row found_s).effects }) (called setting.bodies live s ((next_s turn_s names row found_s).0, server.serving (next_s turn_s names row found_s).1, (next_s turn_s names row found_s).2)).live
-              (session_call turn_s names row found_s short low lives sends)))
+          thread_behind t s (setting.next row.body names row.answer) same
+          (reply_behind s (setting.next row.body names row.answer) ((next_s turn_s names row found_s).0, server.serving (next_s turn_s names row found_s).1, (next_s turn_s names row found_s).2) (reply_s turn_s names row found_s) (session_behind turn_s row found_s names))
       called_stood t turn row found names false true is is_k =
           let same = eqb-true t k is_k in
-          let turn_k = turn ∙ ap Some same in
-          let found_k = ap (λ n. row_of n live.rows) (sym same) ∙ found in
-          subst (λ n. Behind None (called setting.bodies live n (setting.next row.body names row.answer)).live (called setting.bodies live n (setting.next row.body names row.answer)).effects) (sym same)
-          (λ lives sends. stood_push steps (record { take = None; effects = (out_k turn_k names row found_k).effects }) (called setting.bodies live k (setting.next row.body names row.answer)).live (store_call turn_k names row found_k short lives))
-      called_stood t turn row found names false false is is_k =
-          λ lives sends. stood_push steps (record { take = None; effects = (out t turn is (setting.next row.body names row.answer)).effects }) (called setting.bodies live t (setting.next row.body names row.answer)).live (other_call t turn is (setting.next row.body names row.answer) is_k lives)
+          thread_behind t k (setting.next row.body names row.answer) same (store_behind (turn ∙ ap Some same) row (ap (λ n. row_of n live.rows) (sym same) ∙ found) names)
+      called_stood t turn row found names false false is is_k = other_behind t turn is is_k (setting.next row.body names row.answer)
 
       row_stood : (t : ℕ) → choice live.pod.state ≡ Some t → (o : Option (Row B)) → row_of t live.rows ≡ o → Behind None (move_row setting.next setting.bodies live t o).live (move_row setting.next setting.bodies live t o).effects
       row_stood t turn None found = λ lives sends. stood_idle live steps stood

@@ -6,7 +6,7 @@ use Rattle.answer_laws.proofs.Phases.{Phase.Starting, TellsAt, born_below, phase
 use Rattle.answer_laws.proofs.Reports.{moves_short}
 use Rattle.answer_laws.proofs.Servings.{K_of, S_of, gone_fades, gone_stood, moved_fades, moved_lawful, there_before}
 use Rattle.answer_laws.specs.Clients.{IsAnsweredInTurn, delivered_to, replied_to}
-use Rattle.answer_laws.specs.Served.{Begins, CanGoOn, InScripts, InWholeSessions, LineServer, Serves, TextsAreShort, gone_on, moved_by, steps_of}
+use Rattle.answer_laws.specs.Served.{Begins, CanGoOn, InWholeSessions, LineServer, Serves, TextsAreShort, gone_on, moved_by, steps_of}
 use Rattle.answer_laws.specs.Sights.{Sight}
 use Rattle.answer_laws.specs.Stands.{block_of}
 use Rattle.line_server.specs.Sessions.{session_opening}
@@ -16,7 +16,6 @@ use Rattle.lwp_types.specs.Unblock.{zero_answer}
 use Rattle.pod_laws.proofs.Opening.{Lawful-opening}
 use Rattle.pod_runner.specs.Session.{Session, opening_session}
 use Rattle.script_program.specs.Bodies.{body_next}
-use Rattle.script_program.specs.declared.body.ThreadBody.{ThreadBody}
 use Rattle.script_program.specs.declared.body.ThreadBody.TheVariants.{Serving, Storing}
 use Rattle.std.proofs.Common.{None, [], ap, arith, eqb, false, inr, refl, subst, sym, true, ℕ, ◌++◌, ◌<◌, ◌∙◌, ◌∷◌, ◌≡◌, ◌≤◌}
 use Rattle.std.proofs.lemmas.Bool.{ne_eqb}
@@ -117,7 +116,3 @@ line_server = record {
   one_session = λ b c e. cc e;
   one_store = λ b c e. cc e;
 }
-
-pub in_scripts : InScripts
-unfolding line_server
-in_scripts bodies params names = in_whole_sessions ThreadBody (record { next = body_next; bodies = bodies; params = params; names = names }) line_server

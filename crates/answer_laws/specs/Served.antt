@@ -14,10 +14,6 @@ use Rattle.pod_runner.specs.Due.{IsDefined, is_call_due, is_take_due}
 use Rattle.pod_runner.specs.Play.{play}
 use Rattle.pod_runner.specs.Session.{Live, Made, Session, Setting, call_step, opening_session, row_of, take_step}
 use Rattle.pod_runner.specs.declared.session.Took.{Took}
-use Rattle.lwp_types.specs.declared.call.PodParams.{PodParams}
-use Rattle.script_program.specs.Bodies.{body_next}
-use Rattle.script_program.specs.declared.body.ThreadBody.{ThreadBody}
-use Rattle.script_program.specs.declared.body.ThreadBody.TheVariants.{Serving, Storing}
 use Rattle.std.specs.List.{list_all}
 use Rattle.std.specs.Prelude.{Bool, IsTrue, List, None, Option, Some, [], false, map, option_map, true, ℕ, ◌++◌, ◌<◌, ◌==◌, ◌∷◌, ◌≡◌, ◌≤◌}
 use Rattle.lwp_types.specs.declared.rows.Block.TheVariants as block
@@ -122,10 +118,6 @@ IsAnsweredInIt setting serving storing = 1 ≤ setting.params.maxpri → setting
 
 abbrev pub InWholeSessions : Type 0 → Type 0
 InWholeSessions B = (setting : Setting B) (server : LineServer setting.next) → IsAnsweredInIt setting server.serving server.storing
-
--- So it is of the threads of scripts, whatever procedures and names there are.
-abbrev pub InScripts : Type 0
-InScripts = (bodies : List ThreadBody) (params : PodParams) (names : Names) → IsAnsweredInIt (record { next = body_next; bodies = bodies; params = params; names = names }) Serving Storing
 
 -- some moves from the opening come to this session
 pub record IsReached {B : Type 0} (setting : Setting B) (session : Session B) : Type 0 where

@@ -1,5 +1,5 @@
-use Rattle.answer_laws.proofs.Meetings.{clients_are_answered_in_turn}
+use Rattle.answer_laws.proofs.Naming.{in_every_session}
 use Rattle.answer_laws.proofs.every_client.Goals as goal
 
 pub returns : goal.returns
-returns g c = clients_are_answered_in_turn g.row.B.Denot
+returns g c = in_every_session g.row.B.Denot
