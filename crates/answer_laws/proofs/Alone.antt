@@ -1,6 +1,6 @@
 -- A store before a client's session is born: it has no table of it, and reads no letter of it.
 use Rattle.answer_laws.proofs.Dying.{destroyed_is_gone, gone_said, gone_thread, no_agent, returned_is_gone, thread_said}
-use Rattle.answer_laws.proofs.Events.{Calls, after_called, rites_same}
+use Rattle.answer_laws.proofs.Events.{after_called, rites_same}
 use Rattle.answer_laws.proofs.Leaving.{Ready}
 use Rattle.answer_laws.proofs.Others.{attends_of, deliver_but}
 use Rattle.answer_laws.proofs.OwnSteps.{Plain, alive_seen, done_by, event_is, made_plain, plain_store, sprung_is}
@@ -9,14 +9,13 @@ use Rattle.answer_laws.proofs.Phases.{IsHearing, reader_hears}
 use Rattle.answer_laws.proofs.Replies.{Never}
 use Rattle.answer_laws.proofs.Sights.{Turn, Turn.Left, Turn.Woken, answers_append, replied_other}
 use Rattle.answer_laws.proofs.StoreSteps.{Checked, Checked.Free, Checked.Struck, Keeps, StoreDoes, StoreDoes.DoesReceive, StoreDoes.DoesReply, StoreDoes.DoesStop, checked, does_by, found_none, keeps_letter, keeps_refused, keeps_replied, keeps_waiting, off}
-use Rattle.answer_laws.proofs.TalkLaws.{Closing, Closing.Alone, Closing.Done, Inv, Inv.Ends, Inv.Goes, Inv.Waits, Phase.Asks, Phase.Idle, Phase.Learns, Phase.Reads, inv_store, is_apart, is_done, is_receiving, stands}
-use Rattle.answer_laws.proofs.AnswerLists.{Texts, table_after}
+use Rattle.answer_laws.proofs.TalkLaws.{Closing.Alone, Closing.Done, Inv, Inv.Ends, Inv.Goes, Inv.Waits, Phase.Asks, Phase.Idle, Phase.Learns, Phase.Reads, inv_store, is_apart, is_done, stands}
+use Rattle.answer_laws.proofs.AnswerLists.{table_after}
 use Rattle.answer_laws.proofs.TalkSteps.{attends_seen, attentive, awaits, either_of, unborn_absent, unsome}
 use Rattle.answer_laws.proofs.TalkTexts.{none_kept}
-use Rattle.answer_laws.specs.Events.{machine_of}
 use Rattle.answer_laws.specs.Sights.{Sight, answers_to, attends, going_on, sight, written_to}
 use Rattle.answer_laws.specs.Stands.{HeardAs, block_of, goes_on_with, is_reading, last_heard}
-use Rattle.answer_laws.specs.Talks.{Mail.Nothing, Stand, Stand.AwaitsLetter, Stand.AwaitsReply, Stand.Hears, Stand.IsOver, Talk, deed_of, session_told, store_calls, store_turn}
+use Rattle.answer_laws.specs.Talks.{Mail.Nothing, Stand, Stand.AwaitsLetter, Stand.Hears, Talk, deed_of, session_told, store_calls, store_turn}
 use Rattle.line_server.specs.Sessions.{session_opening}
 use Rattle.line_server.specs.declared.session.SessionPlace.TheVariants as at
 use Rattle.line_server.specs.Stores.{StoreBody, store_by, store_next, table_of}

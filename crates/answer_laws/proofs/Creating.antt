@@ -2,7 +2,7 @@
 use Rattle.answer_laws.proofs.Alone.{unborn_silent}
 use Rattle.answer_laws.proofs.Others.{deliveries_leave_it}
 use Rattle.answer_laws.proofs.Openings.{lawful_called}
-use Rattle.answer_laws.proofs.OwnSteps.{alive_seen, done_by, event_is}
+use Rattle.answer_laws.proofs.OwnSteps.{alive_seen, event_is}
 use Rattle.answer_laws.proofs.Phases.{resting}
 use Rattle.answer_laws.proofs.PodSteps.{tame_deliver}
 use Rattle.answer_laws.proofs.Events.{rites_same}
@@ -10,8 +10,8 @@ use Rattle.answer_laws.proofs.Servings.{alive_then, rests_untimed}
 use Rattle.answer_laws.proofs.StoreSteps.{Checked, Checked.Free, Checked.Struck, checked}
 use Rattle.answer_laws.proofs.TalkSteps.{attends_seen, either_of, unborn_absent, unsome}
 use Rattle.answer_laws.proofs.ThreadRows.{row_settled}
-use Rattle.answer_laws.specs.Births.{born_in, is_named, names_it}
-use Rattle.answer_laws.specs.Sights.{IsDelivered, IsLeft, IsWoken, Sight, answers_to, sight, sight_by}
+use Rattle.answer_laws.specs.Births.{born_in, is_named}
+use Rattle.answer_laws.specs.Sights.{IsDelivered, IsLeft, IsWoken, Sight, sight, sight_by}
 use Rattle.answer_laws.specs.Stands.{last_heard}
 use Rattle.lwp_types.specs.Agents.{armed, deliver, deliver_to, event_agents}
 use Rattle.lwp_types.specs.declared.rows.AgentRow.{AgentRow}
@@ -19,7 +19,6 @@ use Rattle.lwp_types.specs.Case.{Case, answered, is_at_limit, is_full, is_no_pri
 use Rattle.lwp_types.specs.Choice.{choice}
 use Rattle.lwp_types.specs.CountLaws.{count-append}
 use Rattle.lwp_types.specs.Lawful.{Lawful}
-use Rattle.lwp_types.specs.Letters.{is_letter_of}
 use Rattle.lwp_types.specs.State.{Outcome, State, ThreadRow, and_then, for_each, is_agent, is_number, is_thread, passes, thread_of}
 use Rattle.lwp_types.specs.Step.{case_of, end_effects, ends, finished, own_effects, step, step_by, step_if}
 use Rattle.lwp_types.specs.Threads.{born, created}
@@ -33,15 +32,15 @@ use Rattle.pod_events.proofs.MildCalls.{case_toll, is_tame}
 use Rattle.pod_events.specs.Events.{EventState, is_trapped, passed_on, rites_event, take_event, trap_taken}
 use Rattle.pod_events.specs.Rites.{as_rites, first_reported, report_text, reports_after, rites_said}
 use Rattle.pod_events.specs.Step.{event_step}
-use Rattle.pod_events.specs.Traps.{Trapping, agent_event_of, but_call, called as traps_called, is_catch, is_given, made as traps_made, made_as, notice, refused_by, stepped, trap_made, trap_of, trap_refusal}
-use Rattle.pod_laws.proofs.Elements.{differ, find_push_new}
+use Rattle.pod_events.specs.Traps.{agent_event_of, but_call, called as traps_called, is_catch, is_given, made as traps_made, made_as, notice, refused_by, stepped, trap_made, trap_of, trap_refusal}
+use Rattle.pod_laws.proofs.Elements.{find_push_new}
 use Rattle.pod_laws.specs.Forgotten.{is_died}
 use Rattle.pod_runner.specs.Session.{answered as rows_answered, proc_of, row_of, row_opened, rows_born, settled, settled_by, thread_in, with_row, without_row}
 use Rattle.pod_runner.specs.declared.session.Row.{Row}
 use Rattle.session_laws.proofs.Pods.{call_moved}
-use Rattle.std.proofs.Common.{Bool, List, None, Option, Some, [], ap, append-nil, append_assoc, arith, cond, count_by, drop, eqb, false, inl, inr, refl, subst, sym, true, ℕ, ◌++◌, ◌||◌, ◌∙◌, ◌∷◌, ◌≡◌, ◌≤◌, ◌⊎◌}
-use Rattle.std.proofs.lemmas.Bool.{and_parts, eq-eqb, eqb-true}
-use Rattle.std.specs.List.{filter, list_all, list_any}
+use Rattle.std.proofs.Common.{Bool, List, None, Option, Some, [], ap, append-nil, arith, cond, count_by, drop, eqb, false, inl, inr, refl, subst, sym, true, ℕ, ◌++◌, ◌∙◌, ◌∷◌, ◌≡◌, ◌≤◌, ◌⊎◌}
+use Rattle.std.proofs.lemmas.Bool.{eq-eqb, eqb-true}
+use Rattle.std.specs.List.{list_all}
 use Rattle.std.specs.Prelude.{is_some, map, nat_le, slice_get}
 use Rattle.lwp_types.specs.declared.call.Answer.TheVariants as answer
 use Rattle.lwp_types.specs.declared.call.Call.TheVariants as call

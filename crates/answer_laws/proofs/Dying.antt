@@ -1,10 +1,10 @@
 -- Who is destroyed or returns from its only frame is gone, and so is who is trapped and has no handler.
 use Rattle.lwp_types.specs.Agents.{deliver}
-use Rattle.lwp_types.specs.Case.{Case, refused, unanswered, unless, with_zero}
+use Rattle.lwp_types.specs.Case.{refused, unanswered, unless, with_zero}
 use Rattle.lwp_types.specs.Choice.{choice}
 use Rattle.lwp_types.specs.CountLaws.{one}
-use Rattle.lwp_types.specs.Death.{death, destroy, return_from}
-use Rattle.lwp_types.specs.Exits.{exc_notify, leave_frame, notified_by}
+use Rattle.lwp_types.specs.Death.{death}
+use Rattle.lwp_types.specs.Exits.{leave_frame, notified_by}
 use Rattle.lwp_types.specs.Lawful.{Lawful}
 use Rattle.lwp_types.specs.Agents.{armed, end_agent}
 use Rattle.lwp_types.specs.Marks.{found_in, frames, with_match}

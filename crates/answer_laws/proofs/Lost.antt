@@ -1,7 +1,7 @@
 -- A session whose agent is gone, or that is done: nothing more that it replies is accepted.
 use Rattle.answer_laws.proofs.Dying.{destroyed_is_gone, gone_said, returned_is_gone}
 use Rattle.answer_laws.proofs.Events.{rites_same}
-use Rattle.answer_laws.proofs.OwnSteps.{Mute, done_by, event_is, made_plain, mute_but, mute_event, mute_rites, mute_unreplied, mute_whole, sprung_is}
+use Rattle.answer_laws.proofs.OwnSteps.{done_by, event_is, made_plain, mute_but, mute_event, mute_rites, mute_unreplied, mute_whole, sprung_is}
 use Rattle.answer_laws.proofs.Owners.{told_itself}
 use Rattle.answer_laws.proofs.PodSteps.{tame_deliver}
 use Rattle.answer_laws.proofs.SessionSteps.{told_any}
@@ -18,7 +18,7 @@ use Rattle.lwp_types.specs.Agents.{agent_born, armed, deliver, deliver_to, event
 use Rattle.lwp_types.specs.Case.{answered, is_at_limit, is_full, refused}
 use Rattle.lwp_types.specs.Choice.{choice}
 use Rattle.lwp_types.specs.Lawful.{Lawful}
-use Rattle.lwp_types.specs.Letters.{as_answer, as_received, post, takes_from, with_holding}
+use Rattle.lwp_types.specs.Letters.{as_answer, as_received, takes_from, with_holding}
 use Rattle.lwp_types.specs.Names.{Names}
 use Rattle.lwp_types.specs.State.{Outcome, State, ThreadRow, and_then, for_each, is_thread, marks_in, passes, still, thread_of}
 use Rattle.lwp_types.specs.Step.{case_of, end_effects, ends, finished, step, step_by, step_if}

@@ -1,16 +1,16 @@
 -- Where a store and a client's session begin.
 use Rattle.answer_laws.proofs.Alone.{AloneAt, alone_other, alone_own, alone_taken}
 use Rattle.answer_laws.proofs.OwnSteps.{alive_seen}
-use Rattle.answer_laws.proofs.Phases.{Phase, Phase.Starting, TellsAt, born_below, phase_first, resting}
+use Rattle.answer_laws.proofs.Phases.{Phase.Starting, TellsAt, born_below, phase_first, resting}
 use Rattle.answer_laws.proofs.Servings.{K_of, S_of, Stood, alive_then, chosen_lives, gone_fades, gone_stood, moved_fades, moved_lawful, rests_untimed, there_before}
-use Rattle.answer_laws.proofs.TalkLaws.{Inv, Inv.Goes, Phase.Idle}
+use Rattle.answer_laws.proofs.TalkLaws.{Inv.Goes, Phase.Idle}
 use Rattle.answer_laws.proofs.TalkSteps.{either_of, unborn_absent, unsome}
 use Rattle.answer_laws.proofs.ThreadRows.{row_polled_other, row_polled_own, row_settled}
 use Rattle.answer_laws.specs.Clients.{IsAnsweredInTurn}
 use Rattle.answer_laws.specs.Served.{Begins, CanGoOn, ClientsAreAnsweredInTurn, LaterClientsAreAnsweredInTurn, LineServer, Serves, TextsAreShort, begun, gone_on, is_move_due, moved_by, steps_of}
 use Rattle.answer_laws.specs.Sights.{Sight, answers_to, sight}
 use Rattle.answer_laws.specs.Stands.{AgentIs.Unmade, block_of, last_heard}
-use Rattle.answer_laws.specs.Talks.{Mail.Nothing, Stand.Hears, Talk}
+use Rattle.answer_laws.specs.Talks.{Mail.Nothing, Stand.Hears}
 use Rattle.line_server.specs.Sessions.{session_opening}
 use Rattle.line_server.specs.Stores.{StoreBody, store_next, store_opening}
 use Rattle.lwp_types.specs.Choice.{choice}

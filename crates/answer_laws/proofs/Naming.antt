@@ -1,9 +1,8 @@
 -- The first step of a session that names a thread, and the session behind it.
-use Rattle.answer_laws.proofs.Creating.{Bore, call_bears, none_opened, none_settled, none_with, take_bears}
+use Rattle.answer_laws.proofs.Creating.{call_bears, none_opened, none_settled, none_with, take_bears}
 use Rattle.answer_laws.proofs.Meetings.{gone_lawful, gone_push}
 use Rattle.answer_laws.proofs.Openings.{can_before, gone_append, sessions_are_reached}
-use Rattle.answer_laws.proofs.Servings.{gone_fades, moved_fades}
-use Rattle.answer_laws.proofs.TalkSteps.{unsome}
+use Rattle.answer_laws.proofs.Servings.{gone_fades}
 use Rattle.answer_laws.proofs.Wholes.{in_whole_sessions, line_server}
 use Rattle.answer_laws.specs.Births.{InEveryScript, InEverySession, begins_in, born_in, is_named}
 use Rattle.answer_laws.specs.Clients.{IsAnsweredInTurn}
@@ -14,8 +13,6 @@ use Rattle.lwp_types.specs.Choice.{choice}
 use Rattle.lwp_types.specs.Lawful.{Lawful}
 use Rattle.lwp_types.specs.Names.{polled_as}
 use Rattle.lwp_types.specs.Poll.{Polled}
-use Rattle.lwp_types.specs.Unblock.{zero_answer}
-use Rattle.pod_events.specs.Events.{take_event}
 use Rattle.pod_laws.proofs.Opening.{Lawful-opening}
 use Rattle.pod_runner.specs.Play.{play}
 use Rattle.pod_runner.specs.Session.{Live, Made, Session, Setting, called, move, move_by, move_row, opening_session, polled, proc_of, row_of, taken}
@@ -23,8 +20,8 @@ use Rattle.pod_runner.specs.declared.session.Row.{Row}
 use Rattle.pod_runner.specs.declared.session.Took.{Took}
 use Rattle.script_program.specs.Bodies.{body_next}
 use Rattle.script_program.specs.declared.body.ThreadBody.{ThreadBody}
-use Rattle.std.proofs.Common.{Bool, List, None, Option, Some, [], ap, append-nil, append_assoc, arith, cond, eqb, false, inl, inr, refl, subst, sym, true, ℕ, ◌&&◌, ◌++◌, ◌<◌, ◌∙◌, ◌∷◌, ◌≡◌, ◌≤◌, ◌≢◌, ◌⊎◌}
-use Rattle.std.proofs.lemmas.Bool.{eqb-true, ne_eqb}
+use Rattle.std.proofs.Common.{Bool, List, None, Option, Some, [], ap, append-nil, append_assoc, arith, cond, false, inl, inr, refl, subst, sym, true, ℕ, ◌&&◌, ◌++◌, ◌<◌, ◌∙◌, ◌∷◌, ◌≡◌, ◌≤◌, ◌≢◌, ◌⊎◌}
+use Rattle.std.proofs.lemmas.Bool.{ne_eqb}
 use Rattle.std.specs.List.{list_all}
 use Rattle.std.specs.Prelude.{slice_get}
 

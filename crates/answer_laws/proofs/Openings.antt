@@ -1,52 +1,39 @@
 -- Whole sessions, from the opening on.
 use Rattle.answer_laws.proofs.AgentTexts.{deliveries_pass_others_by}
-use Rattle.answer_laws.proofs.Meetings.{IsAlone, begin_alone, can_first, can_last, gone_lawful, gone_push, meet, move_alone, moves_alone}
-use Rattle.answer_laws.proofs.OwnSteps.{alive_seen, others_reply_nothing}
-use Rattle.answer_laws.proofs.Phases.{Phase.Starting, TellsAt, born_below, phase_first}
+use Rattle.answer_laws.proofs.OwnSteps.{others_reply_nothing}
 use Rattle.answer_laws.proofs.PodSteps.{births_said, but_texts, lines_told, reports_told, step_texts, tame_deliver, texts_append}
-use Rattle.answer_laws.proofs.Servings.{K_of, S_of, Stood, chosen_lives, gone_fades, gone_stood, got_push, moved_fades, moved_lawful, said_push, there_before}
+use Rattle.answer_laws.proofs.Servings.{chosen_lives, gone_fades, got_push, moved_fades, moved_lawful, said_push}
 use Rattle.answer_laws.proofs.TalkSteps.{either_of, unborn_absent}
 use Rattle.answer_laws.specs.Agents.{deliveries_to}
-use Rattle.answer_laws.specs.Clients.{IsAnsweredInTurn, delivered_to, replied_in, replied_to}
-use Rattle.answer_laws.specs.Served.{Begins, CanGoOn, IsReached, LineServer, Serves, SessionsAreReached, gone_on, is_move_due, moved_by, steps_of}
-use Rattle.answer_laws.specs.Sights.{Sight}
-use Rattle.answer_laws.specs.Stands.{block_of, texts_in}
-use Rattle.line_server.specs.Sessions.{session_opening}
-use Rattle.line_server.specs.Stores.{store_opening}
+use Rattle.answer_laws.specs.Clients.{delivered_to, replied_in, replied_to}
+use Rattle.answer_laws.specs.Served.{CanGoOn, IsReached, LineServer, SessionsAreReached, gone_on, moved_by, steps_of}
+use Rattle.answer_laws.specs.Stands.{texts_in}
 use Rattle.lwp_types.specs.Agents.{armed, deliver, is_for}
 use Rattle.lwp_types.specs.Choice.{choice}
 use Rattle.lwp_types.specs.Lawful.{Lawful}
 use Rattle.lwp_types.specs.Names.{null_id, polled_as}
-use Rattle.lwp_types.specs.Poll.{Polled}
-use Rattle.lwp_types.specs.State.{State, agent_of, is_agent, is_thread, opening, passes}
+use Rattle.lwp_types.specs.State.{State, agent_of, is_agent, is_thread, passes}
 use Rattle.lwp_types.specs.Step.{step}
-use Rattle.lwp_types.specs.Unblock.{zero_answer}
 use Rattle.lwp_types.specs.declared.call.Call.{Call}
 use Rattle.lwp_types.specs.declared.call.Effect.{Effect}
 use Rattle.lwp_types.specs.declared.call.LwpErr.{LwpErr}
 use Rattle.lwp_types.specs.declared.rows.AgentRow.{AgentRow}
-use Rattle.pod_events.specs.Events.{EventState, is_takeable, is_trapped, passed_on, rites_event, take_event, trap_taken}
+use Rattle.pod_events.specs.Events.{EventState, is_trapped, passed_on, rites_event, take_event, trap_taken}
 use Rattle.pod_events.specs.Rites.{as_rites, first_reported, report_text, reports_after, rites_said}
 use Rattle.pod_events.specs.Step.{event_step, event_step_by, event_step_if}
 use Rattle.pod_events.specs.Traps.{agent_event_of, but_call, called as traps_called, is_catch, is_given, made as traps_made, made_as, notice, refused_by, stepped, trap_made, trap_of, trap_refusal}
 use Rattle.pod_laws.proofs.Elements.{differ}
 use Rattle.pod_laws.proofs.EveryStep.{Lawful-step}
-use Rattle.pod_laws.proofs.Opening.{Lawful-opening}
 use Rattle.pod_runner.specs.Due.{AllDue, IsDefined, TakeDue, is_call_due, is_take_due}
 use Rattle.pod_runner.specs.Play.{calls_made, play, played, with_take}
-use Rattle.pod_runner.specs.Session.{Live, Made, Session, Setting, call_step, called, move, move_by, move_row, opening_session, row_of, take_step, taken}
+use Rattle.pod_runner.specs.Session.{Live, Session, Setting, call_step, called, move, move_by, move_row, opening_session, row_of, take_step, taken}
 use Rattle.pod_runner.specs.declared.session.Row.{Row}
 use Rattle.pod_runner.specs.declared.session.Took.{Took}
-use Rattle.script_program.specs.Bodies.{body_next}
-use Rattle.script_program.specs.declared.body.ThreadBody.{ThreadBody}
-use Rattle.script_program.specs.declared.body.ThreadBody.TheVariants.{Serving, Storing}
-use Rattle.std.proofs.Common.{Bool, List, None, Option, Some, [], ap, append-nil, append_assoc, arith, cond, drop, eqb, false, inl, inr, refl, subst, suc, sym, true, zero, ℕ, ◌++◌, ◌<◌, ◌∙◌, ◌∷◌, ◌≡◌, ◌≤◌, ◌⊎◌}
-use Rattle.std.proofs.lemmas.Bool.{eqb-true, ne_eqb}
-use Rattle.std.specs.Prelude.{IsTrue, MatchBool, if◌then◌else◌, is_some, map, option_map, replicate, reverse, ◌==◌}
+use Rattle.std.proofs.Common.{Bool, List, None, Option, Some, [], ap, arith, cond, eqb, false, refl, suc, sym, true, zero, ℕ, ◌++◌, ◌∙◌, ◌∷◌, ◌≡◌, ◌≤◌}
+use Rattle.std.proofs.lemmas.Bool.{eqb-true}
+use Rattle.std.specs.Prelude.{IsTrue, MatchBool, if◌then◌else◌, is_some, map, replicate, reverse, ◌==◌}
 use Rattle.lwp_types.specs.declared.call.Call.TheVariants as call
-use Rattle.lwp_types.specs.declared.call.Effect.TheVariants as effect
 use Rattle.lwp_types.specs.declared.call.LwpErr.TheVariants as error
-use Rattle.lwp_types.specs.declared.rows.Block.TheVariants as block
 
 -- ---- nothing is told to who isn't born
 

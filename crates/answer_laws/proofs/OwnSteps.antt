@@ -1,9 +1,8 @@
 -- What the two of a talk call themselves, in a pod with its own events.
 use Rattle.answer_laws.proofs.Dying.{gone_said, gone_thread, no_notice, returned_is_gone, destroyed_is_gone}
 use Rattle.answer_laws.proofs.Others.{deliveries_leave_it}
-use Rattle.answer_laws.proofs.PodSteps.{Rests, becomes_said, births_said, rests_said, step_texts, tame_deliver}
+use Rattle.answer_laws.proofs.PodSteps.{becomes_said, births_said, rests_said, step_texts, tame_deliver}
 use Rattle.answer_laws.proofs.SessionSteps.{hears_no_mail, sessions_calls_are_events, told_any}
-use Rattle.answer_laws.proofs.Sights.{answers_append}
 use Rattle.answer_laws.proofs.Events.{rites_same}
 use Rattle.answer_laws.proofs.StoreSteps.{StoreDoes, StoreDoes.DoesReceive, StoreDoes.DoesReply, StoreDoes.DoesStop, does_by, stores_calls_are_events}
 use Rattle.answer_laws.proofs.TalkSteps.{attends_seen, attentive}
@@ -11,10 +10,10 @@ use Rattle.answer_laws.specs.Clients.{names_only, replied_in, reply_to}
 use Rattle.answer_laws.specs.Events.{machine_of}
 use Rattle.answer_laws.specs.Owns.{OthersReplyNothing, PodsSessionsCallsAreEvents, PodsStoresCallsAreEvents, SessionComes, SessionComes.GoesOn, SessionComes.IsTurnedAway, SessionComes.Dies}
 use Rattle.answer_laws.specs.Sights.{IsDelivered, IsLeft, IsWoken, Sight, answers_to, is_attentive, sight}
-use Rattle.answer_laws.specs.Stands.{Becomes, OpensInVain, Stands, block_of, goes_on_with, is_posted, is_short_reply, is_short_to, mail_letters, texts_in}
-use Rattle.answer_laws.specs.Talks.{Mail, Mail.Received, Stand, Stand.Hears, Talk, talked}
+use Rattle.answer_laws.specs.Stands.{Becomes, OpensInVain, block_of, goes_on_with, is_posted, is_short_reply, is_short_to, mail_letters, texts_in}
+use Rattle.answer_laws.specs.Talks.{Mail.Received, talked}
 use Rattle.line_server.specs.Commands.{Command, command_of}
-use Rattle.line_server.specs.Sessions.{SessionBody, session_by, session_next, session_at, session_opened, session_received, session_receives, session_replies, session_returns, session_sends, session_told}
+use Rattle.line_server.specs.Sessions.{SessionBody, session_by, session_next, session_at, session_opened, session_received, session_receives, session_returns, session_sends, session_told}
 use Rattle.line_server.specs.Stores.{StoreBody, store_by, store_next}
 use Rattle.line_server.specs.Tables.{is_quit}
 use Rattle.line_server.specs.Turns.{Turn, is_replied, stops}
@@ -24,7 +23,7 @@ use Rattle.lwp_types.specs.Agents.{armed, deliver}
 use Rattle.lwp_types.specs.Choice.{choice}
 use Rattle.lwp_types.specs.Counts.{timers_of}
 use Rattle.lwp_types.specs.Lawful.{Lawful}
-use Rattle.lwp_types.specs.Names.{Names, id_at, null_id}
+use Rattle.lwp_types.specs.Names.{Names}
 use Rattle.lwp_types.specs.State.{Outcome, State, ThreadRow, is_thread, marks_in, passes, thread_of}
 use Rattle.lwp_types.specs.Step.{case_of, end_effects, ends, own_effects, step, step_by, step_if}
 use Rattle.lwp_types.specs.Unblock.{nonexist, zero_answer}
@@ -43,7 +42,7 @@ use Rattle.pod_laws.proofs.EveryStep.{Lawful-step}
 use Rattle.pod_laws.specs.Forgotten.{IsGone}
 use Rattle.pod_laws.specs.Waiters.{is_zero, told}
 use Rattle.std.proofs.Common.{Bool, List, None, Option, Some, [], ap, append-nil, append_assoc, arith, cond, drop, eqb, false, inl, inr, refl, subst, sym, true, ℕ, ◌&&◌, ◌++◌, ◌∙◌, ◌∷◌, ◌≡◌, ◌≤◌, ◌||◌, ◌⊎◌}
-use Rattle.std.proofs.lemmas.Bool.{and_parts, eq-eqb}
+use Rattle.std.proofs.lemmas.Bool.{eq-eqb}
 use Rattle.std.specs.List.{list_all, list_any}
 use Rattle.std.specs.Prelude.{codes, is_some, map, option_map}
 use Rattle.lwp_types.specs.declared.call.Answer.TheVariants as answer

@@ -20,24 +20,23 @@ use Rattle.line_server.specs.Stores.{StoreBody}
 use Rattle.line_server.specs.Tables.{line_answers}
 use Rattle.line_server.specs.declared.session.SessionPlace.{SessionPlace}
 use Rattle.line_server.specs.declared.session.SessionPlace.TheVariants as at
-use Rattle.lwp_types.specs.Choice.{choice, is_eligible}
+use Rattle.lwp_types.specs.Choice.{choice}
 use Rattle.lwp_types.specs.Lawful.{Lawful}
 use Rattle.lwp_types.specs.Names.{Names, null_id}
-use Rattle.lwp_types.specs.State.{Outcome, State, ThreadRow, is_agent, is_not_blocked, is_thread, marks_in, thread_of}
+use Rattle.lwp_types.specs.State.{Outcome, State, ThreadRow, is_agent, is_not_blocked, is_thread}
 use Rattle.lwp_types.specs.Step.{step}
 use Rattle.lwp_types.specs.Unblock.{nonexist}
 use Rattle.lwp_types.specs.declared.call.Answer.{Answer}
 use Rattle.lwp_types.specs.declared.call.Call.{Call}
-use Rattle.lwp_types.specs.declared.call.Effect.{Effect}
 use Rattle.lwp_types.specs.declared.call.LwpErr.{LwpErr}
 use Rattle.lwp_types.specs.declared.rows.Block.{Block}
 use Rattle.pod_events.specs.Events.{EventState}
 use Rattle.pod_events.specs.Step.{event_step}
-use Rattle.pod_laws.proofs.Chosen.{Running, chosen}
+use Rattle.pod_laws.proofs.Chosen.{chosen}
 use Rattle.pod_laws.proofs.Elements.{differ}
 use Rattle.pod_laws.proofs.Fading.{Fades, gone_stays}
 use Rattle.pod_laws.specs.Forgotten.{IsGone}
-use Rattle.std.proofs.Common.{Bool, List, None, Option, Some, [], ap, append-nil, arith, cond, eqb, false, inl, inr, not, refl, subst, sym, true, ℕ, ◌&&◌, ◌++◌, ◌<◌, ◌∙◌, ◌∷◌, ◌≡◌, ◌≤◌, ◌||◌, ◌⊎◌}
+use Rattle.std.proofs.Common.{Bool, None, Some, [], ap, append-nil, arith, cond, eqb, false, inl, inr, not, refl, subst, sym, true, ℕ, ◌++◌, ◌<◌, ◌∙◌, ◌∷◌, ◌≡◌, ◌≤◌, ◌||◌, ◌⊎◌}
 use Rattle.std.proofs.lemmas.Bool.{and_parts, eqb-true, leb-false, leb-true}
 use Rattle.std.proofs.lemmas.List.Folds.{list_all-append}
 use Rattle.std.specs.List.{list_all}
@@ -266,7 +265,7 @@ module _ (s k : ℕ) (st : State) (was : Lawful st None) (S S2 : SessionBody →
       (s_on : is_thread out.after s ≡ true → (b : SessionBody) (z : Answer) → S b z → S2 b (last_heard z (answers_to s out.effects)))
       (k_on : (b : StoreBody) (z : Answer) → K b z → K2 (knext b z) (last_heard z (answers_to k out.effects)))
       (goes : (a : ℕ) (sb : SessionBody) (sz : Answer) (kb : StoreBody) (kz : Answer) → K kb kz → (t : TellsAt s k a st sb sz kb kz (got a) (said a)) → eqb null_id a ≡ false → (t.talk.agent_lives ≡ true) ⊎ (sb.place ≡ at.Agent) → (sb.place ≡ at.Start → out.after.births ≤ a) → is_thread out.after s ≡ true
-          → Becomes s k a t.talk t.talk.session (knext kb kz) t.waiting (new a) [] out ⊎ Leaves s t.talk out)
+      → Becomes s k a t.talk t.talk.session (knext kb kz) t.waiting (new a) [] out ⊎ Leaves s t.talk out)
       (left : sight st s ≡ resting → is_thread out.after s ≡ true → IsLeft s st out) where
     firsts_on : ((b : ℕ) → AreFirst (said b) (line_answers (got b))) → (b : ℕ) → AreFirst (said2 b) (line_answers (got2 b))
     firsts_on firsts b = still_first (said b) (got b) (new b) (replied_in s b out.effects) (silent b) (firsts b)
@@ -471,7 +470,7 @@ module _ (s k : ℕ) (s_k : eqb s k ≡ false) (es : EventState) (was : Lawful e
       own_by (GoesOn b) =
           let told = tells_on s k a es.state sb sz kb kz (got a) (said a) t (session_next sb0 names sz0).1 t.talk.store (new_texts a) (replied_in s a made_out.effects) made_out b in
           let told_so = subst (λ z. TellsAt s k a made_out.after (session_next sb0 names sz0).1 (last_heard z (answers_to s made_out.effects)) kb (last_heard kz (answers_to k made_out.effects)) (got a ++ new_texts a) (said a ++ replied_in s a made_out.effects)) (same sb sz row).1
-              (subst (λ body. TellsAt s k a made_out.after (session_next sb0 names sz0).1 (last_heard sz (answers_to s made_out.effects)) body (last_heard kz (answers_to k made_out.effects)) (got a ++ new_texts a) (said a ++ replied_in s a made_out.effects)) t.store told) in
+          (subst (λ body. TellsAt s k a made_out.after (session_next sb0 names sz0).1 (last_heard sz (answers_to s made_out.effects)) body (last_heard kz (answers_to k made_out.effects)) (got a ++ new_texts a) (said a ++ replied_in s a made_out.effects)) t.store told) in
           settle s k es.state was S S2 K K2 got said new_texts made_out (λ n. event_fades n es own) a (session_next sb0 names sz0).1 (last_heard sz0 (answers_to s made_out.effects)) kb (last_heard kz (answers_to k made_out.effects))
           (s_on (alive_seen made_out.after s (block_of (Some a) (talked s a t.talk b.events).client) (ap (λ (w : Sight). w.waits) b.stands.client))) (k_on kb kz row_k) told_so away
           (λ start. differ (sym (started_next sb0 names sz0 sb0.place refl) ∙ ap is_started start))

@@ -28,11 +28,10 @@ use Rattle.pod_runner.specs.Session.{Live, Made, Session, Setting, called, move,
 use Rattle.pod_runner.specs.declared.session.Row.{Row}
 use Rattle.pod_runner.specs.declared.session.Took.{Took}
 use Rattle.session_laws.proofs.Pods.{call_moved}
-use Rattle.std.proofs.Common.{Bool, List, None, Option, Some, [], ap, arith, cond, count_by, eqb, false, length, refl, subst, suc, sym, true, zero, ℕ, ◌&&◌, ◌++◌, ◌<◌, ◌∙◌, ◌∷◌, ◌≡◌, ◌≤◌}
+use Rattle.std.proofs.Common.{Bool, List, None, Option, Some, [], ap, arith, cond, count_by, eqb, false, length, refl, subst, suc, sym, true, zero, ℕ, ◌++◌, ◌<◌, ◌∙◌, ◌∷◌, ◌≡◌, ◌≤◌}
 use Rattle.std.proofs.lemmas.Bool.{and_from, and_parts, eq-eqb, le-leb, lt-ltb, ltb-true}
 use Rattle.std.proofs.lemmas.Fmt.{length-decimal-le}
 use Rattle.std.proofs.lemmas.List.Folds.{list_all-append}
-use Rattle.std.specs.Fmt.{decimal}
 use Rattle.std.specs.List.{list_all}
 use Rattle.std.specs.Prelude.{map, nat_lt, option_map, replicate}
 use Rattle.lwp_types.specs.declared.call.Effect.TheVariants as effect
@@ -139,8 +138,10 @@ take_reported a es h e text short = by_trapped (is_trapped es.trapped e)
 
     by_trapped : (b : Bool) → Below (cond b (trap_taken es e) (passed_on es (deliver es.state e text))).after × (list_all is_short (texts_in a (Some text) (cond b (trap_taken es e) (passed_on es (deliver es.state e text))).effects) ≡ true)
     by_trapped true = (h, by_test (eqb null_id a))
-    by_trapped false = (subst (λ n. all_below n es.reports ≡ true) (sym (births_deliver es.state e text)) h,
-        ap (list_all is_short) (lines_told a text (deliver es.state e text).effects (tame_deliver es.state e text)) ∙ all_replicate text (deliveries_to a (deliver es.state e text).effects) short)
+    by_trapped false = (
+      subst (λ n. all_below n es.reports ≡ true) (sym (births_deliver es.state e text)) h,
+      ap (list_all is_short) (lines_told a text (deliver es.state e text).effects (tame_deliver es.state e text)) ∙ all_replicate text (deliveries_to a (deliver es.state e text).effects) short,
+    )
 
 -- ---- a session
 

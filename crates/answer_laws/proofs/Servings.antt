@@ -14,12 +14,11 @@ use Rattle.answer_laws.specs.Clients.{Step, all_sends_to, delivered_to, names_on
 use Rattle.answer_laws.specs.Events.{machine_of}
 use Rattle.answer_laws.specs.Lengths.{is_short}
 use Rattle.answer_laws.specs.Served.{CanGoOn, LineServer, gone_on, is_move_due, moved_by, step_of, steps_of}
-use Rattle.answer_laws.specs.Sights.{IsDelivered, IsLeft, IsWoken, Sight, answers_to, sight}
-use Rattle.answer_laws.specs.Stands.{Becomes, HeardAs, Leaves, Stands, block_of, is_placed, is_posted, is_reading, is_short_to, last_heard, texts_in}
-use Rattle.answer_laws.specs.Talks.{Mail.Received, Stand, Stand.AwaitsLetter, Stand.AwaitsReply, Stand.Hears, Stand.IsOver, Talk}
+use Rattle.answer_laws.specs.Sights.{IsLeft, IsWoken, Sight, answers_to, sight}
+use Rattle.answer_laws.specs.Stands.{Becomes, HeardAs, Leaves, Stands, is_posted, is_short_to, last_heard, texts_in}
+use Rattle.answer_laws.specs.Talks.{Mail.Received, Talk}
 use Rattle.line_server.specs.Sessions.{SessionBody, session_next}
 use Rattle.line_server.specs.Stores.{StoreBody, store_next}
-use Rattle.line_server.specs.declared.session.SessionPlace.{SessionPlace}
 use Rattle.line_server.specs.declared.session.SessionPlace.TheVariants as at
 use Rattle.lwp_types.specs.Choice.{choice}
 use Rattle.lwp_types.specs.CountLaws.{count_found_and, one}
@@ -39,17 +38,16 @@ use Rattle.lwp_types.specs.declared.call.LwpErr.{LwpErr}
 use Rattle.pod_events.specs.Events.{EventState, is_takeable, is_trapped, rites_event, take_event}
 use Rattle.pod_events.specs.Rites.{as_rites, first_reported, report_text, reports_after, rites_said}
 use Rattle.pod_events.specs.Step.{event_step}
-use Rattle.pod_events.specs.Traps.{Trapping, agent_event_of, called as traps_called, made, made_as, refused_by, stepped, trap_made, trap_of, trap_refusal}
+use Rattle.pod_events.specs.Traps.{agent_event_of, called as traps_called, made, made_as, refused_by, stepped, trap_made, trap_of, trap_refusal}
 use Rattle.pod_laws.proofs.Chosen.{chosen}
 use Rattle.pod_laws.proofs.Rowed.{once_threads}
 use Rattle.pod_laws.proofs.Elements.{differ}
 use Rattle.pod_laws.proofs.Fading.{Fades, fades_still, fades_then}
 use Rattle.pod_laws.specs.Forgotten.{is_died}
-use Rattle.pod_runner.specs.Due.{is_call_due, is_take_due}
-use Rattle.pod_runner.specs.Session.{Live, Made, Session, Setting, call_step, called, extended, move, move_by, move_row, proc_of, polled, row_of, settled, take_step, taken}
+use Rattle.pod_runner.specs.Session.{Live, Made, Session, Setting, called, move, move_by, move_row, proc_of, polled, row_of, settled, taken}
 use Rattle.pod_runner.specs.declared.session.Row.{Row}
 use Rattle.pod_runner.specs.declared.session.Took.{Took}
-use Rattle.session_laws.proofs.Pods.{Moved, call_moved, idle_moved, take_moved}
+use Rattle.session_laws.proofs.Pods.{Moved, call_moved, take_moved}
 use Rattle.std.proofs.Common.{Bool, List, None, Option, Some, [], ap, append-nil, append_assoc, arith, cond, count_by, eqb, false, inl, inr, not, refl, subst, suc, sym, true, zero, ℕ, ◌&&◌, ◌++◌, ◌<◌, ◌||◌, ◌∙◌, ◌∷◌, ◌≡◌, ◌≤◌, ◌⊎◌, drop}
 use Rattle.std.proofs.lemmas.Bool.{and_parts, eq-eqb, eqb-true, ne_eqb}
 use Rattle.std.proofs.lemmas.Grind.{flat_map-append}
@@ -58,7 +56,6 @@ use Rattle.std.proofs.lemmas.List.Folds.{list_all-append}
 use Rattle.std.specs.List.{flat_map, list_all}
 use Rattle.std.specs.Prelude.{is_some, map, option_map}
 use Rattle.lwp_types.specs.declared.call.Answer.TheVariants as answer
-use Rattle.lwp_types.specs.declared.call.Call.TheVariants as call
 use Rattle.lwp_types.specs.declared.call.Effect.TheVariants as effect
 use Rattle.lwp_types.specs.declared.call.LwpErr.TheVariants as error
 use Rattle.lwp_types.specs.declared.rows.Block.TheVariants as block
@@ -239,8 +236,8 @@ module _ {B : Type 0} (setting : Setting B) (server : LineServer setting.next) (
       store_call short lives = phase_other s k live.pod.state was (S_of live.rows) (S_of rows_k) (K_of live.rows) (K_of rows_k) (got_in steps) (said_in steps) (λ b. texts_in b None out_k.effects) out_k (λ n. event_fades n live.pod reply_k.0)
           (λ b. (others_reply_nothing s b live.pod).0 k turn k_s reply_k.0) (λ b z. (store_next b names z).1) (s_on k turn k_s reply_k)
           (λ b z is. row_settled k setting.bodies (proc_of reply_k.0) out_k.effects (polled k reply_k.1 live.rows) (record { tid = k; body = server.storing (store_next b names z).1; answer = z })
-              (row_polled_own k reply_k.1 live.rows (record { tid = k; body = server.storing b; answer = z }) is ∙ ap (λ (r : Polled B). Some (record { tid = k; body = r.1; answer = z })) (reply_is b z is))
-              (alive_then live.pod.state out_k.after out_k.effects (call_moved live.pod was reply_k.0) k lives))
+          (row_polled_own k reply_k.1 live.rows (record { tid = k; body = server.storing b; answer = z }) is ∙ ap (λ (r : Polled B). Some (record { tid = k; body = r.1; answer = z })) (reply_is b z is))
+          (alive_then live.pod.state out_k.after out_k.effects (call_moved live.pod was reply_k.0) k lives))
           goes (left_so k turn k_s reply_k) stood
         where
           never_mail : (a : ℕ) (x : Talk) (waiting : Texts) → Stands s k a live.pod.state x waiting → x.session.place ≡ at.Agent → (sent : List ℕ) → x.mail ≡ Received sent → ⊥
@@ -294,9 +291,9 @@ module _ {B : Type 0} (setting : Setting B) (server : LineServer setting.next) (
           → Phase s k out_s.after (S_of rows_s) (K_of rows_s) (λ b. got_in steps b ++ texts_in b None out_s.effects) (λ b. said_in steps b ++ replied_in s b out_s.effects)
       session_call short low lives sends = phase_own s k s_k live.pod was turn (S_of live.rows) (S_of rows_s) (K_of live.rows) (K_of rows_s) (got_in steps) (said_in steps) its.body its.answer names same_row
           (λ lives_s. row_settled s setting.bodies (proc_of next_s.0) out_s.effects (polled s (server.serving next_s.1) live.rows) (record { tid = s; body = server.serving next_s.1; answer = its.answer })
-              (row_polled_own s (server.serving next_s.1) live.rows (record { tid = s; body = server.serving its.body; answer = its.answer }) its.row) (alive_then live.pod.state out_s.after out_s.effects (call_moved live.pod was next_s.0) s lives_s))
+          (row_polled_own s (server.serving next_s.1) live.rows (record { tid = s; body = server.serving its.body; answer = its.answer }) its.row) (alive_then live.pod.state out_s.after out_s.effects (call_moved live.pod was next_s.0) s lives_s))
           (λ b z is. row_settled k setting.bodies (proc_of next_s.0) out_s.effects (polled s (server.serving next_s.1) live.rows) (record { tid = k; body = server.storing b; answer = z })
-              (row_polled_other k s s_k (server.serving next_s.1) live.rows ∙ is) (alive_then live.pod.state out_s.after out_s.effects (call_moved live.pod was next_s.0) k lives))
+          (row_polled_other k s s_k (server.serving next_s.1) live.rows ∙ is) (alive_then live.pod.state out_s.after out_s.effects (call_moved live.pod was next_s.0) k lives))
           short (λ free. sends_named s k live.pod turn next_s.0 free sends) low stood
 
     -- ---- a call, whoever makes it

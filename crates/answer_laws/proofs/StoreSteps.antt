@@ -247,7 +247,6 @@ module _ (k : ℕ) (st : State) (turn : choice st ≡ Some k) (k_seen : sight st
     keeps_replied other is = let w = k_replied other (is_agent st v) in
         keeps_made answering (with_zero (replied v text st)) (Hears zero_answer) (zero_answer ∷ []) is (w.0 ∙ k_seen) (ap (λ xs. xs ++ zero_answer ∷ []) w.1)
 
-
 -- ---- the store's turn
 
 module _ (s k a : ℕ) (st : State) (was : Lawful st None) (talk : Talk) (waiting : List (List ℕ)) (h : Stands s k a st talk waiting) (s_k : eqb s k ≡ false) (turn : choice st ≡ Some k) (x : Answer) (hears : talk.keeper ≡ Hears x) where

@@ -2,23 +2,21 @@
 use Rattle.answer_laws.proofs.AnswerLists.{Texts, replies_push, table_after}
 use Rattle.answer_laws.proofs.Lengths.{replies_short, short_lines_have_short_answers}
 use Rattle.answer_laws.proofs.OwnSteps.{Calls, Calls.Asks, Calls.Plainly, Replying, session_calls_by}
-use Rattle.answer_laws.proofs.TalkLaws.{Closing, Closing.Alone, Closing.Done, Inv, Inv.Ends, Inv.Goes, Inv.Waits, inv_first, inv_session, is_received, phase_free}
+use Rattle.answer_laws.proofs.TalkLaws.{Closing.Alone, Closing.Done, Inv, Inv.Ends, Inv.Goes, Inv.Waits, inv_first, inv_session, is_received, phase_free}
 use Rattle.answer_laws.specs.Lengths.{is_short}
 use Rattle.answer_laws.specs.Stands.{is_short_reply, is_short_to}
-use Rattle.answer_laws.specs.Talks.{Mail.Nothing, Mail.Received, Stand, Stand.AwaitsLetter, Stand.AwaitsReply, Stand.Hears, Stand.IsOver, Talk, deed_of, session_calls, session_turn}
+use Rattle.answer_laws.specs.Talks.{Mail.Received, Stand, Stand.AwaitsLetter, Stand.AwaitsReply, Stand.Hears, Stand.IsOver, Talk, deed_of, session_calls, session_turn}
 use Rattle.line_server.specs.Sessions.{session_by, session_next}
-use Rattle.line_server.specs.Stores.{store_by, store_next, store_received, table_of}
+use Rattle.line_server.specs.Stores.{store_by, store_next, store_received}
 use Rattle.line_server.specs.Tables.{line_answers, replies, told}
 use Rattle.lwp_types.specs.Names.{Names}
 use Rattle.lwp_types.specs.Unblock.{nonexist, zero_answer}
 use Rattle.lwp_types.specs.declared.call.Answer.{Answer}
-use Rattle.lwp_types.specs.declared.call.Answer.TheVariants as answer
 use Rattle.pod_laws.proofs.Elements.{differ}
-use Rattle.std.proofs.Common.{Bool, List, [], ap, cond, eqb, false, inl, inr, not, refl, subst, sym, true, ℕ, ◌++◌, ◌||◌, ◌∙◌, ◌∷◌, ◌≡◌, ◌⊎◌}
+use Rattle.std.proofs.Common.{Bool, List, [], ap, cond, eqb, false, inl, inr, not, refl, sym, true, ℕ, ◌++◌, ◌||◌, ◌∙◌, ◌∷◌, ◌≡◌, ◌⊎◌}
 use Rattle.std.proofs.lemmas.Bool.{and_parts}
 use Rattle.std.proofs.lemmas.List.Folds.{list_all-append}
 use Rattle.std.specs.List.{list_all}
-use Rattle.std.specs.Prelude.{◌&&◌}
 
 last_of : (xs : Texts) (x : List ℕ) → list_all is_short (xs ++ x ∷ []) ≡ true → is_short x ≡ true
 last_of [] x all = (and_parts (is_short x) true all).0

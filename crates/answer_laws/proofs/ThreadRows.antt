@@ -5,11 +5,10 @@ use Rattle.lwp_types.specs.CountLaws.{count-cons, one}
 use Rattle.lwp_types.specs.declared.call.Answer.{Answer}
 use Rattle.lwp_types.specs.declared.call.Effect.{Effect}
 use Rattle.pod_laws.specs.Forgotten.{is_died}
-use Rattle.pod_runner.specs.Session.{answered, polled, row_of, rows_born, settled, settled_by, thread_in, with_row, without_row}
+use Rattle.pod_runner.specs.Session.{answered, polled, row_of, rows_born, settled, thread_in, with_row, without_row}
 use Rattle.pod_runner.specs.declared.session.Row.{Row}
 use Rattle.std.proofs.Common.{Bool, List, None, Option, Some, [], ap, arith, cond, count_by, eqb, false, refl, subst, sym, true, ℕ, ◌++◌, ◌∙◌, ◌∷◌, ◌≡◌}
-use Rattle.std.proofs.lemmas.Bool.{eq-eqb, eqb-true}
-use Rattle.std.specs.List.{filter_map}
+use Rattle.std.proofs.lemmas.Bool.{eqb-true}
 use Rattle.lwp_types.specs.declared.call.Effect.TheVariants as effect
 
 module _ {B : Type 0} (u : ℕ) where
@@ -76,7 +75,7 @@ module _ {B : Type 0} (u : ℕ) where
   pub row_settled : (bodies : List B) (born : Option ℕ) (es : List Effect) (rows : List (Row B)) (row : Row B) → row_of u rows ≡ Some row → count_by (is_died u) es ≡ 0 → row_of u (settled bodies born es rows) ≡ Some (record row { answer = last_heard row.answer (answers_to u es) })
   row_settled bodies born [] rows row found none = found
   row_settled bodies born (effect.Answered t a ∷ es) rows row found none = by_test (eqb t u) refl
-    (λ r f. row_settled bodies born es (answered t a rows ++ rows_born bodies born (thread_in a)) r f (omega (arith, none, count-cons (is_died u) (effect.Answered t a) es)))
+      (λ r f. row_settled bodies born es (answered t a rows ++ rows_born bodies born (thread_in a)) r f (omega (arith, none, count-cons (is_died u) (effect.Answered t a) es)))
     where
       push : Option Answer → List Answer → List Answer
       push None rest = rest

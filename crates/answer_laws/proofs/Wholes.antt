@@ -17,7 +17,7 @@ use Rattle.pod_laws.proofs.Opening.{Lawful-opening}
 use Rattle.pod_runner.specs.Session.{Session, opening_session}
 use Rattle.script_program.specs.Bodies.{body_next}
 use Rattle.script_program.specs.declared.body.ThreadBody.TheVariants.{Serving, Storing}
-use Rattle.std.proofs.Common.{None, [], ap, arith, eqb, false, inr, refl, subst, sym, true, ℕ, ◌++◌, ◌<◌, ◌∙◌, ◌∷◌, ◌≡◌, ◌≤◌}
+use Rattle.std.proofs.Common.{None, [], ap, arith, eqb, false, inr, refl, subst, sym, ◌++◌, ◌<◌, ◌∙◌, ◌∷◌, ◌≡◌, ◌≤◌}
 use Rattle.std.proofs.lemmas.Bool.{ne_eqb}
 use Rattle.lwp_types.specs.declared.rows.Block.TheVariants as block
 
@@ -94,14 +94,14 @@ in_whole_sessions B setting server least most s k event place first moves birth 
         let lives_before = there_before setting k (birth ∷ []) before born lives_after in
         let lives_s = alive_seen after.live.pod.state s block.Not (ap (λ (v : Sight). v.waits) begins_s.thread) in
         let alone = move_alone setting server s k s_k before birth was_before can_end.0
-            (moves_alone setting server s k s_k moves one was_one can_moves (record { body = store_opening; answer = zero_answer; row = begins_k.row; alone = begin_alone s k one.live.pod.state was_one begins_k.thread }) low_before lives_before) low_before lives_after (inr lives_s) in
+        (moves_alone setting server s k s_k moves one was_one can_moves (record { body = store_opening; answer = zero_answer; row = begins_k.row; alone = begin_alone s k one.live.pod.state was_one begins_k.thread }) low_before lives_before) low_before lives_after (inr lives_s) in
         let untold = move_untold setting server s k s_k before birth was_before (moves_untold setting server s k s_k moves one was_one can_moves (moves_untold setting server s k s_k first start was can_first_part (λ a low away. refl))) in
         let silent = move_silent setting server s k s_k before birth was_before low_before
-            (moves_silent setting server s k s_k moves one was_one can_moves low_before (moves_silent setting server s k s_k first start was can_first_part (omega (arith, low_before, (gone_fades setting s moves one).births)) (λ a. refl))) in
+        (moves_silent setting server s k s_k moves one was_one can_moves low_before (moves_silent setting server s k s_k first start was can_first_part (omega (arith, low_before, (gone_fades setting s moves one).births)) (λ a. refl))) in
         let stood = Starting lives_s (session_opening event place) zero_answer alone.body alone.answer begins_s.row alone.row
-            (λ a low away. subst (λ xs. TellsAt s k a after.live.pod.state (session_opening event place) zero_answer alone.body alone.answer xs (replied_to s a (steps_of after.steps))) (sym (untold a low away))
-                (subst (λ xs. TellsAt s k a after.live.pod.state (session_opening event place) zero_answer alone.body alone.answer [] xs) (sym (silent a)) (meet s k event place a after.live.pod.state was_after begins_s.thread alone.body alone.answer alone.alone low)))
-            refl silent in
+        (λ a low away. subst (λ xs. TellsAt s k a after.live.pod.state (session_opening event place) zero_answer alone.body alone.answer xs (replied_to s a (steps_of after.steps))) (sym (untold a low away))
+        (subst (λ xs. TellsAt s k a after.live.pod.state (session_opening event place) zero_answer alone.body alone.answer [] xs) (sym (silent a)) (meet s k event place a after.live.pod.state was_after begins_s.thread alone.body alone.answer alone.alone low)))
+        refl silent in
         let end = gone_on setting later after in
         phase_first s k end.live.pod.state (S_of setting server s k s_k end.live.rows) (K_of setting server s k s_k end.live.rows) (λ b. delivered_to b (steps_of end.steps)) (λ b. replied_to s b (steps_of end.steps))
         (gone_stood setting server s k s_k later after was_after can_end.1 stood (alive_seen after.live.pod.state k (block_of None alone.alone.stand) (ap (λ (v : Sight). v.waits) alone.alone.seen)) ends.lives ends.sends short ends.few) a
