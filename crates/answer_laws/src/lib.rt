@@ -1,5 +1,5 @@
 //! What one client of the line server is told: laws of its session and of the store, and of the letters that carry its lines. There is
-//! no code here: each function below has no body, and its clause is the law. So there are no wrong edits either.
+//! no code here: each function below has no body, and its clause is the law. So there are no wrong bodies; `wrong` has wrong definitions.
 //!
 //! | what is said | law, and where it stands |
 //! |---|---|
