@@ -11,8 +11,8 @@ use Rattle.answer_laws.proofs.Sights.{Turn, Turn.Left, Turn.Woken, answers_appen
 use Rattle.answer_laws.proofs.StoreSteps.{Checked, Checked.Free, Checked.Struck, Keeps, StoreDoes, StoreDoes.DoesReceive, StoreDoes.DoesReply, StoreDoes.DoesStop, checked, does_by, found_none, keeps_letter, keeps_refused, keeps_replied, keeps_waiting, off}
 use Rattle.answer_laws.proofs.TalkLaws.{Closing.Alone, Closing.Done, Inv, Inv.Ends, Inv.Goes, Inv.Waits, Phase.Asks, Phase.Idle, Phase.Learns, Phase.Reads, inv_store, is_apart, is_done, stands}
 use Rattle.answer_laws.proofs.AnswerLists.{table_after}
-use Rattle.answer_laws.proofs.TalkSteps.{attends_seen, attentive, awaits, either_of, unborn_absent, unsome}
-use Rattle.answer_laws.proofs.TalkTexts.{none_kept}
+use Rattle.answer_laws.proofs.TalkSteps.{attends_seen, attentive, awaits, unborn_absent, unsome}
+use Rattle.answer_laws.proofs.TalkTexts.{unborn_silent}
 use Rattle.answer_laws.specs.Sights.{Sight, answers_to, attends, going_on, sight, written_to}
 use Rattle.answer_laws.specs.Stands.{HeardAs, block_of, goes_on_with, is_reading, last_heard}
 use Rattle.answer_laws.specs.Talks.{Mail.Nothing, Stand, Stand.AwaitsLetter, Stand.Hears, Talk, deed_of, session_told, store_calls, store_turn}
@@ -21,19 +21,18 @@ use Rattle.line_server.specs.declared.session.SessionPlace.TheVariants as at
 use Rattle.line_server.specs.Stores.{StoreBody, store_by, store_next, table_of}
 use Rattle.lwp_types.specs.Agents.{armed, deliver}
 use Rattle.lwp_types.specs.Choice.{choice}
-use Rattle.lwp_types.specs.CountLaws.{count-append, count_and-le, count_not_found}
-use Rattle.lwp_types.specs.Counts.{is_sending, timers_of}
+use Rattle.lwp_types.specs.CountLaws.{count-append, count_not_found}
+use Rattle.lwp_types.specs.Counts.{timers_of}
 use Rattle.lwp_types.specs.Lawful.{Lawful}
 use Rattle.lwp_types.specs.Letters.{as_answer, is_letter_of, is_open, is_to, received_from, replied, unreceived}
 use Rattle.lwp_types.specs.Names.{Names}
-use Rattle.lwp_types.specs.State.{Outcome, State, agent_of, is_agent, is_agent_row, is_number, is_thread, marks_in, passes, thread_of}
+use Rattle.lwp_types.specs.State.{Outcome, State, agent_of, is_agent, is_agent_row, is_thread, marks_in, passes}
 use Rattle.lwp_types.specs.Step.{step}
 use Rattle.lwp_types.specs.Unblock.{is_timer_of, nonexist, zero_answer}
 use Rattle.lwp_types.specs.Case.{is_no_id, with_zero}
 use Rattle.lwp_types.specs.declared.call.Answer.{Answer}
 use Rattle.lwp_types.specs.declared.call.Call.{Call}
 use Rattle.lwp_types.specs.declared.call.Effect.{Effect}
-use Rattle.lwp_types.specs.declared.rows.AgentRow.{AgentRow}
 use Rattle.lwp_types.specs.declared.rows.Letter.{Letter}
 use Rattle.pod_laws.specs.Timers.{timers_asked}
 use Rattle.pod_events.specs.Events.{EventState, is_trapped, passed_on, rites_event, take_event, trap_taken}
@@ -46,7 +45,6 @@ use Rattle.pod_laws.proofs.TimerMoves.{no_timer_comes_unasked}
 use Rattle.pod_laws.specs.Forgotten.{IsGone}
 use Rattle.std.proofs.Common.{Bool, List, None, Option, Some, [], ap, arith, cond, count_by, drop, eqb, false, inl, inr, not, refl, subst, sym, true, ℕ, ◌++◌, ◌∙◌, ◌∷◌, ◌≡◌, ◌≢◌, ◌≤◌, ◌||◌, ◌⊎◌}
 use Rattle.std.proofs.lemmas.Bool.{eq-eqb, ne_eqb}
-use Rattle.std.specs.List.{filter}
 use Rattle.std.specs.Prelude.{is_none, is_some, length, map, nat_lt}
 use Rattle.lwp_types.specs.declared.call.Answer.TheVariants as answer
 use Rattle.lwp_types.specs.declared.call.Call.TheVariants as call
@@ -177,24 +175,6 @@ module _ (s k : ℕ) (es : EventState) (was : Lawful es.state None) (kb : StoreB
       by_trapped false = alone_delivered s k es.state was kb kz h away e text
 
 -- ---- the store's own call
-
--- nobody who isn't born has sent anything
-pub unborn_silent : (st : State) → Lawful st None → (s : ℕ) → st.births ≤ s → filter (is_letter_of s) st.letters ≡ []
-unborn_silent st was s low = none_kept (is_letter_of s) st.letters (omega (
-  arith,
-  was.nine.blocks.1 s,
-  count_and-le (is_number s) (λ row. is_sending row.block) st.threads,
-  count_and-le (is_agent_row s) (λ (row : AgentRow). row.holding) st.agents,
-  count_not_found (is_number s) st.threads (none_of (thread_of st s) absent.0),
-  count_not_found (is_agent_row s) st.agents (none_of (agent_of st.agents s) absent.1),
-))
-  where
-    absent : (is_thread st s ≡ false) × (is_agent st s ≡ false)
-    absent = either_of (is_thread st s) (is_agent st s) (unborn_absent st was s low)
-
-    none_of : {X : Type 0} (o : Option X) → is_some o ≡ false → o ≡ None
-    none_of {X} None e = refl
-    none_of {X} (Some x) e = absurd (cc)
 
 -- of a talk that hasn't begun
 idle_of : (s : ℕ) (talk : Talk) → Inv s talk → talk.lines ≡ [] → talk.mail ≡ Nothing → talk.session.place ≡ at.Start → talk.agent_lives ≡ true → talk.client ≡ Hears zero_answer → (table_of s talk.store.tables ≡ []) × (stands s talk.store.place talk.keeper ≡ true)

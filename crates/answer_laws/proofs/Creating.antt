@@ -1,5 +1,4 @@
 -- A thread that a Create bears, as a step of a session tells of it.
-use Rattle.answer_laws.proofs.Alone.{unborn_silent}
 use Rattle.answer_laws.proofs.Others.{deliveries_leave_it}
 use Rattle.answer_laws.proofs.Openings.{lawful_called}
 use Rattle.answer_laws.proofs.OwnSteps.{alive_seen, event_is}
@@ -9,6 +8,7 @@ use Rattle.answer_laws.proofs.Events.{rites_same}
 use Rattle.answer_laws.proofs.Servings.{alive_then, rests_untimed}
 use Rattle.answer_laws.proofs.StoreSteps.{Checked, Checked.Free, Checked.Struck, checked}
 use Rattle.answer_laws.proofs.TalkSteps.{attends_seen, either_of, unborn_absent, unsome}
+use Rattle.answer_laws.proofs.TalkTexts.{unborn_silent}
 use Rattle.answer_laws.proofs.ThreadRows.{row_settled}
 use Rattle.answer_laws.specs.Births.{born_in, is_named}
 use Rattle.answer_laws.specs.Sights.{IsDelivered, IsLeft, IsWoken, Sight, sight, sight_by}
