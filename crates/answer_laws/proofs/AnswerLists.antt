@@ -2,7 +2,7 @@
 use Rattle.answer_laws.specs.Talks.{AreFirst}
 use Rattle.line_server.specs.Tables.{Table, is_quit, line_answers, replies, told}
 use Rattle.std.proofs.Common.{Bool, List, [], ap, cond, false, refl, sym, true, ℕ, ◌++◌, ◌∙◌, ◌∷◌, ◌≡◌, ◌||◌}
-use Rattle.std.proofs.lemmas.List.{append-nil}
+use Rattle.std.proofs.lemmas.List.{append-nil, append_assoc}
 use Rattle.std.proofs.Math.Numerals.{one-add}
 use Rattle.std.specs.List.{before_first, list_any, prefix_len}
 use Rattle.std.specs.Prelude.{codes, not, take}
@@ -42,6 +42,24 @@ answers_cons table text texts e = ap (λ before. answers_of table before (list_a
 -- the last one is answered
 answers_last : (table : Table) (text : List ℕ) → is_quit text ≡ true → answers_from table (text ∷ []) ≡ codes "bye" ∷ []
 answers_last table text e = ap (λ before. answers_of table before (list_any is_quit (text ∷ []))) (before_ends is_quit text [] e) ∙ ap (answers_of table []) (any_ends is_quit text [] e)
+
+answers_quit : (table : Table) (text : List ℕ) (texts : Texts) → is_quit text ≡ true → answers_from table (text ∷ texts) ≡ codes "bye" ∷ []
+answers_quit table text texts e = ap (λ before. answers_of table before (list_any is_quit (text ∷ texts))) (before_ends is_quit text texts e) ∙ ap (answers_of table []) (any_ends is_quit text texts e)
+
+-- the answers to some lines are the first to more
+answers_grow : (xs ys : Texts) (table : Table) → AreFirst (answers_from table xs) (answers_from table (xs ++ ys))
+answers_grow [] ys table = record { rest = answers_from table ys; whole = refl }
+answers_grow (x ∷ xs) ys table = by_quit (answers_grow xs ys (told x table).table) (is_quit x) refl
+  where
+    by_quit : AreFirst (answers_from (told x table).table xs) (answers_from (told x table).table (xs ++ ys)) → (b : Bool) → is_quit x ≡ b → AreFirst (answers_from table (x ∷ xs)) (answers_from table (x ∷ (xs ++ ys)))
+    by_quit later true e = record { rest = []; whole = append-nil (answers_from table (x ∷ xs)) ∙ answers_quit table x xs e ∙ sym (answers_quit table x (xs ++ ys) e) }
+    by_quit later false e =
+        record { rest = later.rest; whole = ap (λ zs. zs ++ later.rest) (answers_cons table x xs e) ∙ ap (λ zs. (told x table).reply ∷ zs) later.whole ∙ sym (answers_cons table x (xs ++ ys) e) }
+
+pub first_more : (said xs ys : Texts) → AreFirst said (line_answers xs) → AreFirst said (line_answers (xs ++ ys))
+first_more said xs ys first =
+    let more = answers_grow xs ys [] in
+    record { rest = first.rest ++ more.rest; whole = sym (append_assoc said first.rest more.rest) ∙ ap (λ zs. zs ++ more.rest) first.whole ∙ more.whole }
 
 either_false : (a b : Bool) → (a || b) ≡ false → (a ≡ false) × (b ≡ false)
 either_false true b e = absurd (cc)

@@ -1,32 +1,34 @@
 -- What a call of another does to a thread that attends, in a pod with its own events.
+use Rattle.answer_laws.proofs.Dying.{not_destroyed, thread_said}
 use Rattle.answer_laws.proofs.Leaving.{Ready}
 use Rattle.answer_laws.proofs.Others.{attends_of, deliver_turn, step_turn}
 use Rattle.answer_laws.proofs.Sights.{Attends, Turn, Turn.Left, Turn.Woken, answers_append, attends_after, turn_then}
+use Rattle.answer_laws.proofs.TalkSteps.{Ends, Ends.Destroys, Ends.Spared, ends_of}
 use Rattle.answer_laws.specs.Events.{IsSentOrReported, PodsLeaveIt, TakesLeaveIt, machine_of}
-use Rattle.answer_laws.specs.Sights.{IsDelivered, IsLeft, IsWoken, Spares, answers_to}
+use Rattle.answer_laws.specs.Sights.{IsDelivered, IsLeft, IsWoken, Spares, answers_to, attends, written_to}
 use Rattle.lwp_types.specs.Agents.{armed, deliver}
 use Rattle.lwp_types.specs.Choice.{choice}
 use Rattle.lwp_types.specs.CountLaws.{count-append}
 use Rattle.lwp_types.specs.Counts.{timers_of}
 use Rattle.lwp_types.specs.Lawful.{Lawful}
 use Rattle.lwp_types.specs.Letters.{takes_from}
-use Rattle.lwp_types.specs.State.{Outcome, State, and_then, passes}
+use Rattle.lwp_types.specs.State.{Outcome, State, and_then, is_thread, passes}
 use Rattle.lwp_types.specs.Step.{step, step_by, step_if}
 use Rattle.lwp_types.specs.Unblock.{is_timer_of}
 use Rattle.lwp_types.specs.declared.call.Answer.{Answer}
 use Rattle.lwp_types.specs.declared.call.Call.{Call}
 use Rattle.lwp_types.specs.declared.call.Effect.{Effect}
 use Rattle.lwp_types.specs.declared.call.LwpErr.{LwpErr}
-use Rattle.pod_events.specs.Events.{is_trapped, passed_on, rites_event, take_event, trap_taken}
-use Rattle.pod_events.specs.Rites.{as_rites, first_reported, report_text, rites_said}
+use Rattle.pod_events.specs.Events.{EventState, is_trapped, passed_on, rites_event, take_event, trap_taken}
+use Rattle.pod_events.specs.Rites.{as_rites, first_reported, report_text, reports_after, rites_said}
 use Rattle.pod_events.specs.Step.{event_step, event_step_by, event_step_if}
 use Rattle.pod_events.specs.Traps.{agent_event_of, but_call, called, is_catch, is_given, made, made_as, notice, refused_by, stepped, trap_made, trap_of, trap_refusal}
 use Rattle.pod_laws.proofs.EveryStep.{Lawful-step}
 use Rattle.pod_laws.proofs.TimerMoves.{no_timer_comes_unasked}
 use Rattle.pod_laws.specs.Timers.{ticks_of, timers_asked, timers_by}
-use Rattle.std.proofs.Common.{Bool, List, None, Option, Some, [], ap, arith, cond, count_by, drop, false, inl, inr, refl, subst, sym, true, ℕ, ◌++◌, ◌∙◌, ◌∷◌, ◌≡◌, ◌≢◌, ◌⊎◌}
+use Rattle.std.proofs.Common.{Bool, List, None, Option, Some, [], ap, arith, cond, count_by, drop, eqb, false, inl, inr, refl, subst, sym, true, ℕ, ◌++◌, ◌∙◌, ◌∷◌, ◌≡◌, ◌≢◌, ◌⊎◌}
 use Rattle.std.proofs.lemmas.Bool.{eq-eqb, ne_eqb}
-use Rattle.std.specs.Prelude.{map}
+use Rattle.std.specs.Prelude.{is_some, map}
 use Rattle.lwp_types.specs.declared.call.Answer.TheVariants as answer
 use Rattle.lwp_types.specs.declared.call.Call.TheVariants as call
 use Rattle.lwp_types.specs.declared.call.Effect.TheVariants as effect
@@ -81,10 +83,10 @@ is_send (call.Send u room text) = true
 is_send _ = false
 
 -- how the machine stands before the report
-record Calls (u : ℕ) (Fits : Option ℕ → Answer → Type 0) (s after : State) (es : List Effect) : Type 0 where
-  turn : Turn u Fits s (record { after = after; effects = es })
-  lawful : Lawful after None
-  timers : timers_of after.timers u ≡ 0
+pub record Calls (u : ℕ) (Fits : Option ℕ → Answer → Type 0) (s after : State) (es : List Effect) : Type 0 where
+  pub turn : Turn u Fits s (record { after = after; effects = es })
+  pub lawful : Lawful after None
+  pub timers : timers_of after.timers u ≡ 0
 
 module _ (u t : ℕ) (Fits : Option ℕ → Answer → Type 0) (s : State) (was : Lawful s None) (turn : choice s ≡ Some t) (apart : t ≢ u) (ready : Ready u Fits t s) (none : timers_of s.timers u ≡ 0) where
   abbrev After : State → List Effect → Type 0
@@ -97,6 +99,18 @@ module _ (u t : ℕ) (Fits : Option ℕ → Answer → Type 0) (s : State) (was 
       by_ticks : (o : Option ℕ) → count_by (is_timer_of u) (timers_by s t o) ≡ 0
       by_ticks None = refl
       by_ticks (Some ticks) = rw (ne_eqb t u apart) refl
+
+  -- the call spares it and those to whom it has written; or it is there behind the call, and has written to nobody
+  abbrev Fine : Call → State → Type 0
+  Fine c after = Spares s u c ⊎ ((is_thread after u ≡ true) × ((v : ℕ) → written_to s u v ≡ 0))
+
+  spared_by : (c : Call) → Fine c (step s c).after → Spares s u c
+  spared_by c (inl spared) = spared
+  spared_by c (inr alive) = by_end (ends_of c)
+    where
+      by_end : Ends c → Spares s u c
+      by_end (Spared fine free) = fine s u
+      by_end (Destroys v e) = subst (Spares s u) (sym e) (not_destroyed s was t u v turn (ap is_some ready.attends.known) c e alive.0, alive.1 v)
 
   -- a call of the machine
   after_step : (c : Call) → Spares s u c → ((room : ℕ) (text : List ℕ) → c ≡ call.Send u room text → (from : Option ℕ) → takes_from t (block.Receiving from) ≡ true → Fits from (answer.Letter t text room)) → After (step s c).after (step s c).effects
@@ -114,32 +128,32 @@ module _ (u t : ℕ) (Fits : Option ℕ → Answer → Type 0) (s : State) (was 
   after_trapped : (e : ℕ) (after : State) (es : List Effect) → After after es → After after (effect.Trapped t e ∷ es)
   after_trapped e after es calls = record { turn = turn_as u Fits s (record { after = after; effects = es }) (effect.Trapped t e ∷ es) refl calls.turn; lawful = calls.lawful; timers = calls.timers }
 
-  module _ (trapped : List Bool) (c : Call) (spared : Spares s u c) (sent : (room : ℕ) (text : List ℕ) → c ≡ call.Send u room text → (from : Option ℕ) → takes_from t (block.Receiving from) ≡ true → Fits from (answer.Letter t text room)) where
-    after_made : After (made s trapped t c).state (made s trapped t c).effects
+  module _ (trapped : List Bool) (c : Call) (sent : (room : ℕ) (text : List ℕ) → c ≡ call.Send u room text → (from : Option ℕ) → takes_from t (block.Receiving from) ≡ true → Fits from (answer.Letter t text room)) where
+    after_made : Fine c (made s trapped t c).state → After (made s trapped t c).state (made s trapped t c).effects
     after_made = by_trap (trap_of c)
       where
-        by_refusal : (e : ℕ) (o : Option LwpErr) → After (trap_made s trapped t c e o).state (trap_made s trapped t c e o).effects
-        by_refusal e None = after_none c _
-        by_refusal e (Some why) = after_none c _
+        by_refusal : (e : ℕ) (o : Option LwpErr) → Fine c (trap_made s trapped t c e o).state → After (trap_made s trapped t c e o).state (trap_made s trapped t c e o).effects
+        by_refusal e None fine = after_none c _
+        by_refusal e (Some why) fine = after_none c _
 
-        by_agent : (b : Bool) → After (cond b (refused_by s trapped t c error.InUse) (stepped trapped (step s c))).state (cond b (refused_by s trapped t c error.InUse) (stepped trapped (step s c))).effects
-        by_agent true = after_none c _
-        by_agent false = after_step c spared sent
+        by_agent : (b : Bool) → Fine c (cond b (refused_by s trapped t c error.InUse) (stepped trapped (step s c))).state → After (cond b (refused_by s trapped t c error.InUse) (stepped trapped (step s c))).state (cond b (refused_by s trapped t c error.InUse) (stepped trapped (step s c))).effects
+        by_agent true fine = after_none c _
+        by_agent false fine = after_step c (spared_by c fine) sent
 
-        by_trap : (o : Option ℕ) → After (made_as s trapped t c o).state (made_as s trapped t c o).effects
-        by_trap None = by_agent (passes (is_trapped trapped) (agent_event_of c))
-        by_trap (Some e) = by_refusal e (trap_refusal s trapped e)
+        by_trap : (o : Option ℕ) → Fine c (made_as s trapped t c o).state → After (made_as s trapped t c o).state (made_as s trapped t c o).effects
+        by_trap None fine = by_agent (passes (is_trapped trapped) (agent_event_of c)) fine
+        by_trap (Some e) fine = by_refusal e (trap_refusal s trapped e) fine
 
-    after_called : (pending : Option ℕ) → After (called s trapped t c pending).state (called s trapped t c pending).effects
-    after_called None = after_made
-    after_called (Some e) = by_given (passes is_given (notice s t e)) (passes is_catch (notice s t e))
+    pub after_called : (pending : Option ℕ) → Fine c (called s trapped t c pending).state → After (called s trapped t c pending).state (called s trapped t c pending).effects
+    after_called None fine = after_made fine
+    after_called (Some e) fine = by_given (passes is_given (notice s t e)) (passes is_catch (notice s t e)) fine
       where
-        by_given : (b d : Bool) → After
+        by_given : (b d : Bool) → Fine c (cond b (made s trapped t c) (cond d (stepped trapped (but_call (step s (call.ExcNotify e)))) (stepped trapped (but_call (step s (call.Destroy t)))))).state → After
             (cond b (made s trapped t c) (cond d (stepped trapped (but_call (step s (call.ExcNotify e)))) (stepped trapped (but_call (step s (call.Destroy t)))))).state
             (effect.Trapped t e ∷ (cond b (made s trapped t c) (cond d (stepped trapped (but_call (step s (call.ExcNotify e)))) (stepped trapped (but_call (step s (call.Destroy t)))))).effects)
-        by_given true d = after_trapped e _ _ after_made
-        by_given false true = after_trapped e _ _ (after_but (call.ExcNotify e) (after_step (call.ExcNotify e) tt (λ room text no. absurd (let bad : true ≡ false = ap is_notice no in cc))))
-        by_given false false = after_trapped e _ _ (after_but (call.Destroy t) (after_step (call.Destroy t) (ne_eqb t u apart, ready.away) (λ room text no. absurd (let bad : false ≡ true = ap is_send no in cc))))
+        by_given true d fine = after_trapped e _ _ (after_made fine)
+        by_given false true fine = after_trapped e _ _ (after_but (call.ExcNotify e) (after_step (call.ExcNotify e) tt (λ room text no. absurd (let bad : true ≡ false = ap is_notice no in cc))))
+        by_given false false fine = after_trapped e _ _ (after_but (call.Destroy t) (after_step (call.Destroy t) (ne_eqb t u apart, ready.away) (λ room text no. absurd (let bad : false ≡ true = ap is_send no in cc))))
 
 -- and then the report
 after_said : (u : ℕ) (Fits : Option ℕ → Answer → Type 0) (from s : State) (es : List Effect) (reports : List ℕ) → Attends u Fits from → ((dead agent : ℕ) (f : Option ℕ) → takes_from agent (block.Receiving f) ≡ true → Fits f (answer.Letter agent (report_text dead) 240)) → Calls u Fits from s es
@@ -157,21 +171,39 @@ after_said u Fits from s es reports here fits calls = by_armed (armed s rites_ev
         (turn_then u Fits from (record { after = s; effects = es }) (λ now. deliver now rites_event (report_text dead)) calls.turn told)
     by_armed false rs = calls.turn
 
+module _ (es : EventState) (was : Lawful es.state None) (t u : ℕ) (turn : choice es.state ≡ Some t) (other : eqb t u ≡ false) (attentive : attends es.state u ≡ true) (none : timers_of es.state.timers u ≡ 0) (away : written_to es.state u t ≡ 0) (c : Call) where
+  abbrev FitsCall : Option ℕ → Answer → Type 0
+  FitsCall from heard = IsSentOrReported t u c from heard
+
+  apart : t ≢ u
+  apart e = let bad : true ≡ false = sym (eq-eqb t u e) ∙ other in cc
+
+  ready : Ready u FitsCall t es.state
+  ready = record { attends = attends_of u FitsCall es.state attentive; away = away }
+
+  abbrev FineCall : State → Type 0
+  FineCall after = Fine u t FitsCall es.state was turn apart ready none c after
+
+  fine_before : (after : State) (fs : List Effect) (reports : List ℕ) → FineCall (rites_said after fs reports).state → FineCall after
+  fine_before after fs reports (inl spared) = inl spared
+  fine_before after fs reports (inr alive) = inr (sym (thread_said u after fs reports) ∙ alive.0, alive.1)
+
+  fine_leave_it : FineCall (event_step es c).after.state → IsLeft u es.state (machine_of (event_step es c)) ⊎ IsWoken u FitsCall es.state (machine_of (event_step es c))
+  unfolding event_step event_step_by
+  fine_leave_it fine =
+      let out = called es.state es.trapped t c es.pending in
+      subst (λ o. FineCall (event_step_if es c o).after.state → IsLeft u es.state (machine_of (event_step_if es c o)) ⊎ IsWoken u FitsCall es.state (machine_of (event_step_if es c o))) (sym turn)
+      (λ fine. of_turn u FitsCall es.state _ (after_said u FitsCall es.state out.state out.effects (reports_after es.state out.state es.reports out.effects) ready.attends (λ dead agent f takes. inr (dead, record { agent = agent; letter = refl; named = takes }))
+      (after_called u t FitsCall es.state was turn apart ready none es.trapped c (λ room text e from takes. inl (record { room = room; text = text; sends = e; letter = refl; named = takes })) es.pending
+      (fine_before out.state out.effects (reports_after es.state out.state es.reports out.effects) fine)))) fine
+
 pub pods_leave_it : PodsLeaveIt
-unfolding event_step event_step_by
-pods_leave_it es was t u turn other attentive none away c spared =
-    subst (λ o. IsLeft u es.state (machine_of (event_step_if es c o)) ⊎ IsWoken u Fits es.state (machine_of (event_step_if es c o))) (sym turn)
-    (of_turn u Fits es.state _ (after_said u Fits es.state _ _ _ ready.attends (λ dead agent f takes. inr (dead, record { agent = agent; letter = refl; named = takes }))
-    (after_called u t Fits es.state was turn apart ready none es.trapped c spared (λ room text e from takes. inl (record { room = room; text = text; sends = e; letter = refl; named = takes })) es.pending)))
-  where
-    Fits : Option ℕ → Answer → Type 0
-    Fits from heard = IsSentOrReported t u c from heard
+pods_leave_it es was t u turn other attentive none away c spared = fine_leave_it es was t u turn other attentive none away c (inl spared)
 
-    apart : t ≢ u
-    apart e = let bad : true ≡ false = sym (eq-eqb t u e) ∙ other in cc
-
-    ready : Ready u Fits t es.state
-    ready = record { attends = attends_of u Fits es.state attentive; away = away }
+-- who is there behind the call, and has written to nobody, was spared
+pub living_is_left : (es : EventState) → Lawful es.state None → (t u : ℕ) → choice es.state ≡ Some t → eqb t u ≡ false → attends es.state u ≡ true → timers_of es.state.timers u ≡ 0 → ((v : ℕ) → written_to es.state u v ≡ 0)
+    → (c : Call) → is_thread (event_step es c).after.state u ≡ true → IsLeft u es.state (machine_of (event_step es c)) ⊎ IsWoken u (IsSentOrReported t u c) es.state (machine_of (event_step es c))
+living_is_left es was t u turn other attentive none away c lives = fine_leave_it es was t u turn other attentive none (away t) c (inr (lives, away))
 
 pub takes_leave_it : TakesLeaveIt
 unfolding take_event

@@ -56,7 +56,7 @@ command_few text h =
 -- ---- tables
 
 -- whatever a get of it can be told
-abbrev Kept : Table → Type 0
+abbrev pub Kept : Table → Type 0
 Kept table = list_all (λ (e : List ℕ × List ℕ). is_short e.1) table ≡ true
 
 shown_short : (value : List ℕ) → Few value → is_short (shown value) ≡ true
@@ -120,7 +120,7 @@ command_told (Some (Del key)) few table h = (by_there (is_some (at_key key table
     by_there true = refl
     by_there false = refl
 
-replies_short : (texts : List (List ℕ)) (table : Table) → list_all is_short texts ≡ true → Kept table → list_all is_short (replies table texts) ≡ true
+pub replies_short : (texts : List (List ℕ)) (table : Table) → list_all is_short texts ≡ true → Kept table → list_all is_short (replies table texts) ≡ true
 replies_short [] table all h = refl
 replies_short (text ∷ texts) table all h =
     let parts = and_parts (is_short text) (list_all is_short texts) all in

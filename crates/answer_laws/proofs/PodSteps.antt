@@ -1,14 +1,16 @@
 -- What others do to a session and a store that talk, in a pod with its own events.
+use Rattle.answer_laws.proofs.Dying.{not_destroyed, thread_said}
 use Rattle.answer_laws.proofs.Events.{but_same, rites_same}
 use Rattle.answer_laws.proofs.Others.{deliveries_leave_it}
 use Rattle.answer_laws.proofs.Sights.{answers_append}
-use Rattle.answer_laws.proofs.TalkSteps.{attends_seen, others_calls_are_events, talked_append, unheard}
+use Rattle.answer_laws.proofs.TalkSteps.{Ends, Ends.Destroys, Ends.Spared, attends_seen, ends_of, others_calls_are_events, talked_append, unheard}
 use Rattle.answer_laws.proofs.TalkTexts.{births_deliver, deliveries_are_events}
 use Rattle.answer_laws.specs.Agents.{deliveries_to, is_delivery_to, spares_agent}
 use Rattle.answer_laws.specs.Clients.{text_to}
 use Rattle.answer_laws.specs.Events.{machine_of}
-use Rattle.answer_laws.specs.Sights.{IsDelivered, IsLeft, IsWoken, answers_to}
-use Rattle.answer_laws.specs.Stands.{Becomes, HeardAs, IsHeard, Leaves, PodsCallsAreEvents, Stands, TakesAreEvents, last_heard, texts_in}
+use Rattle.answer_laws.specs.Owns.{LivingCallsAreEvents}
+use Rattle.answer_laws.specs.Sights.{IsDelivered, IsLeft, IsWoken, answers_to, sight}
+use Rattle.answer_laws.specs.Stands.{Becomes, HeardAs, IsHeard, Leaves, PodsCallsAreEvents, Stands, TakesAreEvents, block_of, last_heard, texts_in}
 use Rattle.answer_laws.specs.Talks.{Stand, Talk, talked}
 use Rattle.line_server.specs.Sessions.{SessionBody}
 use Rattle.line_server.specs.Stores.{StoreBody}
@@ -16,18 +18,20 @@ use Rattle.line_server.specs.declared.session.SessionPlace.TheVariants as at
 use Rattle.lwp_types.specs.Agents.{armed, deliver}
 use Rattle.lwp_types.specs.Choice.{choice}
 use Rattle.lwp_types.specs.CountLaws.{count-cons, one}
+use Rattle.lwp_types.specs.Counts.{timers_of}
 use Rattle.lwp_types.specs.Lawful.{Lawful}
 use Rattle.lwp_types.specs.Names.{null_id}
-use Rattle.lwp_types.specs.State.{Outcome, State, passes}
+use Rattle.lwp_types.specs.State.{Outcome, State, ThreadRow, is_thread, passes, thread_of}
 use Rattle.lwp_types.specs.Step.{case_of, end_effects, ends, own_effects, step, step_by, step_if}
-use Rattle.lwp_types.specs.Unblock.{is_timer_of}
+use Rattle.lwp_types.specs.Unblock.{is_timer_of, nonexist}
 use Rattle.lwp_types.specs.declared.call.Answer.{Answer}
 use Rattle.lwp_types.specs.declared.call.Call.{Call}
 use Rattle.lwp_types.specs.declared.call.Effect.{Effect}
 use Rattle.lwp_types.specs.declared.call.LwpErr.{LwpErr}
+use Rattle.lwp_types.specs.declared.rows.Block.{Block}
 use Rattle.pod_events.proofs.Mild.{mild_deliver}
 use Rattle.pod_events.proofs.MildCalls.{case_toll, is_tame, mild_tame}
-use Rattle.pod_events.specs.Events.{is_trapped, may_trap, passed_on, rites_event, take_event, trap_taken}
+use Rattle.pod_events.specs.Events.{EventState, is_trapped, may_trap, passed_on, rites_event, take_event, trap_taken}
 use Rattle.pod_events.specs.Rites.{as_rites, first_reported, report_text, reports_after, rites_said}
 use Rattle.pod_events.specs.Step.{event_step, event_step_by, event_step_if}
 use Rattle.pod_events.specs.Traps.{agent_event_of, but_call, called, is_catch, is_given, made, made_as, notice, refused_by, stepped, trap_made, trap_of, trap_refusal}
@@ -37,15 +41,16 @@ use Rattle.std.proofs.Common.{Bool, List, None, Option, Some, [], ap, append-nil
 use Rattle.std.proofs.Math.Numerals.{one-add}
 use Rattle.std.proofs.lemmas.Bool.{and_from, and_parts}
 use Rattle.std.specs.List.{list_all}
-use Rattle.std.specs.Prelude.{map, nat_lt, replicate}
+use Rattle.std.specs.Prelude.{is_some, map, nat_lt, option_map, replicate}
 use Rattle.lwp_types.specs.declared.call.Call.TheVariants as call
 use Rattle.lwp_types.specs.declared.call.Effect.TheVariants as effect
 use Rattle.lwp_types.specs.declared.call.LwpErr.TheVariants as error
 use Rattle.lwp_types.specs.declared.rows.Block.TheVariants as block
+use Rattle.lwp_types.specs.declared.rows.Mark.TheVariants as mark
 
 -- ---- texts
 
-texts_append : (a : ℕ) (text : Option (List ℕ)) (xs ys : List Effect) → texts_in a text (xs ++ ys) ≡ texts_in a text xs ++ texts_in a text ys
+pub texts_append : (a : ℕ) (text : Option (List ℕ)) (xs ys : List Effect) → texts_in a text (xs ++ ys) ≡ texts_in a text xs ++ texts_in a text ys
 texts_append a text [] ys = refl
 texts_append a text (x ∷ xs) ys = ap (λ zs. text_to a text x ++ zs) (texts_append a text xs ys) ∙ sym (append_assoc (text_to a text x) (texts_in a text xs) (texts_in a text ys))
 
@@ -76,7 +81,7 @@ module _ (a : ℕ) where
       by_effect (effect.Rites b d) h rest = absurd (cc)
 
   -- a line is one as often as it was delivered
-  lines_told : (text : List ℕ) (es : List Effect) → list_all is_tame es ≡ true → texts_in a (Some text) es ≡ replicate (deliveries_to a es) text
+  pub lines_told : (text : List ℕ) (es : List Effect) → list_all is_tame es ≡ true → texts_in a (Some text) es ≡ replicate (deliveries_to a es) text
   lines_told text [] tame = refl
   lines_told text (e ∷ es) tame = let parts = and_parts (is_tame e) (list_all is_tame es) tame in by_effect e parts.0 (lines_told text es parts.1)
     where
@@ -98,7 +103,7 @@ module _ (a : ℕ) where
       by_effect (effect.Rites b d) h rest = absurd (cc)
 
   -- and so is a report
-  reports_told : (dead : ℕ) (es : List Effect) → list_all is_tame es ≡ true → texts_in a None (map (as_rites dead) es) ≡ texts_in a (Some (report_text dead)) es
+  pub reports_told : (dead : ℕ) (es : List Effect) → list_all is_tame es ≡ true → texts_in a None (map (as_rites dead) es) ≡ texts_in a (Some (report_text dead)) es
   reports_told dead [] tame = refl
   reports_told dead (e ∷ es) tame = let parts = and_parts (is_tame e) (list_all is_tame es) tame in by_effect e parts.0 (reports_told dead es parts.1)
     where
@@ -113,11 +118,11 @@ module _ (a : ℕ) where
       by_effect (effect.Trapped t e) h rest = absurd (cc)
       by_effect (effect.Rites b d) h rest = absurd (cc)
 
-tame_deliver : (s : State) (e : ℕ) (text : List ℕ) → list_all is_tame (deliver s e text).effects ≡ true
+pub tame_deliver : (s : State) (e : ℕ) (text : List ℕ) → list_all is_tame (deliver s e text).effects ≡ true
 tame_deliver s e text = mild_tame (deliver s e text).effects (mild_deliver s e text).tells
 
 -- a call of the machine delivers no text
-step_texts : (a : ℕ) (s : State) (c : Call) → texts_in a None (step s c).effects ≡ []
+pub step_texts : (a : ℕ) (s : State) (c : Call) → texts_in a None (step s c).effects ≡ []
 unfolding step step_by
 step_texts a s c = by_choice (choice s)
   where
@@ -136,7 +141,7 @@ step_texts a s c = by_choice (choice s)
         texts_append a None made.others (own_effects t made.own ++ end_effects made.after) ∙ ap (λ zs. zs ++ texts_in a None (own_effects t made.own ++ end_effects made.after)) (none_told a made.others (case_toll s t c).tame)
         ∙ texts_append a None (own_effects t made.own) (end_effects made.after) ∙ (λ i. own_none t made.own i ++ end_none made.after (ends made.after) i)
 
-but_texts : (a : ℕ) (s : State) (c : Call) → texts_in a None (drop 1 (step s c).effects) ≡ texts_in a None (step s c).effects
+pub but_texts : (a : ℕ) (s : State) (c : Call) → texts_in a None (drop 1 (step s c).effects) ≡ texts_in a None (step s c).effects
 unfolding step step_by
 but_texts a s c = by_choice (choice s)
   where
@@ -172,10 +177,10 @@ module _ (s k a : ℕ) (talk : Talk) (waiting : List (List ℕ)) where
   heard_then : (before middle after : Stand) (xs ys : List Answer) → IsHeard before middle xs → IsHeard middle after ys → IsHeard before after (xs ++ ys)
   heard_then before middle after xs ys one two = λ z h. subst (HeardAs after) (sym (heard_append z xs ys)) (two (last_heard z xs) (one z h))
 
-  -- one after the other
-  becomes_then : (one_texts two_texts : List (List ℕ)) (one : Outcome) (es : List Effect) (after : State) (b : Becomes s k a talk talk.session talk.store waiting one_texts [] one)
-      → Becomes s k a (talked s a talk b.events) (talked s a talk b.events).session (talked s a talk b.events).store b.waits two_texts [] (record { after = after; effects = es }) → Becomes s k a talk talk.session talk.store waiting (one_texts ++ two_texts) [] (record { after = after; effects = one.effects ++ es })
-  becomes_then one_texts two_texts one es after b d = record {
+  -- a delivery behind it
+  pub becomes_then : (session : SessionBody) (store : StoreBody) (one_texts two_texts replies : List (List ℕ)) (one : Outcome) (es : List Effect) (after : State) (b : Becomes s k a talk session store waiting one_texts replies one)
+      → Becomes s k a (talked s a talk b.events) (talked s a talk b.events).session (talked s a talk b.events).store b.waits two_texts [] (record { after = after; effects = es }) → Becomes s k a talk session store waiting (one_texts ++ two_texts) replies (record { after = after; effects = one.effects ++ es })
+  becomes_then session store one_texts two_texts replies one es after b d = record {
     events = b.events ++ d.events;
     waits = d.waits;
     session_then = ap (λ (x : Talk). x.session) now ∙ d.session_then ∙ b.session_then;
@@ -192,18 +197,79 @@ module _ (s k a : ℕ) (talk : Talk) (waiting : List (List ℕ)) where
       now : talked s a talk (b.events ++ d.events) ≡ talked s a (talked s a talk b.events) d.events
       now = talked_append s a talk b.events d.events
 
-  -- a text behind it leaves the session that ends
-  leaves_then : (one : Outcome) → Lawful one.after None → (e : ℕ) (text : List ℕ) → Leaves s talk one → Leaves s talk (record { after = (deliver one.after e text).after; effects = one.effects ++ (deliver one.after e text).effects })
-  leaves_then one was e text l = by_fate (deliveries_leave_it one.after was s (attends_seen one.after s block.Not (ap (λ x. x.waits) l.client) refl) l.untimed e text)
+  -- a report answers as the delivery that it is
+  said_same : (es sent : List Effect) (u dead : ℕ) → answers_to u (es ++ map (as_rites dead) sent) ≡ answers_to u (es ++ sent)
+  said_same es sent u dead = answers_append u es (map (as_rites dead) sent) ∙ ap (λ x. answers_to u es ++ x) (rites_same u dead sent) ∙ sym (answers_append u es sent)
+
+  -- and so it is with the report behind it
+  pub becomes_said : eqb s k ≡ false → (session : SessionBody) (store : StoreBody) (replies : List (List ℕ)) (after : State) (es : List Effect) (reports : List ℕ) → Lawful after None → texts_in a None es ≡ []
+      → Becomes s k a talk session store waiting [] replies (record { after = after; effects = es })
+      → Becomes s k a talk session store waiting (texts_in a None (rites_said after es reports).effects) replies (record { after = (rites_said after es reports).state; effects = (rites_said after es reports).effects })
+  becomes_said s_k session store replies after es reports was none b = by_armed (armed after rites_event) refl reports
     where
-      by_fate : IsLeft s one.after (deliver one.after e text) ⊎ IsWoken s (IsDelivered text) one.after (deliver one.after e text) → Leaves s talk (record { after = (deliver one.after e text).after; effects = one.effects ++ (deliver one.after e text).effects })
+      Done : State → List Effect → Type 0
+      Done st fs = Becomes s k a talk session store waiting (texts_in a None fs) replies (record { after = st; effects = fs })
+
+      silent : Done after es
+      silent = subst (λ xs. Becomes s k a talk session store waiting xs replies (record { after = after; effects = es })) (sym none) b
+
+      by_armed : (b : Bool) → armed after rites_event ≡ b → (rs : List ℕ) → Done (cond b (first_reported after es rs) (record { state = after; reports = rs; effects = es })).state (cond b (first_reported after es rs) (record { state = after; reports = rs; effects = es })).effects
+      by_armed true arms [] = silent
+      by_armed false arms rs = silent
+      by_armed true arms (dead ∷ later) =
+          let out = deliver after rites_event (report_text dead) in
+          let two = deliveries_are_events s k a after was (talked s a talk b.events) b.waits b.stands s_k rites_event (report_text dead) arms in
+          let both = becomes_then session store [] (replicate (deliveries_to a out.effects) (report_text dead)) replies (record { after = after; effects = es }) out.effects out.after b two in
+          subst (λ xs. Becomes s k a talk session store waiting xs replies (record { after = out.after; effects = es ++ map (as_rites dead) out.effects })) (sym texts)
+          (becomes_same session store ([] ++ replicate (deliveries_to a out.effects) (report_text dead)) replies (record { after = out.after; effects = es ++ out.effects }) (es ++ map (as_rites dead) out.effects) (said_same es out.effects s dead) (said_same es out.effects k dead) both)
+        where
+          texts : texts_in a None (es ++ map (as_rites dead) (deliver after rites_event (report_text dead)).effects) ≡ [] ++ replicate (deliveries_to a (deliver after rites_event (report_text dead)).effects) (report_text dead)
+          texts = texts_append a None es (map (as_rites dead) (deliver after rites_event (report_text dead)).effects)
+              ∙ (λ i. none i ++ (reports_told a dead (deliver after rites_event (report_text dead)).effects (tame_deliver after rites_event (report_text dead)) ∙ lines_told a (report_text dead) (deliver after rites_event (report_text dead)).effects (tame_deliver after rites_event (report_text dead))) i)
+
+-- the session waits for nothing, has sent nothing, and was told so
+pub record Rests (s : ℕ) (heard : List Answer) (out : Outcome) : Type 0 where
+  pub client : sight out.after s ≡ record { waits = Some block.Not; marks = mark.Frame ∷ []; letters = [] }
+  pub untimed : timers_of out.after.timers s ≡ 0
+  pub told : answers_to s out.effects ≡ heard
+
+module _ (s : ℕ) (heard : List Answer) where
+  -- a text behind it leaves it
+  rests_then : (one : Outcome) → Lawful one.after None → (e : ℕ) (text : List ℕ) → Rests s heard one → Rests s heard (record { after = (deliver one.after e text).after; effects = one.effects ++ (deliver one.after e text).effects })
+  rests_then one was e text l = by_fate (deliveries_leave_it one.after was s (attends_seen one.after s block.Not (ap (λ x. x.waits) l.client) refl) l.untimed e text)
+    where
+      by_fate : IsLeft s one.after (deliver one.after e text) ⊎ IsWoken s (IsDelivered text) one.after (deliver one.after e text) → Rests s heard (record { after = (deliver one.after e text).after; effects = one.effects ++ (deliver one.after e text).effects })
       by_fate (inl left) = record {
         client = left.same ∙ l.client;
         untimed = omega (arith, l.untimed, (no_timer_comes_unasked one.after (is_timer_of s)).delivered e text);
-        place = l.place;
-        told = answers_append s one.effects (deliver one.after e text).effects ∙ (λ i. l.told i ++ left.quiet i);
+        told = answers_append s one.effects (deliver one.after e text).effects ∙ (λ i. l.told i ++ left.quiet i) ∙ append-nil heard;
       }
       by_fate (inr woken) = absurd (let bad : Some block.Not ≡ Some (block.Receiving woken.from) = ap (λ x. x.waits) (sym l.client) ∙ woken.waited in cc)
+
+  -- and so does a report
+  pub rests_said : (after : State) (es : List Effect) (reports : List ℕ) → Lawful after None → Rests s heard (record { after = after; effects = es }) → Rests s heard (record { after = (rites_said after es reports).state; effects = (rites_said after es reports).effects })
+  rests_said after es reports was r = by_armed (armed after rites_event) reports
+    where
+      by_armed : (b : Bool) (rs : List ℕ) → Rests s heard (record { after = (cond b (first_reported after es rs) (record { state = after; reports = rs; effects = es })).state; effects = (cond b (first_reported after es rs) (record { state = after; reports = rs; effects = es })).effects })
+      by_armed true [] = r
+      by_armed false rs = r
+      by_armed true (dead ∷ later) =
+          let out = deliver after rites_event (report_text dead) in
+          let two = rests_then (record { after = after; effects = es }) was rites_event (report_text dead) r in
+          record {
+            client = two.client;
+            untimed = two.untimed;
+            told = answers_append s es (map (as_rites dead) out.effects) ∙ ap (λ x. answers_to s es ++ x) (rites_same s dead out.effects) ∙ sym (answers_append s es out.effects) ∙ two.told;
+          }
+
+-- a report bears nobody
+pub births_said : (after : State) (es : List Effect) (reports : List ℕ) → (rites_said after es reports).state.births ≡ after.births
+births_said after es reports = by_armed (armed after rites_event) reports
+  where
+    by_armed : (b : Bool) (rs : List ℕ) → (cond b (first_reported after es rs) (record { state = after; reports = rs; effects = es })).state.births ≡ after.births
+    by_armed true [] = refl
+    by_armed false rs = refl
+    by_armed true (dead ∷ later) = births_deliver after rites_event (report_text dead)
 
 -- ---- a call of another, before the report
 
@@ -228,8 +294,27 @@ module _ (s k a : ℕ) (st : State) (was : Lawful st None) (talk : Talk) (waitin
       by_comes (inl b) = inl (becomes_same s k a talk waiting talk.session talk.store [] [] (record { after = after; effects = es }) fs same same_k b)
       by_comes (inr l) = inr (leaves_same s k a talk waiting (record { after = after; effects = es }) fs same l)
 
-  after_step : (c : Call) → spares_agent s k c ≡ true → Low (step st c).after → After (step st c).after (step st c).effects
-  after_step c spared low = record { comes = others_calls_are_events s k a st was talk waiting h t turn t_s t_k s_k c spared low; lawful = Lawful-step st was c; texts = step_texts a st c }
+  -- the call destroys neither of the two, or both are there behind it
+  abbrev Fine : Call → State → Type 0
+  Fine c after = (spares_agent s k c ≡ true) ⊎ ((is_thread after s ≡ true) × (is_thread after k ≡ true))
+
+  lives_seen : (u : ℕ) (b : Block) → (sight st u).waits ≡ Some b → is_thread st u ≡ true
+  lives_seen u b seen = by_row (thread_of st u) seen
+    where
+      by_row : (o : Option ThreadRow) → option_map (λ (row : ThreadRow). row.block) o ≡ Some b → is_some o ≡ true
+      by_row None e = absurd (cc)
+      by_row (Some row) e = refl
+
+  spared_by : (c : Call) → Fine c (step st c).after → spares_agent s k c ≡ true
+  spared_by c (inl spared) = spared
+  spared_by c (inr alive) = by_end (ends_of c)
+    where
+      by_end : Ends c → spares_agent s k c ≡ true
+      by_end (Spared fine free) = free s k
+      by_end (Destroys v e) = subst (λ c. spares_agent s k c ≡ true) (sym e) (and_from _ _ (ap not (not_destroyed st was t s v turn (lives_seen s (block_of (Some a) talk.client) (ap (λ x. x.waits) h.client)) c e alive.0)) (ap not (not_destroyed st was t k v turn (lives_seen k (block_of None talk.keeper) (ap (λ x. x.waits) h.keeper)) c e alive.1)))
+
+  after_step : (c : Call) → Fine c (step st c).after → Low (step st c).after → After (step st c).after (step st c).effects
+  after_step c fine low = record { comes = others_calls_are_events s k a st was talk waiting h t turn t_s t_k s_k c (spared_by c fine) low; lawful = Lawful-step st was c; texts = step_texts a st c }
 
   -- a call that the machine doesn't see
   after_none : (c : Call) (x : Answer) → After st (effect.Called t c ∷ effect.Answered t x ∷ [])
@@ -255,99 +340,75 @@ module _ (s k a : ℕ) (st : State) (was : Lawful st None) (talk : Talk) (waitin
   after_trapped : (e : ℕ) (after : State) (es : List Effect) → After after es → After after (effect.Trapped t e ∷ es)
   after_trapped e after es m = after_as after es (effect.Trapped t e ∷ es) refl refl refl m
 
-  module _ (trapped : List Bool) (c : Call) (spared : spares_agent s k c ≡ true) where
-    after_made : Low (made st trapped t c).state → After (made st trapped t c).state (made st trapped t c).effects
+  module _ (trapped : List Bool) (c : Call) where
+    after_made : Fine c (made st trapped t c).state → Low (made st trapped t c).state → After (made st trapped t c).state (made st trapped t c).effects
     after_made = by_trap (trap_of c)
       where
-        by_refusal : (e : ℕ) (o : Option LwpErr) → Low (trap_made st trapped t c e o).state → After (trap_made st trapped t c e o).state (trap_made st trapped t c e o).effects
-        by_refusal e None low = after_none c _
-        by_refusal e (Some why) low = after_none c _
+        by_refusal : (e : ℕ) (o : Option LwpErr) → Fine c (trap_made st trapped t c e o).state → Low (trap_made st trapped t c e o).state → After (trap_made st trapped t c e o).state (trap_made st trapped t c e o).effects
+        by_refusal e None fine low = after_none c _
+        by_refusal e (Some why) fine low = after_none c _
 
-        by_agent : (b : Bool) → Low (cond b (refused_by st trapped t c error.InUse) (stepped trapped (step st c))).state → After (cond b (refused_by st trapped t c error.InUse) (stepped trapped (step st c))).state (cond b (refused_by st trapped t c error.InUse) (stepped trapped (step st c))).effects
-        by_agent true low = after_none c _
-        by_agent false low = after_step c spared low
+        by_agent : (b : Bool) → Fine c (cond b (refused_by st trapped t c error.InUse) (stepped trapped (step st c))).state → Low (cond b (refused_by st trapped t c error.InUse) (stepped trapped (step st c))).state
+            → After (cond b (refused_by st trapped t c error.InUse) (stepped trapped (step st c))).state (cond b (refused_by st trapped t c error.InUse) (stepped trapped (step st c))).effects
+        by_agent true fine low = after_none c _
+        by_agent false fine low = after_step c fine low
 
-        by_trap : (o : Option ℕ) → Low (made_as st trapped t c o).state → After (made_as st trapped t c o).state (made_as st trapped t c o).effects
-        by_trap None low = by_agent (passes (is_trapped trapped) (agent_event_of c)) low
-        by_trap (Some e) low = by_refusal e (trap_refusal st trapped e) low
+        by_trap : (o : Option ℕ) → Fine c (made_as st trapped t c o).state → Low (made_as st trapped t c o).state → After (made_as st trapped t c o).state (made_as st trapped t c o).effects
+        by_trap None fine low = by_agent (passes (is_trapped trapped) (agent_event_of c)) fine low
+        by_trap (Some e) fine low = by_refusal e (trap_refusal st trapped e) fine low
 
-    after_called : (pending : Option ℕ) → Low (called st trapped t c pending).state → After (called st trapped t c pending).state (called st trapped t c pending).effects
-    after_called None low = after_made low
-    after_called (Some e) low = by_given (passes is_given (notice st t e)) (passes is_catch (notice st t e)) low
+    after_called : (pending : Option ℕ) → Fine c (called st trapped t c pending).state → Low (called st trapped t c pending).state → After (called st trapped t c pending).state (called st trapped t c pending).effects
+    after_called None fine low = after_made fine low
+    after_called (Some e) fine low = by_given (passes is_given (notice st t e)) (passes is_catch (notice st t e)) fine low
       where
         by_given : (b d : Bool)
+            → Fine c (cond b (made st trapped t c) (cond d (stepped trapped (but_call (step st (call.ExcNotify e)))) (stepped trapped (but_call (step st (call.Destroy t)))))).state
             → Low (cond b (made st trapped t c) (cond d (stepped trapped (but_call (step st (call.ExcNotify e)))) (stepped trapped (but_call (step st (call.Destroy t)))))).state
             → After
             (cond b (made st trapped t c) (cond d (stepped trapped (but_call (step st (call.ExcNotify e)))) (stepped trapped (but_call (step st (call.Destroy t)))))).state
             (effect.Trapped t e ∷ (cond b (made st trapped t c) (cond d (stepped trapped (but_call (step st (call.ExcNotify e)))) (stepped trapped (but_call (step st (call.Destroy t)))))).effects)
-        by_given true d low = after_trapped e _ _ (after_made low)
-        by_given false true low = after_trapped e _ _ (after_but (call.ExcNotify e) (after_step (call.ExcNotify e) refl low))
-        by_given false false low = after_trapped e _ _ (after_but (call.Destroy t) (after_step (call.Destroy t) (and_from _ _ (ap not t_s) (ap not t_k)) low))
+        by_given true d fine low = after_trapped e _ _ (after_made fine low)
+        by_given false true fine low = after_trapped e _ _ (after_but (call.ExcNotify e) (after_step (call.ExcNotify e) (inl refl) low))
+        by_given false false fine low = after_trapped e _ _ (after_but (call.Destroy t) (after_step (call.Destroy t) (inl (and_from _ _ (ap not t_s) (ap not t_k))) low))
 
   -- and then the report
   abbrev Done : State → List Effect → Type 0
   Done after es = Becomes s k a talk talk.session talk.store waiting (texts_in a None es) [] (record { after = after; effects = es }) ⊎ Leaves s talk (record { after = after; effects = es })
 
   after_said : (after : State) (es : List Effect) (reports : List ℕ) → After after es → Done (rites_said after es reports).state (rites_said after es reports).effects
-  after_said after es reports m = by_armed (armed after rites_event) refl reports
+  after_said after es reports m = by_comes m.comes
     where
-      silent : Done after es
-      silent = by_comes m.comes
-        where
-          by_comes : Becomes s k a talk talk.session talk.store waiting [] [] (record { after = after; effects = es }) ⊎ Leaves s talk (record { after = after; effects = es }) → Done after es
-          by_comes (inl b) = inl (subst (λ xs. Becomes s k a talk talk.session talk.store waiting xs [] (record { after = after; effects = es })) (sym m.texts) b)
-          by_comes (inr l) = inr l
-
-      by_armed : (b : Bool) → armed after rites_event ≡ b → (rs : List ℕ) → Done (cond b (first_reported after es rs) (record { state = after; reports = rs; effects = es })).state (cond b (first_reported after es rs) (record { state = after; reports = rs; effects = es })).effects
-      by_armed true arms [] = silent
-      by_armed false arms rs = silent
-      by_armed true arms (dead ∷ later) = by_comes m.comes
-        where
-          text : List ℕ
-          text = report_text dead
-
-          sent : Outcome
-          sent = deliver after rites_event (report_text dead)
-
-          said : List Effect
-          said = map (as_rites dead) (deliver after rites_event (report_text dead)).effects
-
-          same : (u : ℕ) → answers_to u (es ++ map (as_rites dead) (deliver after rites_event (report_text dead)).effects) ≡ answers_to u (es ++ (deliver after rites_event (report_text dead)).effects)
-          same u = answers_append u es (map (as_rites dead) (deliver after rites_event (report_text dead)).effects) ∙ ap (λ x. answers_to u es ++ x) (rites_same u dead (deliver after rites_event (report_text dead)).effects) ∙ sym (answers_append u es (deliver after rites_event (report_text dead)).effects)
-
-          texts : texts_in a None (es ++ map (as_rites dead) (deliver after rites_event (report_text dead)).effects) ≡ [] ++ replicate (deliveries_to a (deliver after rites_event (report_text dead)).effects) (report_text dead)
-          texts = texts_append a None es (map (as_rites dead) (deliver after rites_event (report_text dead)).effects)
-              ∙ (λ i. m.texts i ++ (reports_told a dead (deliver after rites_event (report_text dead)).effects (tame_deliver after rites_event (report_text dead)) ∙ lines_told a (report_text dead) (deliver after rites_event (report_text dead)).effects (tame_deliver after rites_event (report_text dead))) i)
-
-          by_comes : Becomes s k a talk talk.session talk.store waiting [] [] (record { after = after; effects = es }) ⊎ Leaves s talk (record { after = after; effects = es })
-              → Done (deliver after rites_event (report_text dead)).after (es ++ map (as_rites dead) (deliver after rites_event (report_text dead)).effects)
-          by_comes (inl b) =
-              let out = deliver after rites_event (report_text dead) in
-              let two = deliveries_are_events s k a after m.lawful (talked s a talk b.events) b.waits b.stands s_k rites_event (report_text dead) arms in
-              let both = becomes_then s k a talk waiting [] (replicate (deliveries_to a out.effects) (report_text dead)) (record { after = after; effects = es }) out.effects out.after b two in
-              inl (subst (λ xs. Becomes s k a talk talk.session talk.store waiting xs [] (record { after = out.after; effects = es ++ map (as_rites dead) out.effects })) (sym texts)
-              (becomes_same s k a talk waiting talk.session talk.store ([] ++ replicate (deliveries_to a out.effects) (report_text dead)) [] (record { after = out.after; effects = es ++ out.effects }) (es ++ map (as_rites dead) out.effects) (same s) (same k) both))
-          by_comes (inr l) =
-              let out = deliver after rites_event (report_text dead) in
-              inr (leaves_same s k a talk waiting (record { after = out.after; effects = es ++ out.effects }) (es ++ map (as_rites dead) out.effects) (same s)
-              (leaves_then s k a talk waiting (record { after = after; effects = es }) m.lawful rites_event (report_text dead) l))
+      by_comes : Becomes s k a talk talk.session talk.store waiting [] [] (record { after = after; effects = es }) ⊎ Leaves s talk (record { after = after; effects = es }) → Done (rites_said after es reports).state (rites_said after es reports).effects
+      by_comes (inl b) = inl (becomes_said s k a talk waiting s_k talk.session talk.store [] after es reports m.lawful m.texts b)
+      by_comes (inr l) =
+          let r = rests_said s (nonexist ∷ []) after es reports m.lawful (record { client = l.client; untimed = l.untimed; told = l.told }) in
+          inr (record { client = r.client; untimed = r.untimed; place = l.place; told = r.told })
 
   low_before : (after : State) (es : List Effect) (reports : List ℕ) → Low (rites_said after es reports).state → Low after
-  low_before after es reports low place = by_armed (armed after rites_event) reports (low place)
-    where
-      by_armed : (b : Bool) (rs : List ℕ) → (cond b (first_reported after es rs) (record { state = after; reports = rs; effects = es })).state.births ≤ a → after.births ≤ a
-      by_armed true [] below = below
-      by_armed false rs below = below
-      by_armed true (dead ∷ later) below = omega (arith, below, births_deliver after rites_event (report_text dead))
+  low_before after es reports low place = omega (arith, low place, births_said after es reports)
+
+module _ (s k a : ℕ) (es : EventState) (was : Lawful es.state None) (talk : Talk) (waiting : List (List ℕ)) (h : Stands s k a es.state talk waiting) (t : ℕ) (turn : choice es.state ≡ Some t)
+    (t_s : eqb t s ≡ false) (t_k : eqb t k ≡ false) (s_k : eqb s k ≡ false) (c : Call) where
+  fine_before : (after : State) (fs : List Effect) (reports : List ℕ) → Fine s k a es.state was talk waiting h t turn t_s t_k s_k c (rites_said after fs reports).state → Fine s k a es.state was talk waiting h t turn t_s t_k s_k c after
+  fine_before after fs reports (inl spared) = inl spared
+  fine_before after fs reports (inr alive) = inr (sym (thread_said s after fs reports) ∙ alive.0, sym (thread_said k after fs reports) ∙ alive.1)
+
+  calls_fine : Fine s k a es.state was talk waiting h t turn t_s t_k s_k c (event_step es c).after.state → (talk.session.place ≡ at.Start → (event_step es c).after.state.births ≤ a)
+      → Becomes s k a talk talk.session talk.store waiting (texts_in a None (event_step es c).effects) [] (machine_of (event_step es c)) ⊎ Leaves s talk (machine_of (event_step es c))
+  unfolding event_step event_step_by
+  calls_fine fine low =
+      let out = called es.state es.trapped t c es.pending in
+      let reports = reports_after es.state out.state es.reports out.effects in
+      subst (λ o. Fine s k a es.state was talk waiting h t turn t_s t_k s_k c (event_step_if es c o).after.state → (talk.session.place ≡ at.Start → (event_step_if es c o).after.state.births ≤ a) → Becomes s k a talk talk.session talk.store waiting (texts_in a None (event_step_if es c o).effects) [] (machine_of (event_step_if es c o)) ⊎ Leaves s talk (machine_of (event_step_if es c o))) (sym turn)
+      (λ fine low. after_said s k a es.state was talk waiting h t turn t_s t_k s_k out.state out.effects reports (after_called s k a es.state was talk waiting h t turn t_s t_k s_k es.trapped c es.pending (fine_before out.state out.effects reports fine)
+      (low_before s k a es.state was talk waiting h t turn t_s t_k s_k out.state out.effects reports low))) fine low
 
 pub pods_calls_are_events : PodsCallsAreEvents
-unfolding event_step event_step_by
-pods_calls_are_events s k a es was talk waiting h t turn t_s t_k s_k c spared low =
-    let out = called es.state es.trapped t c es.pending in
-    let reports = reports_after es.state out.state es.reports out.effects in
-    subst (λ o. (talk.session.place ≡ at.Start → (event_step_if es c o).after.state.births ≤ a) → Becomes s k a talk talk.session talk.store waiting (texts_in a None (event_step_if es c o).effects) [] (machine_of (event_step_if es c o)) ⊎ Leaves s talk (machine_of (event_step_if es c o))) (sym turn)
-    (λ low. after_said s k a es.state was talk waiting h t turn t_s t_k s_k out.state out.effects reports (after_called s k a es.state was talk waiting h t turn t_s t_k s_k es.trapped c spared es.pending
-    (low_before s k a es.state was talk waiting h t turn t_s t_k s_k out.state out.effects reports low))) low
+pods_calls_are_events s k a es was talk waiting h t turn t_s t_k s_k c spared low = calls_fine s k a es was talk waiting h t turn t_s t_k s_k c (inl spared) low
+
+-- the same, where both are there behind it
+pub living_calls_are_events : LivingCallsAreEvents
+living_calls_are_events s k a es was talk waiting h t turn t_s t_k s_k c lives lives_k low = calls_fine s k a es was talk waiting h t turn t_s t_k s_k c (inr (lives, lives_k)) low
 
 pub takes_are_events : TakesAreEvents
 unfolding take_event

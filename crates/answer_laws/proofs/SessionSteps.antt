@@ -5,7 +5,7 @@ use Rattle.answer_laws.proofs.Owners.{owners_of_none_are_refused, owners_receive
 use Rattle.answer_laws.proofs.StoreSteps.{Checked, Checked.Free, Checked.Struck, checked, own_is}
 use Rattle.answer_laws.proofs.AgentTexts.{At, at_of}
 use Rattle.answer_laws.proofs.TalkSteps.{apart_of, attends_seen, attentive, awaits, either_of, heard_one, neither, talked_append, unborn_absent, unheard, unsome}
-use Rattle.answer_laws.proofs.TalkTexts.{becomes_as, line_is, none_kept}
+use Rattle.answer_laws.proofs.TalkTexts.{becomes_as, line_is, unborn_silent}
 use Rattle.answer_laws.specs.Agents.{agent_sight}
 use Rattle.answer_laws.specs.Clients.{names_only, replied_in, reply_to}
 use Rattle.answer_laws.specs.Lengths.{is_short}
@@ -22,12 +22,12 @@ use Rattle.line_server.specs.declared.session.SessionPlace.TheVariants as at
 use Rattle.lwp_types.specs.Agents.{agent_born, new_agent}
 use Rattle.lwp_types.specs.Case.{answered, is_at_limit, is_full, is_itself, is_no_thread, refused, unanswered}
 use Rattle.lwp_types.specs.Choice.{choice}
-use Rattle.lwp_types.specs.CountLaws.{count-append, count_and-le, count_not_found}
-use Rattle.lwp_types.specs.Counts.{is_sending, timers_of}
+use Rattle.lwp_types.specs.CountLaws.{count-append}
+use Rattle.lwp_types.specs.Counts.{timers_of}
 use Rattle.lwp_types.specs.Lawful.{Lawful}
 use Rattle.lwp_types.specs.Letters.{as_received, is_letter_of, is_to, post, takes_from}
 use Rattle.lwp_types.specs.Names.{Names, id_at}
-use Rattle.lwp_types.specs.State.{Outcome, State, ThreadRow, agent_of, is_agent, is_agent_row, is_id, is_number, is_thread, passes, thread_of}
+use Rattle.lwp_types.specs.State.{Outcome, State, ThreadRow, agent_of, is_agent, is_agent_row, is_id, is_thread, passes, thread_of}
 use Rattle.lwp_types.specs.Step.{case_of, finished, step, step_by, step_if}
 use Rattle.lwp_types.specs.Unblock.{blocked, is_timer_of, nonexist, zero_answer}
 use Rattle.lwp_types.specs.declared.call.Answer.{Answer}
@@ -144,13 +144,13 @@ module _ (a : ℕ) (body : SessionBody) (names : Names) where
   does_by x at.Bye k = does_returns (is_replied x)
   does_by x at.End k = DoesStop refl
 
-hears_no_mail : (x : Answer) (m : Mail) → is_posted (Hears x) m ≡ true → m ≡ Nothing
+pub hears_no_mail : (x : Answer) (m : Mail) → is_posted (Hears x) m ≡ true → m ≡ Nothing
 hears_no_mail x Nothing h = refl
 hears_no_mail x (Sent text) h = absurd (cc)
 hears_no_mail x (Received text) h = absurd (cc)
 
 -- a zero is told exactly if it is among the answers
-told_any : (s : ℕ) (es : List Effect) → list_any (told s is_zero) es ≡ list_any is_zero (answers_to s es)
+pub told_any : (s : ℕ) (es : List Effect) → list_any (told s is_zero) es ≡ list_any is_zero (answers_to s es)
 told_any s [] = refl
 told_any s (effect.Answered t a ∷ es) = by_test (eqb t s) (told_any s es)
   where
@@ -464,16 +464,6 @@ module _ (s k a : ℕ) (st : State) (was : Lawful st None) (talk : Talk) (waitin
     none_found None h = refl
     none_found (Some y) h = absurd (cc)
 
-    silent : filter (is_letter_of a) st.letters ≡ []
-    silent = none_kept (is_letter_of a) st.letters (omega (
-      arith,
-      was.nine.blocks.1 a,
-      count_and-le (is_number a) (λ row. is_sending row.block) st.threads,
-      count_and-le (is_agent_row a) (λ (row : AgentRow). row.holding) st.agents,
-      count_not_found (is_number a) st.threads (none_found (thread_of st a) absent.0),
-      count_not_found (is_agent_row a) st.agents (none_found (agent_of st.agents a) absent.1),
-    ))
-
     left_ask : IsLeft k st (step st ask)
     left_ask = k_left ask tt (λ room text e. absurd (cc))
 
@@ -503,7 +493,7 @@ module _ (s k a : ℕ) (st : State) (was : Lawful st None) (talk : Talk) (waitin
               untimed_keeper = untimed_after ask k refl h.untimed_keeper;
               agent = Made (new_agent st.births e s)
                   (ap (λ out. agent_of out.after.agents a) (step_is ask ∙ ap (finished s ask) is) ∙ find_push_new (is_agent_row a) st.agents (new_agent st.births e s) (eq-eqb st.births a born) (none_found (agent_of st.agents a) absent.1))
-                  refl lives (eq-eqb a a refl) (Idle refl none (ap (λ out. filter (is_letter_of a) out.after.letters) (step_is ask ∙ ap (finished s ask) is) ∙ silent));
+                  refl lives (eq-eqb a a refl) (Idle refl none (ap (λ out. filter (is_letter_of a) out.after.letters) (step_is ask ∙ ap (finished s ask) is) ∙ unborn_silent st was a below));
             })
             (sym (append-nil (talk.lines ++ waiting))) (sym (append-nil talk.told) ∙ ap (λ xs. talk.told ++ xs) (sym (replied_none ask refl)))
             (heard_one talk.client (answer.Thread a) (answers_to s (step st ask).effects) (told_so ∙ ap (λ n. answer.Thread n ∷ []) born)) (unheard talk.keeper (answers_to k (step st ask).effects) left_ask.quiet))

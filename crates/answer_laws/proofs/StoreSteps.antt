@@ -56,7 +56,7 @@ StoreGoesOn s k a talk waiting body out = Becomes s k a talk talk.session body w
 
 -- ---- what a store does
 
-data StoreDoes (turn : Turn StoreBody) : Type 0 where
+pub data StoreDoes (turn : Turn StoreBody) : Type 0 where
   DoesReceive : (body : StoreBody) → turn ≡ (call.Recv None mode.Block, body) → StoreDoes turn
   DoesReply : (v : ℕ) (text : List ℕ) (body : StoreBody) → turn ≡ (call.Reply v text, body) → StoreDoes turn
   DoesStop : turn.0 ≡ call.Return → StoreDoes turn
@@ -82,7 +82,7 @@ module _ (body : StoreBody) where
   does_received (answer.Caught d m p) = DoesStop refl
   does_received (answer.Ids n ns) = DoesStop refl
 
-  does_by : (x : Answer) (p : StorePlace) → StoreDoes (store_by body x p)
+  pub does_by : (x : Answer) (p : StorePlace) → StoreDoes (store_by body x p)
   does_by x kept_at.Start = DoesReceive _ refl
   does_by x kept_at.Recv = does_received x
   does_by x kept_at.Reply = does_replied (is_invalid x) (is_replied x)
@@ -132,7 +132,7 @@ at_head o z x true e f = cc f
 at_head o z x false e f = absurd (cc)
 
 -- none is found that passes where none passes
-found_none : (p r q : Letter → Bool) (letters : List Letter) (x : Letter) → find p (filter r letters) ≡ Some x → q x ≡ true → filter q letters ≡ [] → ⊥
+pub found_none : (p r q : Letter → Bool) (letters : List Letter) (x : Letter) → find p (filter r letters) ≡ Some x → q x ≡ true → filter q letters ≡ [] → ⊥
 found_none p r q [] x found passed none = cc
 found_none p r q (w ∷ ws) x found passed none = by_tests (r w) (p w) refl (q w) refl found none (found_none p r q ws x)
   where
@@ -164,7 +164,7 @@ posted_received AwaitsLetter text h = absurd (cc)
 posted_received AwaitsReply text h = refl
 posted_received IsOver text h = absurd (cc)
 
-sends_at : (stand : Stand) (text : List ℕ) (place : SessionPlace) → is_posted stand (Received text) ≡ true → is_placed stand place ≡ true → place ≡ at.Send
+pub sends_at : (stand : Stand) (text : List ℕ) (place : SessionPlace) → is_posted stand (Received text) ≡ true → is_placed stand place ≡ true → place ≡ at.Send
 sends_at (Hears x) text place h p = absurd (cc)
 sends_at AwaitsLetter text place h p = absurd (cc)
 sends_at AwaitsReply text at.Start h p = absurd (cc)
@@ -188,6 +188,65 @@ agent_sends s a st talk later waiting sends same lives2 (Made row there owns liv
 agent_sends s a st talk later waiting sends same lives2 (Gone off below lives known) = Gone off below (lives2 ∙ lives)
     (subst (λ p. knows a later.session.agent p later.client ≡ true) (sym sends ∙ sym (ap (λ x. x.place) same)) (ap (λ x. eqb x.agent a) same ∙ subst (λ p. knows a talk.session.agent p talk.client ≡ true) sends known))
 
+-- ---- the store's turn, whoever else is there
+
+module _ (k : ℕ) (st : State) (turn : choice st ≡ Some k) (k_seen : sight st k ≡ record { waits = Some block.Not; marks = mark.Frame ∷ []; letters = [] }) where
+  k_row : At st k block.Not
+  k_row = at_of st k block.Not (ap (λ x. x.waits) k_seen)
+
+  pub off : count_by (is_to k) (filter (is_letter_of k) st.letters) ≡ 0
+  off = ap (λ x. count_by (is_to k) x.letters) k_seen
+
+  -- what the store shows and is told
+  pub record Keeps (c : Call) (stand : Stand) (heard : List Answer) : Type 0 where
+    pub seen : sight (step st c).after k ≡ record { waits = Some (block_of None stand); marks = mark.Frame ∷ []; letters = [] }
+    pub told : answers_to k (step st c).effects ≡ heard
+
+  pub step_is : (c : Call) → step st c ≡ finished k c (case_of st k c)
+  unfolding step step_by
+  step_is c = ap (step_if st c) turn
+
+  keeps_made : (c : Call) (made : Case) (stand : Stand) (heard : List Answer) → case_of st k c ≡ made → sight (finished k c made).after k ≡ record { waits = Some (block_of None stand); marks = mark.Frame ∷ []; letters = [] } → answers_to k made.others ++ option_to_list made.own ≡ heard → Keeps c stand heard
+  keeps_made c made stand heard is seen told = record {
+    seen = ap (λ out. sight out.after k) (step_is c ∙ ap (finished k c) is) ∙ seen;
+    told = ap (λ out. answers_to k out.effects) (step_is c ∙ ap (finished k c) is) ∙ told_itself k c made ∙ told;
+  }
+
+  abbrev pub recv : Call
+  recv = call.Recv None mode.Block
+
+  received_by : (o : Option Letter) → unreceived st.letters k None ≡ o → case_of st k recv ≡ receive_by st k None mode.Block o
+  received_by o e = unless_passed st _ _ (refl, (refl, tt)) ∙ ap (receive_by st k None mode.Block) e
+
+  pub keeps_waiting : unreceived st.letters k None ≡ None → Keeps recv AwaitsLetter []
+  keeps_waiting e = keeps_made recv (unanswered (still (blocked st k (block.Receiving None)))) AwaitsLetter [] (received_by None e)
+      ((λ i. sight_by (blocked_row k (block.Receiving None) st.threads k_row.row k_row.known i) (filter (is_letter_of k) st.letters))
+      ∙ ap (λ o. record (sight_by o (filter (is_letter_of k) st.letters)) { waits = Some (block.Receiving None) }) (sym k_row.known) ∙ ap (λ (v : Sight). record v { waits = Some (block.Receiving None) }) k_seen) refl
+
+  pub keeps_letter : (l : Letter) → unreceived st.letters k None ≡ Some l → Keeps recv (Hears (as_answer l)) (as_answer l ∷ [])
+  keeps_letter l e = keeps_made recv (answered (record st { letters = marked_received l.from st.letters }) (as_answer l)) (Hears (as_answer l)) (as_answer l ∷ []) (received_by (Some l) e)
+      ((λ i. sight_by (thread_of st k) (received_own k Never l.from (found_other k Never k st off (is_open None) l e) st.letters i)) ∙ k_seen) refl
+
+  module _ (v : ℕ) (text : List ℕ) where
+    abbrev answering : Call
+    answering = call.Reply v text
+
+    pub keeps_refused : (e : LwpErr) → case_of st k answering ≡ refused st e → Keeps answering (Hears (answer.Refused e)) (answer.Refused e ∷ [])
+    keeps_refused e is = keeps_made answering (refused st e) (Hears (answer.Refused e)) (answer.Refused e ∷ []) is k_seen refl
+
+    k_replied : v ≢ k → (b : Bool) → (sight (cond b (still (record st { letters = without_letter v st.letters; agents = with_holding v false st.agents })) (unblock (answer.Reply text) v (record st { letters = without_letter v st.letters }))).after k ≡ sight st k)
+        × (answers_to k (cond b (still (record st { letters = without_letter v st.letters; agents = with_holding v false st.agents })) (unblock (answer.Reply text) v (record st { letters = without_letter v st.letters }))).effects ≡ [])
+    k_replied other true = (λ i. sight_by (thread_of st k) (without_own k Never v other st.letters i), refl)
+    k_replied other false = (λ i. sight_by (other_row v k block.Not st.threads other i) (without_own k Never v other st.letters i), none (eqb v k) (ne_eqb v k other))
+      where
+        none : (b : Bool) → b ≡ false → filter_map (λ (o : Option Answer). o) (cond b (Some (answer.Reply text)) None ∷ []) ≡ []
+        none true e = absurd (cc)
+        none false e = refl
+
+    pub keeps_replied : v ≢ k → case_of st k answering ≡ with_zero (replied v text st) → Keeps answering (Hears zero_answer) (zero_answer ∷ [])
+    keeps_replied other is = let w = k_replied other (is_agent st v) in
+        keeps_made answering (with_zero (replied v text st)) (Hears zero_answer) (zero_answer ∷ []) is (w.0 ∙ k_seen) (ap (λ xs. xs ++ zero_answer ∷ []) w.1)
+
 -- ---- the store's turn
 
 module _ (s k a : ℕ) (st : State) (was : Lawful st None) (talk : Talk) (waiting : List (List ℕ)) (h : Stands s k a st talk waiting) (s_k : eqb s k ≡ false) (turn : choice st ≡ Some k) (x : Answer) (hears : talk.keeper ≡ Hears x) where
@@ -196,12 +255,6 @@ module _ (s k a : ℕ) (st : State) (was : Lawful st None) (talk : Talk) (waitin
 
   s_row : At st s (block_of (Some a) talk.client)
   s_row = at_of st s (block_of (Some a) talk.client) (ap (λ x. x.waits) h.client)
-
-  k_row : At st k (block_of None talk.keeper)
-  k_row = at_of st k (block_of None talk.keeper) (ap (λ x. x.waits) h.keeper)
-
-  off : count_by (is_to k) (filter (is_letter_of k) st.letters) ≡ 0
-  off = ap (λ x. count_by (is_to k) x.letters) h.keeper
 
   k_seen : sight st k ≡ record { waits = Some block.Not; marks = mark.Frame ∷ []; letters = [] }
   k_seen = h.keeper ∙ ap (λ c. record { waits = Some (block_of None c); marks = mark.Frame ∷ []; letters = [] }) hears
@@ -223,13 +276,8 @@ module _ (s k a : ℕ) (st : State) (was : Lawful st None) (talk : Talk) (waitin
   untimed_after : (c : Call) → (u : ℕ) → timers_asked st (Some k) c ≡ [] → timers_of st.timers u ≡ 0 → timers_of (step st c).after.timers u ≡ 0
   untimed_after c u asks none = omega (arith, none, (no_timer_comes_unasked st (is_timer_of u)).called c, count-append (is_timer_of u) st.timers (timers_asked st (choice st) c), ap (λ o. count_by (is_timer_of u) (timers_asked st o c)) turn, ap (count_by (is_timer_of u)) asks)
 
-  -- what the store shows and is told
-  record Keeps (c : Call) (stand : Stand) (heard : List Answer) : Type 0 where
-    seen : sight (step st c).after k ≡ record { waits = Some (block_of None stand); marks = mark.Frame ∷ []; letters = [] }
-    told : answers_to k (step st c).effects ≡ heard
-
   -- the whole
-  goes : (c : Call) (body : StoreBody) (stand : Stand) (heard : List Answer) → spares_agent a s c ≡ true → timers_asked st (Some k) c ≡ [] → (talk.session.place ≡ at.Start → (step st c).after.births ≤ a) → Keeps c stand heard → is_reading stand ≡ true → IsHeard talk.keeper stand heard
+  goes : (c : Call) (body : StoreBody) (stand : Stand) (heard : List Answer) → spares_agent a s c ≡ true → timers_asked st (Some k) c ≡ [] → (talk.session.place ≡ at.Start → (step st c).after.births ≤ a) → Keeps k st turn k_seen c stand heard → is_reading stand ≡ true → IsHeard talk.keeper stand heard
       → (client : Stand) (mail : Mail) → sight (step st c).after s ≡ record { waits = Some (block_of (Some a) client); marks = mark.Frame ∷ []; letters = mail_letters s k mail } → is_posted client mail ≡ true → is_placed client talk.session.place ≡ true
       → (AgentIs s a (step st c).after talk waiting → AgentIs s a (step st c).after (record talk { store = body; keeper = stand; client = client; mail = mail }) waiting) → IsHeard talk.client client (answers_to s (step st c).effects)
       → (events : List Event) → talked s a talk events ≡ record talk { store = body; keeper = stand; client = client; mail = mail } → StoreGoesOn s k a talk waiting body (step st c)
@@ -237,53 +285,30 @@ module _ (s k a : ℕ) (st : State) (was : Lawful st None) (talk : Talk) (waitin
       (record { client = seen; keeper = keeps.seen; posted = posted; placed = placed; reads = reads; untimed = untimed_after c s asks h.untimed; untimed_keeper = untimed_after c k asks h.untimed_keeper; agent = agent (agent_after c spared low h.agent) })
       (sym (append-nil (talk.lines ++ waiting))) (sym (append-nil talk.told)) told (subst (IsHeard talk.keeper stand) (sym keeps.told) kept)
 
-  step_is : (c : Call) → step st c ≡ finished k c (case_of st k c)
-  unfolding step step_by
-  step_is c = ap (step_if st c) turn
-
-  keeps_made : (c : Call) (made : Case) (stand : Stand) (heard : List Answer) → case_of st k c ≡ made → sight (finished k c made).after k ≡ record { waits = Some (block_of None stand); marks = mark.Frame ∷ []; letters = [] } → answers_to k made.others ++ option_to_list made.own ≡ heard → Keeps c stand heard
-  keeps_made c made stand heard is seen told = record {
-    seen = ap (λ out. sight out.after k) (step_is c ∙ ap (finished k c) is) ∙ seen;
-    told = ap (λ out. answers_to k out.effects) (step_is c ∙ ap (finished k c) is) ∙ told_itself k c made ∙ told;
-  }
-
   module _ (names : Names) (body : StoreBody) where
     -- ---- it receives
 
-    abbrev recv : Call
-    recv = call.Recv None mode.Block
-
-    received_by : (o : Option Letter) → unreceived st.letters k None ≡ o → case_of st k recv ≡ receive_by st k None mode.Block o
-    received_by o e = unless_passed st _ _ (refl, (refl, tt)) ∙ ap (receive_by st k None mode.Block) e
-
-    module _ (now : talked s a talk (StoreTurn None names ∷ []) ≡ record talk { store = body; keeper = AwaitsLetter }) (low : talk.session.place ≡ at.Start → (step st recv).after.births ≤ a) where
-      left_of : (o : Option Letter) → unreceived st.letters k None ≡ o → takes_other s o ≡ true → IsLeft s st (step st recv)
+    module _ (now : talked s a talk (StoreTurn None names ∷ []) ≡ record talk { store = body; keeper = AwaitsLetter }) (low : talk.session.place ≡ at.Start → (step st (recv k st turn k_seen)).after.births ≤ a) where
+      left_of : (o : Option Letter) → unreceived st.letters k None ≡ o → takes_other s o ≡ true → IsLeft s st (step st (recv k st turn k_seen))
       left_of o e h = (readers_leave_the_rest st k s turn k_s attends_s).receives None mode.Block (ap (takes_other s) e ∙ h)
 
       -- the session is left
-      goes_left : (stand : Stand) (heard : List Answer) → Keeps recv stand heard → is_reading stand ≡ true → IsHeard talk.keeper stand heard → IsLeft s st (step st recv) → (events : List Event) → talked s a talk events ≡ record talk { store = body; keeper = stand } → StoreGoesOn s k a talk waiting body (step st recv)
-      goes_left stand heard keeps reads kept left events now2 = goes recv body stand heard refl refl low keeps reads kept talk.client talk.mail (left.same ∙ h.client) h.posted h.placed
-          (λ agent. agent_as refl refl refl agent) (unheard talk.client (answers_to s (step st recv).effects) left.quiet) events now2
+      goes_left : (stand : Stand) (heard : List Answer) → Keeps k st turn k_seen (recv k st turn k_seen) stand heard → is_reading stand ≡ true → IsHeard talk.keeper stand heard → IsLeft s st (step st (recv k st turn k_seen)) → (events : List Event) → talked s a talk events ≡ record talk { store = body; keeper = stand } → StoreGoesOn s k a talk waiting body (step st (recv k st turn k_seen))
+      goes_left stand heard keeps reads kept left events now2 = goes (recv k st turn k_seen) body stand heard refl refl low keeps reads kept talk.client talk.mail (left.same ∙ h.client) h.posted h.placed
+          (λ agent. agent_as refl refl refl agent) (unheard talk.client (answers_to s (step st (recv k st turn k_seen)).effects) left.quiet) events now2
 
-      waits_now : unreceived st.letters k None ≡ None → StoreGoesOn s k a talk waiting body (step st recv)
-      waits_now e = goes_left AwaitsLetter [] (keeps_made recv (unanswered (still (blocked st k (block.Receiving None)))) AwaitsLetter [] (received_by None e)
-          ((λ i. sight_by (blocked_row k (block.Receiving None) st.threads k_row.row k_row.known i) (filter (is_letter_of k) st.letters))
-          ∙ ap (λ o. record (sight_by o (filter (is_letter_of k) st.letters)) { waits = Some (block.Receiving None) }) (sym k_row.known) ∙ ap (λ (v : Sight). record v { waits = Some (block.Receiving None) }) k_seen) refl)
-          refl (λ z h. tt) (left_of None e refl) (StoreTurn None names ∷ []) now
-
-      keeps_letter : (l : Letter) → unreceived st.letters k None ≡ Some l → Keeps recv (Hears (as_answer l)) (as_answer l ∷ [])
-      keeps_letter l e = keeps_made recv (answered (record st { letters = marked_received l.from st.letters }) (as_answer l)) (Hears (as_answer l)) (as_answer l ∷ []) (received_by (Some l) e)
-          ((λ i. sight_by (thread_of st k) (received_own k Never l.from (found_other k Never k st off (is_open None) l e) st.letters i)) ∙ k_seen) refl
+      waits_now : unreceived st.letters k None ≡ None → StoreGoesOn s k a talk waiting body (step st (recv k st turn k_seen))
+      waits_now e = goes_left AwaitsLetter [] (keeps_waiting k st turn k_seen e) refl (λ z h. tt) (left_of None e refl) (StoreTurn None names ∷ []) now
 
       heard_letter : (l : Letter) → IsHeard talk.keeper (Hears (as_answer l)) (as_answer l ∷ [])
       heard_letter l = heard_one talk.keeper (as_answer l) (as_answer l ∷ []) refl
 
-      from_other : (l : Letter) → unreceived st.letters k None ≡ Some l → is_letter_of s l ≡ false → StoreGoesOn s k a talk waiting body (step st recv)
-      from_other l e other = goes_left (Hears (as_answer l)) (as_answer l ∷ []) (keeps_letter l e) refl (heard_letter l) (left_of (Some l) e (ap not other)) (StoreTurn None names ∷ OtherLetter l.from l.text l.room ∷ [])
+      from_other : (l : Letter) → unreceived st.letters k None ≡ Some l → is_letter_of s l ≡ false → StoreGoesOn s k a talk waiting body (step st (recv k st turn k_seen))
+      from_other l e other = goes_left (Hears (as_answer l)) (as_answer l ∷ []) (keeps_letter k st turn k_seen l e) refl (heard_letter l) (left_of (Some l) e (ap not other)) (StoreTurn None names ∷ OtherLetter l.from l.text l.room ∷ [])
           (talked_append s a talk (StoreTurn None names ∷ []) (OtherLetter l.from l.text l.room ∷ []) ∙ ap (λ t. talked s a t (OtherLetter l.from l.text l.room ∷ [])) now
           ∙ other_is s a l.from l.text l.room (record talk { store = body; keeper = AwaitsLetter }) refl (apart_of l.from s other))
 
-      from_session : (l : Letter) → unreceived st.letters k None ≡ Some l → is_letter_of s l ≡ true → (m : Mail) → talk.mail ≡ m → StoreGoesOn s k a talk waiting body (step st recv)
+      from_session : (l : Letter) → unreceived st.letters k None ≡ Some l → is_letter_of s l ≡ true → (m : Mail) → talk.mail ≡ m → StoreGoesOn s k a talk waiting body (step st (recv k st turn k_seen))
       from_session l e its Nothing m = absurd (found_none (is_open None) (is_to k) (is_letter_of s) st.letters l e its (ap (λ x. x.letters) h.client ∙ ap (mail_letters s k) m))
       from_session l e its (Received text) m =
           let same = found_one (is_open None) (is_to k) (is_letter_of s) st.letters l (line_letter s k text true) e its (ap (λ x. x.letters) h.client ∙ ap (mail_letters s k) m) in
@@ -296,20 +321,20 @@ module _ (s k a : ℕ) (st : State) (was : Lawful st None) (talk : Talk) (waitin
           let found = e ∙ ap Some same in
           let asks : Asks st s k sent = record { lives = ap is_some s_row.known; from = refl; to = refl; letters = letters } in
           let r = receives_are_the_letters st was k s turn sent asks None mode.Block found in
-          goes recv body (Hears (as_answer sent)) (as_answer sent ∷ []) refl refl low (keeps_letter sent found) refl (heard_letter sent) talk.client (Received text)
+          goes (recv k st turn k_seen) body (Hears (as_answer sent)) (as_answer sent ∷ []) refl refl low (keeps_letter k st turn k_seen sent found) refl (heard_letter sent) talk.client (Received text)
           (r.seen ∙ ap (λ (v : Sight). record v { letters = line_letter s k text true ∷ [] }) h.client)
           (posted_received talk.client text (subst (λ m. is_posted talk.client m ≡ true) m h.posted)) h.placed (λ agent. agent_as refl refl refl agent)
-          (unheard talk.client (answers_to s (step st recv).effects) r.quiet) (StoreTurn None names ∷ OwnLetter ∷ [])
+          (unheard talk.client (answers_to s (step st (recv k st turn k_seen)).effects) r.quiet) (StoreTurn None names ∷ OwnLetter ∷ [])
           (talked_append s a talk (StoreTurn None names ∷ []) (OwnLetter ∷ []) ∙ ap (λ t. talked s a t (OwnLetter ∷ [])) now ∙ own_is s a text (record talk { store = body; keeper = AwaitsLetter }) refl m)
 
-      receives : StoreGoesOn s k a talk waiting body (step st recv)
+      receives : StoreGoesOn s k a talk waiting body (step st (recv k st turn k_seen))
       receives = by_letter (unreceived st.letters k None) refl
         where
-          by_letter : (o : Option Letter) → unreceived st.letters k None ≡ o → StoreGoesOn s k a talk waiting body (step st recv)
+          by_letter : (o : Option Letter) → unreceived st.letters k None ≡ o → StoreGoesOn s k a talk waiting body (step st (recv k st turn k_seen))
           by_letter None e = waits_now e
           by_letter (Some l) e = by_sender (is_letter_of s l) refl
             where
-              by_sender : (b : Bool) → is_letter_of s l ≡ b → StoreGoesOn s k a talk waiting body (step st recv)
+              by_sender : (b : Bool) → is_letter_of s l ≡ b → StoreGoesOn s k a talk waiting body (step st (recv k st turn k_seen))
               by_sender true is = from_session l e is talk.mail refl
               by_sender false is = from_other l e is
 
@@ -320,27 +345,11 @@ module _ (s k a : ℕ) (st : State) (was : Lawful st None) (talk : Talk) (waitin
       abbrev reply : Call
       reply = call.Reply v text
 
-      keeps_refused : (e : LwpErr) → case_of st k reply ≡ refused st e → Keeps reply (Hears (answer.Refused e)) (answer.Refused e ∷ [])
-      keeps_refused e is = keeps_made reply (refused st e) (Hears (answer.Refused e)) (answer.Refused e ∷ []) is k_seen refl
-
-      k_replied : v ≢ k → (b : Bool) → (sight (cond b (still (record st { letters = without_letter v st.letters; agents = with_holding v false st.agents })) (unblock (answer.Reply text) v (record st { letters = without_letter v st.letters }))).after k ≡ sight st k)
-          × (answers_to k (cond b (still (record st { letters = without_letter v st.letters; agents = with_holding v false st.agents })) (unblock (answer.Reply text) v (record st { letters = without_letter v st.letters }))).effects ≡ [])
-      k_replied other true = (λ i. sight_by (thread_of st k) (without_own k Never v other st.letters i), refl)
-      k_replied other false = (λ i. sight_by (other_row v k block.Not st.threads other i) (without_own k Never v other st.letters i), none (eqb v k) (ne_eqb v k other))
-        where
-          none : (b : Bool) → b ≡ false → filter_map (λ (o : Option Answer). o) (cond b (Some (answer.Reply text)) None ∷ []) ≡ []
-          none true e = absurd (cc)
-          none false e = refl
-
-      keeps_replied : v ≢ k → case_of st k reply ≡ with_zero (replied v text st) → Keeps reply (Hears zero_answer) (zero_answer ∷ [])
-      keeps_replied other is = let w = k_replied other (is_agent st v) in
-          keeps_made reply (with_zero (replied v text st)) (Hears zero_answer) (zero_answer ∷ []) is (w.0 ∙ k_seen) (ap (λ xs. xs ++ zero_answer ∷ []) w.1)
-
       heard_so : (y : Answer) → IsHeard talk.keeper (Hears y) (y ∷ [])
       heard_so y = heard_one talk.keeper y (y ∷ []) refl
 
       -- the session is left
-      reply_left : (y : Answer) → Keeps reply (Hears y) (y ∷ []) → IsLeft s st (step st reply) → (events : List Event) → talked s a talk events ≡ record talk { store = body; keeper = Hears y } → StoreGoesOn s k a talk waiting body (step st reply)
+      reply_left : (y : Answer) → Keeps k st turn k_seen reply (Hears y) (y ∷ []) → IsLeft s st (step st reply) → (events : List Event) → talked s a talk events ≡ record talk { store = body; keeper = Hears y } → StoreGoesOn s k a talk waiting body (step st reply)
       reply_left y keeps left events now2 = goes reply body (Hears y) (y ∷ []) refl refl low keeps refl (heard_so y) talk.client talk.mail (left.same ∙ h.client) h.posted h.placed
           (λ agent. agent_as refl refl refl agent) (unheard talk.client (answers_to s (step st reply).effects) left.quiet) events now2
 
@@ -359,8 +368,8 @@ module _ (s k a : ℕ) (st : State) (was : Lawful st None) (talk : Talk) (waitin
               by_test false e = refl
 
           by_checks : Checked st (is_no_id st v ∷ (is_none (received_from st.letters k v), error.NoWait) ∷ (passes (λ (letter : Letter). nat_lt letter.room (length text)) (received_from st.letters k v), error.InvalidArg) ∷ []) (with_zero (replied v text st)) → StoreGoesOn s k a talk waiting body (step st reply)
-          by_checks (Struck e is) = reply_left (answer.Refused e) (keeps_refused e is) left (StoreTurn (Some e) names ∷ []) (now_other (Some e))
-          by_checks (Free passed is) = reply_left zero_answer (keeps_replied (replied_other k Never k st off v passed.1.0) is) left (StoreTurn None names ∷ []) (now_other None)
+          by_checks (Struck e is) = reply_left (answer.Refused e) (keeps_refused k st turn k_seen v text e is) left (StoreTurn (Some e) names ∷ []) (now_other (Some e))
+          by_checks (Free passed is) = reply_left zero_answer (keeps_replied k st turn k_seen v text (replied_other k Never k st (off k st turn k_seen) v passed.1.0) is) left (StoreTurn None names ∷ []) (now_other None)
 
       -- to the session
       module _ (same : v ≡ s) where
@@ -376,7 +385,7 @@ module _ (s k a : ℕ) (st : State) (was : Lawful st None) (talk : Talk) (waitin
 
         -- where it has received no letter of it
         unreceived_one : (m : Mail) → talk.mail ≡ m → (session_told (record talk { store = body }) text m ≡ record talk { store = body; keeper = Hears (answer.Refused error.NoWait) }) → find (λ x. x.received && is_to k x) (mail_letters s k m) ≡ None → StoreGoesOn s k a talk waiting body (step st reply)
-        unreceived_one m e told none = reply_left (answer.Refused error.NoWait) (keeps_refused error.NoWait is) left (StoreTurn None names ∷ []) (now_own ∙ ap (session_told (record talk { store = body }) text) e ∙ told)
+        unreceived_one m e told none = reply_left (answer.Refused error.NoWait) (keeps_refused k st turn k_seen v text error.NoWait is) left (StoreTurn None names ∷ []) (now_own ∙ ap (session_told (record talk { store = body }) text) e ∙ told)
           where
             missing : received_from st.letters k v ≡ None
             missing = ap (received_from st.letters k) same ∙ letters_swapped st.letters (λ x. x.received) s k ∙ ap (find (λ x. x.received && is_to k x)) (letters_are m e) ∙ none
@@ -393,8 +402,8 @@ module _ (s k a : ℕ) (st : State) (was : Lawful st None) (talk : Talk) (waitin
 
             left : IsLeft s st (step st reply)
             left = record {
-              same = ap (λ out. sight out.after s) (step_is reply ∙ ap (finished k reply) is);
-              quiet = ap (λ out. answers_to s out.effects) (step_is reply ∙ ap (finished k reply) is) ∙ told_other s k (apart_of k s k_s) reply (refused st error.NoWait);
+              same = ap (λ out. sight out.after s) (step_is k st turn k_seen reply ∙ ap (finished k reply) is);
+              quiet = ap (λ out. answers_to s out.effects) (step_is k st turn k_seen reply ∙ ap (finished k reply) is) ∙ told_other s k (apart_of k s k_s) reply (refused st error.NoWait);
             }
 
         received_one : (sent : List ℕ) → talk.mail ≡ Received sent → StoreGoesOn s k a talk waiting body (step st reply)
@@ -417,8 +426,8 @@ module _ (s k a : ℕ) (st : State) (was : Lawful st None) (talk : Talk) (waitin
             place = sends_at talk.client sent talk.session.place (subst (λ m. is_posted talk.client m ≡ true) e h.posted) h.placed
 
             by_checks : Checked st (is_no_id st v ∷ (is_none (received_from st.letters k v), error.NoWait) ∷ (passes (λ (letter : Letter). nat_lt letter.room (length text)) (received_from st.letters k v), error.InvalidArg) ∷ []) (with_zero (replied v text st)) → StoreGoesOn s k a talk waiting body (step st reply)
-            by_checks (Struck why is) = absurd (let bad : answer.Reply text ∷ [] ≡ [] = sym r.told ∙ ap (λ out. answers_to s out.effects) (step_is reply ∙ ap (finished k reply) is) ∙ told_other s k (apart_of k s k_s) reply (refused st why) in cc)
-            by_checks (Free passed is) = goes reply body (Hears zero_answer) (zero_answer ∷ []) refl refl low (keeps_replied (replied_other k Never k st off v passed.1.0) is) refl (heard_so zero_answer)
+            by_checks (Struck why is) = absurd (let bad : answer.Reply text ∷ [] ≡ [] = sym r.told ∙ ap (λ out. answers_to s out.effects) (step_is k st turn k_seen reply ∙ ap (finished k reply) is) ∙ told_other s k (apart_of k s k_s) reply (refused st why) in cc)
+            by_checks (Free passed is) = goes reply body (Hears zero_answer) (zero_answer ∷ []) refl refl low (keeps_replied k st turn k_seen v text (replied_other k Never k st (off k st turn k_seen) v passed.1.0) is) refl (heard_so zero_answer)
                 (Hears (answer.Reply text)) Nothing (r.goes_on ∙ ap (λ (v : Sight). record (going_on v) { letters = [] }) h.client) refl refl
                 (λ agent. agent_sends s a (step st reply).after talk _ waiting place refl refl agent)
                 (heard_one talk.client (answer.Reply text) (answers_to s (step st reply).effects) r.told)

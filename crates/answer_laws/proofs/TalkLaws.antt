@@ -25,34 +25,34 @@ use Rattle.std.specs.Prelude.{codes, nat_eq, not}
 
 -- ---- how the store stands
 
-abbrev is_apart : ℕ → Answer → Bool
+abbrev pub is_apart : ℕ → Answer → Bool
 is_apart s (answer.Letter x text room) = not (eqb x s)
 is_apart s _ = true
 
-abbrev is_receiving : StorePlace → Bool
+abbrev pub is_receiving : StorePlace → Bool
 is_receiving kept_at.Recv = true
 is_receiving _ = false
 
 -- it waits for a letter only where it has called for one, and isn't about to read one of s
-abbrev stands : ℕ → StorePlace → Stand → Bool
+abbrev pub stands : ℕ → StorePlace → Stand → Bool
 stands s place (Hears x) = is_apart s x
 stands s place AwaitsLetter = is_receiving place
 stands s place AwaitsReply = true
 stands s place IsOver = true
 
-abbrev is_received : Mail → Bool
+abbrev pub is_received : Mail → Bool
 is_received Nothing = false
 is_received (Sent text) = false
 is_received (Received text) = true
 
 -- ---- how the session stands
 
-abbrev is_refusal : Answer → Bool
+abbrev pub is_refusal : Answer → Bool
 is_refusal (answer.Letter x text room) = false
 is_refusal _ = true
 
 -- every line was replied to
-abbrev is_idle : SessionPlace → Stand → Bool
+abbrev pub is_idle : SessionPlace → Stand → Bool
 is_idle at.Start (Hears x) = true
 is_idle at.Agent (Hears x) = true
 is_idle at.Recv (Hears x) = is_refusal x
@@ -61,20 +61,20 @@ is_idle at.Reply (Hears x) = true
 is_idle _ _ = false
 
 -- it says nothing more to its agent
-abbrev is_done : SessionPlace → Stand → Bool
+abbrev pub is_done : SessionPlace → Stand → Bool
 is_done p IsOver = true
 is_done at.Bye (Hears x) = true
 is_done at.End (Hears x) = true
 is_done _ _ = false
 
 -- these lines were replied to so, and the session's table is theirs
-record Known (said : Texts) (table : Table) (done : Texts) : Type 0 where
-  replied : said ≡ replies [] done
-  kept : table ≡ table_after [] done
-  clean : list_any is_quit done ≡ false
+pub record Known (said : Texts) (table : Table) (done : Texts) : Type 0 where
+  pub replied : said ≡ replies [] done
+  pub kept : table ≡ table_after [] done
+  pub clean : list_any is_quit done ≡ false
 
 -- the store knows of no line more than the session
-data Phase (said lines : Texts) (table : Table) (mail : Mail) (place : SessionPlace) (client : Stand) : Type 0 where
+pub data Phase (said lines : Texts) (table : Table) (mail : Mail) (place : SessionPlace) (client : Stand) : Type 0 where
   Idle : (done : Texts) → Known said table done → lines ≡ done → mail ≡ Nothing → is_idle place client ≡ true → Phase said lines table mail place client
   Reads : (done : Texts) (text : List ℕ) (from room : ℕ) → Known said table done → lines ≡ done ++ text ∷ [] → mail ≡ Nothing → place ≡ at.Recv → client ≡ Hears (answer.Letter from text room) → Phase said lines table mail place client
   Asks : (done : Texts) (text : List ℕ) → Known said table done → lines ≡ done ++ text ∷ [] → is_quit text ≡ false → mail ≡ Sent text → place ≡ at.Send → client ≡ AwaitsReply → Phase said lines table mail place client
@@ -82,12 +82,12 @@ data Phase (said lines : Texts) (table : Table) (mail : Mail) (place : SessionPl
       → client ≡ Hears (answer.Reply (told text (table_after [] done)).reply) → Phase said lines table mail place client
 
 -- nothing more is said, and nothing more comes
-data Closing (lives : Bool) (mail : Mail) (place : SessionPlace) (client : Stand) : Type 0 where
+pub data Closing (lives : Bool) (mail : Mail) (place : SessionPlace) (client : Stand) : Type 0 where
   Alone : lives ≡ false → Closing lives mail place client
   Done : mail ≡ Nothing → is_done place client ≡ true → Closing lives mail place client
 
 -- what holds between any two events
-data Inv (s : ℕ) (talk : Talk) : Type 0 where
+pub data Inv (s : ℕ) (talk : Talk) : Type 0 where
   Goes : Phase talk.told talk.lines (table_of s talk.store.tables) talk.mail talk.session.place talk.client → stands s talk.store.place talk.keeper ≡ true → Inv s talk
   Waits : (done : Texts) (text : List ℕ) → Known talk.told (table_of s talk.store.tables) done → talk.lines ≡ done ++ text ∷ [] → is_quit text ≡ false → talk.mail ≡ Received text → talk.session.place ≡ at.Send → talk.client ≡ AwaitsReply
       → talk.store.place ≡ kept_at.Recv → talk.keeper ≡ Hears (answer.Letter s text 240) → Inv s talk
@@ -104,7 +104,7 @@ phase_first (Reads done text from room known l m p c) = as_first known.replied l
 phase_first (Asks done text known l q m p c) = as_first known.replied l (first_replies done (text ∷ []) known.clean)
 phase_first (Learns done text r t clean q l m p c) = as_first r l (first_replies done (text ∷ []) clean)
 
-inv_first : (s : ℕ) (talk : Talk) → Inv s talk → AreFirst talk.told (line_answers talk.lines)
+pub inv_first : (s : ℕ) (talk : Talk) → Inv s talk → AreFirst talk.told (line_answers talk.lines)
 inv_first s talk (Goes phase h) = phase_first phase
 inv_first s talk (Waits done text known l q m p c sp k) = as_first known.replied l (first_replies done (text ∷ []) known.clean)
 inv_first s talk (Ends first closing) = first
@@ -195,7 +195,7 @@ phase_as e (Reads done text from room known l m p c) = Reads done text from room
 phase_as e (Asks done text known l q m p c) = Asks done text (known_as e known) l q m p c
 phase_as e (Learns done text r t clean q l m p c) = Learns done text r (e ∙ t) clean q l m p c
 
-phase_free : {said lines : Texts} {table : Table} {mail : Mail} {place : SessionPlace} {client : Stand} → Phase said lines table mail place client → is_received mail ≡ false
+pub phase_free : {said lines : Texts} {table : Table} {mail : Mail} {place : SessionPlace} {client : Stand} → Phase said lines table mail place client → is_received mail ≡ false
 phase_free (Idle done known l m i) = ap is_received m
 phase_free (Reads done text from room known l m p c) = ap is_received m
 phase_free (Asks done text known l q m p c) = ap is_received m
@@ -540,12 +540,12 @@ module _ (s a : ℕ) (talk : Talk) (was : Inv s talk) where
 -- ---- all events
 
 module _ (s a : ℕ) where
-  inv_session : (names : Names) (talk : Talk) → Inv s talk → Inv s (session_turn a names talk talk.client)
+  pub inv_session : (names : Names) (talk : Talk) → Inv s talk → Inv s (session_turn a names talk talk.client)
   inv_session names talk (Goes phase stand) = phase_turn s a names talk phase stand (Goes phase stand)
   inv_session names talk (Waits done text known l q m p c sp k) = subst (λ st. Inv s (session_turn a names talk st)) (sym c) (Waits done text known l q m p c sp k)
   inv_session names talk (Ends first closing) = ends_turn s a talk first names closing (Ends first closing) talk.client refl
 
-  inv_store : (refusal : Option LwpErr) (names : Names) (talk : Talk) → Inv s talk → Inv s (store_turn s refusal names talk talk.keeper)
+  pub inv_store : (refusal : Option LwpErr) (names : Names) (talk : Talk) → Inv s talk → Inv s (store_turn s refusal names talk talk.keeper)
   inv_store refusal names talk (Goes phase stand) = inv_apart s refusal names talk _ phase (apart_turn s refusal names talk (phase_free phase) talk.keeper stand refl)
   inv_store refusal names talk (Waits done text known l q m p c sp k) = inv_told s refusal names talk done text known l q m p sp k
   inv_store refusal names talk (Ends first closing) = ends_store s a talk first refusal names closing (Ends first closing) talk.keeper
@@ -559,7 +559,7 @@ module _ (s a : ℕ) where
   inv_event talk AgentEnds inv = Ends (inv_first s talk inv) (Alone refl)
   inv_event talk SessionDies inv = Ends (inv_first s talk inv) (Done refl refl)
 
-  inv_events : (events : List Event) (talk : Talk) → Inv s talk → Inv s (fold (talk_on s a) talk events)
+  pub inv_events : (events : List Event) (talk : Talk) → Inv s talk → Inv s (fold (talk_on s a) talk events)
   inv_events [] talk inv = inv
   inv_events (e ∷ events) talk inv = inv_events events (talk_on s a talk e) (inv_event talk e inv)
 

@@ -36,11 +36,11 @@ use Rattle.lwp_types.specs.declared.rows.Block.TheVariants as block
 use Rattle.lwp_types.specs.declared.rows.Mark.TheVariants as mark
 
 -- whom a call destroys, if it destroys anybody
-data Ends (c : Call) : Type 0 where
+pub data Ends (c : Call) : Type 0 where
   Destroys : (v : ℕ) → c ≡ call.Destroy v → Ends c
   Spared : ((st : State) (u : ℕ) → Spares st u c) → ((a u : ℕ) → spares_agent a u c ≡ true) → Ends c
 
-ends_of : (c : Call) → Ends c
+pub ends_of : (c : Call) → Ends c
 ends_of (call.Destroy v) = Destroys v refl
 ends_of (call.Create number prio flags) = Spared (λ st u. tt) (λ a u. refl)
 ends_of (call.Ping v) = Spared (λ st u. tt) (λ a u. refl)

@@ -12,11 +12,11 @@ use Rattle.line_server.specs.Stores.{StoreBody}
 use Rattle.line_server.specs.declared.session.SessionPlace.{SessionPlace}
 use Rattle.line_server.specs.declared.session.SessionPlace.TheVariants as at
 use Rattle.lwp_types.specs.Agents.{armed, deliver, deliver_to, event_agents, is_armed, is_for, message}
-use Rattle.lwp_types.specs.CountLaws.{count-cons, one}
-use Rattle.lwp_types.specs.Counts.{has_owner_and_event, is_between, timers_of}
+use Rattle.lwp_types.specs.CountLaws.{count-cons, count_and-le, count_not_found, one}
+use Rattle.lwp_types.specs.Counts.{has_owner_and_event, is_between, is_sending, timers_of}
 use Rattle.lwp_types.specs.Lawful.{Lawful}
 use Rattle.lwp_types.specs.Letters.{as_answer, as_received, is_letter_of, post, takes_from, with_holding}
-use Rattle.lwp_types.specs.State.{Outcome, State, ThreadRow, agent_of, and_then, for_each, is_agent, is_agent_row, is_empty, is_id, is_thread, passes, still, thread_of}
+use Rattle.lwp_types.specs.State.{Outcome, State, ThreadRow, agent_of, and_then, for_each, is_agent, is_agent_row, is_empty, is_id, is_number, is_thread, passes, still, thread_of}
 use Rattle.lwp_types.specs.Time.{due_threads, may_tick, tick, ticked, time_out}
 use Rattle.lwp_types.specs.Unblock.{is_timer_of, nonexist, unblock}
 use Rattle.lwp_types.specs.declared.call.Answer.{Answer}
@@ -27,7 +27,7 @@ use Rattle.pod_laws.proofs.Fading.{deliver_fades}
 use Rattle.pod_laws.proofs.Holding.{held_counted}
 use Rattle.pod_laws.proofs.LetterMoves.{no_rows}
 use Rattle.pod_laws.proofs.TimerMoves.{no_timer_comes_unasked}
-use Rattle.std.proofs.Common.{Bool, List, None, Option, Some, [], ap, append-nil, arith, cond, count_by, eqb, false, inl, inr, not, refl, subst, sym, true, ℕ, ◌++◌, ◌<◌, ◌∙◌, ◌∷◌, ◌≡◌, ◌≢◌, ◌⊎◌}
+use Rattle.std.proofs.Common.{Bool, List, None, Option, Some, [], ap, append-nil, arith, cond, count_by, eqb, false, inl, inr, not, refl, subst, sym, true, ℕ, ◌++◌, ◌<◌, ◌∙◌, ◌∷◌, ◌≡◌, ◌≢◌, ◌≤◌, ◌⊎◌}
 use Rattle.std.proofs.lemmas.Bool.{and_parts, eqb-true, leb-true, ne_eqb}
 use Rattle.std.specs.List.{filter, list_all}
 use Rattle.std.specs.Prelude.{is_some, nat_le, replicate}
@@ -46,6 +46,24 @@ none_kept p (x ∷ xs) none = by_test (p x) refl (none_kept p xs)
     by_test : (b : Bool) → p x ≡ b → (count_by p xs ≡ 0 → filter p xs ≡ []) → cond b (x ∷ filter p xs) (filter p xs) ≡ []
     by_test true e rest = absurd (omega (arith, none, count-cons p x xs, ap one e))
     by_test false e rest = rest (omega (arith, none, count-cons p x xs))
+
+-- nobody who isn't born has sent anything
+pub unborn_silent : (st : State) → Lawful st None → (s : ℕ) → st.births ≤ s → filter (is_letter_of s) st.letters ≡ []
+unborn_silent st was s low = none_kept (is_letter_of s) st.letters (omega (
+  arith,
+  was.nine.blocks.1 s,
+  count_and-le (is_number s) (λ row. is_sending row.block) st.threads,
+  count_and-le (is_agent_row s) (λ (row : AgentRow). row.holding) st.agents,
+  count_not_found (is_number s) st.threads (none_of (thread_of st s) absent.0),
+  count_not_found (is_agent_row s) st.agents (none_of (agent_of st.agents s) absent.1),
+))
+  where
+    absent : (is_thread st s ≡ false) × (is_agent st s ≡ false)
+    absent = either_of (is_thread st s) (is_agent st s) (unborn_absent st was s low)
+
+    none_of : {X : Type 0} (o : Option X) → is_some o ≡ false → o ≡ None
+    none_of {X} None e = refl
+    none_of {X} (Some x) e = absurd (cc)
 
 -- events that lead to a talk in which the pod stands
 abbrev pub becomes_as : (s k a : ℕ) (talk : Talk) (session : SessionBody) (store : StoreBody) (waiting delivered replies : List (List ℕ)) (out : Outcome) (events : List Event) (later : Talk) → talked s a talk events ≡ later → later.session ≡ session → later.store ≡ store → (waits : List (List ℕ)) → Stands s k a out.after later waits
@@ -66,7 +84,7 @@ becomes_as s k a talk session store waiting delivered replies out events later n
 pub line_is : (s a : ℕ) (text : List ℕ) (talk : Talk) → talk.client ≡ AwaitsLetter → talk.agent_lives ≡ true → talked s a talk (Line text ∷ []) ≡ record talk { client = Hears (answer.Letter a text 240); lines = talk.lines ++ text ∷ [] }
 line_is s a text talk waits lives = rw (waits, lives) refl
 
-placed_recv : (place : SessionPlace) → is_placed AwaitsLetter place ≡ true → place ≡ at.Recv
+pub placed_recv : (place : SessionPlace) → is_placed AwaitsLetter place ≡ true → place ≡ at.Recv
 placed_recv at.Start h = absurd (cc)
 placed_recv at.Agent h = absurd (cc)
 placed_recv at.Recv h = refl

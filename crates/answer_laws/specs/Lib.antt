@@ -9,3 +9,6 @@ pub mod ClientRows
 pub mod Agents
 pub mod Owners
 pub mod Stands
+pub mod Owns
+pub mod Served
+pub mod Births

@@ -1,8 +1,10 @@
 //! What one client of the line server is told: laws of its session and of the store, and of the letters that carry its lines. There is
-//! no code here: each function below has no body, and its clause is the law. So there are no wrong edits either.
+//! no code here: each function below has no body, and its clause is the law. So there are no wrong bodies; `wrong` has wrong definitions.
 //!
 //! | what is said | law, and where it stands |
 //! |---|---|
+//! | in every session of every script, whenever lines are taken and whatever the other clients do: of a client's session and a store that has begun before it, the accepted replies to the session's agent are a first part of the answers to the lines delivered to that | `InEveryScript`, and of any bodies `InEverySession` (`specs/Births.antt`) |
+//! | so it is from any point of a session on at which the two begin, or the session behind a store that has served others | `ClientsAreAnsweredInTurn`, `LaterClientsAreAnsweredInTurn`, and by moves from the opening on `InWholeSessions`, `SessionsAreReached` (`specs/Served.antt`) |
 //! | a session and a store that talk, whatever others send to the store and whoever ends: what the client is told is a first part of the answers to its lines | `TalksAreAnswers` (`specs/Talks.antt`) |
 //! | the answers to lines that have room in a letter have room in one | `ShortLinesHaveShortAnswers` (`specs/Lengths.antt`) |
 //! | a sender has one letter at most; whoever receives it is handed it as it was sent; and what is replied to it is what its sender is answered | `EachHasOneLetter`, `ReceivesAreTheLetters`, `RepliesAreTheAnswers`, `ReadersLeaveTheRest` (`specs/Replies.antt`) |
@@ -10,7 +12,8 @@
 //! | a text for its event reaches an agent, and passes by whoever is none; its owner is handed it as it was delivered, and a reply to it frees the agent | `DeliveriesReachAgents`, `DeliveriesPassOthersBy` (`specs/Agents.antt`), `OwnersReceive`, `OwnersReply`, `OwnersOfNoneAreRefused` (`specs/Owners.antt`) |
 //! | who sends a letter waits for the reply, and who waits for the letter goes on with it | `SendsAreLetters` (`specs/Owners.antt`) |
 //! | nobody else touches a thread that waits for a reply, or who waits for a letter but by sending it one | `OthersLeaveIt`, `DeliveriesLeaveIt` (`specs/Sights.antt`), and with traps and reports `PodsLeaveIt`, `TakesLeaveIt` (`specs/Events.antt`) |
-//! | in a pod that stands as a talk, each step is some events of the talk, and the two bodies are those of the talk: a call of another, a delivery, the store's call and the session's; the texts delivered to the agent are its lines, and its accepted replies those of the talk | `OthersCallsAreEvents`, `DeliveriesAreEvents`, `StoresCallsAreEvents`, `SessionsCallsAreEvents`, and with traps and reports `PodsCallsAreEvents`, `TakesAreEvents` (`specs/Stands.antt`) |
+//! | in a pod that stands as a talk, each step is some events of the talk, and the two bodies are those of the talk: a call of another, a delivery, the store's call and the session's; the texts delivered to the agent are its lines, and its accepted replies those of the talk | `OthersCallsAreEvents`, `DeliveriesAreEvents`, `StoresCallsAreEvents`, `SessionsCallsAreEvents`, and with traps and reports `PodsCallsAreEvents`, `TakesAreEvents` (`specs/Stands.antt`), `LivingCallsAreEvents`, `PodsStoresCallsAreEvents`, `PodsSessionsCallsAreEvents` (`specs/Owns.antt`) |
+//! | nothing that others do is a reply of the session, and no line that is taken is | `OthersReplyNothing` (`specs/Owns.antt`) |
 //!
 //! What of this the steps of a session tell, `specs/Clients.antt` says: which lines were delivered to an agent, how it was replied to,
 //! and where its session sent; `rows` has two sessions worked out by hand.
@@ -20,19 +23,62 @@
 //! is what it waits for, its marks and its letters; what an agent shows (`AgentSight`) is its row and its letters. How the two bodies,
 //! their letters and the agent stand in the machine while they talk, `Stands` says.
 //!
-//! It stands on the bodies of `line_server`, on the laws of the machine in `pod_laws`, and on the events of `pod_events`.
+//! Of a session it is asked that the store lives in the end, that whatever the client's session has sent went to it, that the store was born
+//! first, that the lines that were taken have room in a letter, and that fewer were born than there are numbers. That a trap may be raised in
+//! either, that somebody may destroy the session or its agent, and what reports and other agents of the event there are, makes no difference:
+//! a trap is the end of whoever has no handler, and a store that lives in the end has met none.
+//!
+//! It stands on the bodies of `line_server`, on the laws of the machine in `pod_laws`, on the events of `pod_events`, and on the sessions of
+//! `pod_runner` with their laws in `session_laws`; that scripts are such sessions it takes from `script_program`.
 #![tactic(auto)]
 
 pub mod rows;
 
 ghost use Rattle.answer_laws.specs.Agents.{DeliveriesPassOthersBy, DeliveriesReachAgents, DestroyedAgentsAreGone, OthersLeaveAgents};
+ghost use Rattle.answer_laws.specs.Births.{InEveryScript, InEverySession};
 ghost use Rattle.answer_laws.specs.Events.{PodsLeaveIt, TakesLeaveIt};
 ghost use Rattle.answer_laws.specs.Lengths.{ShortLinesHaveShortAnswers};
 ghost use Rattle.answer_laws.specs.Owners.{OwnersOfNoneAreRefused, OwnersReceive, OwnersReply, SendsAreLetters};
+ghost use Rattle.answer_laws.specs.Owns.{LivingCallsAreEvents, OthersReplyNothing, PodsSessionsCallsAreEvents, PodsStoresCallsAreEvents};
 ghost use Rattle.answer_laws.specs.Replies.{EachHasOneLetter, ReadersLeaveTheRest, ReceivesAreTheLetters, RepliesAreTheAnswers};
+ghost use Rattle.answer_laws.specs.Served.{ClientsAreAnsweredInTurn, InWholeSessions, LaterClientsAreAnsweredInTurn, SessionsAreReached};
 ghost use Rattle.answer_laws.specs.Sights.{DeliveriesLeaveIt, OthersLeaveIt};
 ghost use Rattle.answer_laws.specs.Stands.{DeliveriesAreEvents, OthersCallsAreEvents, PodsCallsAreEvents, SessionsCallsAreEvents, StoresCallsAreEvents, TakesAreEvents};
 ghost use Rattle.answer_laws.specs.Talks.{TalksAreAnswers};
+
+use lwp_types::Body;
+
+/// In every session, whatever its bodies do and whenever lines are taken: of a client's session and a store that has begun before it, what the
+/// client is told is a first part of the answers to its lines.
+pub fn every_client<B: Body>()
+    ensures { InEverySession B }
+{}
+
+/// So it is in every session of every script.
+pub fn every_client_of_a_script()
+    ensures { InEveryScript }
+{}
+
+/// From where a store and a client's session begin, the one born before the other or behind it, and neither polled yet: so it is in whatever
+/// comes behind that.
+pub fn every_beginning<B: Body>()
+    ensures { ClientsAreAnsweredInTurn B }
+{}
+
+/// So it is where the store has begun before and served others, and the session is born then.
+pub fn every_later_beginning<B: Body>()
+    ensures { LaterClientsAreAnsweredInTurn B }
+{}
+
+/// The same by the moves of a session from its opening on.
+pub fn every_session_of_moves<B: Body>()
+    ensures { InWholeSessions B }
+{}
+
+/// Each session, with its takes and calls, is one of those that moves from the opening come to.
+pub fn every_session_reached<B: Body>()
+    ensures { SessionsAreReached B }
+{}
 
 /// A session and a store that talk, whatever else is sent to the store and whoever ends: the accepted replies to the session's client
 /// are a first part of the answers to its lines.
@@ -150,6 +196,26 @@ pub fn every_pod_call_beside_a_talk()
 /// And a line that is taken there.
 pub fn every_take_in_a_talk()
     ensures { TakesAreEvents }
+{}
+
+/// So it is of a call of another behind which the two are there, whatever it is.
+pub fn every_call_that_spares_a_talk()
+    ensures { LivingCallsAreEvents }
+{}
+
+/// Nothing that others do in a pod is a reply of the session, and no line that is taken is.
+pub fn every_reply_of_others()
+    ensures { OthersReplyNothing }
+{}
+
+/// A call of the store in such a pod, the trap before it and the report behind it among that.
+pub fn every_call_of_the_store_in_a_pod()
+    ensures { PodsStoresCallsAreEvents }
+{}
+
+/// So it is of a call of the session: it goes on as the talk says, or asked for an agent in vain, or is gone.
+pub fn every_call_of_the_session_in_a_pod()
+    ensures { PodsSessionsCallsAreEvents }
 {}
 
 /// The answers to lines that have room in a letter have room in one.

@@ -1,0 +1,236 @@
+-- The first step of a session that names a thread, and the session behind it.
+use Rattle.answer_laws.proofs.Creating.{call_bears, none_opened, none_settled, none_with, take_bears}
+use Rattle.answer_laws.proofs.Meetings.{gone_lawful, gone_push}
+use Rattle.answer_laws.proofs.Openings.{can_before, gone_append, sessions_are_reached}
+use Rattle.answer_laws.proofs.Servings.{gone_fades}
+use Rattle.answer_laws.proofs.Wholes.{in_whole_sessions, line_server}
+use Rattle.answer_laws.specs.Births.{InEveryScript, InEverySession, begins_in, born_in, is_named}
+use Rattle.answer_laws.specs.Clients.{IsAnsweredInTurn}
+use Rattle.answer_laws.specs.Served.{Begins, CanGoOn, IsReached, LineServer, Serves, gone_on, line_is_short, moved_by, steps_of}
+use Rattle.line_server.specs.Sessions.{session_opening}
+use Rattle.line_server.specs.Stores.{store_opening}
+use Rattle.lwp_types.specs.Choice.{choice}
+use Rattle.lwp_types.specs.Lawful.{Lawful}
+use Rattle.lwp_types.specs.Names.{polled_as}
+use Rattle.lwp_types.specs.Poll.{Polled}
+use Rattle.pod_laws.proofs.Opening.{Lawful-opening}
+use Rattle.pod_runner.specs.Play.{play}
+use Rattle.pod_runner.specs.Session.{Live, Made, Session, Setting, called, move, move_by, move_row, opening_session, polled, proc_of, row_of, taken}
+use Rattle.pod_runner.specs.declared.session.Row.{Row}
+use Rattle.pod_runner.specs.declared.session.Took.{Took}
+use Rattle.script_program.specs.Bodies.{body_next}
+use Rattle.script_program.specs.declared.body.ThreadBody.{ThreadBody}
+use Rattle.std.proofs.Common.{Bool, List, None, Option, Some, [], ap, append-nil, append_assoc, arith, cond, false, inl, inr, refl, subst, sym, true, ℕ, ◌&&◌, ◌++◌, ◌<◌, ◌∙◌, ◌∷◌, ◌≡◌, ◌≤◌, ◌≢◌, ◌⊎◌}
+use Rattle.std.proofs.lemmas.Bool.{ne_eqb}
+use Rattle.std.specs.List.{list_all}
+use Rattle.std.specs.Prelude.{slice_get}
+
+module _ {B : Type 0} (setting : Setting B) where
+  -- the step that a move makes
+  abbrev made_by : Session B → Option Took → Made
+  made_by session None = record { take = None; effects = (move setting.next setting.bodies session.live).effects }
+  made_by session (Some took) = record { take = Some took; effects = (taken setting.bodies took session.live).effects }
+
+  steps_after : (session : Session B) (m : Option Took) → (moved_by setting session m).steps ≡ session.steps ++ made_by session m ∷ []
+  steps_after session None = refl
+  steps_after session (Some took) = refl
+
+  -- the steps of some moves
+  abbrev made_in : List (Option Took) → Session B → List Made
+  made_in [] session = []
+  made_in (m ∷ ms) session = made_by session m ∷ made_in ms (moved_by setting session m)
+
+  steps_are : (moves : List (Option Took)) (session : Session B) → (gone_on setting moves session).steps ≡ session.steps ++ made_in moves session
+  steps_are [] session = sym (append-nil session.steps)
+  steps_are (m ∷ ms) session = steps_are ms (moved_by setting session m) ∙ ap (λ xs. xs ++ made_in ms (moved_by setting session m)) (steps_after session m) ∙ append_assoc session.steps (made_by session m ∷ []) (made_in ms (moved_by setting session m))
+
+  -- no step of these moves names it
+  abbrev Unnamed : ℕ → List (Option Took) → Session B → Type 0
+  Unnamed u [] session = Unit {0}
+  Unnamed u (m ∷ ms) session = (is_named u (made_by session m).effects ≡ false) × Unnamed u ms (moved_by setting session m)
+
+  -- the first move that names it, and where it bears it
+  record Named (u p : ℕ) (moves : List (Option Took)) (session : Session B) : Type 0 where
+    before : List (Option Took)
+    birth : Option Took
+    later : List (Option Took)
+    is : moves ≡ before ++ birth ∷ later
+    unnamed : Unnamed u before session
+    bears : born_in u (made_by (gone_on setting before session) birth).effects ≡ Some p
+
+  named_by : (u p : ℕ) (moves : List (Option Took)) (session : Session B) → begins_in u (made_in moves session) ≡ Some p → Named u p moves session
+  named_by u p [] session begins = absurd (cc)
+  named_by u p (m ∷ ms) session begins = by_test (is_named u (made_by session m).effects) refl begins (λ later. named_by u p ms (moved_by setting session m) later)
+    where
+      by_test : (b : Bool) → is_named u (made_by session m).effects ≡ b → cond b (born_in u (made_by session m).effects) (begins_in u (made_in ms (moved_by setting session m))) ≡ Some p
+          → (begins_in u (made_in ms (moved_by setting session m)) ≡ Some p → Named u p ms (moved_by setting session m)) → Named u p (m ∷ ms) session
+      by_test true e bears rest = record { before = []; birth = m; later = ms; is = refl; unnamed = tt; bears = bears }
+      by_test false e bears rest = let n = rest bears in record { before = m ∷ n.before; birth = n.birth; later = n.later; is = ap (λ xs. m ∷ xs) n.is; unnamed = (e, n.unnamed); bears = n.bears }
+
+  -- ---- rows of who isn't named
+
+  called_none : (u t : ℕ) (live : Live B) (reply : Polled B) → row_of u live.rows ≡ None → is_named u (called setting.bodies live t reply).effects ≡ false → row_of u (called setting.bodies live t reply).live.rows ≡ None
+  unfolding called
+  called_none u t live reply none unnamed = none_settled u setting.bodies (proc_of reply.0) (called setting.bodies live t reply).effects (polled t reply.1 live.rows) (none_with u t (λ row. record row { body = reply.1 }) (λ r. refl) live.rows none) unnamed
+
+  row_none : (u t : ℕ) (live : Live B) (o : Option (Row B)) → row_of u live.rows ≡ None → is_named u (move_row setting.next setting.bodies live t o).effects ≡ false → row_of u (move_row setting.next setting.bodies live t o).live.rows ≡ None
+  row_none u t live None none unnamed = none
+  row_none u t live (Some row) none unnamed = called_none u t live (setting.next row.body (polled_as t live.names) row.answer) none unnamed
+
+  call_none : (u : ℕ) (live : Live B) → row_of u live.rows ≡ None → is_named u (move setting.next setting.bodies live).effects ≡ false → row_of u (move setting.next setting.bodies live).live.rows ≡ None
+  unfolding move
+  call_none u live none = by_choice (choice live.pod.state)
+    where
+      by_choice : (o : Option ℕ) → is_named u (move_by setting.next setting.bodies live o).effects ≡ false → row_of u (move_by setting.next setting.bodies live o).live.rows ≡ None
+      by_choice None unnamed = none
+      by_choice (Some t) unnamed = row_none u t live (row_of t live.rows) none unnamed
+
+  moved_none : (u : ℕ) (session : Session B) (m : Option Took) → row_of u session.live.rows ≡ None → is_named u (made_by session m).effects ≡ false → row_of u (moved_by setting session m).live.rows ≡ None
+  unfolding taken
+  moved_none u session None none unnamed = call_none u session.live none unnamed
+  moved_none u session (Some took) none unnamed = none_settled u setting.bodies None (taken setting.bodies took session.live).effects session.live.rows none unnamed
+
+  gone_none : (u : ℕ) (moves : List (Option Took)) (session : Session B) → row_of u session.live.rows ≡ None → Unnamed u moves session → row_of u (gone_on setting moves session).live.rows ≡ None
+  gone_none u [] session none unnamed = none
+  gone_none u (m ∷ ms) session none unnamed = gone_none u ms (moved_by setting session m) (moved_none u session m none unnamed.0) unnamed.1
+
+  -- ---- the move that bears it
+
+  record Birth (u p : ℕ) (live after : Live B) : Type 0 where
+    number : live.pod.state.births ≡ u
+    begins : row_of u live.rows ≡ None → (body : B) → slice_get setting.bodies p ≡ Some body → Begins u body after
+
+  called_bears : (u p t : ℕ) (live : Live B) → Lawful live.pod.state None → choice live.pod.state ≡ Some t → (reply : Polled B) → born_in u (called setting.bodies live t reply).effects ≡ Some p → Birth u p live (called setting.bodies live t reply).live
+  unfolding called
+  called_bears u p t live was turn reply bears =
+      let b = call_bears setting.bodies u p live.pod was t turn reply.0 bears in
+      record {
+        number = b.number;
+        begins = λ none body is. record { row = b.rows (polled t reply.1 live.rows) (none_with u t (λ row. record row { body = reply.1 }) (λ r. refl) live.rows none) body is; thread = b.seen };
+      }
+
+  call_bears_it : (u p : ℕ) (live : Live B) → Lawful live.pod.state None → born_in u (move setting.next setting.bodies live).effects ≡ Some p → Birth u p live (move setting.next setting.bodies live).live
+  unfolding move
+  call_bears_it u p live was = by_choice (choice live.pod.state) refl
+    where
+      by_row : (t : ℕ) → choice live.pod.state ≡ Some t → (o : Option (Row B)) → born_in u (move_row setting.next setting.bodies live t o).effects ≡ Some p → Birth u p live (move_row setting.next setting.bodies live t o).live
+      by_row t turn None bears = absurd (cc)
+      by_row t turn (Some row) bears = called_bears u p t live was turn (setting.next row.body (polled_as t live.names) row.answer) bears
+
+      by_choice : (o : Option ℕ) → choice live.pod.state ≡ o → born_in u (move_by setting.next setting.bodies live o).effects ≡ Some p → Birth u p live (move_by setting.next setting.bodies live o).live
+      by_choice None e bears = absurd (cc)
+      by_choice (Some t) e bears = by_row t e (row_of t live.rows) bears
+
+  move_bears : (u p : ℕ) (session : Session B) (m : Option Took) → Lawful session.live.pod.state None → born_in u (made_by session m).effects ≡ Some p → Birth u p session.live (moved_by setting session m).live
+  unfolding taken
+  move_bears u p session None was bears = call_bears_it u p session.live was bears
+  move_bears u p session (Some took) was bears = absurd (let bad : Some p ≡ None = sym bears ∙ take_bears u session.live.pod took.event took.line.text in cc)
+
+  -- from the opening on
+  opening_none : (u : ℕ) → u ≢ 0 → row_of u (opening_session setting).live.rows ≡ None
+  opening_none u other = none_opened u 0 (slice_get setting.bodies 0) (ne_eqb 0 u (λ e. other (sym e)))
+
+-- two splits of one list
+record Inside {X : Type 0} (before : List X) (x : X) (one : List X) : Type 0 where
+  between : List X
+  is : one ≡ before ++ x ∷ between
+
+record Short {X : Type 0} (before one : List X) : Type 0 where
+  between : List X
+  is : before ≡ one ++ between
+
+split_two : {X : Type 0} (b1 : List X) (x1 : X) (l1 b2 : List X) (x2 : X) (l2 : List X) → b1 ++ x1 ∷ l1 ≡ b2 ++ x2 ∷ l2 → Inside b1 x1 b2 ⊎ Short b1 b2
+split_two [] x1 l1 [] x2 l2 e = inr (record { between = []; is = refl })
+split_two [] x1 l1 (y ∷ ys) x2 l2 e = inl (record { between = ys; is = (let head : y ≡ x1 = cc e in ap (λ z. z ∷ ys) head) })
+split_two (y ∷ ys) x1 l1 [] x2 l2 e = inr (record { between = y ∷ ys; is = refl })
+split_two (y ∷ ys) x1 l1 (z ∷ zs) x2 l2 e = by_rest (split_two ys x1 l1 zs x2 l2 (tail e))
+  where
+    head : y ∷ (ys ++ x1 ∷ l1) ≡ z ∷ (zs ++ x2 ∷ l2) → y ≡ z
+    head e = cc e
+
+    tail : y ∷ (ys ++ x1 ∷ l1) ≡ z ∷ (zs ++ x2 ∷ l2) → ys ++ x1 ∷ l1 ≡ zs ++ x2 ∷ l2
+    tail e = cc e
+
+    by_rest : Inside ys x1 zs ⊎ Short ys zs → Inside (y ∷ ys) x1 (z ∷ zs) ⊎ Short (y ∷ ys) (z ∷ zs)
+    by_rest (inl i) = inl (record { between = i.between; is = (λ j. sym (head e) j ∷ i.is j) })
+    by_rest (inr s) = inr (record { between = s.between; is = (λ j. head e j ∷ s.is j) })
+
+-- ---- every session
+
+module _ {B : Type 0} (setting : Setting B) (server : LineServer setting.next) (least : 1 ≤ setting.params.maxpri) (most : setting.params.maxpri ≤ 255) where
+  lines_of : (moves : List (Option Took)) (session : Session B) → list_all (λ (m : Made). line_is_short m.take) (made_in setting moves session) ≡ list_all line_is_short moves
+  lines_of [] session = refl
+  lines_of (None ∷ ms) session = lines_of ms (moved_by setting session None)
+  lines_of (Some took ∷ ms) session = ap (λ b. line_is_short (Some took) && b) (lines_of ms (moved_by setting session (Some took)))
+
+  module _ (moves : List (Option Took)) (can : CanGoOn setting moves (opening_session setting)) where
+    -- a thread that begins in a procedure begins with its body behind the move that bears it
+    born_at : (u p : ℕ) (n : Named setting u p moves (opening_session setting)) → Birth setting u p (gone_on setting n.before (opening_session setting)).live (moved_by setting (gone_on setting n.before (opening_session setting)) n.birth).live
+    born_at u p n = move_bears setting u p (gone_on setting n.before (opening_session setting)) n.birth
+        (gone_lawful setting n.before (opening_session setting) (can_before setting n.before (n.birth ∷ n.later) (opening_session setting) (subst (λ ms. CanGoOn setting ms (opening_session setting)) n.is can)) (Lawful-opening setting.params least most)) n.bears
+
+    begins_at : (u p : ℕ) (n : Named setting u p moves (opening_session setting)) (body : B) → slice_get setting.bodies p ≡ Some body → Begins u body (moved_by setting (gone_on setting n.before (opening_session setting)) n.birth).live
+    begins_at u p n body is =
+        let b = born_at u p n in
+        let apart : u ≢ 0 = λ e. omega (arith, e, b.number, (gone_fades setting 0 n.before (opening_session setting)).births) in
+        b.begins (gone_none setting u n.before (opening_session setting) (opening_none setting u apart) n.unnamed) body is
+
+    module _ (s k in_s in_k event place : ℕ) (below : k < s) (ns : Named setting s in_s moves (opening_session setting)) (nk : Named setting k in_k moves (opening_session setting))
+        (body_s : slice_get setting.bodies in_s ≡ Some (server.serving (session_opening event place))) (body_k : slice_get setting.bodies in_k ≡ Some (server.storing store_opening))
+        (serves : Serves s k (gone_on setting moves (opening_session setting))) (lines : list_all line_is_short moves ≡ true) (a : ℕ) where
+      later_answers : Inside nk.before nk.birth ns.before → IsAnsweredInTurn s a (steps_of (gone_on setting moves (opening_session setting)).steps)
+      later_answers i = subst (λ ms. IsAnsweredInTurn s a (steps_of (gone_on setting ms (opening_session setting)).steps)) (sym moves_are)
+          (in_whole_sessions B setting server least most s k event place (nk.before ++ nk.birth ∷ []) i.between ns.birth ns.later (subst (λ ms. CanGoOn setting ms (opening_session setting)) moves_are can)
+          (subst (λ (x : Session B). Begins k (server.storing store_opening) x.live) (sym (gone_push setting nk.before nk.birth (opening_session setting))) (begins_at k in_k nk (server.storing store_opening) body_k))
+          (omega (arith, ap (λ ms. (gone_on setting ms (opening_session setting)).live.pod.state.births) before_are, (born_at s in_s ns).number))
+          (subst (λ (x : Session B). Begins s (server.serving (session_opening event place)) x.live) (sym (ap (λ ms. gone_on setting ms (opening_session setting)) birth_are ∙ gone_push setting ns.before ns.birth (opening_session setting))) (begins_at s in_s ns (server.serving (session_opening event place)) body_s))
+          (subst (λ ms. Serves s k (gone_on setting ms (opening_session setting))) moves_are serves) (subst (λ ms. list_all line_is_short ms ≡ true) moves_are lines) a)
+        where
+          before_are : (nk.before ++ nk.birth ∷ []) ++ i.between ≡ ns.before
+          before_are = append_assoc nk.before (nk.birth ∷ []) i.between ∙ sym i.is
+
+          birth_are : (nk.before ++ nk.birth ∷ []) ++ (i.between ++ ns.birth ∷ []) ≡ ns.before ++ ns.birth ∷ []
+          birth_are = sym (append_assoc (nk.before ++ nk.birth ∷ []) i.between (ns.birth ∷ [])) ∙ ap (λ xs. xs ++ ns.birth ∷ []) before_are
+
+          moves_are : moves ≡ (nk.before ++ nk.birth ∷ []) ++ (i.between ++ ns.birth ∷ ns.later)
+          moves_are = ns.is ∙ ap (λ xs. xs ++ ns.birth ∷ ns.later) (sym before_are) ∙ append_assoc (nk.before ++ nk.birth ∷ []) i.between (ns.birth ∷ ns.later)
+
+      -- the store was born first
+      never_short : Short nk.before ns.before → ⊥
+      never_short sh = omega (
+        arith,
+        below,
+        (born_at s in_s ns).number,
+        (born_at k in_k nk).number,
+        ap (λ ms. (gone_on setting ms (opening_session setting)).live.pod.state.births) sh.is,
+        ap (λ (x : Session B). x.live.pod.state.births) (gone_append setting ns.before sh.between (opening_session setting)),
+        (gone_fades setting 0 sh.between (gone_on setting ns.before (opening_session setting))).births,
+      )
+
+      both_answers : IsAnsweredInTurn s a (steps_of (gone_on setting moves (opening_session setting)).steps)
+      both_answers = by_split (split_two nk.before nk.birth nk.later ns.before ns.birth ns.later (sym nk.is ∙ ns.is))
+        where
+          by_split : Inside nk.before nk.birth ns.before ⊎ Short nk.before ns.before → IsAnsweredInTurn s a (steps_of (gone_on setting moves (opening_session setting)).steps)
+          by_split (inl i) = later_answers i
+          by_split (inr sh) = absurd (never_short sh)
+
+pub in_every_session : (B : Type 0) → InEverySession B
+in_every_session B setting server least most takes n defined s k in_s in_k event place below begins_s body_s begins_k body_k serves lines a =
+    subst Goal (sym r.is) core begins_s begins_k serves lines
+  where
+    r : IsReached setting (play setting takes n)
+    r = sessions_are_reached B setting takes n defined
+
+    Goal : Session B → Type 0
+    Goal x = begins_in s x.steps ≡ Some in_s → begins_in k x.steps ≡ Some in_k → Serves s k x → list_all (λ (m : Made). line_is_short m.take) x.steps ≡ true → IsAnsweredInTurn s a (steps_of x.steps)
+
+    core : Goal (gone_on setting r.moves (opening_session setting))
+    core begins_s begins_k serves lines =
+        let steps = steps_are setting r.moves (opening_session setting) in
+        both_answers setting server least most r.moves r.can s k in_s in_k event place below
+        (named_by setting s in_s r.moves (opening_session setting) (ap (begins_in s) (sym steps) ∙ begins_s)) (named_by setting k in_k r.moves (opening_session setting) (ap (begins_in k) (sym steps) ∙ begins_k))
+        body_s body_k serves (sym (lines_of setting server least most r.moves (opening_session setting)) ∙ ap (list_all (λ (m : Made). line_is_short m.take)) (sym steps) ∙ lines) a
+
+pub in_every_script : InEveryScript
+unfolding line_server
+in_every_script bodies params names = in_every_session ThreadBody (record { next = body_next; bodies = bodies; params = params; names = names }) line_server
