@@ -1,5 +1,5 @@
 -- What is told of a line: where, what stands there, and what may.
-use Rattle.std.specs.Prelude.{ℕ, Bool, true, false, not, ◌&&◌, List, [], ◌∷◌, length, take, Option, Some, None, codes, if◌then◌else◌}
+use Rattle.std.specs.Prelude.{ℕ, Bool, true, false, not, ◌&&◌, List, [], length, take, Option, Some, None, codes, if◌then◌else◌}
 use denote.Enum.Bare.{sameb}
 use Rattle.script_lines.specs.declared.table.Kind.TheVariants as kind
 use Rattle.script_lines.specs.declared.table.Op.{Op}
