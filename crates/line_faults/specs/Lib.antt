@@ -3,3 +3,4 @@ pub mod Forms
 pub mod Slots
 pub mod Faults
 pub mod Texts
+pub mod Laws

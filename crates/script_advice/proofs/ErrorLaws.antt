@@ -12,7 +12,7 @@ use Rattle.script_text.proofs.ScriptLaws.{is_verdict, spelt_from, verdict_long}
 use Rattle.script_advice.specs.Advice.{doubted_grade, grade_by, grade_of, remarks_by, report}
 use Rattle.script_advice.specs.Doubts.{are_some, doubts}
 use Rattle.script_advice.specs.declared.advice.Grade.TheVariants as grade
-use Rattle.script_advice.specs.Errors.{declared_by, errors, errors_at, errors_by, from_first, later}
+use Rattle.script_advice.specs.Errors.{declared_by, errors, errors_at, errors_by, from_first}
 use Rattle.script_advice.specs.Laws.{AreErrorsTold, BeginsWith, FirstIsReaders, IsFineWhereSpelt, IsKnownByFront}
 use Rattle.script_advice.specs.Remarks.{Remark, near_of, place_of, form_of, remark_of}
 use Rattle.script_advice.specs.Texts.{remarks_text}

@@ -66,12 +66,29 @@ event_asked op.Trap p = p.number
 event_asked op.Native p = p.event
 event_asked _ p = 0
 
+-- the greatest priority that a line gives the pod; 0 for a line that gives none
+abbrev pub priority_given : Op → Phrase → ℕ
+priority_given op.Pod p = p.number
+priority_given op.SetMaxPri p = p.number
+priority_given _ p = 0
+
+-- the priority that a line gives a thread, or speaks of; 0 for a line that has none
+abbrev pub priority_used : Op → Phrase → ℕ
+priority_used op.Create p = p.number
+priority_used op.SetPri p = p.number
+priority_used op.Resched p = p.number
+priority_used _ p = 0
+
+-- the greater of two
+abbrev pub greater : ℕ → ℕ → ℕ
+greater m n = if nat_lt m n then n else m
+
 -- an event is one of these
 abbrev pub is_asked : List ℕ → ℕ → Bool
 is_asked events e = list_any (λ x. x == e) events
 
 abbrev pub no_sets : Sets
-no_sets = record { threads = []; monitors = []; conditions = []; started = []; asked = [] }
+no_sets = record { threads = []; monitors = []; conditions = []; started = []; asked = []; most = 0 }
 
 -- what is set, and what one more line sets
 abbrev pub sets_said : Sets → Phrase → Sets
@@ -81,6 +98,7 @@ sets_said s p = record {
   conditions = enter s.conditions (condition_set p.op p);
   started = enter s.started (procedure_started p);
   asked = s.asked ++ event_asked p.op p ∷ [];
+  most = greater s.most (priority_given p.op p);
 }
 
 abbrev pub sets_told : Sets → Option Phrase → Sets
@@ -129,12 +147,13 @@ role_doubt role.Skip s w p = doubt_if w.closed doubt.Statement
 role_doubt role.Again s w p = doubt_if w.closed doubt.Statement
 role_doubt _ s w p = None
 
--- what is doubtful in the names of a line
+-- what is doubtful in the names of a line, and in its priority
 abbrev pub name_doubt : Sets → Phrase → Option Doubt
 name_doubt s p =
     if is_unset s.threads (thread_used p.op p) then Some doubt.Thread
     else if is_unset s.monitors (monitor_used p.op p) then Some doubt.Monitor
-    else doubt_if (is_unset s.conditions (condition_used p.op p)) doubt.Condition
+    else if is_unset s.conditions (condition_used p.op p) then Some doubt.Condition
+    else doubt_if (nat_lt s.most (priority_used p.op p)) doubt.Priority
 
 -- what is doubtful in a line first
 unfoldable pub doubt_of : Sets → Way → Phrase → Option Doubt
@@ -154,6 +173,7 @@ doubted_words doubt.Monitor o line = slot_at o kind.Monitor line
 doubted_words doubt.Condition o line = slot_at o kind.Condition line
 doubted_words doubt.Procedure o line = slot_at o kind.Procedure line
 doubted_words doubt.Client o line = slot_at o kind.Event line
+doubted_words doubt.Priority o line = slot_at o kind.Number line
 doubted_words doubt.Statement o line = line
 
 -- the name that is set and nearly the doubtful one

@@ -1,5 +1,5 @@
 -- What is told of a line: where, what stands there, and what may.
-use Rattle.std.specs.Prelude.{ℕ, Bool, true, false, not, ◌&&◌, List, [], ◌∷◌, length, take, Option, Some, None, codes, if◌then◌else◌}
+use Rattle.std.specs.Prelude.{ℕ, Bool, true, false, not, ◌&&◌, List, [], length, take, Option, Some, None, codes, if◌then◌else◌}
 use denote.Enum.Bare.{sameb}
 use Rattle.script_lines.specs.declared.table.Kind.TheVariants as kind
 use Rattle.script_lines.specs.declared.table.Op.{Op}
@@ -75,6 +75,7 @@ doubt_text doubt.Condition = codes "Unset"
 doubt_text doubt.Procedure = codes "Unstarted"
 doubt_text doubt.Statement = codes "Unreached"
 doubt_text doubt.Client = codes "Unasked"
+doubt_text doubt.Priority = codes "Priority"
 
 -- what is meant by it
 abbrev pub doubted_text : Doubt → List ℕ
@@ -84,6 +85,7 @@ doubted_text doubt.Condition = codes "a condition that no cvcreate names"
 doubted_text doubt.Procedure = codes "a procedure that no create and no call starts"
 doubted_text doubt.Statement = codes "a statement behind a return, which nothing reaches"
 doubted_text doubt.Client = codes "an event that no agent, no trap and no session asks for"
+doubted_text doubt.Priority = codes "a priority above the greatest that the pod ever has"
 
 -- whether it is an error or a warning
 abbrev pub severity_text : Cause → List ℕ

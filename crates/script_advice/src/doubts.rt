@@ -9,7 +9,7 @@ ghost use Rattle.script_advice.specs.Texts.{remark_text, remarks_text};
 
 use crate::lines::first_line;
 use crate::remarks::{Cause, Doubt, Place, Remark, Why, some_names};
-use crate::sets::{Sets, condition_used, monitor_used, thread_used};
+use crate::sets::{Sets, condition_used, monitor_used, priority_used, thread_used};
 use crate::texts::{Format, add_remark};
 use crate::way::Way;
 use line_faults::{nearest, slot_at};
@@ -47,7 +47,7 @@ fn role_doubt(role: Role, sets: &Sets, way: Way, phrase: &Phrase<'_>) -> Option<
     }
 }
 
-// What is doubtful in the names of a line.
+// What is doubtful in the names of a line, and in its priority.
 fn name_doubt(sets: &Sets, phrase: &Phrase<'_>) -> Option<Doubt>
     ensures { result ≡ name_doubt sets.now phrase.now }
 {
@@ -57,10 +57,10 @@ fn name_doubt(sets: &Sets, phrase: &Phrase<'_>) -> Option<Doubt>
     if is_unset(&sets.monitors, monitor_used(phrase)) {
         return Some(Doubt::Monitor);
     }
-    doubt_if(
-        is_unset(&sets.conditions, condition_used(phrase)),
-        Doubt::Condition,
-    )
+    if is_unset(&sets.conditions, condition_used(phrase)) {
+        return Some(Doubt::Condition);
+    }
+    doubt_if(priority_used(phrase) > sets.most, Doubt::Priority)
 }
 
 // What is doubtful in a line first.
@@ -97,6 +97,7 @@ fn doubted_words(doubt: Doubt, op: Op, line: &[u8]) -> &[u8]
         Doubt::Condition => slot_at(op, Kind::Condition, line),
         Doubt::Procedure => slot_at(op, Kind::Procedure, line),
         Doubt::Client => slot_at(op, Kind::Event, line),
+        Doubt::Priority => slot_at(op, Kind::Number, line),
         Doubt::Statement => line,
     }
 }

@@ -1,10 +1,10 @@
 //! What is wrong in a script, told so that it can be mended.
 //!
-//! `check` reads a text and writes what is told of it. Where the text spells a script, nothing is. Else its first bad line is told, with
-//! the reader's number and reason, and behind it each line that is bad by itself: the line, its first wrong word, what is wrong
-//! with that, what may stand there, and a known word that it nearly is. No more than a thousand errors are told.
-//! `first_error_is_the_readers` and `no_errors_where_spelt` are laws: errors are told exactly where `script_text` refuses a text,
-//! and the first of them is its own.
+//! `check` reads a text and writes what is told of it. Where the text spells no script, its first bad line is told, with the reader's
+//! number and reason, and behind it each line that is bad by itself: the line, its first wrong word, what is wrong with that, what may
+//! stand there, and a known word that it nearly is. Where it spells one, lines are told that are allowed and hardly meant. No more than a
+//! thousand lines are told. `no_errors_where_spelt`, `first_error_is_the_readers` and `errors_are_told` are laws: errors are told exactly
+//! where `script_text` refuses a text, and the first of them is its own.
 //!
 //! The crate stands on `script_text`, whose verdict this is, on `line_faults` for the form of single lines, on the buffers of `trace_text`,
 //! and reads and writes by `whole_streams`.

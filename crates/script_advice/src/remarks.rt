@@ -26,6 +26,8 @@ pub enum Doubt {
     Statement,
     /// No line asks for the client's event.
     Client,
+    /// The priority is above the pod's.
+    Priority,
 }
 
 /// Why a line is told.
@@ -145,6 +147,7 @@ fn doubt_text(doubt: Doubt) -> &'static [u8]
         Doubt::Procedure => b"Unstarted",
         Doubt::Statement => b"Unreached",
         Doubt::Client => b"Unasked",
+        Doubt::Priority => b"Priority",
     }
 }
 
@@ -159,6 +162,7 @@ fn doubted_text(doubt: Doubt) -> &'static [u8]
         Doubt::Procedure => b"a procedure that no create and no call starts",
         Doubt::Statement => b"a statement behind a return, which nothing reaches",
         Doubt::Client => b"an event that no agent, no trap and no session asks for",
+        Doubt::Priority => b"a priority above the greatest that the pod ever has",
     }
 }
 

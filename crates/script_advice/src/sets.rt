@@ -1,6 +1,6 @@
 // What the lines of a text set, start and ask for.
 ghost use Rattle.std.specs.Prelude.{◌≡◌};
-ghost use Rattle.script_advice.specs.Doubts.{condition_set, condition_used, event_asked, is_asked, monitor_set, monitor_used, procedure_started, thread_set, thread_used};
+ghost use Rattle.script_advice.specs.Doubts.{condition_set, condition_used, event_asked, greater, is_asked, monitor_set, monitor_used, priority_given, priority_used, procedure_started, thread_set, thread_used};
 
 use crate::lines::first_line;
 use lwp_types::{NoMemory, Sequence};
@@ -8,13 +8,15 @@ use script_lines::{Op, Phrase, phrase_at};
 use script_text::NameList;
 use std::alloc::Global;
 
-/// The names that lines set, the procedures that they start, and the events that they ask for; 0 stands for a line that asks for none.
+/// The names that lines set, the procedures that they start, the events that they ask for, and the greatest priority that they give the
+/// pod; 0 stands for a line that asks for no event.
 pub struct Sets {
     pub threads: NameList,
     pub monitors: NameList,
     pub conditions: NameList,
     pub started: NameList,
     pub asked: Sequence<u32>,
+    pub most: u32,
 }
 
 // By hand, so that whoever drops these calls this.
@@ -26,6 +28,7 @@ impl Drop for Sets {
             conditions: _,
             started: _,
             asked: _,
+            most: _,
         } = self;
     }
 }
@@ -112,6 +115,32 @@ fn event_asked(phrase: &Phrase<'_>) -> u32
     }
 }
 
+// The greatest priority that a line gives the pod; 0 for a line that gives none.
+fn priority_given(phrase: &Phrase<'_>) -> u32
+    ensures { result ≡ priority_given phrase.now.op phrase.now }
+{
+    match phrase.op {
+        Op::Pod | Op::SetMaxPri => phrase.number,
+        _ => 0,
+    }
+}
+
+/// The priority that a line gives a thread, or speaks of; 0 for a line that has none.
+pub fn priority_used(phrase: &Phrase<'_>) -> u32
+    ensures { result ≡ priority_used phrase.now.op phrase.now }
+{
+    match phrase.op {
+        Op::Create | Op::SetPri | Op::Resched => phrase.number,
+        _ => 0,
+    }
+}
+
+fn greater(m: u32, n: u32) -> u32
+    ensures { result ≡ greater m n }
+{
+    if m < n { n } else { m }
+}
+
 fn is_asked(events: &[u32], event: u32) -> bool
     ensures { result ≡ is_asked events.now event }
 {
@@ -132,6 +161,7 @@ impl Sets {
             conditions: NameList::new(alloc),
             started: NameList::new(alloc),
             asked: Sequence::new(alloc),
+            most: 0,
         }
     }
 
@@ -143,6 +173,7 @@ impl Sets {
         self.monitors.enter(monitor_set(phrase))?;
         self.conditions.enter(condition_set(phrase))?;
         self.started.enter(procedure_started(phrase))?;
+        self.most = greater(self.most, priority_given(phrase));
         self.asked.push(event_asked(phrase))
     }
 
