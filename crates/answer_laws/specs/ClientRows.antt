@@ -1,9 +1,12 @@
 -- Steps of two sessions, worked out by hand. The store is thread 1, the client's session 2, and its agent 4.
+use Rattle.answer_laws.specs.Births.{begins_in}
 use Rattle.answer_laws.specs.Clients.{Step, all_sends_to, delivered_to, replied_to}
 use Rattle.lwp_types.specs.Names.{null_id}
 use Rattle.lwp_types.specs.Unblock.{nonexist, zero_answer}
 use Rattle.lwp_types.specs.declared.call.Effect.{Effect}
-use Rattle.std.specs.Prelude.{Bool, List, None, Some, [], codes, ℕ, ◌∷◌, ◌≡◌}
+use Rattle.lwp_types.specs.declared.call.Flags.{Flags}
+use Rattle.pod_runner.specs.Session.{Made}
+use Rattle.std.specs.Prelude.{Bool, List, None, Some, [], codes, false, ℕ, ◌∷◌, ◌≡◌}
 use Rattle.lwp_types.specs.declared.call.Answer.TheVariants as answer
 use Rattle.lwp_types.specs.declared.call.Call.TheVariants as call
 use Rattle.lwp_types.specs.declared.call.Effect.TheVariants as effect
@@ -45,3 +48,25 @@ trapped_and_gone = calls (effect.Called 0 (call.Destroy 7) ∷ effect.Died 7 ∷
     ∷ calls (effect.Called 2 (call.Reply 4 (codes "bad")) ∷ effect.Answered 2 nonexist ∷ [])
     ∷ calls (effect.Called 2 (call.Send 3 240 (codes "get k")) ∷ [])
     ∷ []
+
+-- ---- births
+
+-- a step with no line, as a session has it
+abbrev pub called : List Effect → Made
+called es = record { take = None; effects = es }
+
+-- of no special kind
+abbrev pub plain : Flags
+plain = record { suspended = false; nolastrites = false; server = false }
+
+-- thread 0 creates a thread of procedure 5, which asks who it is; a Create is refused, and behind a trap another thread begins in procedure 6
+abbrev pub two_created : List Made
+two_created = called (effect.Called 0 (call.Create 5 2 plain) ∷ effect.Answered 0 (answer.Thread 1) ∷ [])
+    ∷ called (effect.Called 1 call.Me ∷ effect.Answered 1 (answer.Thread 1) ∷ [])
+    ∷ called (effect.Called 0 (call.Create 9 1 plain) ∷ effect.Answered 0 nonexist ∷ [])
+    ∷ called (effect.Trapped 0 5 ∷ effect.Called 0 (call.Create 6 1 plain) ∷ effect.Answered 0 (answer.Thread 2) ∷ [])
+    ∷ []
+
+-- threads 1 and 2 begin in these procedures, and threads 0 and 3 in none that a step tells
+abbrev pub Begin : List Made → ℕ → ℕ → Type 0
+Begin steps one two = (begins_in 1 steps ≡ Some one) × (begins_in 2 steps ≡ Some two) × (begins_in 0 steps ≡ None) × (begins_in 3 steps ≡ None)

@@ -16,7 +16,7 @@
 //! | nothing that others do is a reply of the session, and no line that is taken is | `OthersReplyNothing` (`specs/Owns.antt`) |
 //!
 //! What of this the steps of a session tell, `specs/Clients.antt` says: which lines were delivered to an agent, how it was replied to,
-//! and where its session sent; `rows` has two sessions worked out by hand.
+//! and where its session sent; `rows` has two sessions and two births worked out by hand.
 //!
 //! In a talk (`Talk`) the two bodies are polled as they are in a session, and the pod answers them: a reply to the session goes to the
 //! letter that the store has received, and a line comes only to a session that waits for one. What a thread shows to others (`Sight`)

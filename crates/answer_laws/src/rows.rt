@@ -1,7 +1,7 @@
-// Two talks and the steps of two sessions, worked out by hand.
+// Two talks, the steps of two sessions and the births of two threads, worked out by hand.
 ghost use Rattle.std.specs.Prelude.{[], codes, false, true, ◌∷◌};
 ghost use Rattle.answer_laws.specs.Clients.{IsAnsweredInTurn};
-ghost use Rattle.answer_laws.specs.ClientRows.{Tells, asked_and_quit, trapped_and_gone};
+ghost use Rattle.answer_laws.specs.ClientRows.{Begin, Tells, asked_and_quit, trapped_and_gone, two_created};
 ghost use Rattle.answer_laws.specs.Rows.{Comes, answers_of_a, answers_of_b, lines_of_a, lines_of_b, talk_of_a, talk_of_b};
 
 /// A client that asks for what another has put, says what is no command, and quits: the other's key isn't there.
@@ -24,4 +24,9 @@ pub fn steps_of_a_client()
 pub fn steps_with_a_trap()
     ensures in_turn { IsAnsweredInTurn 2 4 trapped_and_gone }
     ensures tells { Tells trapped_and_gone (codes "t7" ∷ codes "what" ∷ []) (codes "bad" ∷ []) false }
+{}
+
+/// Threads that begin in procedures 5 and 6; a thread that asks who it is was named before, and a refused Create bears nobody.
+pub fn threads_that_begin()
+    ensures { Begin two_created 5 6 }
 {}
