@@ -18,7 +18,9 @@ use std::alloc::Global;
 use trace_text::{Halt, end_lines};
 use whole_streams::write_all;
 
-// A run over a gate goes on to its end, and then what stands behind its lines is written.
+// A run over a gate goes on to its end, and then what stands behind its lines is written. It stands apart, so that the loop of a run
+// isn't part of a function with many more locals.
+#[inline(never)]
 fn run_out<'g, 's, K: Sink>(
     alloc: Global,
     turns: u64,
