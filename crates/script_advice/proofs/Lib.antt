@@ -1,2 +1,3 @@
 pub mod TellLaws
 pub mod ErrorLaws
+pub mod AheadLaws

@@ -20,6 +20,7 @@ use Rattle.script_advice.specs.declared.remarks.Cause.TheVariants as cause
 use Rattle.script_advice.specs.declared.remarks.Doubt.{Doubt}
 use Rattle.script_advice.specs.declared.remarks.Doubt.TheVariants as doubt
 use Rattle.script_advice.specs.declared.remarks.Why.TheVariants as why
+use Rattle.script_advice.specs.declared.ahead.Ahead.{Ahead}
 use Rattle.script_advice.specs.declared.sets.Sets.{Sets}
 use Rattle.script_advice.specs.declared.way.Way.{Way}
 
@@ -55,6 +56,12 @@ abbrev pub condition_used : Op → Phrase → List ℕ
 condition_used op.CvCreate p = []
 condition_used _ p = p.condition
 
+-- the monitor that an exit procedure leaves which a line sets
+abbrev pub monitor_promised : Op → Phrase → List ℕ
+monitor_promised op.ExitMonExit p = p.monitor
+monitor_promised op.ExitMonBreak p = p.monitor
+monitor_promised _ p = []
+
 -- the procedure that a line starts
 abbrev pub procedure_started : Phrase → List ℕ
 procedure_started p = if starts p.op then p.procedure else []
@@ -88,7 +95,7 @@ abbrev pub is_asked : List ℕ → ℕ → Bool
 is_asked events e = list_any (λ x. x == e) events
 
 abbrev pub no_sets : Sets
-no_sets = record { threads = []; monitors = []; conditions = []; started = []; asked = []; most = 0 }
+no_sets = record { threads = []; monitors = []; conditions = []; promised = []; started = []; asked = []; most = 0 }
 
 -- what is set, and what one more line sets
 abbrev pub sets_said : Sets → Phrase → Sets
@@ -96,6 +103,7 @@ sets_said s p = record {
   threads = enter s.threads (thread_set p.op p);
   monitors = enter s.monitors (monitor_set p.op p);
   conditions = enter s.conditions (condition_set p.op p);
+  promised = enter s.promised (monitor_promised p.op p);
   started = enter s.started (procedure_started p);
   asked = s.asked ++ event_asked p.op p ∷ [];
   most = greater s.most (priority_given p.op p);
@@ -128,6 +136,61 @@ way_by _ o w = w
 abbrev pub way_behind : Way → Phrase → Way
 way_behind w p = way_by (role_of p.op) p.op w
 
+-- ---- What stands ahead in a procedure.
+
+-- the monitor that a line enters
+abbrev pub monitor_entered : Op → Phrase → List ℕ
+monitor_entered op.Enter p = p.monitor
+monitor_entered _ p = []
+
+-- the monitor that a line leaves
+abbrev pub monitor_left : Op → Phrase → List ℕ
+monitor_left op.MonExit p = p.monitor
+monitor_left op.MonBreak p = p.monitor
+monitor_left op.MonDestroy p = p.monitor
+monitor_left _ p = []
+
+-- the way ends here
+abbrev pub no_ahead : Ahead
+no_ahead = record { strays = false; left = [] }
+
+-- it may go on elsewhere
+abbrev pub stray_ahead : Ahead
+stray_ahead = record { strays = true; left = [] }
+
+-- what stands ahead of a statement, and the statement
+abbrev pub ahead_stated : Op → Phrase → Ahead → Ahead
+ahead_stated op.Return p a = no_ahead
+ahead_stated op.CallProc p a = stray_ahead
+ahead_stated op.Raise p a = stray_ahead
+ahead_stated o p a = record { strays = a.strays; left = enter a.left (monitor_left o p) }
+
+-- the same of a line that plays this part
+abbrev pub ahead_by : Role → Op → Phrase → Ahead → Ahead
+ahead_by role.Statement o p a = ahead_stated o p a
+ahead_by role.Skip o p a = stray_ahead
+ahead_by role.Again o p a = stray_ahead
+ahead_by _ o p a = no_ahead
+
+abbrev pub ahead_told : Option Phrase → Ahead → Ahead
+ahead_told None a = a
+ahead_told (Some p) a = ahead_by (role_of p.op) p.op p a
+
+-- what stands ahead of these lines and behind them, where this is what stands behind them
+abbrev pub ahead_of : Ahead → List (List ℕ) → Ahead
+ahead_of a [] = a
+ahead_of a (line ∷ lines) = ahead_told (phrase_at line) (ahead_of a lines)
+
+-- a line enters a monitor that isn't left ahead of it
+abbrev pub keeps : Ahead → Option Phrase → Bool
+keeps a None = false
+keeps a (Some p) = not a.strays && nat_lt 0 (length (monitor_entered p.op p)) && not (contains_name a.left (monitor_entered p.op p))
+
+-- which of these lines keep a monitor, the last line first
+abbrev pub keeping : Ahead → List (List ℕ) → List Bool
+keeping a [] = []
+keeping a (line ∷ lines) = keeping a lines ++ keeps (ahead_of a lines) (phrase_at line) ∷ []
+
 -- ---- Doubts.
 
 -- a word that is none of these names, and not empty
@@ -147,17 +210,18 @@ role_doubt role.Skip s w p = doubt_if w.closed doubt.Statement
 role_doubt role.Again s w p = doubt_if w.closed doubt.Statement
 role_doubt _ s w p = None
 
--- what is doubtful in the names of a line, and in its priority
-abbrev pub name_doubt : Sets → Phrase → Option Doubt
-name_doubt s p =
+-- what is doubtful in the names of a line, in its priority, and in the monitor that it keeps
+abbrev pub name_doubt : Sets → Bool → Phrase → Option Doubt
+name_doubt s k p =
     if is_unset s.threads (thread_used p.op p) then Some doubt.Thread
     else if is_unset s.monitors (monitor_used p.op p) then Some doubt.Monitor
     else if is_unset s.conditions (condition_used p.op p) then Some doubt.Condition
-    else doubt_if (nat_lt s.most (priority_used p.op p)) doubt.Priority
+    else if nat_lt s.most (priority_used p.op p) then Some doubt.Priority
+    else doubt_if (k && not (contains_name s.promised p.monitor)) doubt.Kept
 
--- what is doubtful in a line first
-unfoldable pub doubt_of : Sets → Way → Phrase → Option Doubt
-doubt_of s w p = or_else (role_doubt (role_of p.op) s w p) (name_doubt s p)
+-- what is doubtful first in a line that keeps a monitor or not
+unfoldable pub doubt_of : Sets → Way → Bool → Phrase → Option Doubt
+doubt_of s w k p = or_else (role_doubt (role_of p.op) s w p) (name_doubt s k p)
 
 -- ---- What is told of them.
 
@@ -170,6 +234,7 @@ or_words (b ∷ v) w = b ∷ v
 abbrev pub doubted_words : Doubt → Op → List ℕ → List ℕ
 doubted_words doubt.Thread o line = or_words (slot_at o kind.Who line) (or_words (slot_at o kind.Source line) (slot_at o kind.Built line))
 doubted_words doubt.Monitor o line = slot_at o kind.Monitor line
+doubted_words doubt.Kept o line = slot_at o kind.Monitor line
 doubted_words doubt.Condition o line = slot_at o kind.Condition line
 doubted_words doubt.Procedure o line = slot_at o kind.Procedure line
 doubted_words doubt.Client o line = slot_at o kind.Event line
@@ -204,14 +269,14 @@ way_told w None = w
 way_told w (Some p) = way_behind w p
 
 -- what is told of a line, by what it says, in front of other remarks
-abbrev pub doubts_told : Sets → Way → ℕ → List ℕ → Option Phrase → List Remark → List Remark
-doubts_told s w n line None others = others
-doubts_told s w n line (Some p) others = doubted_first s n line p (doubt_of s w p) others
+abbrev pub doubts_told : Sets → Way → Bool → ℕ → List ℕ → Option Phrase → List Remark → List Remark
+doubts_told s w k n line None others = others
+doubts_told s w k n line (Some p) others = doubted_first s n line p (doubt_of s w k p) others
 
 -- the doubts of these lines, of which the first has this number and stands on this way
 abbrev pub doubts_from : Sets → Way → ℕ → List (List ℕ) → List Remark
 doubts_from s w n [] = []
-doubts_from s w n (line ∷ lines) = doubts_told s w n line (phrase_at line) (doubts_from s (way_told w (phrase_at line)) (suc n) lines)
+doubts_from s w n (line ∷ lines) = doubts_told s w (keeps (ahead_of no_ahead lines) (phrase_at line)) n line (phrase_at line) (doubts_from s (way_told w (phrase_at line)) (suc n) lines)
 
 -- the warnings of a text that spells a script
 abbrev pub doubts : List ℕ → List Remark

@@ -76,6 +76,7 @@ doubt_text doubt.Procedure = codes "Unstarted"
 doubt_text doubt.Statement = codes "Unreached"
 doubt_text doubt.Client = codes "Unasked"
 doubt_text doubt.Priority = codes "Priority"
+doubt_text doubt.Kept = codes "Unleft"
 
 -- what is meant by it
 abbrev pub doubted_text : Doubt → List ℕ
@@ -86,6 +87,7 @@ doubted_text doubt.Procedure = codes "a procedure that no create and no call sta
 doubted_text doubt.Statement = codes "a statement behind a return, which nothing reaches"
 doubted_text doubt.Client = codes "an event that no agent, no trap and no session asks for"
 doubted_text doubt.Priority = codes "a priority above the greatest that the pod ever has"
+doubted_text doubt.Kept = codes "a monitor that its procedure doesn't leave"
 
 -- whether it is an error or a warning
 abbrev pub severity_text : Cause → List ℕ

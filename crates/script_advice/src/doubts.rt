@@ -1,5 +1,5 @@
 // What is allowed in a script and hardly meant, line by line.
-ghost use Rattle.std.specs.Prelude.{◌≡◌, ◌++◌, ◌∷◌, ◌||◌, IfOk, List, OnOk, suc, take};
+ghost use Rattle.std.specs.Prelude.{◌≡◌, ◌++◌, ◌∷◌, ◌||◌, [], Bool, IfOk, List, OnOk, suc, take};
 ghost use Rattle.script_lines.specs.Reading.{phrase_at};
 ghost use Rattle.script_text.specs.Spelling.{cut};
 ghost use Rattle.script_advice.specs.Doubts.{are_some, doubt_if, doubt_of, doubt_remark, doubted_words, doubts, doubts_told, is_unset, name_doubt, near_set, or_words, role_doubt, way_told};
@@ -7,6 +7,7 @@ ghost use Rattle.script_advice.specs.Remarks.{Remark, some_names, word_or_none};
 ghost use Rattle.line_faults.specs.Near.{nearest};
 ghost use Rattle.script_advice.specs.Texts.{remark_text, remarks_text};
 
+use crate::ahead::keeping;
 use crate::lines::first_line;
 use crate::remarks::{Cause, Doubt, Place, Remark, Why, some_names};
 use crate::sets::{Sets, condition_used, monitor_used, priority_used, thread_used};
@@ -47,9 +48,9 @@ fn role_doubt(role: Role, sets: &Sets, way: Way, phrase: &Phrase<'_>) -> Option<
     }
 }
 
-// What is doubtful in the names of a line, and in its priority.
-fn name_doubt(sets: &Sets, phrase: &Phrase<'_>) -> Option<Doubt>
-    ensures { result ≡ name_doubt sets.now phrase.now }
+// What is doubtful in the names of a line, in its priority, and in the monitor that it keeps.
+fn name_doubt(sets: &Sets, keeps: bool, phrase: &Phrase<'_>) -> Option<Doubt>
+    ensures { result ≡ name_doubt sets.now keeps phrase.now }
 {
     if is_unset(&sets.threads, thread_used(phrase)) {
         return Some(Doubt::Thread);
@@ -60,17 +61,23 @@ fn name_doubt(sets: &Sets, phrase: &Phrase<'_>) -> Option<Doubt>
     if is_unset(&sets.conditions, condition_used(phrase)) {
         return Some(Doubt::Condition);
     }
-    doubt_if(priority_used(phrase) > sets.most, Doubt::Priority)
+    if priority_used(phrase) > sets.most {
+        return Some(Doubt::Priority);
+    }
+    doubt_if(
+        keeps && !sets.promised.contains(phrase.monitor),
+        Doubt::Kept,
+    )
 }
 
-// What is doubtful in a line first.
+// What is doubtful first in a line that keeps a monitor or not.
 #[tactic(auto, unfolding(crate::specs::Doubts::doubt_of))]
-fn doubt_of(sets: &Sets, way: Way, phrase: &Phrase<'_>) -> Option<Doubt>
-    ensures { result ≡ doubt_of sets.now way phrase.now }
+fn doubt_of(sets: &Sets, way: Way, keeps: bool, phrase: &Phrase<'_>) -> Option<Doubt>
+    ensures { result ≡ doubt_of sets.now way keeps phrase.now }
 {
     match role_doubt(phrase.op.role(), sets, way, phrase) {
         Some(doubt) => Some(doubt),
-        None => name_doubt(sets, phrase),
+        None => name_doubt(sets, keeps, phrase),
     }
 }
 
@@ -93,7 +100,7 @@ fn doubted_words(doubt: Doubt, op: Op, line: &[u8]) -> &[u8]
                 slot_at(op, Kind::Built, line),
             ),
         ),
-        Doubt::Monitor => slot_at(op, Kind::Monitor, line),
+        Doubt::Monitor | Doubt::Kept => slot_at(op, Kind::Monitor, line),
         Doubt::Condition => slot_at(op, Kind::Condition, line),
         Doubt::Procedure => slot_at(op, Kind::Procedure, line),
         Doubt::Client => slot_at(op, Kind::Event, line),
@@ -186,13 +193,14 @@ fn add_line(
     format: Format,
     sets: &Sets,
     walk: Walk,
+    keeps: bool,
     line: &[u8],
 ) -> Result<Walk, NoMemory>
     ensures told { IfOk result (λ w. (others : List Remark) →
-        out.old.items ++ remarks_text format (take walk.left (doubts_told sets.now walk.way walk.number line.now (phrase_at line.now) others))
+        out.old.items ++ remarks_text format (take walk.left (doubts_told sets.now walk.way keeps walk.number line.now (phrase_at line.now) others))
         ≡ out.new.items ++ remarks_text format (take w.left others)) }
     ensures any { IfOk result (λ w. (others : List Remark) →
-        (walk.any || are_some (doubts_told sets.now walk.way walk.number line.now (phrase_at line.now) others)) ≡ (w.any || are_some others)) }
+        (walk.any || are_some (doubts_told sets.now walk.way keeps walk.number line.now (phrase_at line.now) others)) ≡ (w.any || are_some others)) }
     ensures way { IfOk result (λ w. w.way ≡ way_told walk.way (phrase_at line.now)) }
     ensures number { IfOk result (λ w. w.number ≡ suc walk.number) }
 {
@@ -208,7 +216,7 @@ fn add_line(
         });
     };
     let way = walk.way.behind(&phrase);
-    let Some(doubt) = doubt_of(sets, walk.way, &phrase) else {
+    let Some(doubt) = doubt_of(sets, walk.way, keeps, &phrase) else {
         return Ok(Walk {
             way,
             number,
@@ -225,6 +233,14 @@ fn add_line(
     })
 }
 
+// Takes the last value.
+fn last_kept(kept: &mut Vec<bool>) -> bool
+    ensures last { (before : List Bool) (b : Bool) → kept.old.items ≡ before ++ b ∷ [] → result ≡ b }
+    ensures rest { (before : List Bool) (b : Bool) → kept.old.items ≡ before ++ b ∷ [] → kept.new.items ≡ before }
+{
+    kept.pop().unwrap_or(false)
+}
+
 /// Tells the first thousand doubts of a text that spells a script, and gives whether there are any.
 pub fn add_doubts(
     alloc: Global,
@@ -236,6 +252,7 @@ pub fn add_doubts(
     ensures any { IfOk result (λ any. any ≡ are_some (doubts text.now)) }
 {
     let sets = Sets::by(alloc, text)?;
+    let mut kept = keeping(alloc, text)?;
     let mut walk = Walk {
         way: Way::new(),
         number: 1,
@@ -244,7 +261,8 @@ pub fn add_doubts(
     };
     let mut rest = text;
     while let Some((line, after)) = first_line(rest) {
-        walk = add_line(out, format, &sets, walk, line)?;
+        let keeps = last_kept(&mut kept);
+        walk = add_line(out, format, &sets, walk, keeps, line)?;
         rest = after;
     }
     Ok(walk.any)

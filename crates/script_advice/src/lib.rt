@@ -11,6 +11,7 @@
 #![tactic(auto)]
 
 mod advice;
+mod ahead;
 mod checking;
 mod doubts;
 mod errors;

@@ -1,8 +1,8 @@
 // The lines of a text, one by one.
-ghost use Rattle.std.specs.Prelude.{◌≡◌, ◌<◌, ◌∷◌, [], drop, length, IfSome, IfNone};
+ghost use Rattle.std.specs.Prelude.{◌≡◌, ◌<◌, ◌++◌, ◌∷◌, [], drop, length, IfSome, IfNone};
 ghost use Rattle.script_text.specs.Spelling.{cut};
 
-use memchr::memchr;
+use memchr::{memchr, memrchr};
 
 /// The first line and what stands behind its end.
 pub fn first_line(text: &[u8]) -> Option<(&[u8], &[u8])>
@@ -13,6 +13,31 @@ pub fn first_line(text: &[u8]) -> Option<(&[u8], &[u8])>
     match memchr(b'\n', text) {
         None => None,
         Some(end) => Some((&text[..end], &text[end + 1..])),
+    }
+}
+
+// What stands before the last newline, and what behind it.
+fn last_end(text: &[u8]) -> Option<(&[u8], &[u8])>
+    ensures some { IfSome result (λ x. text.now ≡ x.0.now ++ 10 ∷ x.1.now) }
+    ensures tail { IfSome result (λ x. cut x.1.now ≡ ([], x.1.now)) }
+    ensures none { IfNone result (cut text.now ≡ ([], text.now)) }
+{
+    match memrchr(b'\n', text) {
+        None => None,
+        Some(end) => Some((&text[..end], &text[end + 1..])),
+    }
+}
+
+/// What stands before the last line that has ended, and that line.
+pub fn last_line(text: &[u8]) -> Option<(&[u8], &[u8])>
+    ensures some { IfSome result (λ x. (cut text.now).0 ≡ (cut x.0.now).0 ++ x.1.now ∷ []) }
+    ensures shorter { IfSome result (λ x. length x.0.now < length text.now) }
+    ensures none { IfNone result ((cut text.now).0 ≡ []) }
+{
+    let (lines, _) = last_end(text)?;
+    match last_end(lines) {
+        None => Some((&[], lines)),
+        Some((front, line)) => Some((&lines[..front.len() + 1], line)),
     }
 }
 

@@ -28,6 +28,8 @@ pub enum Doubt {
     Client,
     /// The priority is above the pod's.
     Priority,
+    /// Its procedure doesn't leave the monitor.
+    Kept,
 }
 
 /// Why a line is told.
@@ -148,6 +150,7 @@ fn doubt_text(doubt: Doubt) -> &'static [u8]
         Doubt::Statement => b"Unreached",
         Doubt::Client => b"Unasked",
         Doubt::Priority => b"Priority",
+        Doubt::Kept => b"Unleft",
     }
 }
 
@@ -163,6 +166,7 @@ fn doubted_text(doubt: Doubt) -> &'static [u8]
         Doubt::Statement => b"a statement behind a return, which nothing reaches",
         Doubt::Client => b"an event that no agent, no trap and no session asks for",
         Doubt::Priority => b"a priority above the greatest that the pod ever has",
+        Doubt::Kept => b"a monitor that its procedure doesn't leave",
     }
 }
 

@@ -1,6 +1,6 @@
 // What the lines of a text set, start and ask for.
 ghost use Rattle.std.specs.Prelude.{◌≡◌};
-ghost use Rattle.script_advice.specs.Doubts.{condition_set, condition_used, event_asked, greater, is_asked, monitor_set, monitor_used, priority_given, priority_used, procedure_started, thread_set, thread_used};
+ghost use Rattle.script_advice.specs.Doubts.{condition_set, condition_used, event_asked, greater, is_asked, monitor_promised, monitor_set, monitor_used, priority_given, priority_used, procedure_started, thread_set, thread_used};
 
 use crate::lines::first_line;
 use lwp_types::{NoMemory, Sequence};
@@ -8,12 +8,13 @@ use script_lines::{Op, Phrase, phrase_at};
 use script_text::NameList;
 use std::alloc::Global;
 
-/// The names that lines set, the procedures that they start, the events that they ask for, and the greatest priority that they give the
-/// pod; 0 stands for a line that asks for no event.
+/// The names that lines set, the monitors that their exit procedures leave, the procedures that they start, the events that they ask for,
+/// and the greatest priority that they give the pod; 0 stands for a line that asks for no event.
 pub struct Sets {
     pub threads: NameList,
     pub monitors: NameList,
     pub conditions: NameList,
+    pub promised: NameList,
     pub started: NameList,
     pub asked: Sequence<u32>,
     pub most: u32,
@@ -26,6 +27,7 @@ impl Drop for Sets {
             threads: _,
             monitors: _,
             conditions: _,
+            promised: _,
             started: _,
             asked: _,
             most: _,
@@ -90,6 +92,16 @@ pub fn condition_used<'l>(phrase: &Phrase<'l>) -> &'l [u8]
     match phrase.op {
         Op::CvCreate => &[],
         _ => phrase.condition,
+    }
+}
+
+// The monitor that an exit procedure leaves which a line sets.
+fn monitor_promised<'l>(phrase: &Phrase<'l>) -> &'l [u8]
+    ensures { result.now ≡ monitor_promised phrase.now.op phrase.now }
+{
+    match phrase.op {
+        Op::ExitMonExit | Op::ExitMonBreak => phrase.monitor,
+        _ => &[],
     }
 }
 
@@ -159,6 +171,7 @@ impl Sets {
             threads: NameList::new(alloc),
             monitors: NameList::new(alloc),
             conditions: NameList::new(alloc),
+            promised: NameList::new(alloc),
             started: NameList::new(alloc),
             asked: Sequence::new(alloc),
             most: 0,
@@ -172,6 +185,7 @@ impl Sets {
         self.threads.enter(thread_set(phrase))?;
         self.monitors.enter(monitor_set(phrase))?;
         self.conditions.enter(condition_set(phrase))?;
+        self.promised.enter(monitor_promised(phrase))?;
         self.started.enter(procedure_started(phrase))?;
         self.most = greater(self.most, priority_given(phrase));
         self.asked.push(event_asked(phrase))

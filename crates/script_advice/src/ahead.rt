@@ -1,0 +1,130 @@
+// What stands ahead of a line in its procedure.
+ghost use Rattle.std.specs.Prelude.{◌≡◌, ◌++◌, ◌∷◌, [], IfOk, OnOk, Some};
+ghost use Rattle.script_lines.specs.Reading.{phrase_at};
+ghost use Rattle.script_text.specs.Spelling.{cut};
+ghost use Rattle.script_advice.specs.Doubts.{ahead_told, keeping, keeps, monitor_entered, monitor_left, no_ahead};
+
+use crate::lines::last_line;
+use lwp_types::NoMemory;
+use script_lines::{Op, Phrase, Role, phrase_at};
+use script_text::NameList;
+use std::alloc::Global;
+
+/// The monitors that are left on the straight way ahead, and whether that way may go on elsewhere, where others may be left.
+pub struct Ahead {
+    pub strays: bool,
+    pub left: NameList,
+}
+
+// By hand, so that whoever drops this calls it.
+impl Drop for Ahead {
+    fn drop(self) {
+        let Ahead { strays: _, left: _ } = self;
+    }
+}
+
+// The monitor that a line enters.
+fn monitor_entered<'l>(phrase: &Phrase<'l>) -> &'l [u8]
+    ensures { result.now ≡ monitor_entered phrase.now.op phrase.now }
+{
+    match phrase.op {
+        Op::Enter => phrase.monitor,
+        _ => &[],
+    }
+}
+
+// The monitor that a line leaves.
+fn monitor_left<'l>(phrase: &Phrase<'l>) -> &'l [u8]
+    ensures { result.now ≡ monitor_left phrase.now.op phrase.now }
+{
+    match phrase.op {
+        Op::MonExit | Op::MonBreak | Op::MonDestroy => phrase.monitor,
+        _ => &[],
+    }
+}
+
+impl Ahead {
+    ghost use Rattle.std.specs.Prelude.{◌≡◌, [], OnOk, Some};
+    ghost use Rattle.script_advice.specs.Doubts.{ahead_by, ahead_stated, keeps, no_ahead};
+
+    fn none(alloc: Global) -> Ahead
+        ensures { result ≡ no_ahead }
+    {
+        Ahead {
+            strays: false,
+            left: NameList::new(alloc),
+        }
+    }
+
+    // The way ends here, or may go on elsewhere.
+    fn end(&mut self, alloc: Global, strays: bool)
+        ensures { self.new ≡ record { strays = strays; left = [] } }
+    {
+        self.strays = strays;
+        self.left = NameList::new(alloc);
+    }
+
+    // Puts a statement in front.
+    fn state(&mut self, alloc: Global, phrase: &Phrase<'_>) -> Result<(), NoMemory>
+        ensures { OnOk result (self.new ≡ ahead_stated phrase.now.op phrase.now self.old) }
+    {
+        match phrase.op {
+            Op::Return => self.end(alloc, false),
+            Op::CallProc | Op::Raise => self.end(alloc, true),
+            _ => self.left.enter(monitor_left(phrase))?,
+        }
+        Ok(())
+    }
+
+    // Puts a line of this role in front.
+    fn put(&mut self, alloc: Global, role: Role, phrase: &Phrase<'_>) -> Result<(), NoMemory>
+        ensures { OnOk result (self.new ≡ ahead_by role phrase.now.op phrase.now self.old) }
+    {
+        match role {
+            Role::Statement => self.state(alloc, phrase)?,
+            Role::Skip | Role::Again => self.end(alloc, true),
+            _ => self.end(alloc, false),
+        }
+        Ok(())
+    }
+
+    // Whether a line enters a monitor that isn't left ahead of it.
+    fn keeps(&self, phrase: &Phrase<'_>) -> bool
+        ensures { result ≡ keeps self.now (Some phrase.now) }
+    {
+        let entered = monitor_entered(phrase);
+        !self.strays && !entered.is_empty() && !self.left.contains(entered)
+    }
+}
+
+// Notes whether a line keeps a monitor, and puts it in front.
+fn note_line(
+    alloc: Global,
+    ahead: &mut Ahead,
+    kept: &mut Vec<bool>,
+    line: &[u8],
+) -> Result<(), NoMemory>
+    ensures ahead { OnOk result (ahead.new ≡ ahead_told (phrase_at line.now) ahead.old) }
+    ensures kept { OnOk result (kept.new.items ≡ kept.old.items ++ keeps ahead.old (phrase_at line.now) ∷ []) }
+{
+    let Some(phrase) = phrase_at(line) else {
+        kept.push(false)?;
+        return Ok(());
+    };
+    kept.push(ahead.keeps(&phrase))?;
+    ahead.put(alloc, phrase.op.role(), &phrase)
+}
+
+/// Which lines of a text keep a monitor, the last line first.
+pub fn keeping(alloc: Global, text: &[u8]) -> Result<Vec<bool>, NoMemory>
+    ensures { IfOk result (λ kept. kept.items ≡ keeping no_ahead (cut text.now).0) }
+{
+    let mut ahead = Ahead::none(alloc);
+    let mut kept = Vec::new(alloc);
+    let mut rest = text;
+    while let Some((front, line)) = last_line(rest) {
+        note_line(alloc, &mut ahead, &mut kept, line)?;
+        rest = front;
+    }
+    Ok(kept)
+}
