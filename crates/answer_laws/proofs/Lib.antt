@@ -29,3 +29,5 @@ mod Reports
 mod Creating
 mod Wholes
 mod Naming
+mod Unnamed
+mod Knowing
