@@ -27,6 +27,7 @@ mod Meetings
 mod Openings
 mod Reports
 mod Creating
+mod Uncalled
 mod Wholes
 mod Naming
 mod Unnamed
