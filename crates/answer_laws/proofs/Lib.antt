@@ -27,5 +27,8 @@ mod Meetings
 mod Openings
 mod Reports
 mod Creating
+mod Uncalled
 mod Wholes
 mod Naming
+mod Unnamed
+mod Knowing

@@ -1,18 +1,27 @@
 -- The first step of a session that names a thread, and the session behind it.
 use Rattle.answer_laws.proofs.Creating.{call_bears, none_opened, none_settled, none_with, take_bears}
-use Rattle.answer_laws.proofs.Meetings.{gone_lawful, gone_push}
-use Rattle.answer_laws.proofs.Openings.{can_before, gone_append, sessions_are_reached}
-use Rattle.answer_laws.proofs.Servings.{gone_fades}
+use Rattle.answer_laws.proofs.Meetings.{begin_alone, gone_lawful, gone_push, meet}
+use Rattle.answer_laws.proofs.Openings.{can_before, can_behind, gone_append, move_silent, move_untold, moves_silent, moves_untold, sessions_are_reached}
+use Rattle.answer_laws.proofs.OwnSteps.{alive_seen, others_reply_nothing}
+use Rattle.answer_laws.proofs.Phases.{Phase.Over, Phase.Starting, TellsAt, phase_first}
+use Rattle.answer_laws.proofs.Reports.{moves_short}
+use Rattle.answer_laws.proofs.Servings.{K_of, S_of, Stood, gone_fades, gone_stood, moved_lawful, said_push}
+use Rattle.answer_laws.proofs.TalkSteps.{apart_of}
+use Rattle.answer_laws.proofs.Uncalled.{Idle, Idle.Dead, Idle.Ready, idle_take, passes_call}
 use Rattle.answer_laws.proofs.Wholes.{in_whole_sessions, line_server}
-use Rattle.answer_laws.specs.Births.{InEveryScript, InEverySession, begins_in, born_in, is_named}
-use Rattle.answer_laws.specs.Clients.{IsAnsweredInTurn}
-use Rattle.answer_laws.specs.Served.{Begins, CanGoOn, IsReached, LineServer, Serves, gone_on, line_is_short, moved_by, steps_of}
+use Rattle.answer_laws.specs.Births.{InEveryScript, InEverySession, begins_in, born_in, is_call_of, is_idle_till, is_named}
+use Rattle.answer_laws.specs.Clients.{IsAnsweredInTurn, delivered_to, replied_to}
+use Rattle.answer_laws.specs.Served.{Begins, CanGoOn, IsReached, LineServer, Serves, TextsAreShort, gone_on, is_move_due, line_is_short, moved_by, steps_of}
+use Rattle.answer_laws.specs.Sights.{Sight}
 use Rattle.line_server.specs.Sessions.{session_opening}
 use Rattle.line_server.specs.Stores.{store_opening}
+use Rattle.line_server.specs.Tables.{line_answers}
 use Rattle.lwp_types.specs.Choice.{choice}
 use Rattle.lwp_types.specs.Lawful.{Lawful}
-use Rattle.lwp_types.specs.Names.{polled_as}
+use Rattle.lwp_types.specs.Names.{null_id, polled_as}
 use Rattle.lwp_types.specs.Poll.{Polled}
+use Rattle.lwp_types.specs.Unblock.{zero_answer}
+use Rattle.pod_laws.proofs.Elements.{false_of}
 use Rattle.pod_laws.proofs.Opening.{Lawful-opening}
 use Rattle.pod_runner.specs.Play.{play}
 use Rattle.pod_runner.specs.Session.{Live, Made, Session, Setting, called, move, move_by, move_row, opening_session, polled, proc_of, row_of, taken}
@@ -20,10 +29,11 @@ use Rattle.pod_runner.specs.declared.session.Row.{Row}
 use Rattle.pod_runner.specs.declared.session.Took.{Took}
 use Rattle.script_program.specs.Bodies.{body_next}
 use Rattle.script_program.specs.declared.body.ThreadBody.{ThreadBody}
-use Rattle.std.proofs.Common.{Bool, List, None, Option, Some, [], ap, append-nil, append_assoc, arith, cond, false, inl, inr, refl, subst, sym, true, ℕ, ◌&&◌, ◌++◌, ◌<◌, ◌∙◌, ◌∷◌, ◌≡◌, ◌≤◌, ◌≢◌, ◌⊎◌}
-use Rattle.std.proofs.lemmas.Bool.{ne_eqb}
-use Rattle.std.specs.List.{list_all}
-use Rattle.std.specs.Prelude.{slice_get}
+use Rattle.std.proofs.Common.{Bool, List, None, Option, Some, [], ap, append-nil, append_assoc, arith, cond, eqb, false, inl, inr, not, refl, subst, sym, true, ℕ, ◌&&◌, ◌++◌, ◌<◌, ◌∙◌, ◌∷◌, ◌≡◌, ◌≤◌, ◌≢◌, ◌||◌, ◌⊎◌}
+use Rattle.std.proofs.lemmas.Bool.{and_parts, leb-false, leb-true, ne_eqb}
+use Rattle.std.specs.List.{list_all, list_any}
+use Rattle.std.specs.Prelude.{nat_le, slice_get}
+use Rattle.lwp_types.specs.declared.rows.Block.TheVariants as block
 
 module _ {B : Type 0} (setting : Setting B) where
   -- the step that a move makes
@@ -126,9 +136,48 @@ module _ {B : Type 0} (setting : Setting B) where
   move_bears u p session None was bears = call_bears_it u p session.live was bears
   move_bears u p session (Some took) was bears = absurd (let bad : Some p ≡ None = sym bears ∙ take_bears u session.live.pod took.event took.line.text in cc)
 
+  -- ---- s makes no call
+
+  abbrev Uncalled : ℕ → List (Option Took) → Session B → Type 0
+  Uncalled s [] session = Unit {0}
+  Uncalled s (m ∷ ms) session = (list_any (is_call_of s) (made_by session m).effects ≡ false) × Uncalled s ms (moved_by setting session m)
+
+  uncalled_till : (s k : ℕ) (before : List (Option Took)) (birth : Option Took) (later : List (Option Took)) (session : Session B) → Unnamed k before session → is_idle_till k s (made_in (before ++ birth ∷ later) session) ≡ true → Uncalled s (before ++ birth ∷ []) session
+  uncalled_till s k [] birth later session unnamed idle = (false_of (list_any (is_call_of s) (made_by session birth).effects) (and_parts (not (list_any (is_call_of s) (made_by session birth).effects)) _ idle).0, tt)
+  uncalled_till s k (m ∷ ms) birth later session unnamed idle =
+      let parts = and_parts (not (list_any (is_call_of s) (made_by session m).effects)) (is_named k (made_by session m).effects || is_idle_till k s (made_in (ms ++ birth ∷ later) (moved_by setting session m))) idle in
+      (false_of (list_any (is_call_of s) (made_by session m).effects) parts.0,
+      uncalled_till s k ms birth later (moved_by setting session m) unnamed.1 (ap (λ b. b || is_idle_till k s (made_in (ms ++ birth ∷ later) (moved_by setting session m))) (sym unnamed.0) ∙ parts.1))
+
+  uncalled_behind : (s : ℕ) (one two : List (Option Took)) (session : Session B) → Uncalled s (one ++ two) session → Uncalled s two (gone_on setting one session)
+  uncalled_behind s [] two session uncalled = uncalled
+  uncalled_behind s (m ∷ ms) two session uncalled = uncalled_behind s ms two (moved_by setting session m) uncalled.1
+
   -- from the opening on
   opening_none : (u : ℕ) → u ≢ 0 → row_of u (opening_session setting).live.rows ≡ None
   opening_none u other = none_opened u 0 (slice_get setting.bodies 0) (ne_eqb 0 u (λ e. other (sym e)))
+
+-- ---- a session that makes no call
+
+module _ {B : Type 0} (setting : Setting B) (server : LineServer setting.next) (s k : ℕ) (s_k : eqb s k ≡ false) (body : B) where
+  -- it is idle, and was never heard
+  record Passed (session : Session B) : Type 0 where
+    idle : Idle setting s body session.live
+    silent : (a : ℕ) → replied_to s a (steps_of session.steps) ≡ []
+
+  passed_move : (session : Session B) (m : Option Took) → Lawful session.live.pod.state None → is_move_due session m ≡ true → list_any (is_call_of s) (made_by setting session m).effects ≡ false → Passed session → Passed (moved_by setting session m)
+  unfolding taken
+  passed_move session None was due uncalled h =
+      let p = passes_call setting s body session.live was h.idle uncalled in
+      record { idle = p.idle; silent = λ a. sym (said_push setting server s k s_k session.steps (made_by setting session None) a) ∙ (λ i. h.silent a i ++ p.silent a i) }
+  passed_move session (Some took) was due uncalled h = record {
+    idle = idle_take setting s body session.live was took due h.idle;
+    silent = λ a. sym (said_push setting server s k s_k session.steps (made_by setting session (Some took)) a) ∙ (λ i. h.silent a i ++ (others_reply_nothing s a session.live.pod).1 took.event took.line.text i);
+  }
+
+  passed_moves : (moves : List (Option Took)) (session : Session B) → Lawful session.live.pod.state None → CanGoOn setting moves session → Uncalled setting s moves session → Passed session → Passed (gone_on setting moves session)
+  passed_moves [] session was can uncalled h = h
+  passed_moves (m ∷ ms) session was can uncalled h = passed_moves ms (moved_by setting session m) (moved_lawful setting session m can.0 was) can.1 uncalled.1 (passed_move session m was can.0 uncalled.0 h)
 
 -- two splits of one list
 record Inside {X : Type 0} (before : List X) (x : X) (one : List X) : Type 0 where
@@ -175,9 +224,12 @@ module _ {B : Type 0} (setting : Setting B) (server : LineServer setting.next) (
         let apart : u ≢ 0 = λ e. omega (arith, e, b.number, (gone_fades setting 0 n.before (opening_session setting)).births) in
         b.begins (gone_none setting u n.before (opening_session setting) (opening_none setting u apart) n.unnamed) body is
 
-    module _ (s k in_s in_k event place : ℕ) (below : k < s) (ns : Named setting s in_s moves (opening_session setting)) (nk : Named setting k in_k moves (opening_session setting))
+    module _ (s k in_s in_k event place : ℕ) (ns : Named setting s in_s moves (opening_session setting)) (nk : Named setting k in_k moves (opening_session setting))
         (body_s : slice_get setting.bodies in_s ≡ Some (server.serving (session_opening event place))) (body_k : slice_get setting.bodies in_k ≡ Some (server.storing store_opening))
         (serves : Serves s k (gone_on setting moves (opening_session setting))) (lines : list_all line_is_short moves ≡ true) (a : ℕ) where
+      abbrev Answered : Type 0
+      Answered = IsAnsweredInTurn s a (steps_of (gone_on setting moves (opening_session setting)).steps)
+
       later_answers : Inside nk.before nk.birth ns.before → IsAnsweredInTurn s a (steps_of (gone_on setting moves (opening_session setting)).steps)
       later_answers i = subst (λ ms. IsAnsweredInTurn s a (steps_of (gone_on setting ms (opening_session setting)).steps)) (sym moves_are)
           (in_whole_sessions B setting server least most s k event place (nk.before ++ nk.birth ∷ []) i.between ns.birth ns.later (subst (λ ms. CanGoOn setting ms (opening_session setting)) moves_are can)
@@ -195,41 +247,160 @@ module _ {B : Type 0} (setting : Setting B) (server : LineServer setting.next) (
           moves_are : moves ≡ (nk.before ++ nk.birth ∷ []) ++ (i.between ++ ns.birth ∷ ns.later)
           moves_are = ns.is ∙ ap (λ xs. xs ++ ns.birth ∷ ns.later) (sym before_are) ∙ append_assoc (nk.before ++ nk.birth ∷ []) i.between (ns.birth ∷ ns.later)
 
-      -- the store was born first
-      never_short : Short nk.before ns.before → ⊥
-      never_short sh = omega (
+      -- who was born later has more before it
+      born_in_order : {u v p q : ℕ} (nu : Named setting u p moves (opening_session setting)) (nv : Named setting v q moves (opening_session setting)) → u < v → Short nu.before nv.before → ⊥
+      born_in_order nu nv below sh = omega (
         arith,
         below,
-        (born_at s in_s ns).number,
-        (born_at k in_k nk).number,
+        (born_at _ _ nu).number,
+        (born_at _ _ nv).number,
         ap (λ ms. (gone_on setting ms (opening_session setting)).live.pod.state.births) sh.is,
-        ap (λ (x : Session B). x.live.pod.state.births) (gone_append setting ns.before sh.between (opening_session setting)),
-        (gone_fades setting 0 sh.between (gone_on setting ns.before (opening_session setting))).births,
+        ap (λ (x : Session B). x.live.pod.state.births) (gone_append setting nv.before sh.between (opening_session setting)),
+        (gone_fades setting 0 sh.between (gone_on setting nv.before (opening_session setting))).births,
       )
 
-      both_answers : IsAnsweredInTurn s a (steps_of (gone_on setting moves (opening_session setting)).steps)
-      both_answers = by_split (split_two nk.before nk.birth nk.later ns.before ns.birth ns.later (sym nk.is ∙ ns.is))
+      -- the store was born first
+      store_first : k < s → Answered
+      store_first below = by_split (split_two nk.before nk.birth nk.later ns.before ns.birth ns.later (sym nk.is ∙ ns.is))
         where
-          by_split : Inside nk.before nk.birth ns.before ⊎ Short nk.before ns.before → IsAnsweredInTurn s a (steps_of (gone_on setting moves (opening_session setting)).steps)
+          by_split : Inside nk.before nk.birth ns.before ⊎ Short nk.before ns.before → Answered
           by_split (inl i) = later_answers i
-          by_split (inr sh) = absurd (never_short sh)
+          by_split (inr sh) = absurd (born_in_order nk ns below sh)
+
+      -- the session was, and made no call till then
+      module _ (below : s < k) (idle : is_idle_till k s (made_in setting moves (opening_session setting)) ≡ true) (i : Inside ns.before ns.birth nk.before) where
+        s_k : eqb s k ≡ false
+        s_k = ne_eqb s k (λ e. omega (arith, e, below))
+
+        abbrev start : Session B
+        start = opening_session setting
+
+        was : Lawful start.live.pod.state None
+        was = Lawful-opening setting.params least most
+
+        abbrev first : Session B
+        first = gone_on setting ns.before start
+
+        abbrev one : Session B
+        one = moved_by setting first ns.birth
+
+        abbrev before : Session B
+        before = gone_on setting nk.before start
+
+        abbrev two : Session B
+        two = moved_by setting before nk.birth
+
+        before_is : before ≡ gone_on setting i.between one
+        before_is = ap (λ ms. gone_on setting ms start) i.is ∙ gone_append setting ns.before (ns.birth ∷ i.between) start
+
+        whole : gone_on setting moves start ≡ gone_on setting nk.later two
+        whole = ap (λ ms. gone_on setting ms start) nk.is ∙ gone_append setting nk.before (nk.birth ∷ nk.later) start
+
+        can_all : CanGoOn setting (nk.before ++ nk.birth ∷ nk.later) start
+        can_all = subst (λ ms. CanGoOn setting ms start) nk.is can
+
+        can_k : CanGoOn setting nk.before start
+        can_k = can_before setting nk.before (nk.birth ∷ nk.later) start can_all
+
+        can_end : CanGoOn setting (nk.birth ∷ nk.later) before
+        can_end = can_behind setting nk.before (nk.birth ∷ nk.later) start can_all
+
+        was_before : Lawful before.live.pod.state None
+        was_before = gone_lawful setting nk.before start can_k was
+
+        was_two : Lawful two.live.pod.state None
+        was_two = moved_lawful setting before nk.birth can_end.0 was_before
+
+        -- the moves up to the birth of the store, by that of the session
+        apart_so : nk.before ++ nk.birth ∷ [] ≡ ns.before ++ (ns.birth ∷ (i.between ++ nk.birth ∷ []))
+        apart_so = ap (λ xs. xs ++ nk.birth ∷ []) i.is ∙ append_assoc ns.before (ns.birth ∷ i.between) (nk.birth ∷ [])
+
+        can_two : CanGoOn setting (ns.before ++ (ns.birth ∷ (i.between ++ nk.birth ∷ []))) start
+        can_two = subst (λ ms. CanGoOn setting ms start) apart_so (can_before setting (nk.before ++ nk.birth ∷ []) nk.later start (subst (λ ms. CanGoOn setting ms start) (sym (append_assoc nk.before (nk.birth ∷ []) nk.later)) can_all))
+
+        can_s : CanGoOn setting (ns.birth ∷ (i.between ++ nk.birth ∷ [])) first
+        can_s = can_behind setting ns.before (ns.birth ∷ (i.between ++ nk.birth ∷ [])) start can_two
+
+        can_ns : CanGoOn setting ns.before start
+        can_ns = can_before setting ns.before (ns.birth ∷ (i.between ++ nk.birth ∷ [])) start can_two
+
+        was_first : Lawful first.live.pod.state None
+        was_first = gone_lawful setting ns.before start can_ns was
+
+        uncalled : Uncalled setting s (ns.before ++ (ns.birth ∷ (i.between ++ nk.birth ∷ []))) start
+        uncalled = subst (λ ms. Uncalled setting s ms start) apart_so (uncalled_till setting s k nk.before nk.birth nk.later start nk.unnamed (ap (λ ms. is_idle_till k s (made_in setting ms start)) (sym nk.is) ∙ idle))
+
+        low : first.live.pod.state.births ≤ s
+        low = omega (arith, (born_at s in_s ns).number)
+
+        passed_one : Passed setting server s k s_k (server.serving (session_opening event place)) one
+        passed_one = record {
+          idle = Ready (begins_at s in_s ns (server.serving (session_opening event place)) body_s);
+          silent = move_silent setting server s k s_k first ns.birth was_first low (moves_silent setting server s k s_k ns.before start was can_ns low (λ a. refl));
+        }
+
+        passed_two : Passed setting server s k s_k (server.serving (session_opening event place)) two
+        passed_two = subst (Passed setting server s k s_k (server.serving (session_opening event place))) (gone_push setting i.between nk.birth one ∙ ap (λ x. moved_by setting x nk.birth) (sym before_is))
+            (passed_moves setting server s k s_k (server.serving (session_opening event place)) (i.between ++ nk.birth ∷ []) one (moved_lawful setting first ns.birth can_s.0 was_first) can_s.1
+            (uncalled_behind setting s ns.before (ns.birth ∷ (i.between ++ nk.birth ∷ [])) start uncalled).1 passed_one)
+
+        begins_k : Begins k (server.storing store_opening) two.live
+        begins_k = begins_at k in_k nk (server.storing store_opening) body_k
+
+        untold : (b : ℕ) → two.live.pod.state.births ≤ b → eqb null_id b ≡ false → delivered_to b (steps_of two.steps) ≡ []
+        untold = move_untold setting server s k s_k before nk.birth was_before (moves_untold setting server s k s_k nk.before start was can_k (λ b low away. refl))
+
+        stood : Stood setting server s k s_k two
+        stood = by_idle passed_two.idle
+          where
+            by_idle : Idle setting s (server.serving (session_opening event place)) two.live → Stood setting server s k s_k two
+            by_idle (Dead low off) = Over low off (λ b. record { rest = line_answers (delivered_to b (steps_of two.steps)); whole = ap (λ xs. xs ++ line_answers (delivered_to b (steps_of two.steps))) (passed_two.silent b) })
+            by_idle (Ready b) = Starting (alive_seen two.live.pod.state s block.Not (ap (λ (v : Sight). v.waits) b.thread)) (session_opening event place) zero_answer store_opening zero_answer b.row begins_k.row
+                (λ a low away. subst (λ xs. TellsAt s k a two.live.pod.state (session_opening event place) zero_answer store_opening zero_answer xs (replied_to s a (steps_of two.steps))) (sym (untold a low away))
+                (subst (λ xs. TellsAt s k a two.live.pod.state (session_opening event place) zero_answer store_opening zero_answer [] xs) (sym (passed_two.silent a))
+                (meet s k event place a two.live.pod.state was_two b.thread store_opening zero_answer (begin_alone s k two.live.pod.state was_two begins_k.thread) low)))
+                refl passed_two.silent
+
+        early_answers : Answered
+        early_answers =
+            let end = gone_on setting nk.later two in
+            let ends = subst (λ (x : Session B). Serves s k x) whole serves in
+            let short = subst (λ (x : Session B). TextsAreShort x) whole (moves_short setting moves start was can (record { below = refl; short = λ a. refl }) serves.few lines).short in
+            subst (λ (x : Session B). IsAnsweredInTurn s a (steps_of x.steps)) (sym whole)
+            (phase_first s k end.live.pod.state (S_of setting server s k s_k end.live.rows) (K_of setting server s k s_k end.live.rows) (λ b. delivered_to b (steps_of end.steps)) (λ b. replied_to s b (steps_of end.steps))
+            (gone_stood setting server s k s_k nk.later two was_two can_end.1 stood (alive_seen two.live.pod.state k block.Not (ap (λ (v : Sight). v.waits) begins_k.thread)) ends.lives ends.sends short ends.few) a)
+
+      session_first : s < k → is_idle_till k s (made_in setting moves (opening_session setting)) ≡ true → Answered
+      session_first below idle = by_split (split_two ns.before ns.birth ns.later nk.before nk.birth nk.later (sym ns.is ∙ nk.is))
+        where
+          by_split : Inside ns.before ns.birth nk.before ⊎ Short ns.before nk.before → Answered
+          by_split (inl i) = early_answers below idle i
+          by_split (inr sh) = absurd (born_in_order ns nk below sh)
+
+      both_answers : eqb s k ≡ false → (s < k → is_idle_till k s (made_in setting moves (opening_session setting)) ≡ true) → Answered
+      both_answers apart idle = by_order (nat_le s k) (nat_le k s) refl refl
+        where
+          by_order : (b d : Bool) → nat_le s k ≡ b → nat_le k s ≡ d → Answered
+          by_order false d e f = store_first (leb-false s k e)
+          by_order true false e f = let less : s < k = leb-false k s f in session_first less (idle less)
+          by_order true true e f = absurd (apart_of s k apart (omega (arith, leb-true s k e, leb-true k s f)))
 
 pub in_every_session : (B : Type 0) → InEverySession B
-in_every_session B setting server least most takes n defined s k in_s in_k event place below begins_s body_s begins_k body_k serves lines a =
-    subst Goal (sym r.is) core begins_s begins_k serves lines
+in_every_session B setting server least most takes n defined s k in_s in_k event place apart idle begins_s body_s begins_k body_k serves lines a =
+    subst Goal (sym r.is) core idle begins_s begins_k serves lines
   where
     r : IsReached setting (play setting takes n)
     r = sessions_are_reached B setting takes n defined
 
     Goal : Session B → Type 0
-    Goal x = begins_in s x.steps ≡ Some in_s → begins_in k x.steps ≡ Some in_k → Serves s k x → list_all (λ (m : Made). line_is_short m.take) x.steps ≡ true → IsAnsweredInTurn s a (steps_of x.steps)
+    Goal x = (s < k → is_idle_till k s x.steps ≡ true) → begins_in s x.steps ≡ Some in_s → begins_in k x.steps ≡ Some in_k → Serves s k x → list_all (λ (m : Made). line_is_short m.take) x.steps ≡ true → IsAnsweredInTurn s a (steps_of x.steps)
 
     core : Goal (gone_on setting r.moves (opening_session setting))
-    core begins_s begins_k serves lines =
+    core idle begins_s begins_k serves lines =
         let steps = steps_are setting r.moves (opening_session setting) in
-        both_answers setting server least most r.moves r.can s k in_s in_k event place below
+        both_answers setting server least most r.moves r.can s k in_s in_k event place
         (named_by setting s in_s r.moves (opening_session setting) (ap (begins_in s) (sym steps) ∙ begins_s)) (named_by setting k in_k r.moves (opening_session setting) (ap (begins_in k) (sym steps) ∙ begins_k))
-        body_s body_k serves (sym (lines_of setting server least most r.moves (opening_session setting)) ∙ ap (list_all (λ (m : Made). line_is_short m.take)) (sym steps) ∙ lines) a
+        body_s body_k serves (sym (lines_of setting server least most r.moves (opening_session setting)) ∙ ap (list_all (λ (m : Made). line_is_short m.take)) (sym steps) ∙ lines) a apart (λ less. ap (is_idle_till k s) (sym steps) ∙ idle less)
 
 pub in_every_script : InEveryScript
 unfolding line_server

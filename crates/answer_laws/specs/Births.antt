@@ -16,7 +16,7 @@ use Rattle.script_program.specs.Bodies.{body_next}
 use Rattle.script_program.specs.declared.body.ThreadBody.{ThreadBody}
 use Rattle.script_program.specs.declared.body.ThreadBody.TheVariants.{Serving, Storing}
 use Rattle.std.specs.List.{list_all, list_any}
-use Rattle.std.specs.Prelude.{Bool, List, None, Option, Some, [], false, if◌then◌else◌, slice_get, true, ℕ, ◌<◌, ◌==◌, ◌∷◌, ◌≡◌, ◌≤◌}
+use Rattle.std.specs.Prelude.{Bool, List, None, Option, Some, [], false, if◌then◌else◌, slice_get, true, ℕ, not, ◌&&◌, ◌<◌, ◌==◌, ◌∷◌, ◌≡◌, ◌≤◌, ◌||◌}
 
 -- the effect answers somebody with this thread
 abbrev pub names_it : ℕ → Effect → Bool
@@ -39,12 +39,23 @@ abbrev pub begins_in : ℕ → List Made → Option ℕ
 begins_in t [] = None
 begins_in t (made ∷ steps) = if is_named t made.effects then born_in t made.effects else begins_in t steps
 
--- In every session: for a session of a client, which begins in a procedure that is one, and a store, which has begun before, the replies of the
--- session to its agent that were accepted are a first part of the answers to the lines delivered to that; if the store lives in the end, all
--- that the session has sent went to it, and the lines that were taken are no longer than a text may be.
+-- the effect is a call of the thread, or a trap that is raised in it
+abbrev pub is_call_of : ℕ → Effect → Bool
+is_call_of t (effect.Called u c) = u == t
+is_call_of t (effect.Trapped u e) = u == t
+is_call_of t _ = false
+
+-- s makes no call before the first step that names k, nor in that
+abbrev pub is_idle_till : ℕ → ℕ → List Made → Bool
+is_idle_till k s [] = true
+is_idle_till k s (made ∷ steps) = not (list_any (is_call_of s) made.effects) && (is_named k made.effects || is_idle_till k s steps)
+
+-- In every session: for a session of a client, which begins in a procedure that is one, and a store, which has begun before the session makes
+-- a call, the replies of the session to its agent that were accepted are a first part of the answers to the lines delivered to that; if the
+-- store lives in the end, all that the session has sent went to it, and the lines that were taken are no longer than a text may be.
 abbrev pub IsAnsweredAlways : {B : Type 0} → Setting B → (SessionBody → B) → (StoreBody → B) → Type 0
 IsAnsweredAlways setting serving storing = 1 ≤ setting.params.maxpri → setting.params.maxpri ≤ 255 → (takes : List Took) (n : ℕ) → IsDefined setting takes n
-    → (s k in_s in_k event place : ℕ) → k < s
+    → (s k in_s in_k event place : ℕ) → (s == k) ≡ false → (s < k → is_idle_till k s (play setting takes n).steps ≡ true)
     → begins_in s (play setting takes n).steps ≡ Some in_s → slice_get setting.bodies in_s ≡ Some (serving (session_opening event place))
     → begins_in k (play setting takes n).steps ≡ Some in_k → slice_get setting.bodies in_k ≡ Some (storing store_opening)
     → Serves s k (play setting takes n) → list_all (λ made. line_is_short made.take) (play setting takes n).steps ≡ true

@@ -12,3 +12,4 @@ pub mod Stands
 pub mod Owns
 pub mod Served
 pub mod Births
+pub mod Known

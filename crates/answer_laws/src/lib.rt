@@ -37,6 +37,7 @@ pub mod rows;
 ghost use Rattle.answer_laws.specs.Agents.{DeliveriesPassOthersBy, DeliveriesReachAgents, DestroyedAgentsAreGone, OthersLeaveAgents};
 ghost use Rattle.answer_laws.specs.Births.{InEveryScript, InEverySession};
 ghost use Rattle.answer_laws.specs.Events.{PodsLeaveIt, TakesLeaveIt};
+ghost use Rattle.answer_laws.specs.Known.{NamesAreOfTheBorn};
 ghost use Rattle.answer_laws.specs.Lengths.{ShortLinesHaveShortAnswers};
 ghost use Rattle.answer_laws.specs.Owners.{OwnersOfNoneAreRefused, OwnersReceive, OwnersReply, SendsAreLetters};
 ghost use Rattle.answer_laws.specs.Owns.{LivingCallsAreEvents, OthersReplyNothing, PodsSessionsCallsAreEvents, PodsStoresCallsAreEvents};
@@ -57,6 +58,11 @@ pub fn every_client<B: Body>()
 /// So it is in every session of every script.
 pub fn every_client_of_a_script()
     ensures { InEveryScript }
+{}
+
+/// In every session of every script each name of a thread is null, or the number of somebody who was born.
+pub fn every_name()
+    ensures { NamesAreOfTheBorn }
 {}
 
 /// From where a store and a client's session begin, the one born before the other or behind it, and neither polled yet: so it is in whatever

@@ -1,0 +1,303 @@
+-- Whom the names of a script's threads stand for, from the opening on.
+use Rattle.answer_laws.proofs.Fadings.{event_fades, take_fades}
+use Rattle.answer_laws.proofs.Openings.{sessions_are_reached}
+use Rattle.answer_laws.proofs.Phases.{born_below}
+use Rattle.answer_laws.proofs.PodSteps.{births_said}
+use Rattle.answer_laws.proofs.Servings.{chosen_lives, moved_lawful}
+use Rattle.answer_laws.proofs.Unnamed.{AllNamed, Below, NamedIn, named_append, named_deliver, step_named}
+use Rattle.answer_laws.specs.Known.{IsKnown, KnowsItsNames, NamesAreOfTheBorn, scripted}
+use Rattle.answer_laws.specs.Served.{CanGoOn, IsReached, gone_on, moved_by}
+use Rattle.lwp_types.specs.Agents.{armed, deliver}
+use Rattle.lwp_types.specs.Choice.{choice}
+use Rattle.lwp_types.specs.Lawful.{Lawful}
+use Rattle.lwp_types.specs.Names.{Names, id_at, null_id, polled_as}
+use Rattle.lwp_types.specs.Poll.{Next, Polled}
+use Rattle.lwp_types.specs.State.{Outcome, State, passes}
+use Rattle.lwp_types.specs.Step.{step}
+use Rattle.lwp_types.specs.Unblock.{zero_answer}
+use Rattle.lwp_types.specs.declared.call.Answer.{Answer}
+use Rattle.lwp_types.specs.declared.call.Call.{Call}
+use Rattle.lwp_types.specs.declared.call.Effect.{Effect}
+use Rattle.lwp_types.specs.declared.call.LwpErr.{LwpErr}
+use Rattle.line_server.specs.Sessions.{session_next}
+use Rattle.line_server.specs.Stores.{store_next}
+use Rattle.pod_events.specs.Events.{EventState, is_trapped, passed_on, rites_event, take_event, trap_taken}
+use Rattle.pod_events.specs.Rites.{as_rites, first_reported, report_text, reports_after, rites_said}
+use Rattle.pod_events.specs.Step.{event_step, event_step_by, event_step_if}
+use Rattle.pod_events.specs.Traps.{Trapping, agent_event_of, but_call, called as traps_called, is_catch, is_given, made as traps_made, made_as, notice, refused_by, stepped, trap_made, trap_of, trap_refusal}
+use Rattle.pod_laws.proofs.Opening.{Lawful-opening}
+use Rattle.pod_runner.specs.Play.{play}
+use Rattle.pod_runner.specs.Session.{Live, Session, Setting, answered as rows_answered, called, move, move_by, move_row, opening_session, polled, proc_of, row_of, row_opened, rows_born, settled, settled_by, taken, thread_in, with_row, without_row}
+use Rattle.pod_runner.specs.declared.session.Row.{Row}
+use Rattle.pod_runner.specs.declared.session.Took.{Took}
+use Rattle.script_body.specs.Naming.{condition_named_by, monitor_named_by, named, named_by, thread_named_by}
+use Rattle.script_body.specs.ScriptBody.{ScriptBody, polled_by, script_next, taken as body_taken}
+use Rattle.script_program.specs.Bodies.{body_next}
+use Rattle.script_program.specs.declared.body.ThreadBody.{ThreadBody}
+use Rattle.script_program.specs.declared.body.ThreadBody.TheVariants.{Scripted, Serving, Storing}
+use Rattle.script_text.specs.declared.script.Stmt.{Stmt}
+use Rattle.std.proofs.Common.{Bool, List, None, Option, Some, [], ap, arith, cond, drop, eqb, false, inl, inr, refl, subst, suc, sym, true, zero, ℕ, ◌++◌, ◌<◌, ◌∷◌, ◌≡◌, ◌≤◌, ◌⊎◌}
+use Rattle.std.specs.Prelude.{map, slice_get, slice_set}
+use Rattle.lwp_types.specs.declared.call.Answer.TheVariants as answer
+use Rattle.lwp_types.specs.declared.call.Call.TheVariants as call
+use Rattle.lwp_types.specs.declared.call.Effect.TheVariants as effect
+use Rattle.lwp_types.specs.declared.call.LwpErr.TheVariants as error
+use Rattle.script_text.specs.declared.script.Stmt.TheVariants as stmt
+
+-- ---- a step of a pod with its own events
+
+below_later : (n m : ℕ) → n ≤ m → (o : Option ℕ) → Below n o → Below m o
+below_later n m more None below = tt
+below_later n m more (Some t) below = omega (arith, below, more)
+
+named_drop : (n : ℕ) (es : List Effect) → AllNamed n es → AllNamed n (drop 1 es)
+named_drop n [] all = tt
+named_drop n (e ∷ es) all = all.1
+
+named_rites : (n dead : ℕ) (es : List Effect) → AllNamed n es → AllNamed n (map (as_rites dead) es)
+named_rites n dead [] all = tt
+named_rites n dead (e ∷ es) all = (by_effect e all.0, named_rites n dead es all.1)
+  where
+    by_effect : (e : Effect) → NamedIn n e → NamedIn n (as_rites dead e)
+    by_effect (effect.Delivered agent event) below = tt
+    by_effect (effect.Answered t a) below = below
+    by_effect (effect.Called t c) below = tt
+    by_effect (effect.Exited t reg c a) below = tt
+    by_effect (effect.Died t) below = tt
+    by_effect (effect.Ticked now) below = tt
+    by_effect (effect.Ended status) below = tt
+    by_effect (effect.Trapped t e) below = tt
+    by_effect (effect.Rites agent other) below = tt
+
+module _ (st : State) (was : Lawful st None) where
+  born_now : (t : ℕ) → choice st ≡ Some t → t < st.births
+  born_now t turn = born_below st was t (chosen_lives st was t turn)
+
+  named_made : (trapped : List Bool) (t : ℕ) (c : Call) → AllNamed (traps_made st trapped t c).state.births (traps_made st trapped t c).effects
+  named_made trapped t c = by_trap (trap_of c)
+    where
+      by_refusal : (e : ℕ) (o : Option LwpErr) → AllNamed (trap_made st trapped t c e o).state.births (trap_made st trapped t c e o).effects
+      by_refusal e None = (tt, (tt, tt))
+      by_refusal e (Some why) = (tt, (tt, tt))
+
+      by_agent : (b : Bool) → AllNamed (cond b (refused_by st trapped t c error.InUse) (stepped trapped (step st c))).state.births (cond b (refused_by st trapped t c error.InUse) (stepped trapped (step st c))).effects
+      by_agent true = (tt, (tt, tt))
+      by_agent false = step_named st born_now c
+
+      by_trap : (o : Option ℕ) → AllNamed (made_as st trapped t c o).state.births (made_as st trapped t c o).effects
+      by_trap None = by_agent (passes (is_trapped trapped) (agent_event_of c))
+      by_trap (Some e) = by_refusal e (trap_refusal st trapped e)
+
+  named_called : (trapped : List Bool) (t : ℕ) (c : Call) (pending : Option ℕ) → AllNamed (traps_called st trapped t c pending).state.births (traps_called st trapped t c pending).effects
+  named_called trapped t c None = named_made trapped t c
+  named_called trapped t c (Some e) = by_given (passes is_given (notice st t e)) (passes is_catch (notice st t e))
+    where
+      by_given : (b d : Bool) → AllNamed (cond b (traps_made st trapped t c) (cond d (stepped trapped (but_call (step st (call.ExcNotify e)))) (stepped trapped (but_call (step st (call.Destroy t)))))).state.births
+          (effect.Trapped t e ∷ (cond b (traps_made st trapped t c) (cond d (stepped trapped (but_call (step st (call.ExcNotify e)))) (stepped trapped (but_call (step st (call.Destroy t)))))).effects)
+      by_given true d = (tt, named_made trapped t c)
+      by_given false true = (tt, named_drop (step st (call.ExcNotify e)).after.births (step st (call.ExcNotify e)).effects (step_named st born_now (call.ExcNotify e)))
+      by_given false false = (tt, named_drop (step st (call.Destroy t)).after.births (step st (call.Destroy t)).effects (step_named st born_now (call.Destroy t)))
+
+named_said : (n : ℕ) (after : State) (es : List Effect) (reports : List ℕ) → AllNamed n es → AllNamed n (rites_said after es reports).effects
+named_said n after es reports all = by_armed (armed after rites_event) reports
+  where
+    by_armed : (b : Bool) (rs : List ℕ) → AllNamed n (cond b (first_reported after es rs) (record { state = after; reports = rs; effects = es })).effects
+    by_armed true [] = all
+    by_armed false rs = all
+    by_armed true (dead ∷ later) = named_append n es (map (as_rites dead) (deliver after rites_event (report_text dead)).effects) all (named_rites n dead (deliver after rites_event (report_text dead)).effects (named_deliver n after rites_event (report_text dead)))
+
+event_named : (es : EventState) → Lawful es.state None → (c : Call) → AllNamed (event_step es c).after.state.births (event_step es c).effects
+unfolding event_step event_step_by
+event_named es was c = by_choice (choice es.state)
+  where
+    by_choice : (o : Option ℕ) → AllNamed (event_step_if es c o).after.state.births (event_step_if es c o).effects
+    by_choice None = tt
+    by_choice (Some t) =
+        let out = traps_called es.state es.trapped t c es.pending in
+        let reports = reports_after es.state out.state es.reports out.effects in
+        subst (λ n. AllNamed n (rites_said out.state out.effects reports).effects) (sym (births_said out.state out.effects reports)) (named_said out.state.births out.state out.effects reports (named_called es.state was es.trapped t c es.pending))
+
+take_named : (n : ℕ) (es : EventState) (e : ℕ) (text : List ℕ) → AllNamed n (take_event es e text).effects
+unfolding take_event
+take_named n es e text = by_trapped (is_trapped es.trapped e)
+  where
+    by_trapped : (b : Bool) → AllNamed n (cond b (trap_taken es e) (passed_on es (deliver es.state e text))).effects
+    by_trapped true = (tt, tt)
+    by_trapped false = named_deliver n es.state e text
+
+-- ---- rows
+
+module _ {B : Type 0} (n : ℕ) where
+  -- each is polled with an answer that names somebody born, if anybody
+  abbrev RowsNamed : List (Row B) → Type 0
+  RowsNamed [] = Unit {0}
+  RowsNamed (row ∷ rows) = Below n (thread_in row.answer) × RowsNamed rows
+
+  rows_append : (xs ys : List (Row B)) → RowsNamed xs → RowsNamed ys → RowsNamed (xs ++ ys)
+  rows_append [] ys one two = two
+  rows_append (x ∷ xs) ys one two = (one.0, rows_append xs ys one.1 two)
+
+  rows_with : (t : ℕ) (change : Row B → Row B) → ((row : Row B) → Below n (thread_in row.answer) → Below n (thread_in (change row).answer)) → (rows : List (Row B)) → RowsNamed rows → RowsNamed (with_row t change rows)
+  rows_with t change keeps [] all = tt
+  rows_with t change keeps (row ∷ rows) all = by_test (eqb row.tid t) (rows_with t change keeps rows all.1)
+    where
+      by_test : (b : Bool) → RowsNamed (with_row t change rows) → RowsNamed (cond b (change row ∷ rows) (row ∷ with_row t change rows))
+      by_test true rest = (keeps row all.0, all.1)
+      by_test false rest = (all.0, rest)
+
+  rows_without : (t : ℕ) (rows : List (Row B)) → RowsNamed rows → RowsNamed (without_row t rows)
+  rows_without t [] all = tt
+  rows_without t (row ∷ rows) all = by_test (eqb row.tid t) (rows_without t rows all.1)
+    where
+      by_test : (b : Bool) → RowsNamed (without_row t rows) → RowsNamed (cond b rows (row ∷ without_row t rows))
+      by_test true rest = all.1
+      by_test false rest = (all.0, rest)
+
+  rows_opened : (t : ℕ) (o : Option B) → RowsNamed (row_opened t o)
+  rows_opened t None = tt
+  rows_opened t (Some body) = (tt, tt)
+
+  rows_come : (bodies : List B) (born t : Option ℕ) → RowsNamed (rows_born bodies born t)
+  rows_come bodies (Some number) (Some t) = rows_opened t (slice_get bodies number)
+  rows_come bodies None t = tt
+  rows_come bodies (Some number) None = tt
+
+  rows_settled : (bodies : List B) (born : Option ℕ) (es : List Effect) (rows : List (Row B)) → AllNamed n es → RowsNamed rows → RowsNamed (settled bodies born es rows)
+  rows_settled bodies born [] rows names all = all
+  rows_settled bodies born (e ∷ es) rows names all = rows_settled bodies born es (settled_by bodies born e rows) names.1 (by_effect e names.0)
+    where
+      by_effect : (e : Effect) → NamedIn n e → RowsNamed (settled_by bodies born e rows)
+      by_effect (effect.Answered t a) below = rows_append (rows_answered t a rows) (rows_born bodies born (thread_in a)) (rows_with t (λ row. record row { answer = a }) (λ row old. below) rows all) (rows_come bodies born (thread_in a))
+      by_effect (effect.Died t) below = rows_without t rows all
+      by_effect (effect.Called t c) below = all
+      by_effect (effect.Exited t reg c a) below = all
+      by_effect (effect.Delivered agent event) below = all
+      by_effect (effect.Ticked now) below = all
+      by_effect (effect.Ended status) below = all
+      by_effect (effect.Trapped t e) below = all
+      by_effect (effect.Rites agent dead) below = all
+
+  -- the answer that a thread is polled with
+  row_named : (t : ℕ) (rows : List (Row B)) → RowsNamed rows → (row : Row B) → row_of t rows ≡ Some row → Below n (thread_in row.answer)
+  row_named t [] all row found = absurd (cc)
+  row_named t (r ∷ rs) all row found = by_test (eqb r.tid t) found (row_named t rs all.1 row)
+    where
+      by_test : (b : Bool) → cond b (Some r) (row_of t rs) ≡ Some row → (row_of t rs ≡ Some row → Below n (thread_in row.answer)) → Below n (thread_in row.answer)
+      by_test true found rest = subst (λ (x : Row B). Below n (thread_in x.answer)) (let is : r ≡ row = cc found in is) all.0
+      by_test false found rest = rest found
+
+rows_later : {B : Type 0} (n m : ℕ) → n ≤ m → (rows : List (Row B)) → RowsNamed n rows → RowsNamed m rows
+rows_later n m more [] all = tt
+rows_later n m more (row ∷ rows) all = (below_later n m more (thread_in row.answer) all.0, rows_later n m more rows all.1)
+
+-- ---- names
+
+abbrev Known : ℕ → ℕ → Type 0
+Known n x = (x ≡ null_id) ⊎ (x < n)
+
+abbrev AllKnown : ℕ → Names → Type 0
+AllKnown n names = (place : ℕ) → Known n (id_at names.threads place)
+
+known_later : (n m x : ℕ) → n ≤ m → Known n x → Known m x
+known_later n m x more (inl null) = inl null
+known_later n m x more (inr below) = inr (omega (arith, below, more))
+
+known_set : (n t : ℕ) → t < n → (xs : List ℕ) → ((place : ℕ) → Known n (id_at xs place)) → (i place : ℕ) → Known n (id_at (slice_set xs i t) place)
+known_set n t below [] all i place = all place
+known_set n t below (x ∷ xs) all zero zero = inr below
+known_set n t below (x ∷ xs) all zero (suc place) = all (suc place)
+known_set n t below (x ∷ xs) all (suc i) zero = all zero
+known_set n t below (x ∷ xs) all (suc i) (suc place) = known_set n t below xs (λ p. all (suc p)) i place
+
+module _ (n : ℕ) where
+  thread_kept : (name : ℕ) (a : Answer) (names : Names) → Below n (thread_in a) → AllKnown n names → AllKnown n (thread_named_by name a names)
+  thread_kept name (answer.Thread t) names below all = known_set n t below names.threads all name
+  thread_kept name _ names below all = all
+
+  stmt_kept : (a : Answer) (s : Stmt) (names : Names) → Below n (thread_in a) → AllKnown n names → AllKnown n (named_by a s names)
+  stmt_kept a (stmt.Create name number prio flags) names below all = thread_kept name a names below all
+  stmt_kept a (stmt.Agent name event) names below all = thread_kept name a names below all
+  stmt_kept a (stmt.MonCreate name) names below all = monitor_kept a
+    where
+      monitor_kept : (a : Answer) → AllKnown n (monitor_named_by name a names)
+      monitor_kept (answer.Monitor m) = all
+      monitor_kept _ = all
+  stmt_kept a (stmt.CvCreate name mon) names below all = condition_kept a
+    where
+      condition_kept : (a : Answer) → AllKnown n (condition_named_by name a names)
+      condition_kept (answer.Cond c) = all
+      condition_kept _ = all
+  stmt_kept a _ names below all = all
+
+  last_kept : (a : Answer) (last : Option Stmt) (names : Names) → Below n (thread_in a) → AllKnown n names → AllKnown n (named a last names)
+  last_kept a None names below all = all
+  last_kept a (Some s) names below all = stmt_kept a s names below all
+
+  taken_kept : (body : ScriptBody) (names : Names) (a : Answer) (now : Option ScriptBody) → Below n (thread_in a) → AllKnown n names → AllKnown n (polled_by body names a now).2
+  taken_kept body names a None below all = all
+  taken_kept body names a (Some now) below all = last_kept a body.last names below all
+
+  -- a thread of a script sets a name to whom it is answered with alone
+  body_kept : (body : ThreadBody) (names : Names) (a : Answer) → Below n (thread_in a) → AllKnown n names → AllKnown n (body_next body names a).2
+  unfolding script_next session_next store_next
+  body_kept (Scripted body) names a below all = taken_kept body names a (body_taken body a) below all
+  body_kept (Serving body) names a below all = all
+  body_kept (Storing body) names a below all = all
+
+-- ---- sessions
+
+record Tells (live : Live ThreadBody) : Type 0 where
+  rows : RowsNamed live.pod.state.births live.rows
+  names : AllKnown live.pod.state.births live.names
+
+module _ (setting : Setting ThreadBody) (scripts : setting.next ≡ body_next) where
+  tells_called : (live : Live ThreadBody) → Lawful live.pod.state None → (t : ℕ) (reply : Polled ThreadBody) → live.pod.state.births ≤ (event_step live.pod reply.0).after.state.births → RowsNamed live.pod.state.births live.rows → AllKnown live.pod.state.births reply.2
+      → Tells (called setting.bodies live t reply).live
+  unfolding called
+  tells_called live was t reply more rows names = record {
+    rows = rows_settled _ setting.bodies (proc_of reply.0) (event_step live.pod reply.0).effects (polled t reply.1 live.rows) (event_named live.pod was reply.0)
+        (rows_with _ t (λ row. record row { body = reply.1 }) (λ row below. below) live.rows (rows_later live.pod.state.births _ more live.rows rows));
+    names = λ place. known_later live.pod.state.births _ (id_at reply.2.threads place) more (names place);
+  }
+
+  tells_row : (live : Live ThreadBody) → Lawful live.pod.state None → Tells live → (t : ℕ) (o : Option (Row ThreadBody)) → row_of t live.rows ≡ o → Tells (move_row body_next setting.bodies live t o).live
+  tells_row live was h t None found = h
+  tells_row live was h t (Some row) found =
+      let reply = body_next row.body (polled_as t live.names) row.answer in
+      tells_called live was t reply (event_fades 0 live.pod reply.0).births h.rows (body_kept live.pod.state.births row.body (polled_as t live.names) row.answer (row_named live.pod.state.births t live.rows h.rows row found) h.names)
+
+  tells_call : (live : Live ThreadBody) → Lawful live.pod.state None → Tells live → Tells (move body_next setting.bodies live).live
+  unfolding move
+  tells_call live was h = by_choice (choice live.pod.state)
+    where
+      by_choice : (o : Option ℕ) → Tells (move_by body_next setting.bodies live o).live
+      by_choice None = h
+      by_choice (Some t) = tells_row live was h t (row_of t live.rows) refl
+
+  tells_take : (live : Live ThreadBody) (took : Took) → Tells live → Tells (taken setting.bodies took live).live
+  unfolding taken
+  tells_take live took h =
+      let more = (take_fades 0 live.pod took.event took.line.text).births in
+      record {
+        rows = rows_settled _ setting.bodies None (take_event live.pod took.event took.line.text).effects live.rows (take_named _ live.pod took.event took.line.text) (rows_later live.pod.state.births _ more live.rows h.rows);
+        names = λ place. known_later live.pod.state.births _ (id_at live.names.threads place) more (h.names place);
+      }
+
+  tells_moved : (session : Session ThreadBody) (m : Option Took) → Lawful session.live.pod.state None → Tells session.live → Tells (moved_by setting session m).live
+  tells_moved session None was h = subst (λ next. Tells (move next setting.bodies session.live).live) (sym scripts) (tells_call session.live was h)
+  tells_moved session (Some took) was h = tells_take session.live took h
+
+  tells_gone : (moves : List (Option Took)) (session : Session ThreadBody) → CanGoOn setting moves session → Lawful session.live.pod.state None → Tells session.live → Tells (gone_on setting moves session).live
+  tells_gone [] session can was h = h
+  tells_gone (m ∷ ms) session can was h = tells_gone ms (moved_by setting session m) can.1 (moved_lawful setting session m can.0 was) (tells_moved session m was h)
+
+pub names_are_of_the_born : NamesAreOfTheBorn
+names_are_of_the_born bodies params names least most known takes n defined =
+    subst (λ (x : Session ThreadBody). KnowsItsNames x) (sym r.is)
+    (tells_gone setting refl r.moves (opening_session setting) r.can (Lawful-opening params least most) (record { rows = rows_opened (opening_session setting).live.pod.state.births 0 (slice_get bodies 0); names = known })).names
+  where
+    setting : Setting ThreadBody
+    setting = scripted bodies params names
+
+    r : IsReached setting (play setting takes n)
+    r = sessions_are_reached ThreadBody setting takes n defined
