@@ -176,7 +176,7 @@ abbrev pub ahead_told : Option Phrase → Ahead → Ahead
 ahead_told None a = a
 ahead_told (Some p) a = ahead_by (role_of p.op) p.op p a
 
--- what stands ahead of these lines and behind them, where this is what stands behind them
+-- what the way leaves from the first of these lines on, where it leaves this behind the last
 abbrev pub ahead_of : Ahead → List (List ℕ) → Ahead
 ahead_of a [] = a
 ahead_of a (line ∷ lines) = ahead_told (phrase_at line) (ahead_of a lines)
