@@ -11,10 +11,9 @@ use Rattle.lwp_types.specs.Agents.{armed, deliver}
 use Rattle.lwp_types.specs.Choice.{choice}
 use Rattle.lwp_types.specs.Lawful.{Lawful}
 use Rattle.lwp_types.specs.Names.{Names, id_at, null_id, polled_as}
-use Rattle.lwp_types.specs.Poll.{Next, Polled}
-use Rattle.lwp_types.specs.State.{Outcome, State, passes}
+use Rattle.lwp_types.specs.Poll.{Polled}
+use Rattle.lwp_types.specs.State.{State, passes}
 use Rattle.lwp_types.specs.Step.{step}
-use Rattle.lwp_types.specs.Unblock.{zero_answer}
 use Rattle.lwp_types.specs.declared.call.Answer.{Answer}
 use Rattle.lwp_types.specs.declared.call.Call.{Call}
 use Rattle.lwp_types.specs.declared.call.Effect.{Effect}
@@ -29,7 +28,7 @@ use Rattle.line_server.specs.declared.session.SessionPlace.TheVariants as at
 use Rattle.pod_events.specs.Events.{EventState, is_trapped, passed_on, rites_event, take_event, trap_taken}
 use Rattle.pod_events.specs.Rites.{as_rites, first_reported, report_text, reports_after, rites_said}
 use Rattle.pod_events.specs.Step.{event_step, event_step_by, event_step_if}
-use Rattle.pod_events.specs.Traps.{Trapping, agent_event_of, but_call, called as traps_called, is_catch, is_given, made as traps_made, made_as, notice, refused_by, stepped, trap_made, trap_of, trap_refusal}
+use Rattle.pod_events.specs.Traps.{agent_event_of, but_call, called as traps_called, is_catch, is_given, made as traps_made, made_as, notice, refused_by, stepped, trap_made, trap_of, trap_refusal}
 use Rattle.pod_laws.proofs.Opening.{Lawful-opening}
 use Rattle.pod_runner.specs.Play.{play}
 use Rattle.pod_runner.specs.Session.{Live, Session, Setting, answered as rows_answered, called, move, move_by, move_row, opening_session, polled, proc_of, row_of, row_opened, rows_born, settled, settled_by, taken, thread_in, with_row, without_row}
@@ -41,7 +40,7 @@ use Rattle.script_program.specs.Bodies.{body_next}
 use Rattle.script_program.specs.declared.body.ThreadBody.{ThreadBody}
 use Rattle.script_program.specs.declared.body.ThreadBody.TheVariants.{Scripted, Serving, Storing}
 use Rattle.script_text.specs.declared.script.Stmt.{Stmt}
-use Rattle.std.proofs.Common.{Bool, List, None, Option, Some, [], ap, arith, cond, drop, eqb, false, inl, inr, refl, subst, suc, sym, true, zero, ℕ, ◌++◌, ◌<◌, ◌∷◌, ◌≡◌, ◌≤◌, ◌⊎◌}
+use Rattle.std.proofs.Common.{Bool, List, None, Option, Some, [], arith, cond, drop, eqb, false, inl, inr, refl, subst, suc, sym, true, zero, ℕ, ◌++◌, ◌<◌, ◌∷◌, ◌≡◌, ◌≤◌, ◌⊎◌}
 use Rattle.std.specs.Prelude.{codes, map, slice_get, slice_set}
 use Rattle.lwp_types.specs.declared.call.Answer.TheVariants as answer
 use Rattle.lwp_types.specs.declared.call.Call.TheVariants as call

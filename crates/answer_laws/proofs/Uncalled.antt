@@ -3,14 +3,13 @@ use Rattle.answer_laws.proofs.Events.{living_is_left, takes_leave_it}
 use Rattle.answer_laws.proofs.Fadings.{event_fades, take_fades}
 use Rattle.answer_laws.proofs.OwnSteps.{alive_seen, event_is, others_reply_nothing}
 use Rattle.answer_laws.proofs.Phases.{born_below, resting}
-use Rattle.answer_laws.proofs.Servings.{alive_then, moved_lawful, rests_untimed, said_push}
+use Rattle.answer_laws.proofs.Servings.{alive_then, rests_untimed}
 use Rattle.answer_laws.proofs.TalkSteps.{attends_seen}
 use Rattle.answer_laws.proofs.ThreadRows.{row_polled_other, row_settled}
 use Rattle.answer_laws.specs.Births.{is_call_of}
-use Rattle.answer_laws.specs.Clients.{replied_in, replied_to}
-use Rattle.answer_laws.specs.Events.{machine_of}
-use Rattle.answer_laws.specs.Served.{Begins, CanGoOn, LineServer, gone_on, is_move_due, moved_by, steps_of}
-use Rattle.answer_laws.specs.Sights.{IsLeft, IsWoken, Sight, answers_to, sight}
+use Rattle.answer_laws.specs.Clients.{replied_in}
+use Rattle.answer_laws.specs.Served.{Begins}
+use Rattle.answer_laws.specs.Sights.{IsLeft, IsWoken, Sight, sight}
 use Rattle.answer_laws.specs.Stands.{last_heard}
 use Rattle.lwp_types.specs.Agents.{armed, deliver}
 use Rattle.lwp_types.specs.Choice.{choice}
@@ -31,7 +30,7 @@ use Rattle.pod_events.specs.Step.{event_step}
 use Rattle.pod_events.specs.Traps.{agent_event_of, called as traps_called, made as traps_made, made_as, notice, refused_by, sprung_by, stepped, trap_made, trap_of, trap_refusal}
 use Rattle.pod_laws.proofs.Elements.{differ}
 use Rattle.pod_laws.specs.Forgotten.{is_died}
-use Rattle.pod_runner.specs.Session.{Live, Session, Setting, called, move, move_by, move_row, polled, proc_of, row_of, settled, taken}
+use Rattle.pod_runner.specs.Session.{Live, Setting, called, move, move_by, move_row, polled, proc_of, row_of, settled, taken}
 use Rattle.pod_runner.specs.declared.session.Row.{Row}
 use Rattle.pod_runner.specs.declared.session.Took.{Took}
 use Rattle.session_laws.proofs.Pods.{call_moved, take_moved}
