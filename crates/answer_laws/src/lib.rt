@@ -4,8 +4,8 @@
 //! | what is said | law, and where it stands |
 //! |---|---|
 //! | in every session of every script, whenever lines are taken and whatever the other clients do: of a client's session and a store that has begun before it makes a call, the accepted replies to the session's agent are a first part of the answers to the lines delivered to that | `InEveryScript`, and of any bodies `InEverySession` (`specs/Births.antt`) |
-//! | in every session of every script each name of a thread is null, or the number of somebody who was born; so a client's session sends to nobody else | `NamesAreOfTheBorn`, `SessionsSendToTheBorn` (`specs/Known.antt`) |
 //! | so it is from any point of a session on at which the two begin, or the session behind a store that has served others | `ClientsAreAnsweredInTurn`, `LaterClientsAreAnsweredInTurn`, and by moves from the opening on `InWholeSessions`, `SessionsAreReached` (`specs/Served.antt`) |
+//! | in every session of every script each name of a thread is null, or the number of somebody who was born; so a client's session sends to nobody else | `NamesAreOfTheBorn`, `SessionsSendToTheBorn` (`specs/Known.antt`) |
 //! | a session and a store that talk, whatever others send to the store and whoever ends: what the client is told is a first part of the answers to its lines | `TalksAreAnswers` (`specs/Talks.antt`) |
 //! | the answers to lines that have room in a letter have room in one | `ShortLinesHaveShortAnswers` (`specs/Lengths.antt`) |
 //! | a sender has one letter at most; whoever receives it is handed it as it was sent; and what is replied to it is what its sender is answered | `EachHasOneLetter`, `ReceivesAreTheLetters`, `RepliesAreTheAnswers`, `ReadersLeaveTheRest` (`specs/Replies.antt`) |
@@ -50,8 +50,8 @@ ghost use Rattle.answer_laws.specs.Talks.{TalksAreAnswers};
 
 use lwp_types::Body;
 
-/// In every session, whatever its bodies do and whenever lines are taken: of a client's session and a store that has begun before it, what the
-/// client is told is a first part of the answers to its lines.
+/// In every session, whatever its bodies do and whenever lines are taken: of a client's session and a store that has begun before it makes a
+/// call, what the client is told is a first part of the answers to its lines.
 pub fn every_client<B: Body>()
     ensures { InEverySession B }
 {}
