@@ -5,7 +5,7 @@ use Rattle.answer_laws.proofs.Phases.{born_below}
 use Rattle.answer_laws.proofs.PodSteps.{births_said}
 use Rattle.answer_laws.proofs.Servings.{chosen_lives, moved_lawful}
 use Rattle.answer_laws.proofs.Unnamed.{AllNamed, Below, NamedIn, named_append, named_deliver, step_named}
-use Rattle.answer_laws.specs.Known.{KnowsItsNames, NamesAreOfTheBorn, SessionsSendToTheBorn, scripted}
+use Rattle.answer_laws.specs.Known.{KnowsItsNames, NamesAreOfTheBorn, NullNamesAreKnown, SessionsSendToTheBorn, scripted}
 use Rattle.answer_laws.specs.Served.{CanGoOn, IsReached, gone_on, moved_by}
 use Rattle.lwp_types.specs.Agents.{armed, deliver}
 use Rattle.lwp_types.specs.Choice.{choice}
@@ -41,7 +41,7 @@ use Rattle.script_program.specs.declared.body.ThreadBody.{ThreadBody}
 use Rattle.script_program.specs.declared.body.ThreadBody.TheVariants.{Scripted, Serving, Storing}
 use Rattle.script_text.specs.declared.script.Stmt.{Stmt}
 use Rattle.std.proofs.Common.{Bool, List, None, Option, Some, [], arith, cond, drop, eqb, false, inl, inr, refl, subst, suc, sym, true, zero, ℕ, ◌++◌, ◌<◌, ◌∷◌, ◌≡◌, ◌≤◌, ◌⊎◌}
-use Rattle.std.specs.Prelude.{codes, map, slice_get, slice_set}
+use Rattle.std.specs.Prelude.{codes, map, replicate, slice_get, slice_set}
 use Rattle.lwp_types.specs.declared.call.Answer.TheVariants as answer
 use Rattle.lwp_types.specs.declared.call.Call.TheVariants as call
 use Rattle.lwp_types.specs.declared.call.Effect.TheVariants as effect
@@ -305,6 +305,14 @@ names_are_of_the_born bodies params names least most known takes n defined =
 
     r : IsReached setting (play setting takes n)
     r = sessions_are_reached ThreadBody setting takes n defined
+
+null_at : (n i : ℕ) → id_at (replicate n null_id) i ≡ null_id
+null_at zero i = refl
+null_at (suc n) zero = refl
+null_at (suc n) (suc i) = null_at n i
+
+pub null_names_are_known : NullNamesAreKnown
+null_names_are_known bodies params threads monitors conditions place = inl (null_at threads place)
 
 -- ---- sends
 

@@ -1,6 +1,6 @@
 -- Whom the names of a script's threads stand for.
 use Rattle.line_server.specs.Sessions.{SessionBody, session_next}
-use Rattle.lwp_types.specs.Names.{Names, id_at, null_id, polled_as}
+use Rattle.lwp_types.specs.Names.{Names, id_at, null_id, null_names, polled_as}
 use Rattle.lwp_types.specs.State.{State}
 use Rattle.lwp_types.specs.declared.call.Answer.{Answer}
 use Rattle.lwp_types.specs.declared.call.Call.TheVariants as call
@@ -26,7 +26,11 @@ KnowsItsNames session = (place : ℕ) → IsKnown session.live.pod.state (id_at 
 abbrev pub scripted : List ThreadBody → PodParams → Names → Setting ThreadBody
 scripted bodies params names = record { next = body_next; bodies = bodies; params = params; names = names }
 
--- In every session of every script, if it is so at the opening, where all names are null, it is so always.
+-- So it is at the opening of a script's session, where all names are null.
+abbrev pub NullNamesAreKnown : Type 0
+NullNamesAreKnown = (bodies : List ThreadBody) (params : PodParams) (threads monitors conditions : ℕ) → KnowsItsNames (opening_session (scripted bodies params (null_names threads monitors conditions)))
+
+-- In every session of every script, if it is so at the opening it is so always.
 abbrev pub NamesAreOfTheBorn : Type 0
 NamesAreOfTheBorn = (bodies : List ThreadBody) (params : PodParams) (names : Names) → 1 ≤ params.maxpri → params.maxpri ≤ 255 → KnowsItsNames (opening_session (scripted bodies params names))
     → (takes : List Took) (n : ℕ) → IsDefined (scripted bodies params names) takes n → KnowsItsNames (play (scripted bodies params names) takes n)
