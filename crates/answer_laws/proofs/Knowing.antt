@@ -5,26 +5,30 @@ use Rattle.answer_laws.proofs.Phases.{born_below}
 use Rattle.answer_laws.proofs.PodSteps.{births_said}
 use Rattle.answer_laws.proofs.Servings.{chosen_lives, moved_lawful}
 use Rattle.answer_laws.proofs.Unnamed.{AllNamed, Below, NamedIn, named_append, named_deliver, step_named}
-use Rattle.answer_laws.specs.Known.{IsKnown, KnowsItsNames, NamesAreOfTheBorn, scripted}
+use Rattle.answer_laws.specs.Known.{KnowsItsNames, NamesAreOfTheBorn, NullNamesAreKnown, SessionsSendToTheBorn, scripted}
 use Rattle.answer_laws.specs.Served.{CanGoOn, IsReached, gone_on, moved_by}
 use Rattle.lwp_types.specs.Agents.{armed, deliver}
 use Rattle.lwp_types.specs.Choice.{choice}
 use Rattle.lwp_types.specs.Lawful.{Lawful}
 use Rattle.lwp_types.specs.Names.{Names, id_at, null_id, polled_as}
-use Rattle.lwp_types.specs.Poll.{Next, Polled}
-use Rattle.lwp_types.specs.State.{Outcome, State, passes}
+use Rattle.lwp_types.specs.Poll.{Polled}
+use Rattle.lwp_types.specs.State.{State, passes}
 use Rattle.lwp_types.specs.Step.{step}
-use Rattle.lwp_types.specs.Unblock.{zero_answer}
 use Rattle.lwp_types.specs.declared.call.Answer.{Answer}
 use Rattle.lwp_types.specs.declared.call.Call.{Call}
 use Rattle.lwp_types.specs.declared.call.Effect.{Effect}
 use Rattle.lwp_types.specs.declared.call.LwpErr.{LwpErr}
-use Rattle.line_server.specs.Sessions.{session_next}
+use Rattle.line_server.specs.Commands.{Command, command_of}
+use Rattle.line_server.specs.Sessions.{SessionBody, session_at, session_by, session_next, session_opened, session_received, session_receives, session_returns, session_sends, session_told}
 use Rattle.line_server.specs.Stores.{store_next}
+use Rattle.line_server.specs.Tables.{is_quit}
+use Rattle.line_server.specs.Turns.{is_replied, stops}
+use Rattle.line_server.specs.declared.session.SessionPlace.{SessionPlace}
+use Rattle.line_server.specs.declared.session.SessionPlace.TheVariants as at
 use Rattle.pod_events.specs.Events.{EventState, is_trapped, passed_on, rites_event, take_event, trap_taken}
 use Rattle.pod_events.specs.Rites.{as_rites, first_reported, report_text, reports_after, rites_said}
 use Rattle.pod_events.specs.Step.{event_step, event_step_by, event_step_if}
-use Rattle.pod_events.specs.Traps.{Trapping, agent_event_of, but_call, called as traps_called, is_catch, is_given, made as traps_made, made_as, notice, refused_by, stepped, trap_made, trap_of, trap_refusal}
+use Rattle.pod_events.specs.Traps.{agent_event_of, but_call, called as traps_called, is_catch, is_given, made as traps_made, made_as, notice, refused_by, stepped, trap_made, trap_of, trap_refusal}
 use Rattle.pod_laws.proofs.Opening.{Lawful-opening}
 use Rattle.pod_runner.specs.Play.{play}
 use Rattle.pod_runner.specs.Session.{Live, Session, Setting, answered as rows_answered, called, move, move_by, move_row, opening_session, polled, proc_of, row_of, row_opened, rows_born, settled, settled_by, taken, thread_in, with_row, without_row}
@@ -36,8 +40,8 @@ use Rattle.script_program.specs.Bodies.{body_next}
 use Rattle.script_program.specs.declared.body.ThreadBody.{ThreadBody}
 use Rattle.script_program.specs.declared.body.ThreadBody.TheVariants.{Scripted, Serving, Storing}
 use Rattle.script_text.specs.declared.script.Stmt.{Stmt}
-use Rattle.std.proofs.Common.{Bool, List, None, Option, Some, [], ap, arith, cond, drop, eqb, false, inl, inr, refl, subst, suc, sym, true, zero, ℕ, ◌++◌, ◌<◌, ◌∷◌, ◌≡◌, ◌≤◌, ◌⊎◌}
-use Rattle.std.specs.Prelude.{map, slice_get, slice_set}
+use Rattle.std.proofs.Common.{Bool, List, None, Option, Some, [], arith, cond, drop, eqb, false, inl, inr, refl, subst, suc, sym, true, zero, ℕ, ◌++◌, ◌<◌, ◌∷◌, ◌≡◌, ◌≤◌, ◌⊎◌}
+use Rattle.std.specs.Prelude.{codes, map, replicate, slice_get, slice_set}
 use Rattle.lwp_types.specs.declared.call.Answer.TheVariants as answer
 use Rattle.lwp_types.specs.declared.call.Call.TheVariants as call
 use Rattle.lwp_types.specs.declared.call.Effect.TheVariants as effect
@@ -301,3 +305,66 @@ names_are_of_the_born bodies params names least most known takes n defined =
 
     r : IsReached setting (play setting takes n)
     r = sessions_are_reached ThreadBody setting takes n defined
+
+null_at : (n i : ℕ) → id_at (replicate n null_id) i ≡ null_id
+null_at zero i = refl
+null_at (suc n) zero = refl
+null_at (suc n) (suc i) = null_at n i
+
+pub null_names_are_known : NullNamesAreKnown
+null_names_are_known bodies params threads monitors conditions place = inl (null_at threads place)
+
+-- ---- sends
+
+module _ (n : ℕ) (body : SessionBody) (names : Names) (known : AllKnown n names) where
+  abbrev SendsKnown : Call → Type 0
+  SendsKnown c = (to room : ℕ) (text : List ℕ) → c ≡ call.Send to room text → Known n to
+
+  sends_commands : (text : List ℕ) (o : Option Command) → SendsKnown (session_sends body names text o).0
+  sends_commands text None to room words e = absurd (cc)
+  sends_commands text (Some c) to room words e = subst (Known n) (let is : id_at names.threads body.store ≡ to = cc e in is) (known body.store)
+
+  sends_reads : (text : List ℕ) (b : Bool) → SendsKnown (cond b (call.Reply body.agent (codes "bye"), session_at body at.Bye) (session_sends body names text (command_of text))).0
+  sends_reads text true = λ to room words e. absurd (cc)
+  sends_reads text false = sends_commands text (command_of text)
+
+  sends_received : (x : Answer) → SendsKnown (session_received body names x).0
+  sends_received (answer.Letter from text room) = sends_reads text (is_quit text)
+  sends_received (answer.Refused why) = λ to room text e. absurd (cc)
+  sends_received _ = λ to room text e. absurd (cc)
+
+  sends_opened : (x : Answer) → SendsKnown (session_opened body x).0
+  sends_opened (answer.Thread a) to room text e = absurd (cc)
+  sends_opened (answer.Refused why) to room text e = absurd (cc)
+  sends_opened _ to room text e = absurd (cc)
+
+  sends_told : (x : Answer) → SendsKnown (session_told body x).0
+  sends_told (answer.Reply words) to room text e = absurd (cc)
+  sends_told (answer.Refused why) to room text e = absurd (cc)
+  sends_told _ to room text e = absurd (cc)
+
+  sends_after : (b : Bool) → SendsKnown (cond b (session_receives body) (stops body)).0
+  sends_after true to room text e = absurd (cc)
+  sends_after false to room text e = absurd (cc)
+
+  sends_returns : (b : Bool) → SendsKnown (cond b (session_returns body) (stops body)).0
+  sends_returns true to room text e = absurd (cc)
+  sends_returns false to room text e = absurd (cc)
+
+  sends_by : (x : Answer) (p : SessionPlace) → SendsKnown (session_by body names x p).0
+  sends_by x at.Start = λ to room text e. absurd (cc)
+  sends_by x at.Agent = sends_opened x
+  sends_by x at.Recv = sends_received x
+  sends_by x at.Send = sends_told x
+  sends_by x at.Reply = sends_after (is_replied x)
+  sends_by x at.Bye = sends_returns (is_replied x)
+  sends_by x at.End = λ to room text e. absurd (cc)
+
+  sends_next : (x : Answer) → SendsKnown (session_next body names x).0
+  unfolding session_next
+  sends_next x = sends_by x body.place
+
+pub sessions_send_to_the_born : SessionsSendToTheBorn
+sessions_send_to_the_born bodies params names least most known takes n defined s body heard row =
+    let session = play (scripted bodies params names) takes n in
+    sends_next session.live.pod.state.births body (polled_as s session.live.names) (names_are_of_the_born bodies params names least most known takes n defined) heard

@@ -145,9 +145,10 @@ module _ {B : Type 0} (setting : Setting B) where
   uncalled_till : (s k : ℕ) (before : List (Option Took)) (birth : Option Took) (later : List (Option Took)) (session : Session B) → Unnamed k before session → is_idle_till k s (made_in (before ++ birth ∷ later) session) ≡ true → Uncalled s (before ++ birth ∷ []) session
   uncalled_till s k [] birth later session unnamed idle = (false_of (list_any (is_call_of s) (made_by session birth).effects) (and_parts (not (list_any (is_call_of s) (made_by session birth).effects)) _ idle).0, tt)
   uncalled_till s k (m ∷ ms) birth later session unnamed idle =
-      let parts = and_parts (not (list_any (is_call_of s) (made_by session m).effects)) (is_named k (made_by session m).effects || is_idle_till k s (made_in (ms ++ birth ∷ later) (moved_by setting session m))) idle in
-      (false_of (list_any (is_call_of s) (made_by session m).effects) parts.0,
-      uncalled_till s k ms birth later (moved_by setting session m) unnamed.1 (ap (λ b. b || is_idle_till k s (made_in (ms ++ birth ∷ later) (moved_by setting session m))) (sym unnamed.0) ∙ parts.1))
+      let parts = and_parts (not (list_any (is_call_of s) (made_by session m).effects)) (is_named k (made_by session m).effects || is_idle_till k s (made_in (ms ++ birth ∷ later) (moved_by setting session m))) idle in (
+        false_of (list_any (is_call_of s) (made_by session m).effects) parts.0,
+        uncalled_till s k ms birth later (moved_by setting session m) unnamed.1 (ap (λ b. b || is_idle_till k s (made_in (ms ++ birth ∷ later) (moved_by setting session m))) (sym unnamed.0) ∙ parts.1),
+      )
 
   uncalled_behind : (s : ℕ) (one two : List (Option Took)) (session : Session B) → Uncalled s (one ++ two) session → Uncalled s two (gone_on setting one session)
   uncalled_behind s [] two session uncalled = uncalled

@@ -1,16 +1,17 @@
 -- A session that has begun and isn't polled: it stays as it began, or is gone.
+use Rattle.answer_laws.proofs.Dying.{destroyed_is_gone, gone_said, gone_thread}
 use Rattle.answer_laws.proofs.Events.{living_is_left, takes_leave_it}
 use Rattle.answer_laws.proofs.Fadings.{event_fades, take_fades}
-use Rattle.answer_laws.proofs.OwnSteps.{alive_seen, event_is, others_reply_nothing}
+use Rattle.answer_laws.proofs.OwnSteps.{alive_seen, done_by, event_is, mute_but, mute_said, others_reply_nothing, sprung_is}
 use Rattle.answer_laws.proofs.Phases.{born_below, resting}
-use Rattle.answer_laws.proofs.Servings.{alive_then, moved_lawful, rests_untimed, said_push}
+use Rattle.answer_laws.proofs.Servings.{alive_then, chosen_lives, rests_untimed}
 use Rattle.answer_laws.proofs.TalkSteps.{attends_seen}
 use Rattle.answer_laws.proofs.ThreadRows.{row_polled_other, row_settled}
 use Rattle.answer_laws.specs.Births.{is_call_of}
-use Rattle.answer_laws.specs.Clients.{replied_in, replied_to}
+use Rattle.answer_laws.specs.Clients.{replied_in}
 use Rattle.answer_laws.specs.Events.{machine_of}
-use Rattle.answer_laws.specs.Served.{Begins, CanGoOn, LineServer, gone_on, is_move_due, moved_by, steps_of}
-use Rattle.answer_laws.specs.Sights.{IsLeft, IsWoken, Sight, answers_to, sight}
+use Rattle.answer_laws.specs.Served.{Begins}
+use Rattle.answer_laws.specs.Sights.{IsLeft, IsWoken, Sight, sight}
 use Rattle.answer_laws.specs.Stands.{last_heard}
 use Rattle.lwp_types.specs.Agents.{armed, deliver}
 use Rattle.lwp_types.specs.Choice.{choice}
@@ -28,10 +29,10 @@ use Rattle.lwp_types.specs.declared.call.LwpErr.{LwpErr}
 use Rattle.pod_events.specs.Events.{EventState, is_takeable, is_trapped, rites_event, take_event}
 use Rattle.pod_events.specs.Rites.{as_rites, first_reported, report_text, reports_after, rites_said}
 use Rattle.pod_events.specs.Step.{event_step}
-use Rattle.pod_events.specs.Traps.{agent_event_of, called as traps_called, made as traps_made, made_as, notice, refused_by, sprung_by, stepped, trap_made, trap_of, trap_refusal}
+use Rattle.pod_events.specs.Traps.{Trapping, agent_event_of, called as traps_called, made as traps_made, made_as, refused_by, stepped, trap_made, trap_of, trap_refusal}
 use Rattle.pod_laws.proofs.Elements.{differ}
 use Rattle.pod_laws.specs.Forgotten.{is_died}
-use Rattle.pod_runner.specs.Session.{Live, Session, Setting, called, move, move_by, move_row, polled, proc_of, row_of, settled, taken}
+use Rattle.pod_runner.specs.Session.{Live, Setting, called, move, move_by, move_row, polled, proc_of, row_of, settled, taken}
 use Rattle.pod_runner.specs.declared.session.Row.{Row}
 use Rattle.pod_runner.specs.declared.session.Took.{Took}
 use Rattle.session_laws.proofs.Pods.{call_moved, take_moved}
@@ -40,6 +41,7 @@ use Rattle.std.proofs.lemmas.Bool.{eq-eqb, eqb-true}
 use Rattle.std.specs.List.{list_any}
 use Rattle.std.specs.Prelude.{map}
 use Rattle.lwp_types.specs.declared.call.Answer.TheVariants as answer
+use Rattle.lwp_types.specs.declared.call.Call.TheVariants as call
 use Rattle.lwp_types.specs.declared.call.Effect.TheVariants as effect
 use Rattle.lwp_types.specs.declared.call.LwpErr.TheVariants as error
 use Rattle.lwp_types.specs.declared.rows.Block.TheVariants as block
@@ -67,9 +69,6 @@ module _ (s : ℕ) where
   heads_called : (c : Call) (es : List Effect) → Heads (effect.Called s c ∷ es)
   heads_called c es = first_is (list_any (is_call_of s) es) self
 
-  heads_trapped : (e : ℕ) (es : List Effect) → Heads (effect.Trapped s e ∷ es)
-  heads_trapped e es = first_is (list_any (is_call_of s) es) self
-
   module _ (es : EventState) (turn : choice es.state ≡ Some s) (c : Call) where
     heads_step : Heads (step es.state c).effects
     unfolding step step_by
@@ -90,10 +89,6 @@ module _ (s : ℕ) where
         by_trap None = by_agent (passes (is_trapped es.trapped) (agent_event_of c))
         by_trap (Some e) = by_refusal e (trap_refusal es.state es.trapped e)
 
-    heads_of : (pending : Option ℕ) → Heads (traps_called es.state es.trapped s c pending).effects
-    heads_of None = heads_made
-    heads_of (Some e) = heads_trapped e (sprung_by es.state es.trapped s c e (notice es.state s e)).effects
-
     heads_said : (after : State) (fs : List Effect) (reports : List ℕ) → Heads fs → Heads (rites_said after fs reports).effects
     heads_said after fs reports heads = by_armed (armed after rites_event) reports
       where
@@ -102,11 +97,31 @@ module _ (s : ℕ) where
         by_armed false rs = heads
         by_armed true (dead ∷ later) = any_before fs (map (as_rites dead) (deliver after rites_event (report_text dead)).effects) heads
 
-    -- its call, or the trap before it, is among the effects
-    own_is_told : Heads (event_step es c).effects
-    own_is_told =
-        let out = traps_called es.state es.trapped s c es.pending in
-        ap (λ (o : Outcome). list_any (is_call_of s) o.effects) (event_is es s c turn) ∙ heads_said out.state out.effects (reports_after es.state out.state es.reports out.effects) (heads_of es.pending)
+    -- where no trap is raised before it, its call is among the effects
+    own_is_told : es.pending ≡ None → Heads (event_step es c).effects
+    own_is_told free =
+        let out = traps_made es.state es.trapped s c in
+        ap (λ (o : Outcome). list_any (is_call_of s) o.effects) (event_is es s c turn ∙ ap (λ p. done_by es (traps_called es.state es.trapped s c p)) free) ∙ heads_said out.state out.effects (reports_after es.state out.state es.reports out.effects) heads_made
+
+  -- it is gone, and has replied nothing
+  abbrev IsOff : Outcome → Type 0
+  IsOff out = (is_thread out.after s ≡ false) × ((a : ℕ) → replied_in s a out.effects ≡ [])
+
+  -- who rests has no handler, and a trap is its end
+  trapped_off : (es : EventState) → Lawful es.state None → choice es.state ≡ Some s → sight es.state s ≡ resting → (e : ℕ) → es.pending ≡ Some e → (c : Call) → IsOff (machine_of (event_step es c))
+  trapped_off es was turn seen e is c = subst IsOff (sym whole) (
+    gone_thread (rites_said out.state out.effects reports).state s (gone_said s out.state out.effects reports (destroyed_is_gone es.state was s s turn (chosen_lives es.state was s turn))),
+    λ a. mute_said s a out.state out.effects reports (λ ys none. mute_but s a es.state (call.Destroy s) ys none),
+  )
+    where
+      out : Trapping
+      out = record { state = (step es.state (call.Destroy s)).after; trapped = es.trapped; effects = effect.Trapped s e ∷ drop 1 (step es.state (call.Destroy s)).effects }
+
+      reports : List ℕ
+      reports = reports_after es.state out.state es.reports out.effects
+
+      whole : machine_of (event_step es c) ≡ done_by es out
+      whole = event_is es s c turn ∙ ap (λ p. done_by es (traps_called es.state es.trapped s c p)) is ∙ ap (done_by es) (sprung_is es.state es.trapped s c e (ap (λ (v : Sight). v.marks) seen))
 
 -- ---- it is left
 
@@ -160,6 +175,18 @@ module _ {B : Type 0} (setting : Setting B) (s : ℕ) (body : B) where
     pub idle : Idle after
     pub silent : (a : ℕ) → replied_in s a es ≡ []
 
+  -- its own turn, where its call isn't told
+  own_turn : (live : Live B) → Lawful live.pod.state None → choice live.pod.state ≡ Some s → (t : ℕ) (reply : Polled B) → list_any (is_call_of s) (called setting.bodies live t reply).effects ≡ false → Idle live → Passes (called setting.bodies live t reply).live (called setting.bodies live t reply).effects
+  unfolding called
+  own_turn live was turn t reply uncalled (Dead low off) = differ (sym (chosen_lives live.pod.state was s turn) ∙ off)
+  own_turn live was turn t reply uncalled (Ready b) = by_pending live.pod.pending refl
+    where
+      by_pending : (p : Option ℕ) → live.pod.pending ≡ p → Passes (called setting.bodies live t reply).live (called setting.bodies live t reply).effects
+      by_pending None free = differ (sym (own_is_told s live.pod turn reply.0 free) ∙ uncalled)
+      by_pending (Some e) is =
+          let off = trapped_off s live.pod was turn b.thread e is reply.0 in
+          record { idle = Dead (omega (arith, idle_below live was (Ready b), (event_fades s live.pod reply.0).births)) off.0; silent = off.1 }
+
   passes_row : (live : Live B) → Lawful live.pod.state None → Idle live → (t : ℕ) → choice live.pod.state ≡ Some t → (o : Option (Row B)) → list_any (is_call_of s) (move_row setting.next setting.bodies live t o).effects ≡ false
       → Passes (move_row setting.next setting.bodies live t o).live (move_row setting.next setting.bodies live t o).effects
   unfolding called
@@ -170,7 +197,7 @@ module _ {B : Type 0} (setting : Setting B) (s : ℕ) (body : B) where
       reply = setting.next row.body (polled_as t live.names) row.answer
 
       by_self : (b : Bool) → eqb t s ≡ b → Passes (called setting.bodies live t (setting.next row.body (polled_as t live.names) row.answer)).live (called setting.bodies live t (setting.next row.body (polled_as t live.names) row.answer)).effects
-      by_self true e = differ (sym (own_is_told s live.pod (turn ∙ ap Some (eqb-true t s e)) reply.0) ∙ uncalled)
+      by_self true e = own_turn live was (turn ∙ ap Some (eqb-true t s e)) t reply uncalled h
       by_self false e = record { idle = idle_other live was t turn e reply h; silent = λ a. (others_reply_nothing s a live.pod).0 t turn e reply.0 }
 
   pub passes_call : (live : Live B) → Lawful live.pod.state None → Idle live → list_any (is_call_of s) (move setting.next setting.bodies live).effects ≡ false → Passes (move setting.next setting.bodies live).live (move setting.next setting.bodies live).effects

@@ -1,26 +1,23 @@
 -- What the machine tells others than the caller names no thread; and the caller is answered with somebody born, if with anybody.
 use Rattle.lwp_types.specs.Agents.{agent_gone, agents_of, deliver, deliver_to, end_agent, event_agents, message}
-use Rattle.lwp_types.specs.Case.{Case, Check, answered, refused, unanswered, unless, valued, with_zero}
-use Rattle.lwp_types.specs.Choice.{best_by, choice}
+use Rattle.lwp_types.specs.Case.{Case, Check, refused, unanswered, unless, valued, with_zero}
+use Rattle.lwp_types.specs.Choice.{choice}
 use Rattle.lwp_types.specs.Death.{answer_joiners, bury, death, destroy, end_agents, refuse_receivers, refuse_sender, refuse_senders, release_all, return_from, run_all_exits, withdraw}
 use Rattle.lwp_types.specs.Exits.{caught, exit_case, leave_frame, notified_by, run_exit, unwind}
-use Rattle.lwp_types.specs.Lawful.{Lawful}
-use Rattle.lwp_types.specs.Letters.{as_answer, as_received, post, receive_by, received_from, receivers_of, replied, senders_to, takes_from, unreceived, with_holding, without_letter}
+use Rattle.lwp_types.specs.Letters.{as_answer, as_received, post, receive_by, receivers_of, replied, senders_to, takes_from, unreceived, with_holding, without_letter}
 use Rattle.lwp_types.specs.Locks.{depth_in, entered, exited, is_owned_by_other, requested, with_depth}
 use Rattle.lwp_types.specs.Marks.{caught_marks, exits_of, first_frames, found, frames, later_frames, with_match}
 use Rattle.lwp_types.specs.Release.{grant, last_lock, next_owner, release, without_lock}
-use Rattle.lwp_types.specs.State.{Outcome, State, ThreadRow, and_then, for_each, in_order, is_agent, marked, marks_in, passes, priority_in, still, thread_of}
+use Rattle.lwp_types.specs.State.{Outcome, State, ThreadRow, and_then, for_each, in_order, is_agent, marked, marks_in, passes, still, thread_of}
 use Rattle.lwp_types.specs.Step.{case_of, end_effects, ends, finished, own_effects, step, step_by, step_if}
-use Rattle.lwp_types.specs.Threads.{created}
 use Rattle.lwp_types.specs.Time.{due_threads, is_asleep_in, tick, ticked, time_out}
 use Rattle.lwp_types.specs.Unblock.{blocked, blocked_for, nonexist, timed_out, unblock, zero_answer}
-use Rattle.lwp_types.specs.Waits.{waited, waits_on, waking}
+use Rattle.lwp_types.specs.Waits.{waited}
 use Rattle.lwp_types.specs.declared.call.Answer.{Answer}
 use Rattle.lwp_types.specs.declared.call.Call.{Call}
 use Rattle.lwp_types.specs.declared.call.Effect.{Effect}
 use Rattle.lwp_types.specs.declared.call.ExitCall.{ExitCall}
 use Rattle.lwp_types.specs.declared.call.Func.{Func}
-use Rattle.lwp_types.specs.declared.call.LwpErr.{LwpErr}
 use Rattle.lwp_types.specs.declared.call.Mode.{Mode}
 use Rattle.lwp_types.specs.declared.rows.AgentRow.{AgentRow}
 use Rattle.lwp_types.specs.declared.rows.ExitMark.{ExitMark}
@@ -30,7 +27,7 @@ use Rattle.lwp_types.specs.declared.rows.Lock.{Lock}
 use Rattle.lwp_types.specs.declared.rows.Mark.{Mark}
 use Rattle.lwp_types.specs.declared.rows.Request.{Request}
 use Rattle.pod_runner.specs.Session.{thread_in}
-use Rattle.std.proofs.Common.{Bool, List, None, Option, Some, [], arith, cond, eqb, false, option_to_list, refl, subst, sym, true, ℕ, ◌++◌, ◌+◌, ◌-◌, ◌<◌, ◌∷◌, ◌≡◌}
+use Rattle.std.proofs.Common.{Bool, List, None, Option, Some, [], arith, cond, eqb, false, refl, subst, sym, true, ℕ, ◌++◌, ◌+◌, ◌-◌, ◌<◌, ◌∷◌, ◌≡◌}
 use Rattle.std.specs.Prelude.{nat_le}
 use Rattle.lwp_types.specs.declared.call.Answer.TheVariants as answer
 use Rattle.lwp_types.specs.declared.call.Call.TheVariants as call

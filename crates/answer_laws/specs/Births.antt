@@ -39,10 +39,9 @@ abbrev pub begins_in : ℕ → List Made → Option ℕ
 begins_in t [] = None
 begins_in t (made ∷ steps) = if is_named t made.effects then born_in t made.effects else begins_in t steps
 
--- the effect is a call of the thread, or a trap that is raised in it
+-- the effect is a call of the thread
 abbrev pub is_call_of : ℕ → Effect → Bool
 is_call_of t (effect.Called u c) = u == t
-is_call_of t (effect.Trapped u e) = u == t
 is_call_of t _ = false
 
 -- s makes no call before the first step that names k, nor in that

@@ -1,12 +1,12 @@
 -- Steps of two sessions, worked out by hand. The store is thread 1, the client's session 2, and its agent 4.
-use Rattle.answer_laws.specs.Births.{begins_in}
+use Rattle.answer_laws.specs.Births.{begins_in, is_idle_till}
 use Rattle.answer_laws.specs.Clients.{Step, all_sends_to, delivered_to, replied_to}
 use Rattle.lwp_types.specs.Names.{null_id}
 use Rattle.lwp_types.specs.Unblock.{nonexist, zero_answer}
 use Rattle.lwp_types.specs.declared.call.Effect.{Effect}
 use Rattle.lwp_types.specs.declared.call.Flags.{Flags}
 use Rattle.pod_runner.specs.Session.{Made}
-use Rattle.std.specs.Prelude.{Bool, List, None, Some, [], codes, false, ℕ, ◌∷◌, ◌≡◌}
+use Rattle.std.specs.Prelude.{Bool, List, None, Some, [], codes, false, true, ℕ, ◌∷◌, ◌≡◌}
 use Rattle.lwp_types.specs.declared.call.Answer.TheVariants as answer
 use Rattle.lwp_types.specs.declared.call.Call.TheVariants as call
 use Rattle.lwp_types.specs.declared.call.Effect.TheVariants as effect
@@ -70,3 +70,7 @@ two_created = called (effect.Called 0 (call.Create 5 2 plain) ∷ effect.Answere
 -- threads 1 and 2 begin in these procedures, and threads 0 and 3 in none that a step tells
 abbrev pub Begin : List Made → ℕ → ℕ → Type 0
 Begin steps one two = (begins_in 1 steps ≡ Some one) × (begins_in 2 steps ≡ Some two) × (begins_in 0 steps ≡ None) × (begins_in 3 steps ≡ None)
+
+-- thread 1 has made no call when thread 1 is born, nor has thread 3 when 2 is; but 1 has, and 0, which creates it
+abbrev pub Wait : List Made → Type 0
+Wait steps = (is_idle_till 1 1 steps ≡ true) × (is_idle_till 2 3 steps ≡ true) × (is_idle_till 2 1 steps ≡ false) × (is_idle_till 1 0 steps ≡ false)

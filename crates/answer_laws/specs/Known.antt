@@ -1,14 +1,18 @@
 -- Whom the names of a script's threads stand for.
-use Rattle.lwp_types.specs.Names.{Names, id_at, null_id}
+use Rattle.line_server.specs.Sessions.{SessionBody, session_next}
+use Rattle.lwp_types.specs.Names.{Names, id_at, null_id, null_names, polled_as}
 use Rattle.lwp_types.specs.State.{State}
+use Rattle.lwp_types.specs.declared.call.Answer.{Answer}
+use Rattle.lwp_types.specs.declared.call.Call.TheVariants as call
 use Rattle.lwp_types.specs.declared.call.PodParams.{PodParams}
 use Rattle.pod_runner.specs.Due.{IsDefined}
 use Rattle.pod_runner.specs.Play.{play}
-use Rattle.pod_runner.specs.Session.{Session, Setting, opening_session}
+use Rattle.pod_runner.specs.Session.{Session, Setting, opening_session, row_of}
 use Rattle.pod_runner.specs.declared.session.Took.{Took}
 use Rattle.script_program.specs.Bodies.{body_next}
 use Rattle.script_program.specs.declared.body.ThreadBody.{ThreadBody}
-use Rattle.std.specs.Prelude.{List, ℕ, ◌<◌, ◌≡◌, ◌≤◌, ◌⊎◌}
+use Rattle.script_program.specs.declared.body.ThreadBody.TheVariants.{Serving}
+use Rattle.std.specs.Prelude.{List, Some, ℕ, ◌<◌, ◌≡◌, ◌≤◌, ◌⊎◌}
 
 -- it is null, or the number of somebody born
 abbrev pub IsKnown : State → ℕ → Type 0
@@ -22,7 +26,19 @@ KnowsItsNames session = (place : ℕ) → IsKnown session.live.pod.state (id_at 
 abbrev pub scripted : List ThreadBody → PodParams → Names → Setting ThreadBody
 scripted bodies params names = record { next = body_next; bodies = bodies; params = params; names = names }
 
--- In every session of every script, if it is so at the opening, where all names are null, it is so always.
+-- So it is at the opening of a script's session, where all names are null.
+abbrev pub NullNamesAreKnown : Type 0
+NullNamesAreKnown = (bodies : List ThreadBody) (params : PodParams) (threads monitors conditions : ℕ) → KnowsItsNames (opening_session (scripted bodies params (null_names threads monitors conditions)))
+
+-- In every session of every script, if it is so at the opening it is so always.
 abbrev pub NamesAreOfTheBorn : Type 0
 NamesAreOfTheBorn = (bodies : List ThreadBody) (params : PodParams) (names : Names) → 1 ≤ params.maxpri → params.maxpri ≤ 255 → KnowsItsNames (opening_session (scripted bodies params names))
     → (takes : List Took) (n : ℕ) → IsDefined (scripted bodies params names) takes n → KnowsItsNames (play (scripted bodies params names) takes n)
+
+-- And a client's session sends to somebody who was born, or to nobody: not to a store before its birth.
+abbrev pub SessionsSendToTheBorn : Type 0
+SessionsSendToTheBorn = (bodies : List ThreadBody) (params : PodParams) (names : Names) → 1 ≤ params.maxpri → params.maxpri ≤ 255 → KnowsItsNames (opening_session (scripted bodies params names))
+    → (takes : List Took) (n : ℕ) → IsDefined (scripted bodies params names) takes n
+    → (s : ℕ) (body : SessionBody) (heard : Answer) → row_of s (play (scripted bodies params names) takes n).live.rows ≡ Some (record { tid = s; body = Serving body; answer = heard })
+    → (to room : ℕ) (text : List ℕ) → (session_next body (polled_as s (play (scripted bodies params names) takes n).live.names) heard).0 ≡ call.Send to room text
+    → IsKnown (play (scripted bodies params names) takes n).live.pod.state to

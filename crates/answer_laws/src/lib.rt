@@ -3,8 +3,9 @@
 //!
 //! | what is said | law, and where it stands |
 //! |---|---|
-//! | in every session of every script, whenever lines are taken and whatever the other clients do: of a client's session and a store that has begun before it, the accepted replies to the session's agent are a first part of the answers to the lines delivered to that | `InEveryScript`, and of any bodies `InEverySession` (`specs/Births.antt`) |
+//! | in every session of every script, whenever lines are taken and whatever the other clients do: of a client's session and a store that has begun before it makes a call, the accepted replies to the session's agent are a first part of the answers to the lines delivered to that | `InEveryScript`, and of any bodies `InEverySession` (`specs/Births.antt`) |
 //! | so it is from any point of a session on at which the two begin, or the session behind a store that has served others | `ClientsAreAnsweredInTurn`, `LaterClientsAreAnsweredInTurn`, and by moves from the opening on `InWholeSessions`, `SessionsAreReached` (`specs/Served.antt`) |
+//! | in every session of every script each name of a thread is null, or the number of somebody who was born; so a client's session sends to nobody else | `NullNamesAreKnown`, `NamesAreOfTheBorn`, `SessionsSendToTheBorn` (`specs/Known.antt`) |
 //! | a session and a store that talk, whatever others send to the store and whoever ends: what the client is told is a first part of the answers to its lines | `TalksAreAnswers` (`specs/Talks.antt`) |
 //! | the answers to lines that have room in a letter have room in one | `ShortLinesHaveShortAnswers` (`specs/Lengths.antt`) |
 //! | a sender has one letter at most; whoever receives it is handed it as it was sent; and what is replied to it is what its sender is answered | `EachHasOneLetter`, `ReceivesAreTheLetters`, `RepliesAreTheAnswers`, `ReadersLeaveTheRest` (`specs/Replies.antt`) |
@@ -24,7 +25,7 @@
 //! their letters and the agent stand in the machine while they talk, `Stands` says.
 //!
 //! Of a session it is asked that the store lives in the end, that whatever the client's session has sent went to it, that the store was born
-//! first, that the lines that were taken have room in a letter, and that fewer were born than there are numbers. That a trap may be raised in
+//! before the session makes a call, that the lines that were taken have room in a letter, and that fewer were born than there are numbers. That a trap may be raised in
 //! either, that somebody may destroy the session or its agent, and what reports and other agents of the event there are, makes no difference:
 //! a trap is the end of whoever has no handler, and a store that lives in the end has met none.
 //!
@@ -37,7 +38,7 @@ pub mod rows;
 ghost use Rattle.answer_laws.specs.Agents.{DeliveriesPassOthersBy, DeliveriesReachAgents, DestroyedAgentsAreGone, OthersLeaveAgents};
 ghost use Rattle.answer_laws.specs.Births.{InEveryScript, InEverySession};
 ghost use Rattle.answer_laws.specs.Events.{PodsLeaveIt, TakesLeaveIt};
-ghost use Rattle.answer_laws.specs.Known.{NamesAreOfTheBorn};
+ghost use Rattle.answer_laws.specs.Known.{NamesAreOfTheBorn, NullNamesAreKnown, SessionsSendToTheBorn};
 ghost use Rattle.answer_laws.specs.Lengths.{ShortLinesHaveShortAnswers};
 ghost use Rattle.answer_laws.specs.Owners.{OwnersOfNoneAreRefused, OwnersReceive, OwnersReply, SendsAreLetters};
 ghost use Rattle.answer_laws.specs.Owns.{LivingCallsAreEvents, OthersReplyNothing, PodsSessionsCallsAreEvents, PodsStoresCallsAreEvents};
@@ -49,8 +50,8 @@ ghost use Rattle.answer_laws.specs.Talks.{TalksAreAnswers};
 
 use lwp_types::Body;
 
-/// In every session, whatever its bodies do and whenever lines are taken: of a client's session and a store that has begun before it, what the
-/// client is told is a first part of the answers to its lines.
+/// In every session, whatever its bodies do and whenever lines are taken: of a client's session and a store that has begun before it makes a
+/// call, what the client is told is a first part of the answers to its lines.
 pub fn every_client<B: Body>()
     ensures { InEverySession B }
 {}
@@ -60,9 +61,19 @@ pub fn every_client_of_a_script()
     ensures { InEveryScript }
 {}
 
-/// In every session of every script each name of a thread is null, or the number of somebody who was born.
+/// Names that are null at the opening of a script's session stand for nobody who isn't born.
+pub fn every_opening()
+    ensures { NullNamesAreKnown }
+{}
+
+/// From there on, in every session of every script, each name of a thread is null, or the number of somebody who was born.
 pub fn every_name()
     ensures { NamesAreOfTheBorn }
+{}
+
+/// So a client's session sends to nobody before his birth.
+pub fn every_send_of_a_session()
+    ensures { SessionsSendToTheBorn }
 {}
 
 /// From where a store and a client's session begin, the one born before the other or behind it, and neither polled yet: so it is in whatever
