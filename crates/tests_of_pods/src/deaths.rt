@@ -1,14 +1,16 @@
-ghost use Rattle.std.specs.Prelude.{◌≡◌, ◌<◌, ◌∷◌, [], IfOk, OnOk, length};
+ghost use Rattle.std.specs.Prelude.{◌≡◌, ◌<◌, ◌∷◌, [], IfOk, IsTrue, OnOk, length};
 ghost use Rattle.death_cleanup.specs.Example as example;
 ghost use Rattle.death_cleanup.specs.Example.{thread};
+ghost use Rattle.death_cleanup.specs.Named.{all_noted};
 ghost use Rattle.death_cleanup.specs.Ties.{LawfulParts};
+ghost use Rattle.tests_of_pods.specs.Living.{register_as};
 ghost use Rattle.exc_stack.specs.Stack.{one_frame};
 ghost use Rattle.monitors.specs.MonitorTable.{empty_table};
 ghost use Rattle.stale_ids.specs.Register.{inserted};
 
 use agents::Agents;
 use conditions::{Conds, WaitRec};
-use death_cleanup::{Kind, Named, Parts, ThreadRec, die};
+use death_cleanup::{Kind, Named, Parts, ThreadRec, die, note};
 use exc_stack::ExcStack;
 use lwp_types::{
     Answer, Block, Cid, Effect, Effects, ExitCall, Flags, Letter, LwpErr, Mid, NoMemory, Text, Tid,
@@ -26,6 +28,10 @@ const PLAIN: Flags = Flags {
 };
 
 const DYING: Tid = Tid { number: 0 };
+
+const RECEIVES: Block = Block::Receiving(Some(DYING));
+
+const JOINS: Block = Block::Joining(DYING);
 
 const AGENT: Tid = Tid { number: 8 };
 
@@ -74,31 +80,48 @@ fn five_exits(alloc: Global) -> Result<ExcStack, NoMemory>
     Ok(stack)
 }
 
-// All are born.
-fn bear_all(ids: &mut Registry<Kind>, alloc: Global) -> Result<(), NoMemory>
+// All are born; the threads 3 to 5 wait so.
+fn bear_all(
+    ids: &mut Registry<Kind>,
+    alloc: Global,
+    third: Block,
+    fourth: Block,
+    fifth: Block,
+) -> Result<(), NoMemory>
     requires { ids.old ≡ record { live = []; births = 0; limit = 100; places = 9 } }
-    ensures { OnOk result (ids.new ≡ example.ids) }
+    ensures { OnOk result (ids.new ≡ register_as third fourth fifth) }
 {
     let stack = five_exits(alloc)?;
     bear_with(ids, Block::Waiting(Cid { number: 0 }), stack);
     bear(ids, alloc, Block::Sending)?;
     bear(ids, alloc, Block::Sending)?;
-    bear(ids, alloc, Block::Receiving(Some(DYING)))?;
-    bear(ids, alloc, Block::Joining(DYING))?;
-    bear(ids, alloc, Block::Joining(DYING))?;
+    bear(ids, alloc, third)?;
+    bear(ids, alloc, fourth)?;
+    bear(ids, alloc, fifth)?;
     bear(ids, alloc, Block::Entering(Mid { number: 0 }))?;
     bear(ids, alloc, Block::Entering(Mid { number: 1 }))?;
     let _ = ids.insert(Kind::Agent);
     Ok(())
 }
 
-fn living(alloc: Global) -> Result<Registry<Kind>, NoMemory>
-    ensures { IfOk result (λ ids. ids ≡ example.ids) }
+fn living(
+    alloc: Global,
+    third: Block,
+    fourth: Block,
+    fifth: Block,
+) -> Result<Registry<Kind>, NoMemory>
+    ensures { IfOk result (λ ids. ids ≡ register_as third fourth fifth) }
 {
     let mut ids = Registry::new(alloc, 100);
     ids.reserve(9)?;
-    bear_all(&mut ids, alloc)?;
+    bear_all(&mut ids, alloc, third, fourth, fifth)?;
     Ok(ids)
+}
+
+fn all_waiting(alloc: Global) -> Result<Registry<Kind>, NoMemory>
+    ensures { IfOk result (λ ids. ids ≡ example.ids) }
+{
+    living(alloc, RECEIVES, JOINS, JOINS)
 }
 
 fn scheduled(alloc: Global) -> Result<Sched, NoMemory>
@@ -208,22 +231,26 @@ fn armed(alloc: Global) -> Result<Agents, NoMemory>
     Ok(agents)
 }
 
+// One after another waits by name: a thread receives from the dying one, and two join it.
 fn noted(alloc: Global) -> Result<Named, NoMemory>
-    ensures { IfOk result (λ n. n ≡ example.named) }
+    ensures { IfOk result (λ n. IsTrue (all_noted n example.ids.live)) }
 {
     let mut named = Named::new(alloc)?;
-    named.add(Tid { number: 3 }, DYING);
-    named.add(Tid { number: 4 }, DYING);
-    named.add(Tid { number: 5 }, DYING);
+    let ids = living(alloc, Block::Not, Block::Not, Block::Not)?;
+    note(&mut named, &ids, Tid { number: 3 }, &RECEIVES);
+    let ids = living(alloc, RECEIVES, Block::Not, Block::Not)?;
+    note(&mut named, &ids, Tid { number: 4 }, &JOINS);
+    let ids = living(alloc, RECEIVES, JOINS, Block::Not)?;
+    note(&mut named, &ids, Tid { number: 5 }, &JOINS);
     Ok(named)
 }
 
 fn parts(alloc: Global) -> Result<Parts, NoMemory>
-    ensures same { IfOk result (λ p. p ≡ example.parts) }
+    ensures same { IfOk result (λ p. p ≡ record example.parts { named = p.named }) }
     ensures lawful { IfOk result (λ p. LawfulParts p) }
 {
     Ok(Parts {
-        ids: living(alloc)?,
+        ids: all_waiting(alloc)?,
         sched: scheduled(alloc)?,
         mail: posted(alloc)?,
         mons: held(alloc)?,
