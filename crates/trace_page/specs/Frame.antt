@@ -26,7 +26,7 @@ marks = codes "text{font:12px sans-serif}\n.name{font-weight:bold}\n.said{font-s
 
 -- how waits look: by colour and by pattern
 unfoldable pub waits : List ℕ
-waits = codes ".reply{fill:url(#p-reply);stroke:var(--reply)}\n.letter{fill:url(#p-letter);stroke:var(--letter)}\n.monitor{fill:url(#p-monitor);stroke:var(--monitor)}\n.condition{fill:url(#p-condition);stroke:var(--condition)}\n.death{fill:url(#p-death);stroke:var(--death)}\n.sleep{fill:url(#p-sleep);stroke:var(--clock)}\n.suspended{fill:url(#p-suspended);stroke:var(--suspended)}\n#p-reply path{stroke:var(--reply);stroke-width:1.4;fill:none}\n#p-letter path{stroke:var(--letter);stroke-width:1.4;fill:none}\n#p-monitor path{stroke:var(--monitor);stroke-width:1.4;fill:none}\n#p-condition path{stroke:var(--condition);stroke-width:1.4;fill:none}\n#p-death path{stroke:var(--death);stroke-width:1.4;fill:none}\n#p-sleep path{stroke:var(--clock);stroke-width:1.4;fill:none}\n#p-suspended path{stroke:var(--suspended);stroke-width:1.4;fill:none}\n"
+waits = codes ".reply{fill:url(#p-reply);stroke:var(--reply)}\n.letter{fill:url(#p-letter);stroke:var(--letter)}\n.monitor{fill:url(#p-monitor);stroke:var(--monitor)}\n.condition{fill:url(#p-condition);stroke:var(--condition)}\n.death{fill:url(#p-death);stroke:var(--death)}\n.sleep{fill:url(#p-sleep);stroke:var(--clock)}\n.suspended{fill:url(#p-suspended);stroke:var(--suspended)}\n#p-reply path{stroke:var(--reply);stroke-width:1.4;fill:none}\n#p-letter path{stroke:var(--letter);stroke-width:1.4;fill:none}\n#p-monitor path{stroke:var(--monitor);stroke-width:1.4;fill:none}\n#p-condition path{stroke:var(--condition);stroke-width:1.4;fill:none}\n#p-death path{stroke:var(--death);stroke-width:1.4;fill:none}\n#p-sleep path{stroke:var(--clock);stroke-width:1.4;fill:none}\n#p-suspended path{stroke:var(--suspended);stroke-width:1.4;fill:none}\n@media print{.reply{fill:none;stroke-dasharray:5 2}.letter{fill:none}.monitor{fill:none;stroke-width:2}.condition{fill:none;stroke-dasharray:1.5 2}.death{fill:var(--line)}.sleep{fill:none;stroke-dasharray:8 2 1.5 2}.suspended{fill:none}}\n"
 
 -- how arrows look
 unfoldable pub ways : List ℕ
