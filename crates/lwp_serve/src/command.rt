@@ -1,6 +1,7 @@
 // What the program does, by its words.
 ghost use Rattle.std.specs.Prelude.{◌≡◌, ◌≤◌, IfSome, length, map, string_bytes};
 ghost use Rattle.lwp_serve.specs.Words.{MayBe, TopSays, answers_by, batch_by, client_of, command_by, command_of, is_answers, is_batch, is_make, is_plan, is_replay, is_run, threads_of, turns_of};
+ghost use Rattle.whole_streams.specs.Streams.{sides};
 
 use event_gate::PostGate;
 use lwp_types::{Sink, Source};
@@ -194,8 +195,8 @@ pub fn top<S: Source, K: Sink, G: PostGate, R: Threads + Wait + Sync>(
 ) -> Session
     requires { 16 ≤ length gates.items }
     ensures { TopSays (command_of (map string_bytes words.now.items))
-        (record { old = S.left source.old; new = S.left source.new; faults_old = S.faults source.old; faults_new = S.faults source.new })
-        (record { old = K.written sink.old; new = K.written sink.new; faults_old = K.faults sink.old; faults_new = K.faults sink.new }) result }
+        (sides S.left S.faults source.old source.new)
+        (sides K.written K.faults sink.old sink.new) result }
 {
     match command_of(words) {
         Some(Command::Run(turns)) => run_main(rt, alloc, turns, source, sink, gates),

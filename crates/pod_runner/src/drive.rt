@@ -8,6 +8,7 @@ ghost use Rattle.pod_runner.specs.Due.{IsDefined};
 ghost use Rattle.pod_runner.specs.Eager.{IsFirstPart, boundary, finished, offered, plan_over, plan_whole, round};
 ghost use Rattle.pod_runner.specs.Over.{can_take};
 ghost use Rattle.pod_runner.specs.Run.{setting_of, session_of, plan_now, planned_of, trace_before, trace_of, EndsAt, IsNew, Writes, WritesCut, WritesPart, GoesOn};
+ghost use Rattle.whole_streams.specs.Streams.{sides};
 
 use crate::playing::Run;
 use crate::{Phase, RunErr};
@@ -28,7 +29,7 @@ fn take_line<B: Body, P: Program<B>, G: Gate, K: Sink>(
     requires made { IsDefined (setting_of B.next P.bodies run.old) run.old.takes run.old.calls }
     requires room { run.old.calls ≤ run.old.turns }
     requires wanted { IsTrue (is_takeable (session_of B.next P.bodies run.old).live.pod event) }
-    ensures { Does B.next P.bodies P.proc_names (record { old = K.written sink.old; new = K.written sink.new; faults_old = K.faults sink.old; faults_new = K.faults sink.new }) (λ planned plan. offered planned event plan) run.old run.new (G.stock gate.old) (G.stock gate.new) result }
+    ensures { Does B.next P.bodies P.proc_names (sides K.written K.faults sink.old sink.new) (λ planned plan. offered planned event plan) run.old run.new (G.stock gate.old) (G.stock gate.new) result }
 {
     match gate.take(event) {
         Some(line) => run.offer(event, line, sink),
@@ -64,7 +65,7 @@ fn serve_all<B: Body, P: Program<B>, G: Gate, K: Sink>(
     requires sound { run.old.failed ≡ false }
     requires made { IsDefined (setting_of B.next P.bodies run.old) run.old.takes run.old.calls }
     requires room { run.old.calls ≤ run.old.turns }
-    ensures { Does B.next P.bodies P.proc_names (record { old = K.written sink.old; new = K.written sink.new; faults_old = K.faults sink.old; faults_new = K.faults sink.new }) (λ planned plan. boundary planned plan) run.old run.new (G.stock gate.old) (G.stock gate.new) result }
+    ensures { Does B.next P.bodies P.proc_names (sides K.written K.faults sink.old sink.new) (λ planned plan. boundary planned plan) run.old run.new (G.stock gate.old) (G.stock gate.new) result }
 {
     let mut from = 0;
     while let Some(event) = next_due(run, gate, from) {
@@ -82,7 +83,7 @@ pub fn go_round<B: Body, P: Program<B>, G: Gate, K: Sink>(
     sink: &mut K,
 ) -> Result<Option<Halt>, RunErr>
     requires { run.old.failed ≡ false }
-    ensures does { Does B.next P.bodies P.proc_names (record { old = K.written sink.old; new = K.written sink.new; faults_old = K.faults sink.old; faults_new = K.faults sink.new }) (λ planned plan. round planned plan) run.old run.new (G.stock gate.old) (G.stock gate.new) result }
+    ensures does { Does B.next P.bodies P.proc_names (sides K.written K.faults sink.old sink.new) (λ planned plan. round planned plan) run.old run.new (G.stock gate.old) (G.stock gate.new) result }
     ensures over { IfOk result (λ halt. plan_over (planned_of B.next P.bodies run.old) (plan_now B.next P.bodies run.old (G.stock gate.old)) ≡ halt) }
 {
     match run.phase() {

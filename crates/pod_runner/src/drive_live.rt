@@ -4,6 +4,7 @@ ghost use Rattle.lwp_types.specs.Streams.{Rose};
 ghost use Rattle.pod_runner.specs.Due.{IsDefined};
 ghost use Rattle.pod_runner.specs.Live.{Answers, AnswersIf, Draws, EventsRise, LivesOn, LooksAtAll, may_lose};
 ghost use Rattle.pod_runner.specs.Run.{setting_of, trace_before, trace_of, Writes, WritesCut, WritesPart, GoesOn};
+ghost use Rattle.whole_streams.specs.Streams.{sides};
 
 use crate::inlets::{all_told, serve_all};
 use crate::playing::Run;
@@ -22,7 +23,7 @@ fn go_round<B: Body, P: Program<B>, I: Inlet, K: Sink, R: Wait>(
 ) -> Result<Option<Live>, RunErr>
     requires sound { run.old.failed ≡ false }
     requires rise { EventsRise (map I.intake inlets.old.items) }
-    ensures lives { LivesOn B.next P.bodies P.proc_names (record { old = K.written sink.old; new = K.written sink.new; faults_old = K.faults sink.old; faults_new = K.faults sink.new }) run.old run.new (map I.intake inlets.old.items) (map I.intake inlets.new.items) result }
+    ensures lives { LivesOn B.next P.bodies P.proc_names (sides K.written K.faults sink.old sink.new) run.old run.new (map I.intake inlets.old.items) (map I.intake inlets.new.items) result }
     ensures looked { OnOk result (LooksAtAll B.next P.bodies run.old run.new (map I.intake inlets.old.items) (map I.intake inlets.new.items)) }
     ensures answers { IfOk result (AnswersIf B.next P.bodies run.new (map I.intake inlets.old.items) (map I.intake inlets.new.items)) }
 {
@@ -57,7 +58,7 @@ fn go_on<B: Body, P: Program<B>, I: Inlet, K: Sink, R: Wait>(
 ) -> Result<Live, RunErr>
     requires sound { run.old.failed ≡ false }
     requires rise { EventsRise (map I.intake inlets.old.items) }
-    ensures lives { LivesOn B.next P.bodies P.proc_names (record { old = K.written sink.old; new = K.written sink.new; faults_old = K.faults sink.old; faults_new = K.faults sink.new }) run.old run.new (map I.intake inlets.old.items) (map I.intake inlets.new.items) result }
+    ensures lives { LivesOn B.next P.bodies P.proc_names (sides K.written K.faults sink.old sink.new) run.old run.new (map I.intake inlets.old.items) (map I.intake inlets.new.items) result }
     ensures looked { OnOk result (LooksAtAll B.next P.bodies run.old run.new (map I.intake inlets.old.items) (map I.intake inlets.new.items)) }
     ensures answers { IfOk result (Answers B.next P.bodies run.new (map I.intake inlets.old.items) (map I.intake inlets.new.items)) }
 {

@@ -4,6 +4,7 @@ ghost use Rattle.pod_runner.specs.Due.{IsDefined};
 ghost use Rattle.pod_runner.specs.Run.{setting_of};
 ghost use Rattle.pod_runner.specs.Inlets.{Serves, ServesAt};
 ghost use Rattle.pod_runner.specs.Live.{AllTold, EventsRise, LivesOn};
+ghost use Rattle.whole_streams.specs.Streams.{sides};
 
 use crate::RunErr;
 use crate::playing::Run;
@@ -34,7 +35,7 @@ fn serve<B: Body, P: Program<B>, I: Inlet, K: Sink, R: Wait>(
     requires sound { run.old.failed ≡ false }
     requires rise { EventsRise (map I.intake inlets.old.items) }
     requires within { i < length inlets.old.items }
-    ensures lives { LivesOn B.next P.bodies P.proc_names (record { old = K.written sink.old; new = K.written sink.new; faults_old = K.faults sink.old; faults_new = K.faults sink.new }) run.old run.new (map I.intake inlets.old.items) (map I.intake inlets.new.items) result }
+    ensures lives { LivesOn B.next P.bodies P.proc_names (sides K.written K.faults sink.old sink.new) run.old run.new (map I.intake inlets.old.items) (map I.intake inlets.new.items) result }
     ensures served { OnOk result (ServesAt B.next P.bodies i run.old run.new (map I.intake inlets.old.items) (map I.intake inlets.new.items)) }
 {
     let inlet = &mut inlets[i];
@@ -59,7 +60,7 @@ pub(crate) fn serve_all<B: Body, P: Program<B>, I: Inlet, K: Sink, R: Wait>(
     requires made { IsDefined (setting_of B.next P.bodies run.old) run.old.takes run.old.calls }
     requires room { run.old.calls ≤ run.old.turns }
     requires rise { EventsRise (map I.intake inlets.old.items) }
-    ensures lives { LivesOn B.next P.bodies P.proc_names (record { old = K.written sink.old; new = K.written sink.new; faults_old = K.faults sink.old; faults_new = K.faults sink.new }) run.old run.new (map I.intake inlets.old.items) (map I.intake inlets.new.items) result }
+    ensures lives { LivesOn B.next P.bodies P.proc_names (sides K.written K.faults sink.old sink.new) run.old run.new (map I.intake inlets.old.items) (map I.intake inlets.new.items) result }
     ensures served { OnOk result (Serves B.next P.bodies (length (map I.intake inlets.old.items)) run.old run.new (map I.intake inlets.old.items) (map I.intake inlets.new.items)) }
 {
     for i in 0..inlets.len() {

@@ -6,6 +6,7 @@ ghost use Rattle.pod_runner.specs.Calls.{last_made};
 ghost use Rattle.pod_runner.specs.Due.{IsDefined};
 ghost use Rattle.pod_runner.specs.Run.{setting_of, session_of, phase_now, trace_of, names_like, stepped, with_call, with_took, Tells};
 ghost use Rattle.pod_runner.specs.declared.phase.Phase.TheVariants as phase;
+ghost use Rattle.whole_streams.specs.Streams.{sides};
 
 use crate::parts::Parts;
 use crate::{Made, Phase, RunErr, Took};
@@ -204,7 +205,7 @@ impl<B: Body, P: Program<B>> Run<B, P> {
         requires sound { self.old.failed ≡ false }
         requires wants { IsTrue (is_takeable (session_of B.next P.bodies self.old).live.pod event) }
         ensures after { self.new ≡ stepped self.old (with_took self.old event line) result }
-        ensures told { Tells (record { old = K.written sink.old; new = K.written sink.new; faults_old = K.faults sink.old; faults_new = K.faults sink.new }) (trace_of B.next P.bodies P.proc_names self.old) (trace_of B.next P.bodies P.proc_names self.old) (trace_of B.next P.bodies P.proc_names self.new) result }
+        ensures told { Tells (sides K.written K.faults sink.old sink.new) (trace_of B.next P.bodies P.proc_names self.old) (trace_of B.next P.bodies P.proc_names self.old) (trace_of B.next P.bodies P.proc_names self.new) result }
         ensures made { IsDefined (setting_of B.next P.bodies self.new) self.new.takes self.new.calls }
         ensures room { self.new.calls ≤ self.new.turns }
     {
@@ -232,7 +233,7 @@ impl<B: Body, P: Program<B>> Run<B, P> {
         requires sound { self.old.failed ≡ false }
         requires due { phase_now B.next P.bodies self.old ≡ phase.Turn }
         ensures after { self.new ≡ stepped self.old (with_call self.old) result }
-        ensures told { Tells (record { old = K.written sink.old; new = K.written sink.new; faults_old = K.faults sink.old; faults_new = K.faults sink.new }) (trace_of B.next P.bodies P.proc_names self.old) (trace_of B.next P.bodies P.proc_names self.old) (trace_of B.next P.bodies P.proc_names self.new) result }
+        ensures told { Tells (sides K.written K.faults sink.old sink.new) (trace_of B.next P.bodies P.proc_names self.old) (trace_of B.next P.bodies P.proc_names self.old) (trace_of B.next P.bodies P.proc_names self.new) result }
         ensures made { IsDefined (setting_of B.next P.bodies self.new) self.new.takes self.new.calls }
         ensures room { self.new.calls ≤ self.new.turns }
     {

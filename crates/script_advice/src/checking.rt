@@ -1,6 +1,7 @@
 // A script is read, and what is wrong with it is told.
 ghost use Rattle.std.specs.Prelude.{◌≡◌, map, string_bytes};
 ghost use Rattle.script_advice.specs.Advice.{CheckSays, EndSays, fault_text, format_of, grade_status, status_of};
+ghost use Rattle.whole_streams.specs.Streams.{sides};
 
 use crate::advice::{Grade, add_report};
 use crate::texts::Format;
@@ -73,8 +74,8 @@ fn format_of(words: &Vec<String>) -> Option<Format>
 // What is told in this form.
 fn tell<S: Source, K: Sink>(alloc: Global, format: Format, source: &mut S, sink: &mut K) -> CheckEnd
     ensures { EndSays format
-        (record { old = S.left source.old; new = S.left source.new; faults_old = S.faults source.old; faults_new = S.faults source.new })
-        (record { old = K.written sink.old; new = K.written sink.new; faults_old = K.faults sink.old; faults_new = K.faults sink.new }) result }
+        (sides S.left S.faults source.old source.new)
+        (sides K.written K.faults sink.old sink.new) result }
 {
     let text = match read_up_to(alloc, MOST, source) {
         Ok(text) => text,
@@ -100,8 +101,8 @@ pub fn check<S: Source, K: Sink>(
     sink: &mut K,
 ) -> CheckEnd
     ensures { CheckSays (format_of (map string_bytes words.now.items))
-        (record { old = S.left source.old; new = S.left source.new; faults_old = S.faults source.old; faults_new = S.faults source.new })
-        (record { old = K.written sink.old; new = K.written sink.new; faults_old = K.faults sink.old; faults_new = K.faults sink.new }) result }
+        (sides S.left S.faults source.old source.new)
+        (sides K.written K.faults sink.old sink.new) result }
 {
     match format_of(words) {
         Some(format) => tell(alloc, format, source, sink),

@@ -8,6 +8,7 @@ ghost use Rattle.script_gate.specs.Stocked.{stock_of};
 ghost use Rattle.script_session.specs.SoFar.{opening_run};
 ghost use Rattle.script_text.specs.Limits.{IsWithinLimits};
 ghost use Rattle.whole_streams.specs.Writing.{AppendsPart};
+ghost use Rattle.whole_streams.specs.Streams.{sides};
 
 use crate::notes::Notes;
 use crate::silent::Silent;
@@ -98,7 +99,7 @@ fn play_answers<K: Sink>(
 ) -> Session
     requires within { IsWithinLimits script.now }
     requires posted { IsPosted script.now }
-    ensures { IsAnswered client turns script.now (record { old = K.written sink.old; new = K.written sink.new; faults_old = K.faults sink.old; faults_new = K.faults sink.new }) result }
+    ensures { IsAnswered client turns script.now (sides K.written K.faults sink.old sink.new) result }
 {
     let Ok(mut played) = start(alloc, script, turns) else {
         return Session::unread(alloc, SessionEnd::NoMemory);
@@ -126,8 +127,8 @@ pub fn answers_main<S: Source, K: Sink>(
     requires client { client ≤ 15 }
     requires least { 1 ≤ turns }
     requires most { turns ≤ 1000000 }
-    ensures { IsAnswers client turns (record { old = S.left source.old; new = S.left source.new; faults_old = S.faults source.old; faults_new = S.faults source.new })
-        (record { old = K.written sink.old; new = K.written sink.new; faults_old = K.faults sink.old; faults_new = K.faults sink.new }) result }
+    ensures { IsAnswers client turns (sides S.left S.faults source.old source.new)
+        (sides K.written K.faults sink.old sink.new) result }
 {
     match read_whole(alloc, source) {
         Ok(script) => play_answers(alloc, client, turns, &script, sink),

@@ -4,6 +4,7 @@ ghost use Rattle.batch.specs.Parts.{LiesIn, parts_of};
 ghost use Rattle.script_batch.specs.Batch.{IsBatch, IsInput, IsNoInput};
 ghost use Rattle.script_batch.specs.Report.{report_of};
 ghost use Rattle.whole_streams.specs.Limited.{IsReadUp};
+ghost use Rattle.whole_streams.specs.Streams.{sides};
 
 use crate::planning::Planning;
 use crate::report::lines_of;
@@ -27,7 +28,7 @@ fn read_input<S: Source>(alloc: Global, source: &mut S) -> Result<Input, Session
     ensures within { IfOk result (λ input. All (LiesIn input.text.items) input.parts.items) }
     ensures up { OnOk result (IsReadUp 33554433 (S.left source.old) (S.left source.new)) }
     ensures same { OnOk result (S.faults source.new ≡ S.faults source.old) }
-    ensures none { IfErr result (λ e. IsNoInput (record { old = S.left source.old; new = S.left source.new; faults_old = S.faults source.old; faults_new = S.faults source.new }) e) }
+    ensures none { IfErr result (λ e. IsNoInput (sides S.left S.faults source.old source.new) e) }
 {
     let text = match read_up_to(alloc, INPUT_MAX + 1, source) {
         Ok(text) => text,
@@ -71,8 +72,8 @@ pub fn batch_main<S: Source, K: Sink, R: Threads + Sync>(
 ) -> Session
     requires threads { (1 ≤ threads) × (threads ≤ 16) }
     requires turns { (1 ≤ turns) × (turns ≤ 1000000) }
-    ensures { IsBatch turns (record { old = S.left source.old; new = S.left source.new; faults_old = S.faults source.old; faults_new = S.faults source.new })
-        (record { old = K.written sink.old; new = K.written sink.new; faults_old = K.faults sink.old; faults_new = K.faults sink.new }) result }
+    ensures { IsBatch turns (sides S.left S.faults source.old source.new)
+        (sides K.written K.faults sink.old sink.new) result }
 {
     let input = match read_input(alloc, source) {
         Ok(input) => input,

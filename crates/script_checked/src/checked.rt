@@ -1,6 +1,7 @@
 // An input is read, a replay made of it, and its verdict written.
 ghost use Rattle.script_checked.specs.Replay.{IsReplay};
 ghost use Rattle.std.specs.Prelude.{◌≤◌};
+ghost use Rattle.whole_streams.specs.Streams.{sides};
 
 use crate::input::read_input;
 use crate::told::{Told, told_of};
@@ -20,8 +21,8 @@ pub fn replay_main<S: Source, K: Sink>(
 ) -> Session
     requires least { 1 ≤ turns }
     requires most { turns ≤ 1000000 }
-    ensures { IsReplay turns (record { old = S.left source.old; new = S.left source.new; faults_old = S.faults source.old; faults_new = S.faults source.new })
-        (record { old = K.written sink.old; new = K.written sink.new; faults_old = K.faults sink.old; faults_new = K.faults sink.new }) result }
+    ensures { IsReplay turns (sides S.left S.faults source.old source.new)
+        (sides K.written K.faults sink.old sink.new) result }
 {
     let input = match read_input(alloc, source) {
         Ok(input) => input,

@@ -4,6 +4,7 @@ ghost use Rattle.script_checked.specs.Found.{IsInput, IsNoInput};
 ghost use Rattle.script_checked.specs.Input.{said_by, script_behind, script_in, size_by};
 ghost use Rattle.std.specs.Prelude.{IfErr, IfOk, IfSome, OnOk, length, ◌≡◌, ◌≤◌};
 ghost use Rattle.whole_streams.specs.Limited.{IsReadUp};
+ghost use Rattle.whole_streams.specs.Streams.{sides};
 
 use batch::Part;
 use lwp_types::Source;
@@ -91,7 +92,7 @@ pub(crate) fn read_input<S: Source>(alloc: Global, source: &mut S) -> Result<Inp
     ensures within { IfOk result (λ input. LiesIn input.text.items input.part) }
     ensures up { OnOk result (IsReadUp 268435457 (S.left source.old) (S.left source.new)) }
     ensures same { OnOk result (S.faults source.new ≡ S.faults source.old) }
-    ensures none { IfErr result (λ e. IsNoInput (record { old = S.left source.old; new = S.left source.new; faults_old = S.faults source.old; faults_new = S.faults source.new }) e) }
+    ensures none { IfErr result (λ e. IsNoInput (sides S.left S.faults source.old source.new) e) }
 {
     let text = match read_up_to(alloc, REPLAY_MAX + 1, source) {
         Ok(text) => text,

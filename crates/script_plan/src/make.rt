@@ -8,6 +8,7 @@ ghost use Rattle.script_text.specs.Grammar.{Spells};
 ghost use Rattle.script_text.specs.Limits.{IsWithinLimits};
 ghost use Rattle.script_text.specs.declared.script.Script.{Script as AnyScript};
 ghost use Rattle.whole_streams.specs.Writing.{AppendsPart};
+ghost use Rattle.whole_streams.specs.Streams.{sides};
 
 use crate::plan::play_script;
 use byte_count::CountSink;
@@ -86,7 +87,7 @@ pub fn make_main<K: Sink>(
     sink: &mut K,
 ) -> Session
     requires { IsAllowed threads lines }
-    ensures { IsMake seed threads lines (record { old = K.written sink.old; new = K.written sink.new; faults_old = K.faults sink.old; faults_new = K.faults sink.new }) result }
+    ensures { IsMake seed threads lines (sides K.written K.faults sink.old sink.new) result }
 {
     made_spells();
     let Ok(text) = make_script(alloc, seed, threads, lines) else {

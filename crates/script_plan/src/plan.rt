@@ -6,6 +6,7 @@ ghost use Rattle.script_gate.specs.Posted.{IsPosted};
 ghost use Rattle.script_text.specs.Limits.{IsWithinLimits};
 ghost use Rattle.script_plan.specs.Plan.{IsBroken, IsPart, IsPlan, IsPlayed, IsStopped, IsWhole};
 ghost use Rattle.script_session.specs.SoFar.{opening_run};
+ghost use Rattle.whole_streams.specs.Streams.{sides};
 
 use crate::lines::counts_left;
 use lwp_types::{Sink, Source};
@@ -53,7 +54,7 @@ fn run_out<'g, 's, K: Sink>(
 pub fn play_script<K: Sink>(alloc: Global, turns: u64, script: &Script, sink: &mut K) -> Session
     requires within { IsWithinLimits script.now }
     requires posted { IsPosted script.now }
-    ensures { IsPlayed turns script.now (record { old = K.written sink.old; new = K.written sink.new; faults_old = K.faults sink.old; faults_new = K.faults sink.new }) result }
+    ensures { IsPlayed turns script.now (sides K.written K.faults sink.old sink.new) result }
 {
     let Ok(mut played) = start(alloc, script, turns) else {
         return Session::unread(alloc, SessionEnd::NoMemory);
@@ -77,8 +78,8 @@ pub fn plan_main<S: Source, K: Sink>(
 ) -> Session
     requires least { 1 ≤ turns }
     requires most { turns ≤ 1000000 }
-    ensures { IsPlan turns (record { old = S.left source.old; new = S.left source.new; faults_old = S.faults source.old; faults_new = S.faults source.new })
-        (record { old = K.written sink.old; new = K.written sink.new; faults_old = K.faults sink.old; faults_new = K.faults sink.new }) result }
+    ensures { IsPlan turns (sides S.left S.faults source.old source.new)
+        (sides K.written K.faults sink.old sink.new) result }
 {
     match read_whole(alloc, source) {
         Ok(script) => play_script(alloc, turns, &script, sink),

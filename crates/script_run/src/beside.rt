@@ -5,6 +5,7 @@ ghost use Rattle.script_run.specs.Beside.{AreBack, GoesBeside, KnowAll};
 ghost use Rattle.script_program.specs.Bodies.{bodies_of, body_next};
 ghost use Rattle.pod_runner.specs.Live.{Answers, Halts};
 ghost use Rattle.std.specs.Prelude.{IfOk, OnOk, false, ◌≡◌};
+ghost use Rattle.whole_streams.specs.Streams.{sides};
 
 use event_gate::Bell;
 use live_clients::{Outside, closed_are_served, draws_keep_ties};
@@ -24,7 +25,7 @@ fn go_live<'p, 's, K: Sink, R: Wait>(
 ) -> Result<Live, RunErr>
     requires sound { played.old.failed ≡ false }
     requires tied { IsTied outside.old }
-    ensures goes { GoesBeside (record { old = K.written sink.old; new = K.written sink.new; faults_old = K.faults sink.old; faults_new = K.faults sink.new }) played.old played.new (intakes outside.old) (intakes outside.new) result }
+    ensures goes { GoesBeside (sides K.written K.faults sink.old sink.new) played.old played.new (intakes outside.old) (intakes outside.new) result }
     ensures tied { IsTied outside.new }
     ensures same { IsSameOutside outside.old outside.new }
     ensures gave { EachInlet Gave (intakes outside.old) (intakes outside.new) }
@@ -46,7 +47,7 @@ fn go_beside<'p, 's, K: Sink, R: Wait>(
 ) -> Result<(), RunErr>
     requires sound { played.old.failed ≡ false }
     requires tied { IsTied outside.old }
-    ensures goes { GoesBeside (record { old = K.written sink.old; new = K.written sink.new; faults_old = K.faults sink.old; faults_new = K.faults sink.new }) played.old played.new (intakes outside.old) (intakes outside.new) result }
+    ensures goes { GoesBeside (sides K.written K.faults sink.old sink.new) played.old played.new (intakes outside.old) (intakes outside.new) result }
     ensures tied { IsTied outside.new }
     ensures same { IsSameOutside outside.old outside.new }
 {
@@ -70,7 +71,7 @@ fn go_behind<'p, 's, K: Sink, R: Wait>(
     requires sound { played.old.failed ≡ false }
     requires tied { IsTied outside.old }
     requires closed { IsClosed outside.old }
-    ensures goes { GoesBeside (record { old = K.written sink.old; new = K.written sink.new; faults_old = K.faults sink.old; faults_new = K.faults sink.new }) played.old played.new (intakes outside.old) (intakes outside.new) result }
+    ensures goes { GoesBeside (sides K.written K.faults sink.old sink.new) played.old played.new (intakes outside.old) (intakes outside.new) result }
     ensures gave { EachInlet Gave (intakes outside.old) (intakes outside.new) }
     ensures back { AreBack (events_of outside.old) (all_texts outside.old) (intakes outside.new) }
     ensures halts { IfOk result (Halts body_next bodies_of played.new (intakes outside.new)) }
@@ -94,7 +95,7 @@ pub fn go_to_end<'p, 's, K: Sink, R: Threads + Wait>(
 ) -> Result<Halt, RunErr>
     requires sound { played.old.failed ≡ false }
     requires tied { IsTied outside.old }
-    ensures goes { GoesBeside (record { old = K.written sink.old; new = K.written sink.new; faults_old = K.faults sink.old; faults_new = K.faults sink.new }) played.old played.new (intakes outside.old) (intakes outside.new) result }
+    ensures goes { GoesBeside (sides K.written K.faults sink.old sink.new) played.old played.new (intakes outside.old) (intakes outside.new) result }
     ensures back { AreBack (events_of outside.old) (all_texts outside.old) (intakes outside.new) }
     ensures all { OnOk result (KnowAll (events_of outside.old) (all_texts outside.old) (intakes outside.new)) }
     ensures halts { IfOk result (Halts body_next bodies_of played.new (intakes outside.new)) }

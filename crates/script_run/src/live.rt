@@ -10,6 +10,7 @@ ghost use Rattle.script_text.specs.Limits.{IsWithinLimits};
 ghost use Rattle.script_text.specs.Script.{lines_posted};
 ghost use Rattle.std.specs.Prelude.{All, IfOk, IsErrOf, OnOk, length, map, ◌≡◌, ◌≤◌};
 ghost use denote.Param.Send.{IsSync};
+ghost use Rattle.whole_streams.specs.Streams.{sides};
 
 use crate::beside::go_to_end;
 use crate::clients::{client_texts, counts_behind};
@@ -79,7 +80,7 @@ fn play_beside<'p, 's, E, K: Sink, G: PostGate + 's, R: Threads + Wait + Sync>(
     requires opening { played ≡ opening_run script.now turns }
     requires texts { map (λ v. v.items) texts.now ≡ texts_from 0 script.now.clients (lines_posted script.now) }
     requires gates { 16 ≤ length gates.items }
-    ensures { IsLivePlayed turns script.now (record { old = K.written sink.old; new = K.written sink.new; faults_old = K.faults sink.old; faults_new = K.faults sink.new }) result }
+    ensures { IsLivePlayed turns script.now (sides K.written K.faults sink.old sink.new) result }
 {
     let clients = script.clients.as_slice();
     let Ok(mut outside) = Outside::start(scope, rt, alloc, clients, texts, gates, bell) else {
@@ -119,7 +120,7 @@ fn play_within<'p, 's, 'k, E, K: Sink, G: PostGate + 's, R: Threads + Wait + Syn
     requires opening { played ≡ opening_run script.now turns }
     requires texts { map (λ v. v.items) texts.now ≡ texts_from 0 script.now.clients (lines_posted script.now) }
     requires gates { 16 ≤ length gates.items }
-    ensures played { IsLivePlayed turns script.now (record { old = K.written sink.entry.now; new = K.written result.1.now; faults_old = K.faults sink.entry.now; faults_new = K.faults result.1.now }) result.0 }
+    ensures played { IsLivePlayed turns script.now (sides K.written K.faults sink.entry.now result.1.now) result.0 }
     ensures handed { result.1.ghost_name ≡ sink.entry.ghost_name }
 {
     let session = play_beside(
@@ -140,7 +141,7 @@ fn play_live<K: Sink, G: PostGate, R: Threads + Wait + Sync>(
     requires within { IsWithinLimits script.now }
     requires posted { IsPosted script.now }
     requires gates { 16 ≤ length gates.items }
-    ensures { IsLivePlayed turns script.now (record { old = K.written sink.old; new = K.written sink.new; faults_old = K.faults sink.old; faults_new = K.faults sink.new }) result }
+    ensures { IsLivePlayed turns script.now (sides K.written K.faults sink.old sink.new) result }
 {
     let (Ok(played), Ok(texts)) = (start(alloc, script, turns), client_texts(alloc, script)) else {
         return Session::unread(alloc, SessionEnd::NoMemory);
@@ -156,7 +157,7 @@ fn play_live<K: Sink, G: PostGate, R: Threads + Wait + Sync>(
             requires opening { played ≡ opening_run script.now turns }
             requires texts { map (λ v. v.items) texts.now ≡ texts_from 0 script.now.clients (lines_posted script.now) }
             requires gates { 16 ≤ length gates.items }
-            ensures played { IsLivePlayed turns script.entry.now (record { old = K.written sink.entry.now; new = K.written result.1.now; faults_old = K.faults sink.entry.now; faults_new = K.faults result.1.now }) result.0 }
+            ensures played { IsLivePlayed turns script.entry.now (sides K.written K.faults sink.entry.now result.1.now) result.0 }
             ensures handed { result.1.ghost_name ≡ sink.entry.ghost_name }
         {
             play_within(
@@ -180,8 +181,8 @@ pub fn run_main<S: Source, K: Sink, G: PostGate, R: Threads + Wait + Sync>(
     requires least { 1 ≤ turns }
     requires most { turns ≤ 1000000 }
     requires gates { 16 ≤ length gates.items }
-    ensures { IsLive turns (record { old = S.left source.old; new = S.left source.new; faults_old = S.faults source.old; faults_new = S.faults source.new })
-        (record { old = K.written sink.old; new = K.written sink.new; faults_old = K.faults sink.old; faults_new = K.faults sink.new }) result }
+    ensures { IsLive turns (sides S.left S.faults source.old source.new)
+        (sides K.written K.faults sink.old sink.new) result }
 {
     match read_whole(alloc, source) {
         Ok(script) => play_live(rt, alloc, turns, &script, gates, sink),

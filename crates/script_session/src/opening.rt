@@ -5,6 +5,7 @@ ghost use Rattle.script_text.specs.Script.{params_of};
 ghost use Rattle.script_session.specs.Said.{IsNotRead, IsRead};
 ghost use Rattle.script_text.specs.Limits.{IsWithinLimits};
 ghost use Rattle.std.specs.Prelude.{◌≡◌, IfErr, IfOk};
+ghost use Rattle.whole_streams.specs.Streams.{sides};
 
 use crate::session::{Session, SessionEnd};
 use crate::source::read_all;
@@ -18,9 +19,9 @@ use whole_streams::ReadFailure;
 /// The script that a source holds, which is read to its end; or how the session ends without one. Of what is read only a buffer and
 /// the reader are kept.
 pub fn read_whole<S: Source>(alloc: Global, source: &mut S) -> Result<Script, SessionEnd>
-    ensures read { IfOk result (λ script. IsRead (record { old = S.left source.old; new = S.left source.new; faults_old = S.faults source.old; faults_new = S.faults source.new }) script) }
+    ensures read { IfOk result (λ script. IsRead (sides S.left S.faults source.old source.new) script) }
     ensures within { IfOk result IsWithinLimits }
-    ensures not_read { IfErr result (λ e. IsNotRead (record { old = S.left source.old; new = S.left source.new; faults_old = S.faults source.old; faults_new = S.faults source.new }) e) }
+    ensures not_read { IfErr result (λ e. IsNotRead (sides S.left S.faults source.old source.new) e) }
 {
     let mut reader = ScriptReader::new(alloc);
     match read_all(&mut reader, source) {

@@ -2,6 +2,7 @@
 ghost use Rattle.std.specs.Prelude.{◌≡◌, ◌++◌, [], IfOk, OnOk, map, string_bytes};
 ghost use Rattle.trace_view.specs.View.{EndSays, ViewSays, fault_text, line_front, status_of};
 ghost use Rattle.trace_view.specs.Words.{window_of};
+ghost use Rattle.whole_streams.specs.Streams.{sides};
 
 use crate::words::{Window, window_of};
 use lwp_types::{NoMemory, Sink, Source};
@@ -74,8 +75,8 @@ pub fn fault_text(alloc: Global, end: ViewEnd) -> Result<Vec<u8>, NoMemory>
 // The page of so many calls.
 fn show<S: Source, K: Sink>(alloc: Global, window: Window, source: &mut S, sink: &mut K) -> ViewEnd
     ensures { EndSays window
-        (record { old = S.left source.old; new = S.left source.new; faults_old = S.faults source.old; faults_new = S.faults source.new })
-        (record { old = K.written sink.old; new = K.written sink.new; faults_old = K.faults sink.old; faults_new = K.faults sink.new }) result }
+        (sides S.left S.faults source.old source.new)
+        (sides K.written K.faults sink.old sink.new) result }
 {
     let text = match read_all(alloc, source) {
         Ok(text) => text,
@@ -103,8 +104,8 @@ pub fn view<S: Source, K: Sink>(
     sink: &mut K,
 ) -> ViewEnd
     ensures { ViewSays (window_of (map string_bytes words.now.items))
-        (record { old = S.left source.old; new = S.left source.new; faults_old = S.faults source.old; faults_new = S.faults source.new })
-        (record { old = K.written sink.old; new = K.written sink.new; faults_old = K.faults sink.old; faults_new = K.faults sink.new }) result }
+        (sides S.left S.faults source.old source.new)
+        (sides K.written K.faults sink.old sink.new) result }
 {
     match window_of(words) {
         Some(window) => show(alloc, window, source, sink),
