@@ -70,4 +70,8 @@ impl Sink for CountSink {
         self.count = count;
         Ok(bytes.len())
     }
+
+    fn hand_on(&mut self)
+        ensures { self.new ≡ self.old }
+    {}
 }

@@ -2,7 +2,7 @@
 //! what sums it up.
 //!
 //! All that it does is `lwp_serve::top`, on the standard streams; no contract can say what those hold. What is written is gathered,
-//! and goes out 64 KiB at a time; but on `run` the lines of each step go out at once. What went wrong is said on standard error, and the exit status is the session's.
+//! and goes out 64 KiB at a time, and on `run` also whenever the pod waits for a line. What went wrong is said on standard error, and the exit status is the session's.
 #![tactic(auto)]
 
 ghost use Rattle.std.specs.Prelude.{◌≡◌, ◌≢◌};
@@ -36,7 +36,7 @@ fn session_of<R: Threads + Wait + Sync>(
     words: &Vec<String>,
 ) -> Session {
     let (Ok(mut sink), Ok(gates)) = (
-        StdSink::new(rt.alloc(), rt.stdout(), gathered(words)),
+        StdSink::new(rt.alloc(), rt.stdout(), GATHERED),
         no_gates(rt.alloc()),
     ) else {
         return Session::unread(rt.alloc(), SessionEnd::NoMemory);
@@ -46,14 +46,6 @@ fn session_of<R: Threads + Wait + Sync>(
     match sink.finish() {
         Ok(()) => session,
         Err(Failed) => broken(session),
-    }
-}
-
-// How many bytes are gathered: none on `run`, where somebody may be waiting for the lines of each step.
-fn gathered(words: &Vec<String>) -> usize {
-    match words.as_slice() {
-        [word, ..] if word.as_bytes() == b"run".as_slice() => 0,
-        _ => GATHERED,
     }
 }
 

@@ -144,4 +144,8 @@ impl<'b> Sink for Follower<'b> {
             }
         }
     }
+
+    fn hand_on(&mut self)
+        ensures { self.new ≡ self.old }
+    {}
 }

@@ -17,4 +17,6 @@ impl Sink for Silent {
     fn write(&mut self, bytes: &[u8]) -> Result<usize, Failed> {
         Ok(bytes.len())
     }
+
+    fn hand_on(&mut self) {}
 }

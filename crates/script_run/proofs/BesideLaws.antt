@@ -139,6 +139,10 @@ went-same w f r inlets sound = record { same = goes-same body_next bodies_of pro
 pub went-of : {T : Type 0} (s : Stream) (old now : Played Script) (before some : List Intake) (x : T) → GoesBeside s old now before some (Ok x) → WentBeside s old now before some
 went-of s old now before some x h = record { same = h.same; sound = h.sound; told = h.told; fed = h.fed }
 
+-- what was told and what failed is the same for whoever hands it on
+pub went-handed : (a b c : Option (List ℕ)) (i j k : ℕ) (old now : Played Script) (before some : List Intake) → c ≡ b → k ≡ j → WentBeside (stream a b i j) old now before some → WentBeside (stream a c i k) old now before some
+went-handed a b c i j k old now before some same faults p = rw (same, faults) p
+
 pub went-heard : (s : Stream) (old now : Played Script) (before some heard : List Intake) → EachInlet Hears some heard → WentBeside s old now before some → WentBeside s old now before heard
 went-heard s old now before some heard h p = record { same = p.same; sound = p.sound; told = p.told; fed = λ f. fed-heard now.takes some heard 0 h (p.fed f) }
 

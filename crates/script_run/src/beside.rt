@@ -36,6 +36,15 @@ fn go_live<'p, 's, K: Sink, R: Wait>(
     run_live(rt, played, &mut outside.inlets, sink)
 }
 
+// What the sink has gathered is handed on, so that nobody waits for lines that are written; then the pod waits for the bell.
+fn rest<K: Sink, R: Wait>(rt: &R, bell: &Bell, sink: &mut K)
+    ensures same { K.written sink.new ≡ K.written sink.old }
+    ensures cause { K.faults sink.new ≡ K.faults sink.old }
+{
+    sink.hand_on();
+    bell.park(rt);
+}
+
 // The run goes on until it is over or all threads have left the bell. Where it is quiet and some thread hasn't, it waits.
 fn go_beside<'p, 's, K: Sink, R: Wait>(
     rt: &R,
@@ -55,7 +64,7 @@ fn go_beside<'p, 's, K: Sink, R: Wait>(
         match go_live(rt, played, outside, sink)? {
             Live::Halt(_) => return Ok(()),
             Live::Quiet if bell.gone(rt) >= clients => return Ok(()),
-            Live::Quiet => bell.park(rt),
+            Live::Quiet => rest(rt, bell, sink),
         }
     }
     unreachable!()

@@ -113,7 +113,7 @@ impl Source for StdSource {
 impl<W: Write + Drop> Sink for GatheringSink<W> {
     ghost use Rattle.std.specs.Prelude.{None};
     ghost use Rattle.lwp_types.specs.Streams.{HasCause};
-    ghost use Rattle.std_streams.specs.Streams.{IsLeft, is_closed, write_faults};
+    ghost use Rattle.std_streams.specs.Streams.{IsLeft, gathered, is_closed, write_faults};
 
     ghost written = { λ s. None };
 
@@ -132,6 +132,21 @@ impl<W: Write + Drop> Sink for GatheringSink<W> {
         match self.out.write(bytes) {
             Ok(n) if n > 0 || bytes.is_empty() => Ok(n),
             _ => self.fail(),
+        }
+    }
+
+    // What can't be written is lost, and every later write fails.
+    fn hand_on(&mut self)
+        ensures cause { write_faults self.new ≡ write_faults self.old }
+        ensures handed { is_closed self.new ≡ false → gathered self.new ≡ [] }
+        ensures closed { IsTrue (is_closed self.old) → IsLeft self.old self.new }
+    {
+        if self.out.get_ref().is_closed() {
+            return;
+        }
+        if self.out.flush().is_err() {
+            let writer = self.out.get_mut();
+            writer.close();
         }
     }
 }

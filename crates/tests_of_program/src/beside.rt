@@ -60,7 +60,7 @@ impl PostGate for Signals<'_> {
     }
 }
 
-// When a step's lines first begin so, it sets its flag and waits for the gate's.
+// When a step's lines first begin so, it waits for the gate's flag; once they are handed on, it sets its own.
 #[derive(Drop)]
 struct Watches<'f> {
     flags: &'f Flags,
@@ -78,10 +78,15 @@ impl Sink for Watches<'_> {
     fn write(&mut self, bytes: &[u8]) -> Result<usize, Failed> {
         if !self.seen && bytes.starts_with(self.mark) {
             self.seen = true;
-            self.flags.written.store(true);
             self.flags.look_for(&self.flags.posting);
         }
         Ok(bytes.len())
+    }
+
+    fn hand_on(&mut self) {
+        if self.seen {
+            self.flags.written.store(true);
+        }
     }
 }
 

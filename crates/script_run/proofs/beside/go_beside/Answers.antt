@@ -1,6 +1,6 @@
 use Rattle.std.proofs.Common.{Err, Ok, ◌∙◌}
 use Rattle.live_clients.specs.Ties.{intakes}
-use Rattle.script_run.proofs.BesideLaws.{goes-answer, goes-err, went-of, went-then}
+use Rattle.script_run.proofs.BesideLaws.{goes-answer, goes-err, went-handed, went-of, went-then}
 use Rattle.pod_runner.proofs.Rounds.{stream}
 use Rattle.script_run.proofs.beside.go_beside.Goals as goal
 
@@ -18,8 +18,9 @@ returns-in-Quiet-clause-goes g c = goes-answer (stream (g.K.Sink.written c.args.
 
 pub loop-preserved : goal.loop-preserved
 loop-preserved g c = (
-  went-of (stream (g.K.Sink.written c.args.sink.now) (g.K.Sink.written c.go_live.new.sink) (g.K.Sink.faults c.args.sink.now) (g.K.Sink.faults c.go_live.new.sink)) c.args.played.now c.go_live.new.played (intakes c.args.outside.now) (intakes c.go_live.new.outside) c.in_ok-go_live.field-0
-      (went-then (g.K.Sink.written c.args.sink.now) (g.K.Sink.written c.loop.sink) (g.K.Sink.written c.go_live.new.sink) (g.K.Sink.faults c.args.sink.now) (g.K.Sink.faults c.loop.sink) (g.K.Sink.faults c.go_live.new.sink) c.args.played.now c.loop.played c.go_live.new.played (intakes c.args.outside.now) (intakes c.loop.outside) (intakes c.go_live.new.outside) (Ok c.in_ok-go_live.field-0) c.loop.invariant.0 c.in_ok-go_live.ensures.goes),
+  went-handed (g.K.Sink.written c.args.sink.now) (g.K.Sink.written c.go_live.new.sink) (g.K.Sink.written c.rest.new.sink) (g.K.Sink.faults c.args.sink.now) (g.K.Sink.faults c.go_live.new.sink) (g.K.Sink.faults c.rest.new.sink) c.args.played.now c.go_live.new.played (intakes c.args.outside.now) (intakes c.go_live.new.outside) c.rest.ensures.same c.rest.ensures.cause
+      (went-of (stream (g.K.Sink.written c.args.sink.now) (g.K.Sink.written c.go_live.new.sink) (g.K.Sink.faults c.args.sink.now) (g.K.Sink.faults c.go_live.new.sink)) c.args.played.now c.go_live.new.played (intakes c.args.outside.now) (intakes c.go_live.new.outside) c.in_ok-go_live.field-0
+      (went-then (g.K.Sink.written c.args.sink.now) (g.K.Sink.written c.loop.sink) (g.K.Sink.written c.go_live.new.sink) (g.K.Sink.faults c.args.sink.now) (g.K.Sink.faults c.loop.sink) (g.K.Sink.faults c.go_live.new.sink) c.args.played.now c.loop.played c.go_live.new.played (intakes c.args.outside.now) (intakes c.loop.outside) (intakes c.go_live.new.outside) (Ok c.in_ok-go_live.field-0) c.loop.invariant.0 c.in_ok-go_live.ensures.goes)),
   c.go_live.ensures.tied,
   record { events = c.go_live.ensures.same.events ∙ c.loop.invariant.2.events; texts = c.go_live.ensures.same.texts ∙ c.loop.invariant.2.texts },
 )
