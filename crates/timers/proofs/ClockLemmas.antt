@@ -7,7 +7,8 @@ use Rattle.std.proofs.Common.{Bool, List, None, Option, Some, get_or, length, re
 use Rattle.std.proofs.lemmas.Bool.{eqb-true}
 use Rattle.timers.proofs.LeavesLemmas.{first_found, living-emptied, none_found}
 use Rattle.timers.specs.Clock.{Clock, first_due, without_found}
-use Rattle.timers.specs.Leaves.{IsOnce, first_of, living}
+use Rattle.timers.specs.Leaves.{IsOnce, first_of}
+use Rattle.thread_index.specs.Living.{living}
 
 -- a clock with these timers
 abbrev pub timed : ℕ → ℕ → List TimerRow → Clock

@@ -8,10 +8,12 @@ use Rattle.std.proofs.Common.{Bool, IsSome, List, cond, option_map, None, Option
 use Rattle.std.proofs.lemmas.Bool.{cases_eq, eq-eqb, ne_eqb}
 use Rattle.std.proofs.lemmas.List.{get_or-replicate, length_push, take_more}
 use Rattle.std.specs.List.{filter, list_any}
-use Rattle.timers.proofs.LeavesLemmas.{IsOnce-emptied, IsOnce-packed, IsOnce-push, IsTied-bare, IsTied-emptied, IsTied-none, IsTied-push, few_living, first-emptied_other, first-emptied_same, first-push_here, first-push_past, held, length-packed, living-push, living-set, uncounted_found, unfound_new}
-use Rattle.timers.specs.Index.{Found, IsEmpty, Puts, count_of, leaf_of, width_of}
+use Rattle.timers.proofs.LeavesLemmas.{IsOnce-emptied, IsOnce-packed, IsOnce-push, IsTied-bare, IsTied-emptied, IsTied-none, IsTied-push, few_living, first-emptied_other, first-emptied_same, first-push_here, first-push_past, length-packed, living-push, uncounted_found, unfound_new}
+use Rattle.thread_index.proofs.LivingLemmas.{held, living-set}
+use Rattle.thread_index.specs.Index.{Found, IsEmpty, Puts, count_of, place_of, width_of}
 use Rattle.timers.specs.Kept.{IsFiled, IsShelved}
-use Rattle.timers.specs.Leaves.{IsOnce, first_of, living, never}
+use Rattle.timers.specs.Leaves.{IsOnce, first_of, never}
+use Rattle.thread_index.specs.Living.{living}
 
 module _ (leaves : List (Option TimerRow)) (dues : List ℕ) (index : Found) (was : IsFiled leaves dues index) where
   pub IsFiled-none : IsFiled (leaves ++ None ∷ []) dues index
@@ -25,7 +27,7 @@ module _ (leaves : List (Option TimerRow)) (dues : List ℕ) (index : Found) (wa
       append-empty [] = refl
       append-empty (x ∷ xs) = ap (λ ys. x ∷ ys) (append-empty xs)
 
-  module _ (row : TimerRow) (index' : Found) (room : length leaves < length dues) (none : first_of (is_timer_of row.tid) leaves ≡ None) (puts : Puts (leaf_of index) (leaf_of index') row.tid (Some (length leaves))) (count : count_of index' ≡ count_of index + 1) where
+  module _ (row : TimerRow) (index' : Found) (room : length leaves < length dues) (none : first_of (is_timer_of row.tid) leaves ≡ None) (puts : Puts (place_of index) (place_of index') row.tid (Some (length leaves))) (count : count_of index' ≡ count_of index + 1) where
     pub IsFiled-some : IsFiled (leaves ++ Some row ∷ []) (set dues (length leaves) row.due) index'
     IsFiled-some = record {
       tied = IsTied-push leaves dues was.tied row room;
@@ -69,10 +71,10 @@ module _ (leaves : List (Option TimerRow)) (once : IsOnce leaves) (dues : List �
     none_before : first_of (is_timer_of row.tid) (take i leaves) ≡ None
     none_before = uncounted_found row.tid (take i leaves) (omega (arith, once row.tid, once_before leaves i row is))
 
-    pub unfiled : leaf_of index row.tid ≡ None
+    pub unfiled : place_of index row.tid ≡ None
     unfiled = was.found row.tid ∙ none_before
 
-    pub IsFiled-next_some : (index' : Found) → i < length dues → Puts (leaf_of index) (leaf_of index') row.tid (Some i) → count_of index' ≡ count_of index + 1 → IsFiled (take (i + 1) leaves) (set dues i row.due) index'
+    pub IsFiled-next_some : (index' : Found) → i < length dues → Puts (place_of index) (place_of index') row.tid (Some i) → count_of index' ≡ count_of index + 1 → IsFiled (take (i + 1) leaves) (set dues i row.due) index'
     IsFiled-next_some index' room puts count =
         rw (take_more leaves i None within, is)
         (rw taken at (IsFiled-some (take i leaves) dues index was row index' (rw taken room) none_before (rw taken puts) count))
@@ -95,10 +97,10 @@ some_there t (x ∷ xs) (suc j) row is same = by_test (passes (is_timer_of t) x)
 
 module _ (leaves : List (Option TimerRow)) (dues : List ℕ) (index : Found) (places : ℕ) (was : IsShelved leaves dues index places) where
   module _ (j : ℕ) (row : TimerRow) (within : j < length leaves) (is : get_or leaves j None ≡ Some row) where
-    pub some_filed : IsSome (leaf_of index row.tid)
+    pub some_filed : IsSome (place_of index row.tid)
     some_filed = rw (was.filed.found row.tid) (some_there row.tid leaves j row is refl)
 
-    pub IsShelved-emptied : (index' : Found) → Puts (leaf_of index) (leaf_of index') row.tid None → count_of index' + 1 ≡ count_of index → width_of index' ≡ width_of index → index'.room ≡ index.room → IsShelved (set leaves j None) (set dues j never) index' places
+    pub IsShelved-emptied : (index' : Found) → Puts (place_of index) (place_of index') row.tid None → count_of index' + 1 ≡ count_of index → width_of index' ≡ width_of index → index'.room ≡ index.room → IsShelved (set leaves j None) (set dues j never) index' places
     IsShelved-emptied index' puts count width room = record {
       filed = record {
         tied = IsTied-emptied leaves dues was.filed.tied j within was.fits;
@@ -116,13 +118,13 @@ module _ (leaves : List (Option TimerRow)) (dues : List ℕ) (index : Found) (pl
     }
 
   module _ (row : TimerRow) (new : list_any (is_timer_of row.tid) (living leaves) ≡ false) (room : length leaves < length dues) where
-    pub unfiled_new : leaf_of index row.tid ≡ None
+    pub unfiled_new : place_of index row.tid ≡ None
     unfiled_new = was.filed.found row.tid ∙ unfound_new leaves was.once row new
 
     pub few_new : count_of index < index.room
     few_new = omega (arith, was.filed.counted, few_living leaves, room, was.room)
 
-    pub IsShelved-push : (index' : Found) → Puts (leaf_of index) (leaf_of index') row.tid (Some (length leaves)) → count_of index' ≡ count_of index + 1 → width_of index' ≡ width_of index → index'.room ≡ index.room → IsShelved (leaves ++ Some row ∷ []) (set dues (length leaves) row.due) index' places
+    pub IsShelved-push : (index' : Found) → Puts (place_of index) (place_of index') row.tid (Some (length leaves)) → count_of index' ≡ count_of index + 1 → width_of index' ≡ width_of index → index'.room ≡ index.room → IsShelved (leaves ++ Some row ∷ []) (set dues (length leaves) row.due) index' places
     IsShelved-push index' puts count width same = record {
       filed = IsFiled-some leaves dues index was.filed row index' room (unfound_new leaves was.once row new) puts count;
       once = IsOnce-push leaves was.once row new;

@@ -8,13 +8,9 @@ use Rattle.lwp_types.specs.declared.rows.TimerRow.{TimerRow}
 use Rattle.std.proofs.Common.{Bool, List, None, Option, Some, [], ap, arith, cond, eqb, false, get_or, get_or-set_other, get_or-set_same, inl, inr, is_some, length, not, option_map, refl, set, suc, sym, true, zero, ℕ, ◌++◌, ◌+◌, ◌<◌, ◌∙◌, ◌∷◌, ◌≡◌, ◌≢◌, ◌≤◌}
 use Rattle.std.proofs.lemmas.Bool.{cases_eq, eq-eqb, lt-leb, ne_eqb}
 use Rattle.std.specs.List.{filter, find, list_any}
-use Rattle.timers.specs.Leaves.{IsOnce, due_of, first_of, living, never}
+use Rattle.timers.specs.Leaves.{IsOnce, due_of, first_of, never}
+use Rattle.thread_index.specs.Living.{living}
 use Rattle.timers.specs.Minima.{first_within}
-
--- 1 where there is one
-abbrev pub held : {A : Type 0} → Option A → ℕ
-held None = 0
-held (Some x) = 1
 
 -- it, where there is one
 abbrev pub as_list : {A : Type 0} → Option A → List A
@@ -27,15 +23,6 @@ module _ {A : Type 0} where
   living-push [] (Some x) = refl
   living-push (None ∷ xs) o = living-push xs o
   living-push (Some x ∷ xs) o = ap (λ ys. x ∷ ys) (living-push xs o)
-
-  pub living-set : (xs : List (Option A)) (i : ℕ) (o : Option A) → i < length xs → length (living (set xs i o)) + held (get_or xs i None) ≡ length (living xs) + held o
-  living-set [] i o within = absurd (omega arith)
-  living-set (None ∷ xs) zero None within = refl
-  living-set (None ∷ xs) zero (Some y) within = omega arith
-  living-set (Some x ∷ xs) zero None within = omega arith
-  living-set (Some x ∷ xs) zero (Some y) within = omega arith
-  living-set (None ∷ xs) (suc i) o within = living-set xs i o (omega arith)
-  living-set (Some x ∷ xs) (suc i) o within = omega (arith, living-set xs i o (omega arith))
 
   pub living-packed : (xs : List (Option A)) → living (filter is_some xs) ≡ living xs
   living-packed [] = refl
@@ -51,11 +38,6 @@ module _ {A : Type 0} where
   few_living [] = omega arith
   few_living (None ∷ xs) = omega (arith, few_living xs)
   few_living (Some x ∷ xs) = omega (arith, few_living xs)
-
-  pub none_living : (xs : List (Option A)) → ((i : ℕ) → get_or xs i None ≡ None) → living xs ≡ []
-  none_living [] none = refl
-  none_living (None ∷ xs) none = none_living xs (λ i. none (suc i))
-  none_living (Some x ∷ xs) none = let both : Some x ≡ None = none 0 in absurd (cc)
 
   -- an empty leaf more
   pub get_or-push_none : (xs : List (Option A)) (i : ℕ) → get_or (xs ++ None ∷ []) i None ≡ get_or xs i None

@@ -1,5 +1,4 @@
 pub mod MinimaLemmas
 pub mod LeavesLemmas
-pub mod IndexLemmas
 pub mod KeptLemmas
 pub mod ClockLemmas

@@ -2,13 +2,14 @@
 use Rattle.lwp_types.specs.Unblock.{is_timer_of}
 use Rattle.lwp_types.specs.declared.rows.TimerRow.{TimerRow}
 use Rattle.std.specs.Prelude.{List, Option, length, slice_index_or, ℕ, ◌≡◌, ◌≤◌}
-use Rattle.timers.specs.Index.{Found, count_of, leaf_of, width_of}
-use Rattle.timers.specs.Leaves.{IsOnce, due_of, first_of, leaf_at, living, never}
+use Rattle.thread_index.specs.Index.{Found, count_of, place_of, width_of}
+use Rattle.timers.specs.Leaves.{IsOnce, due_of, first_of, leaf_at, never}
+use Rattle.thread_index.specs.Living.{living}
 
 -- the tree has the tick of each leaf, and the index the leaf of each thread
 pub record IsFiled (leaves : List (Option TimerRow)) (dues : List ℕ) (index : Found) : Type 0 where
   pub tied : (i : ℕ) → slice_index_or dues i never ≡ due_of (leaf_at leaves i)
-  pub found : (t : ℕ) → leaf_of index t ≡ first_of (is_timer_of t) leaves
+  pub found : (t : ℕ) → place_of index t ≡ first_of (is_timer_of t) leaves
   pub counted : count_of index ≡ length (living leaves)
 
 -- and nobody has two timers, and there is room

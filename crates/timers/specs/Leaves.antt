@@ -5,12 +5,7 @@ use Rattle.lwp_types.specs.State.{passes}
 use Rattle.lwp_types.specs.declared.rows.TimerRow.{TimerRow}
 use Rattle.std.specs.List.{filter}
 use Rattle.std.specs.Prelude.{Bool, List, None, Option, Some, [], if◌then◌else◌, is_some, option_map, slice_index_or, slice_set, suc, ℕ, ◌++◌, ◌∷◌, ◌≤◌}
-
--- what the leaves have, from the first on
-abbrev pub living : {A : Type 0} → List (Option A) → List A
-living [] = []
-living (None ∷ leaves) = living leaves
-living (Some x ∷ leaves) = x ∷ living leaves
+use Rattle.thread_index.specs.Living.{living}
 
 -- the place of the first that passes
 abbrev pub first_of : {A : Type 0} → (A → Bool) → List (Option A) → Option ℕ

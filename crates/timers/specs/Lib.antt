@@ -1,5 +1,4 @@
 pub mod Clock
 pub mod Leaves
 pub mod Minima
-pub mod Index
 pub mod Kept

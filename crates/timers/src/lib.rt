@@ -4,10 +4,9 @@
 //! (`specs/Clock.antt`). Only `reserve` takes memory. No call goes over the timers but a setting that finds the places behind
 //! the last timer used up, once in as many settings as there are places: a tick is one step, a look for a timer that is due
 //! ends at once where there is none, and goes down a tree where there is, and a thread's timer is found by its number. The
-//! crate stands on `lwp_types` alone.
+//! crate stands on `lwp_types` and `thread_index` alone.
 #![tactic(auto)]
 
-mod index;
 mod minima;
 mod shelf;
 mod timers;

@@ -3,15 +3,16 @@ ghost use Rattle.std.specs.Prelude.{[], ◌∷◌, ◌++◌, Some, ◌≡◌, �
 ghost use Rattle.std.specs.List.{filter, list_any};
 ghost use Rattle.lwp_types.specs.Time.{is_due};
 ghost use Rattle.lwp_types.specs.Unblock.{is_timer_of};
-ghost use Rattle.timers.specs.Index.{IsEmpty, width_of};
+ghost use Rattle.thread_index.specs.Index.{IsEmpty, width_of};
 ghost use Rattle.timers.specs.Kept.{IsFiled};
-ghost use Rattle.timers.specs.Leaves.{IsOnce, bare, emptied, first_of, leaf_at, living, never, packed, timer_leaf, with_leaf};
+ghost use Rattle.timers.specs.Leaves.{IsOnce, bare, emptied, first_of, leaf_at, never, packed, timer_leaf, with_leaf};
+ghost use Rattle.thread_index.specs.Living.{living};
 
-use crate::index::Index;
 use crate::minima::{Minima, NEVER};
 use lwp_types::{NoMemory, Tid, TimerRow};
 use std::alloc::Global;
 use std::marker::Model;
+use thread_index::Index;
 
 /// Leaves in the order in which timers were set. A leaf is empty once its timer is gone.
 pub struct Shelf {
@@ -131,7 +132,7 @@ impl Shelf {
     pub fn leaf_of(&self, tid: Tid) -> Option<usize>
         ensures { result ≡ first_of (is_timer_of tid) self.now.leaves }
     {
-        self.index.leaf_of(tid)
+        self.index.place_of(tid)
     }
 
     /// The leaf is empty from now on; the answer is what it had.

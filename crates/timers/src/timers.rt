@@ -29,7 +29,7 @@ impl Drop for Timers {
 impl Model for Timers {
     ghost use Rattle.std.specs.Prelude.{◌*◌, ◌≤◌};
     ghost use Rattle.timers.specs.Clock.{Clock};
-    ghost use Rattle.timers.specs.Leaves.{living};
+    ghost use Rattle.thread_index.specs.Living.{living};
 
     ghost Value = { Clock };
 

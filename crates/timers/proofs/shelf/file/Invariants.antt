@@ -1,6 +1,6 @@
 use Rattle.std.proofs.Common.{length, take, ◌≡◌}
 use Rattle.timers.proofs.shelf.file.Given as goal
-use Rattle.timers.specs.Index.{width_of}
+use Rattle.thread_index.specs.Index.{width_of}
 use Rattle.timers.specs.Kept.{IsFiled}
 
 abbrev pub invariant-loop-leaf : goal.invariant-loop-leaf

@@ -1,7 +1,7 @@
 use Rattle.std.proofs.Common.{arith, length, ◌<◌}
 use Rattle.timers.proofs.LeavesLemmas.{length-packed, living-packed}
 use Rattle.timers.proofs.shelf.Shelf.make_room.Goals as goal
-use Rattle.timers.specs.Leaves.{living}
+use Rattle.thread_index.specs.Living.{living}
 
 pub returns-then-len-clause-timers : goal.returns-then-len-clause-timers
 returns-then-len-clause-timers c = rw (c.pack.ensures, ← c.self.view_is) (living-packed c.self.inside.leaves.items)

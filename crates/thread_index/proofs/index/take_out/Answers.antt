@@ -1,5 +1,5 @@
-use Rattle.timers.proofs.IndexLemmas.{absent_stays, remove_at}
-use Rattle.timers.proofs.index.take_out.Goals as goal
+use Rattle.thread_index.proofs.IndexLemmas.{absent_stays, remove_at}
+use Rattle.thread_index.proofs.index.take_out.Goals as goal
 use Rattle.std.proofs.Common.{sym, ◌∙◌}
 
 pub returns-in-Some-clause-items : goal.returns-in-Some-clause-items

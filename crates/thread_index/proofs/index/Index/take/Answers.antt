@@ -1,7 +1,7 @@
 use Rattle.std.proofs.Common.{IsSome, None, arith, sym, vec_capacity, ◌∙◌}
-use Rattle.timers.proofs.IndexLemmas.{IsIndexed-strays, IsRising-kept, Puts-gone, Puts-strays, count-take, one_gone, some_stray, wide}
-use Rattle.timers.proofs.index.Index.take.Goals as goal
-use Rattle.timers.specs.Index.{cell_in, leaf_in, leaf_or}
+use Rattle.thread_index.proofs.IndexLemmas.{IsIndexed-strays, IsRising-kept, Puts-gone, Puts-strays, count-take, one_gone, some_stray, wide}
+use Rattle.thread_index.proofs.index.Index.take.Goals as goal
+use Rattle.thread_index.specs.Index.{cell_in, place_in, place_or}
 
 pub invariant_of-self-else-is_own : goal.invariant_of-self-else-is_own
 invariant_of-self-else-is_own c =
@@ -30,6 +30,6 @@ pub returns-else-is_own-clause-count : goal.returns-else-is_own-clause-count
 returns-else-is_own-clause-count c =
     let away = rw c.tid.view_is at (sym c.is_own.ensures ∙ c.if-is_own.false) in
     let gone = rw c.tid.view_is at c.take_out.ensures.items in
-    let some : IsSome (leaf_or c.args.tid (leaf_in c.self.inside.strays.items c.args.tid) (cell_in c.self.inside.cells.items c.args.tid)) = rw (← c.self.view_is) at c.requires in
+    let some : IsSome (place_or c.args.tid (place_in c.self.inside.strays.items c.args.tid) (cell_in c.self.inside.cells.items c.args.tid)) = rw (← c.self.view_is) at c.requires in
     let fewer = one_gone c.args.tid c.self.inside.strays.items c.self.invariant.rising (some_stray c.args.tid _ (cell_in c.self.inside.cells.items c.args.tid) away some) in
     rw (gone, ← c.self.view_is) (omega (arith, fewer))

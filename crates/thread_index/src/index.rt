@@ -1,33 +1,33 @@
-// The leaf of each thread that has a timer.
+// The place of each thread.
 ghost use Rattle.std.specs.Prelude.{◌≡◌, ◌%◌, ◌+◌, ◌<◌, ◌≤◌, IfNone, IfOk, IfSome, IsSome, None, Some, length, replicate, slice_index_or, slice_set, vec_capacity};
 ghost use Rattle.std.specs.List.{find};
 ghost use Rattle.lwp_types.specs.State.{passes};
-ghost use Rattle.timers.specs.declared.index.Place.{Place};
-ghost use Rattle.timers.specs.Index.{IsAbsent, IsAt, IsEmpty, IsGapAt, IsRising, Puts, cell_in, count_of, is_entry_of, leaf_in, leaf_of, no_place, width_of, without_entry};
+ghost use Rattle.thread_index.specs.declared.index.Entry.{Entry};
+ghost use Rattle.thread_index.specs.Index.{IsAbsent, IsAt, IsEmpty, IsGapAt, IsRising, Puts, cell_in, count_of, is_entry_of, place_in, place_of, no_entry, width_of, without_entry};
 
 use lwp_types::{NoMemory, Tid};
 use std::alloc::Global;
 use std::marker::Model;
 
-/// The number of a thread, and its leaf.
+/// The number of a thread, and its place.
 #[derive(Clone, Copy)]
-pub struct Place {
+pub struct Entry {
     pub number: u64,
-    pub leaf: usize,
+    pub place: usize,
 }
 
-/// An entry for each thread that has a timer.
+/// An entry for each thread that has a place.
 #[derive(Drop)]
 pub struct Index {
     // Each at the remainder of its number, as long as no other stands there.
-    cells: Vec<Option<Place>>,
+    cells: Vec<Option<Entry>>,
     // Those whose cell another had, by rising numbers.
-    strays: Vec<Place>,
+    strays: Vec<Entry>,
 }
 
 impl Model for Index {
     ghost use Rattle.std.specs.Prelude.{vec_capacity};
-    ghost use Rattle.timers.specs.Index.{Found, IsIndexed};
+    ghost use Rattle.thread_index.specs.Index.{Found, IsIndexed};
 
     ghost Value = { Found };
 
@@ -37,75 +37,75 @@ impl Model for Index {
 }
 
 // The entry there.
-fn place_at(strays: &Vec<Place>, at: usize) -> Place
+fn stray_at(strays: &Vec<Entry>, at: usize) -> Entry
     requires { at < length strays.now.items }
-    ensures { result ≡ slice_index_or strays.now.items at no_place }
+    ensures { result ≡ slice_index_or strays.now.items at no_entry }
 {
     strays[at]
 }
 
 // Where a number stands among rising ones.
-fn place_of(strays: &[Place], number: u64) -> Option<usize>
+fn stray_of(strays: &[Entry], number: u64) -> Option<usize>
     requires { IsRising strays.now }
     ensures absent { IfNone result (IsAbsent number strays.now) }
     ensures found { IfSome result (IsAt number strays.now) }
 {
     strays
-        .binary_search_by_key(&number, |place| place.number)
+        .binary_search_by_key(&number, |entry| entry.number)
         .ok()
 }
 
 // Where a number that isn't there belongs among rising ones.
-fn gap_of(strays: &[Place], number: u64) -> Option<usize>
+fn gap_of(strays: &[Entry], number: u64) -> Option<usize>
     requires { IsRising strays.now }
     ensures gap { IfSome result (IsGapAt number strays.now) }
     ensures found { IfNone result (IsSome (find (is_entry_of number) strays.now)) }
 {
     strays
-        .binary_search_by_key(&number, |place| place.number)
+        .binary_search_by_key(&number, |entry| entry.number)
         .err()
 }
 
-// The leaf under a number, among rising ones.
-fn halving(strays: &Vec<Place>, number: u64) -> Option<usize>
+// The place under a number, among rising ones.
+fn halving(strays: &Vec<Entry>, number: u64) -> Option<usize>
     requires { IsRising strays.now.items }
-    ensures { result ≡ leaf_in strays.now.items number }
+    ensures { result ≡ place_in strays.now.items number }
 {
-    match place_of(strays, number) {
-        Some(at) => Some(place_at(strays, at).leaf),
+    match stray_of(strays, number) {
+        Some(at) => Some(stray_at(strays, at).place),
         None => None,
     }
 }
 
 // All entries but that of a number.
-fn take_out(strays: &mut Vec<Place>, number: u64)
+fn take_out(strays: &mut Vec<Entry>, number: u64)
     requires { IsRising strays.old.items }
     ensures items { strays.new.items ≡ without_entry number strays.old.items }
     ensures capacity { vec_capacity strays.new ≡ vec_capacity strays.old }
 {
-    if let Some(at) = place_of(strays, number) {
+    if let Some(at) = stray_of(strays, number) {
         strays.remove(at);
     }
 }
 
 // One entry more, where its number belongs.
-fn put_in(strays: &mut Vec<Place>, number: u64, leaf: usize)
+fn put_in(strays: &mut Vec<Entry>, number: u64, place: usize)
     requires rising { IsRising strays.old.items }
-    requires new { leaf_in strays.old.items number ≡ None }
+    requires new { place_in strays.old.items number ≡ None }
     requires room { length strays.old.items < vec_capacity strays.old }
     ensures rising { IsRising strays.new.items }
-    ensures puts { Puts (leaf_in strays.old.items) (leaf_in strays.new.items) number (Some leaf) }
+    ensures puts { Puts (place_in strays.old.items) (place_in strays.new.items) number (Some place) }
     ensures len { length strays.new.items ≡ length strays.old.items + 1 }
     ensures capacity { vec_capacity strays.new ≡ vec_capacity strays.old }
 {
     if let Some(at) = gap_of(strays, number) {
         // There is room, so no memory is asked for.
-        let _ = strays.insert(at, Place { number, leaf });
+        let _ = strays.insert(at, Entry { number, place });
     }
 }
 
 // What stands in the cell of a number: its own entry, another's or none.
-fn cell(cells: &Vec<Option<Place>>, number: u64) -> Option<Place>
+fn cell(cells: &Vec<Option<Entry>>, number: u64) -> Option<Entry>
     ensures { result ≡ cell_in cells.now.items number }
 {
     if cells.is_empty() {
@@ -115,14 +115,14 @@ fn cell(cells: &Vec<Option<Place>>, number: u64) -> Option<Place>
 }
 
 // Whether the cell of a number has its own entry.
-fn is_own(cells: &Vec<Option<Place>>, number: u64) -> bool
+fn is_own(cells: &Vec<Option<Entry>>, number: u64) -> bool
     ensures { result ≡ passes (is_entry_of number) (cell_in cells.now.items number) }
 {
-    cell(cells, number).is_some_and(|place| place.number == number)
+    cell(cells, number).is_some_and(|entry| entry.number == number)
 }
 
 // The cell of a number has this entry, or none, from now on.
-fn set_cell(cells: &mut Vec<Option<Place>>, number: u64, entry: Option<Place>)
+fn set_cell(cells: &mut Vec<Option<Entry>>, number: u64, entry: Option<Entry>)
     requires { 1 ≤ length cells.old.items }
     ensures { cells.new.items ≡ slice_set cells.old.items (number % length cells.old.items) entry }
 {
@@ -131,7 +131,7 @@ fn set_cell(cells: &mut Vec<Option<Place>>, number: u64, entry: Option<Place>)
 }
 
 // So many cells that have no entry.
-fn bare(alloc: Global, width: usize) -> Result<Vec<Option<Place>>, NoMemory>
+fn bare(alloc: Global, width: usize) -> Result<Vec<Option<Entry>>, NoMemory>
     ensures { IfOk result (λ v. v.items ≡ replicate width None) }
 {
     let mut cells = Vec::new(alloc);
@@ -140,7 +140,7 @@ fn bare(alloc: Global, width: usize) -> Result<Vec<Option<Place>>, NoMemory>
 }
 
 // No cell has an entry from now on.
-fn strip(cells: &mut Vec<Option<Place>>)
+fn strip(cells: &mut Vec<Option<Entry>>)
     ensures { cells.new.items ≡ replicate (length cells.old.items) None }
 {
     cells.fill(None);
@@ -170,38 +170,45 @@ impl Index {
         })
     }
 
-    /// The leaf of the thread, if it has one.
-    pub fn leaf_of(&self, tid: Tid) -> Option<usize>
-        ensures { result ≡ leaf_of self.now tid }
+    /// How many cells there are.
+    pub fn width(&self) -> usize
+        ensures { result ≡ width_of self.now }
+    {
+        self.cells.len()
+    }
+
+    /// The place of the thread, if it has one.
+    pub fn place_of(&self, tid: Tid) -> Option<usize>
+        ensures { result ≡ place_of self.now tid }
     {
         match cell(&self.cells, tid.number) {
-            Some(place) if place.number == tid.number => Some(place.leaf),
+            Some(entry) if entry.number == tid.number => Some(entry.place),
             _ => halving(&self.strays, tid.number),
         }
     }
 
-    /// The thread has this leaf.
-    pub fn put(&mut self, tid: Tid, leaf: usize)
-        requires new { leaf_of self.old tid ≡ None }
+    /// The thread has this place.
+    pub fn put(&mut self, tid: Tid, place: usize)
+        requires new { place_of self.old tid ≡ None }
         requires some { 1 ≤ width_of self.old }
         requires room { count_of self.old < self.old.room }
-        ensures puts { Puts (leaf_of self.old) (leaf_of self.new) tid (Some leaf) }
+        ensures puts { Puts (place_of self.old) (place_of self.new) tid (Some place) }
         ensures count { count_of self.new ≡ count_of self.old + 1 }
         ensures width { width_of self.new ≡ width_of self.old }
         ensures room { self.new.room ≡ self.old.room }
     {
         if cell(&self.cells, tid.number).is_none() {
             let number = tid.number;
-            set_cell(&mut self.cells, number, Some(Place { number, leaf }));
+            set_cell(&mut self.cells, number, Some(Entry { number, place }));
         } else {
-            put_in(&mut self.strays, tid.number, leaf);
+            put_in(&mut self.strays, tid.number, place);
         }
     }
 
-    /// The thread has no leaf any more.
+    /// The thread has no place any more.
     pub fn take(&mut self, tid: Tid)
-        requires { IsSome (leaf_of self.old tid) }
-        ensures puts { Puts (leaf_of self.old) (leaf_of self.new) tid None }
+        requires { IsSome (place_of self.old tid) }
+        ensures puts { Puts (place_of self.old) (place_of self.new) tid None }
         ensures count { count_of self.new + 1 ≡ count_of self.old }
         ensures width { width_of self.new ≡ width_of self.old }
         ensures room { self.new.room ≡ self.old.room }
@@ -213,7 +220,7 @@ impl Index {
         }
     }
 
-    /// Nobody has a leaf any more.
+    /// Nobody has a place any more.
     pub fn clear(&mut self)
         ensures empty { IsEmpty self.new }
         ensures width { width_of self.new ≡ width_of self.old }

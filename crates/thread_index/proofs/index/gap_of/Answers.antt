@@ -1,5 +1,5 @@
-use Rattle.timers.proofs.IndexLemmas.{searched}
-use Rattle.timers.proofs.index.place_of.Goals as goal
+use Rattle.thread_index.proofs.IndexLemmas.{parted}
+use Rattle.thread_index.proofs.index.gap_of.Goals as goal
 use Rattle.std.proofs.Common.{rules}
 use Rattle.std.proofs.lemmas.List.Sorted.{answers_always}
 
@@ -8,4 +8,4 @@ pub returns : goal.returns
 returns c =
     let facts = c.binary_search_by_key.ensures in
     let by_key = facts.position (λ e. e.number) (answers_always _ _ _ (λ f a r g called. search rules)) in
-    rw c.ok.ensures.value (searched _ c.requires c.args.number _ facts.bound by_key)
+    rw c.err.ensures.value (parted _ c.requires c.args.number _ facts.bound by_key)

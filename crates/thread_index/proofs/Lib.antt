@@ -1,0 +1,2 @@
+pub mod LivingLemmas
+pub mod IndexLemmas
