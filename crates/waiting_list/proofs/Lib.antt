@@ -1,3 +1,8 @@
 pub mod SearchLaws
-pub mod LevelLaws
+pub mod KeyLaws
+pub mod EntryLaws
+pub mod FilingLaws
+pub mod KnownLaws
+pub mod RunLaws
+pub mod KeptLaws
 pub mod LineLaws

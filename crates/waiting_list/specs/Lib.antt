@@ -1,3 +1,4 @@
 pub mod Line
-pub mod Levels
+pub mod Keys
+pub mod Entries
 pub mod Kept

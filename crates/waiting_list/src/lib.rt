@@ -2,10 +2,11 @@
 //! that wait for the same.
 //!
 //! The contract of each call is one equation on the list of those that wait (`specs/Line.antt`). Only `reserve` takes memory.
-//! What they wait for is a number, of a monitor or of a condition. The crate stands on `lwp_types` alone.
+//! What they wait for is a number, of a monitor or of a condition. The crate stands on `lwp_types` and `thread_index` alone.
 #![tactic(auto)]
 
-mod levels;
+mod filing;
+mod keys;
 mod line;
 mod rows;
 

@@ -4,19 +4,28 @@ ghost use Rattle.std.specs.List.{list_any};
 ghost use Rattle.waiting_list.specs.Line.{best_for, empty_line, first_for, found_for, has_thread, is_for, joined, left, prioritized, reserved, waiting_for};
 
 use crate::Waiting;
-use crate::levels::{self, Level};
-use crate::rows::{first_for, first_of, found_for, place_of, tids_for};
+use crate::filing::{next_arrival, widen};
+use crate::keys::{self, Key};
+use crate::rows::{
+    Entry, arrival_key, best_place, entry_of, first_place, place_of_thread, rank_of, take_out,
+    tids_for, waiting_of,
+};
 use lwp_types::{IdList, NoMemory, Tid};
 use std::alloc::Global;
 use std::collections::VecDeque;
 use std::marker::Model;
+use thread_index::Index;
 
 /// Threads that wait, each for one thing.
 pub struct WaitingList {
-    waiting: VecDeque<Waiting>,
-    // How many of them wait for the same with the same priority. With it nobody is looked at that waits for something else
-    // alone, or behind the first of the greatest priority.
-    levels: Vec<Level>,
+    // In the order of their arrival.
+    entries: VecDeque<Entry>,
+    // The key of each by what it waits for, its priority and its arrival, and by what it waits for and its arrival alone, in
+    // order. So nobody is looked at who waits for something else, or behind the first of the greatest priority.
+    ranks: VecDeque<Key>,
+    arrived: VecDeque<Key>,
+    // The arrival of each thread that waits.
+    index: Index,
     // How many may wait with no more memory.
     places: usize,
 }
@@ -25,24 +34,27 @@ pub struct WaitingList {
 impl Drop for WaitingList {
     fn drop(self) {
         let WaitingList {
-            waiting: _,
-            levels: _,
+            entries: _,
+            ranks: _,
+            arrived: _,
+            index: _,
             places: _,
         } = self;
     }
 }
 
 impl Model for WaitingList {
-    ghost use Rattle.std.specs.Prelude.{vec_capacity};
+    ghost use Rattle.std.specs.Prelude.{map};
     ghost use Rattle.std.specs.VecDeque.{deque_capacity};
+    ghost use Rattle.waiting_list.specs.Entries.{waiting_of};
     ghost use Rattle.waiting_list.specs.Kept.{IsKept};
     ghost use Rattle.waiting_list.specs.Line.{Line};
 
     ghost Value = { Line };
 
-    ghost view = { λ s. record { waiting = s.waiting.items; places = s.places } };
+    ghost view = { λ s. record { waiting = map waiting_of s.entries.items; places = s.places } };
 
-    ghost invariant = { λ s. IsKept s.waiting.items s.levels.items (deque_capacity s.waiting) (vec_capacity s.levels) s.places };
+    ghost invariant = { λ s. IsKept s.entries.items s.ranks.items s.arrived.items s.index (deque_capacity s.entries) (deque_capacity s.ranks) (deque_capacity s.arrived) s.places };
 }
 
 impl WaitingList {
@@ -51,8 +63,10 @@ impl WaitingList {
         ensures { result ≡ empty_line }
     {
         WaitingList {
-            waiting: VecDeque::new(alloc),
-            levels: Vec::new(alloc),
+            entries: VecDeque::new(alloc),
+            ranks: VecDeque::new(alloc),
+            arrived: VecDeque::new(alloc),
+            index: Index::new(alloc),
             places: 0,
         }
     }
@@ -66,8 +80,11 @@ impl WaitingList {
         if n <= self.places {
             return Ok(());
         }
-        self.waiting.reserve(n - self.waiting.len())?;
-        self.levels.reserve(n - self.levels.len())?;
+        let more = n - self.entries.len();
+        self.entries.reserve(more)?;
+        self.ranks.reserve(more)?;
+        self.arrived.reserve(more)?;
+        widen(&self.entries, &mut self.index, n)?;
         self.places = n;
         Ok(())
     }
@@ -78,70 +95,93 @@ impl WaitingList {
         requires room { length self.old.waiting < self.old.places }
         ensures { self.new ≡ joined self.old next }
     {
-        levels::add(&mut self.levels, next.what, next.prio);
-        self.waiting.push_back_reserved(next);
+        let arrival = next_arrival(
+            &mut self.entries,
+            &mut self.ranks,
+            &mut self.arrived,
+            &mut self.index,
+        );
+        let entry = entry_of(arrival, &next);
+        keys::add(&mut self.ranks, rank_of(&entry));
+        keys::add(&mut self.arrived, arrival_key(&entry));
+        self.index.put(next.tid, arrival as usize);
+        self.entries.push_back_reserved(entry);
     }
 
     /// Of those that wait for this the first of the greatest priority.
     pub fn best(&self, what: u64) -> Option<Waiting>
         ensures { result ≡ best_for self.now what }
     {
-        let level = levels::top(&self.levels, what)?;
-        first_of(&self.waiting, what, level.prio)
+        let at = best_place(&self.entries, &self.ranks, what)?;
+        Some(waiting_of(&self.entries[at]))
     }
 
     /// Of those that wait for this the one that came first.
     pub fn first(&self, what: u64) -> Option<Waiting>
         ensures { result ≡ first_for self.now what }
     {
-        levels::top(&self.levels, what)?;
-        first_for(&self.waiting, what)
+        let at = first_place(&self.entries, &self.arrived, what)?;
+        Some(waiting_of(&self.entries[at]))
     }
 
     /// Of those that wait for this the one of the thread.
     pub fn found(&self, what: u64, tid: Tid) -> Option<Waiting>
         ensures { result ≡ found_for self.now what tid }
     {
-        levels::top(&self.levels, what)?;
-        found_for(&self.waiting, what, tid)
+        let at = place_of_thread(&self.entries, &self.index, tid)?;
+        let entry = self.entries[at];
+        if entry.what != what {
+            return None;
+        }
+        Some(waiting_of(&entry))
     }
 
     /// Whether somebody waits for this.
     pub fn has(&self, what: u64) -> bool
         ensures { result ≡ list_any (is_for what) self.now.waiting }
     {
-        levels::top(&self.levels, what).is_some()
+        keys::first_of(&self.ranks, what).is_some()
     }
 
     /// The thread waits no more, if it did.
     pub fn leave(&mut self, tid: Tid)
         ensures { self.new ≡ left self.old tid }
     {
-        let Some(at) = place_of(&self.waiting, tid) else {
+        let Some(at) = place_of_thread(&self.entries, &self.index, tid) else {
             return;
         };
-        let gone = self.waiting[at];
-        levels::take(&mut self.levels, gone.what, gone.prio);
-        self.waiting.remove(at);
+        let gone = self.entries[at];
+        keys::take(&mut self.ranks, rank_of(&gone));
+        keys::take(&mut self.arrived, arrival_key(&gone));
+        self.index.take(tid);
+        take_out(&mut self.entries, at);
     }
 
     /// Gives the thread a priority, if it waits. It keeps its place.
     pub fn set_prio(&mut self, tid: Tid, prio: u32)
         ensures { self.new ≡ prioritized self.old tid prio }
     {
-        let Some(at) = place_of(&self.waiting, tid) else {
+        let Some(at) = place_of_thread(&self.entries, &self.index, tid) else {
             return;
         };
-        let before = self.waiting[at];
-        levels::take(&mut self.levels, before.what, before.prio);
-        levels::add(&mut self.levels, before.what, prio);
-        self.waiting[at] = Waiting { prio, ..before };
+        let before = self.entries[at];
+        if before.prio == prio {
+            return;
+        }
+        let after = Entry { prio, ..before };
+        keys::change(&mut self.ranks, rank_of(&before), rank_of(&after));
+        self.entries[at] = after;
     }
 
     /// The threads that wait for this, in the order of their arrival.
     pub fn tids(&self, what: u64) -> Result<IdList, NoMemory>
         ensures { IfOk result (λ ids. ids ≡ map (λ w. w.tid) (waiting_for self.now what)) }
     {
-        tids_for(*self.waiting.allocator(), &self.waiting, what)
+        tids_for(
+            *self.entries.allocator(),
+            &self.entries,
+            &self.arrived,
+            what,
+        )
     }
 }

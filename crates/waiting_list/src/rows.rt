@@ -1,13 +1,14 @@
 // Those that wait, in the order of their arrival.
-ghost use Rattle.std.specs.Prelude.{◌≡◌, ◌<◌, ◌&&◌, ◌==◌, map, not, IfOk, Some, slice_index_or};
-ghost use Rattle.std.specs.List.{filter, find, position};
+ghost use Rattle.std.specs.Prelude.{◌≡◌, ◌<◌, count_by, length, map, IfNone, IfOk, IfSome};
+ghost use Rattle.std.specs.List.{filter, remove};
 ghost use Rattle.std.specs.VecDeque.{deque_capacity};
-ghost use Rattle.waiting_list.specs.Kept.{IsOnce};
-ghost use Rattle.waiting_list.specs.Line.{is_for, is_thread, priority_set};
+ghost use Rattle.waiting_list.specs.Entries.{AreRising, IsAt, IsBestAt, IsFiled, IsFirstAt, IsKnown, IsThreadAt, arrival_key, arrivals, entry_of, has_arrival, is_entry_for, is_entry_of, rank_of, tid_in, waiting_of};
 
+use crate::keys::{self, Key};
 use lwp_types::{IdList, NoMemory, Tid};
 use std::alloc::Global;
 use std::collections::VecDeque;
+use thread_index::Index;
 
 /// A thread that waits for something, with the priority that it was last given, and a depth that it is to have back.
 #[derive(Clone, Copy)]
@@ -18,50 +19,177 @@ pub struct Waiting {
     pub depth: u32,
 }
 
-// Where the thread stands.
-pub fn place_of(waiting: &VecDeque<Waiting>, tid: Tid) -> Option<usize>
-    ensures { result ≡ position (is_thread tid) waiting.now.items }
-{
-    waiting.iter().position(|other| other.tid == tid)
+/// The same, and when it came: a greater number than those before it have.
+#[derive(Clone, Copy)]
+pub struct Entry {
+    pub arrival: u64,
+    pub what: u64,
+    pub tid: Tid,
+    pub prio: u32,
+    pub depth: u32,
 }
 
-// The first that waits for this.
-pub fn first_for(waiting: &VecDeque<Waiting>, what: u64) -> Option<Waiting>
-    ensures { result ≡ find (is_for what) waiting.now.items }
+// Whoever came then.
+pub fn entry_of(arrival: u64, next: &Waiting) -> Entry
+    ensures { result ≡ entry_of arrival next.now }
 {
-    waiting.iter().copied().find(|other| other.what == what)
+    Entry {
+        arrival,
+        what: next.what,
+        tid: next.tid,
+        prio: next.prio,
+        depth: next.depth,
+    }
 }
 
-// The first of this priority that waits for this.
-pub fn first_of(waiting: &VecDeque<Waiting>, what: u64, prio: u32) -> Option<Waiting>
-    ensures { result ≡ find (λ w. is_for what w && w.prio == prio) waiting.now.items }
+// Whoever it is, whenever it came.
+pub fn waiting_of(entry: &Entry) -> Waiting
+    ensures { result ≡ waiting_of entry.now }
 {
-    waiting
-        .iter()
-        .copied()
-        .find(|other| other.what == what && other.prio == prio)
+    Waiting {
+        what: entry.what,
+        tid: entry.tid,
+        prio: entry.prio,
+        depth: entry.depth,
+    }
 }
 
-// The thread, if it waits for this.
-pub fn found_for(waiting: &VecDeque<Waiting>, what: u64, tid: Tid) -> Option<Waiting>
-    ensures { result ≡ find (λ w. is_for what w && is_thread tid w) waiting.now.items }
+// The key by which it is found as the best for what it waits for.
+pub fn rank_of(entry: &Entry) -> Key
+    ensures { result ≡ rank_of entry.now }
 {
-    waiting
-        .iter()
-        .copied()
-        .find(|other| other.what == what && other.tid == tid)
+    Key {
+        what: entry.what,
+        prio: entry.prio,
+        arrival: entry.arrival,
+    }
+}
+
+// The key by which it is found as the first for what it waits for.
+pub fn arrival_key(entry: &Entry) -> Key
+    ensures { result ≡ arrival_key entry.now }
+{
+    Key {
+        what: entry.what,
+        prio: 0,
+        arrival: entry.arrival,
+    }
+}
+
+// Where whoever came then stands, by halving.
+#[inline(never)]
+fn place_by_halves(entries: &VecDeque<Entry>, arrival: u64) -> Option<usize>
+    requires { AreRising (arrivals entries.now.items) }
+    ensures none { IfNone result (count_by (has_arrival arrival) entries.now.items ≡ 0) }
+    ensures some { IfSome result (IsAt arrival entries.now.items) }
+{
+    let at = entries.partition_point(|entry| entry.arrival < arrival);
+    match entries.get(at) {
+        Some(entry) if entry.arrival == arrival => Some(at),
+        _ => None,
+    }
+}
+
+// Where whoever came then stands: before all others, where it does, at a look.
+#[inline(always)]
+fn place_of(entries: &VecDeque<Entry>, arrival: u64) -> Option<usize>
+    requires { AreRising (arrivals entries.now.items) }
+    ensures none { IfNone result (count_by (has_arrival arrival) entries.now.items ≡ 0) }
+    ensures some { IfSome result (IsAt arrival entries.now.items) }
+{
+    match entries.front() {
+        Some(entry) if entry.arrival == arrival => Some(0),
+        _ => place_by_halves(entries, arrival),
+    }
+}
+
+// Where the thread stands, by its arrival.
+#[inline(never)]
+fn place_by_index(entries: &VecDeque<Entry>, index: &Index, tid: Tid) -> Option<usize>
+    requires rising { AreRising (arrivals entries.now.items) }
+    requires known { IsKnown entries.now.items index.now }
+    ensures none { IfNone result (count_by (is_entry_of tid) entries.now.items ≡ 0) }
+    ensures some { IfSome result (IsThreadAt tid entries.now.items) }
+{
+    let arrival = index.place_of(tid)?;
+    place_of(entries, arrival as u64)
+}
+
+// Where the thread stands: before all others, where it does, at a look.
+#[inline(always)]
+pub fn place_of_thread(entries: &VecDeque<Entry>, index: &Index, tid: Tid) -> Option<usize>
+    requires rising { AreRising (arrivals entries.now.items) }
+    requires known { IsKnown entries.now.items index.now }
+    ensures none { IfNone result (count_by (is_entry_of tid) entries.now.items ≡ 0) }
+    ensures some { IfSome result (IsThreadAt tid entries.now.items) }
+{
+    match entries.front() {
+        Some(first) if first.tid == tid => Some(0),
+        _ => place_by_index(entries, index, tid),
+    }
+}
+
+// Where the first of the greatest priority stands of those that wait for this.
+pub fn best_place(entries: &VecDeque<Entry>, ranks: &VecDeque<Key>, what: u64) -> Option<usize>
+    requires rising { AreRising (arrivals entries.now.items) }
+    requires filed { IsFiled rank_of entries.now.items ranks.now.items }
+    ensures none { IfNone result (count_by (is_entry_for what) entries.now.items ≡ 0) }
+    ensures some { IfSome result (IsBestAt what entries.now.items) }
+{
+    let key = keys::first_of(ranks, what)?;
+    place_of(entries, key.arrival)
+}
+
+// Where the one stands that came first of those that wait for this.
+pub fn first_place(entries: &VecDeque<Entry>, arrived: &VecDeque<Key>, what: u64) -> Option<usize>
+    requires rising { AreRising (arrivals entries.now.items) }
+    requires filed { IsFiled arrival_key entries.now.items arrived.now.items }
+    ensures none { IfNone result (count_by (is_entry_for what) entries.now.items ≡ 0) }
+    ensures some { IfSome result (IsFirstAt what entries.now.items) }
+{
+    let key = keys::first_of(arrived, what)?;
+    place_of(entries, key.arrival)
+}
+
+// All but whoever stands there.
+#[inline(always)]
+pub fn take_out(entries: &mut VecDeque<Entry>, at: usize)
+    requires { at < length entries.old.items }
+    ensures items { entries.new.items ≡ remove entries.old.items at }
+    ensures capacity { deque_capacity entries.new ≡ deque_capacity entries.old }
+{
+    if at == 0 {
+        entries.pop_front();
+    } else {
+        entries.remove(at);
+    }
+}
+
+// The thread that came then, or 0.
+fn tid_of(entries: &VecDeque<Entry>, arrival: u64) -> u64
+    requires { AreRising (arrivals entries.now.items) }
+    ensures { result ≡ tid_in entries.now.items arrival }
+{
+    match place_of(entries, arrival) {
+        Some(at) => entries[at].tid.number,
+        None => 0,
+    }
 }
 
 // The threads that wait for this.
-pub fn tids_for(alloc: Global, waiting: &VecDeque<Waiting>, what: u64) -> Result<IdList, NoMemory>
-    ensures { IfOk result (λ ids. ids ≡ map (λ w. w.tid) (filter (is_for what) waiting.now.items)) }
+pub fn tids_for(
+    alloc: Global,
+    entries: &VecDeque<Entry>,
+    arrived: &VecDeque<Key>,
+    what: u64,
+) -> Result<IdList, NoMemory>
+    requires rising { AreRising (arrivals entries.now.items) }
+    requires filed { IsFiled arrival_key entries.now.items arrived.now.items }
+    ensures { IfOk result (λ ids. ids ≡ map (λ e. e.tid) (filter (is_entry_for what) entries.now.items)) }
 {
     let mut ids = IdList::new(alloc);
-    for i in 0..waiting.len() {
-        let next = &waiting[i];
-        if next.what == what {
-            ids.push(next.tid.number)?;
-        }
+    for at in keys::start_of(arrived, what)..keys::end_of(arrived, what) {
+        ids.push(tid_of(entries, arrived[at].arrival))?;
     }
     Ok(ids)
 }

@@ -1,6 +1,6 @@
-use Rattle.std.proofs.Common.{ap, is_some, ◌∙◌}
-use Rattle.waiting_list.proofs.LineLaws.{has_level}
+use Rattle.std.proofs.Common.{sym, ◌∙◌}
+use Rattle.waiting_list.proofs.KeptLaws.{has_rank}
 use Rattle.waiting_list.proofs.line.WaitingList.has.Goals as goal
 
 pub returns : goal.returns
-returns c = rw (← c.self.view_is) (c.is_some.ensures ∙ ap is_some (rw c.deref.ensures.value at c.top.ensures) ∙ has_level c.self.invariant c.args.what)
+returns c = rw (← c.self.view_is) (c.is_some.ensures ∙ has_rank c.args.what c.self.inside.entries.items c.self.inside.ranks.items c.self.invariant.indexed.ranked c.first_of.result (sym c.first_of.ensures))

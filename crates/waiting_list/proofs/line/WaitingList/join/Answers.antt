@@ -1,14 +1,31 @@
-use Rattle.std.proofs.Common.{arith, rules}
-use Rattle.waiting_list.proofs.LineLaws.{IsKept-joined, length-levels}
+use Rattle.std.proofs.Common.{arith}
+use Rattle.waiting_list.proofs.KeptLaws.{IsKept-joined, few_known_new, unknown_new}
 use Rattle.waiting_list.proofs.line.WaitingList.join.Goals as goal
 
-pub add-requires-clause-room : goal.add-requires-clause-room
-add-requires-clause-room c = omega (arith, length-levels c.self.invariant, c.self.invariant.levels_fit, rw (← c.self.view_is) at c.requires.room)
+pub put-requires-clause-new : goal.put-requires-clause-new
+put-requires-clause-new c =
+    let facts = c.next_arrival-arrival.ensures in
+    unknown_new c.self.inside.entries.items _ _ _ _ _ _ _ c.self.invariant c.next_arrival-arrival.new.entries.items c.next_arrival-arrival.new.index c.args.next.tid facts.same facts.known (rw (← c.self.view_is) at c.requires.waits_nowhere)
+
+pub put-requires-clause-room : goal.put-requires-clause-room
+put-requires-clause-room c =
+    let facts = c.next_arrival-arrival.ensures in
+    let few = few_known_new c.self.inside.entries.items _ _ _ _ _ _ _ c.self.invariant c.next_arrival-arrival.new.entries.items c.next_arrival-arrival.new.index facts.same facts.known (rw (← c.self.view_is) at c.requires.room) in
+    omega (arith, few, c.self.invariant.cells, c.self.invariant.index_room, facts.width, facts.index_room)
 
 pub invariant_of-self : goal.invariant_of-self
 invariant_of-self c =
-    rw (c.push_back_reserved.ensures.items, c.push_back_reserved.ensures.capacity, c.add.ensures.capacity)
-    (IsKept-joined c.self.invariant c.args.next _ (rw (← c.self.view_is) at c.requires.waits_nowhere) (rw (← c.self.view_is) at c.requires.room) c.add.ensures.each c.add.ensures.total c.add.ensures.some)
-
-pub returns : goal.returns
-returns c = search rules
+    let facts = c.next_arrival-arrival.ensures in
+    let was = c.self.invariant in
+    rw c.push_back_reserved.ensures.items
+    (IsKept-joined c.self.inside.entries.items _ _ _ _ _ _ _ was c.next_arrival-arrival.new.entries.items _ _ c.next_arrival-arrival.new.index c.next_arrival-arrival.result c.args.next c.entry_of-entry.result _ _ _ _ _ _
+    facts.same facts.indexed facts.known facts.later c.entry_of-entry.ensures
+    (rw (← c.self.view_is) at c.requires.waits_nowhere) (rw (← c.self.view_is) at c.requires.room)
+    c.add.ensures.sorted (rw c.rank_of.ensures at c.add.ensures.counts) c.add.ensures.len
+    c.add-2.ensures.sorted (rw c.arrival_key.ensures at c.add-2.ensures.counts) c.add-2.ensures.len
+    c.put.ensures.puts c.put.ensures.count
+    (omega (arith, c.push_back_reserved.ensures.capacity, facts.room, was.places_fit))
+    (omega (arith, c.add.ensures.capacity, facts.rank_room, was.ranks_fit))
+    (omega (arith, c.add-2.ensures.capacity, facts.arrived_room, was.arrived_fit))
+    (omega (arith, c.put.ensures.width, facts.width, was.cells))
+    (omega (arith, c.put.ensures.width, c.put.ensures.room, facts.width, facts.index_room, was.index_room)))

@@ -1,25 +1,26 @@
-use Rattle.std.proofs.Common.{ap, cond, sym}
-use Rattle.waiting_list.proofs.LineLaws.{IsKept-prioritized, counted_there, prioritized_there, room_again}
-use Rattle.lwp_types.specs.OnlyLaws.{count_unplaced, map_none}
+use Rattle.std.proofs.Common.{ap, arith, sym}
+use Rattle.waiting_list.proofs.FilingLaws.{key_filed}
+use Rattle.waiting_list.proofs.KeptLaws.{IsKept-prioritized, none_prioritized, prioritized_same, prioritized_there}
 use Rattle.waiting_list.proofs.line.WaitingList.set_prio.Goals as goal
-use Rattle.waiting_list.specs.Line.{is_thread, priority_set}
+use Rattle.waiting_list.specs.Entries.{rank_of}
 
 pub returns-in_default : goal.returns-in_default
 returns-in_default c =
-    let ws = c.self.inside.waiting.items in
-    let none = count_unplaced (is_thread c.args.tid) ws (sym c.in_default.ensures) in
-    rw (← c.self.view_is) (ap (λ us. record { waiting = us; places = c.self.inside.places }) (sym (map_none (is_thread c.args.tid) (priority_set c.args.tid c.args.prio) (λ x other. ap (λ b. record x { prio = cond b c.args.prio x.prio }) other) ws none)))
+    rw (← c.self.view_is) (ap (λ ws. record { waiting = ws; places = c.self.inside.places }) (sym (none_prioritized c.args.tid c.args.prio c.self.inside.entries.items c.in_default.ensures.none)))
 
-pub take-requires-clause-there : goal.take-requires-clause-there
-take-requires-clause-there c = counted_there c.self.invariant c.args.tid c.in-Some.at c.index-before.result.now (sym c.in-Some.ensures) c.index-before.ensures
+pub returns-then-before-prio : goal.returns-then-before-prio
+returns-then-before-prio c =
+    rw (← c.self.view_is) (ap (λ ws. record { waiting = ws; places = c.self.inside.places }) (prioritized_same c.self.inside.entries.items _ _ _ _ _ _ _ c.self.invariant c.args.tid c.in-Some.at c.index.result.now c.in-Some.ensures.some c.index.ensures c.args.prio c.if-before-prio.true))
 
-pub add-requires-clause-room : goal.add-requires-clause-room
-add-requires-clause-room c = rw c.take.ensures.capacity (room_again c.self.invariant c.args.tid c.in-Some.at c.index-before.result.now (sym c.in-Some.ensures) c.index-before.ensures _ c.take.ensures.some c.take.ensures.total)
+pub change-requires-clause-there : goal.change-requires-clause-there
+change-requires-clause-there c =
+    rw c.rank_of.ensures (key_filed rank_of c.self.inside.entries.items c.self.inside.ranks.items c.self.inside.ranks.items c.self.invariant.indexed.ranked c.in-Some.at c.index.result.now c.in-Some.ensures.some.within c.index.ensures)
 
 pub invariant_of-self : goal.invariant_of-self
 invariant_of-self c =
-    rw (c.add.ensures.capacity, c.take.ensures.capacity)
-    (IsKept-prioritized c.self.invariant c.args.tid c.in-Some.at c.index-before.result.now (sym c.in-Some.ensures) c.index-before.ensures c.args.prio c.take.new.levels.items _ c.take.ensures.each c.take.ensures.total c.add.ensures.each c.add.ensures.total c.add.ensures.some)
+    IsKept-prioritized c.self.inside.entries.items _ _ _ _ _ _ _ c.self.invariant c.args.tid c.in-Some.at c.index.result.now c.in-Some.ensures.some c.index.ensures c.args.prio _ _
+    c.change.ensures.sorted (rw (c.rank_of.ensures, c.rank_of-2.ensures) at c.change.ensures.counts) c.change.ensures.len
+    (omega (arith, c.change.ensures.capacity, c.self.invariant.ranks_fit))
 
 pub returns : goal.returns
-returns c = rw (← c.self.view_is) (ap (λ us. record { waiting = us; places = c.self.inside.places }) (prioritized_there c.self.invariant c.args.tid c.in-Some.at c.index-before.result.now (sym c.in-Some.ensures) c.index-before.ensures c.args.prio))
+returns c = rw (← c.self.view_is) (ap (λ ws. record { waiting = ws; places = c.self.inside.places }) (prioritized_there c.self.inside.entries.items _ _ _ _ _ _ _ c.self.invariant c.args.tid c.in-Some.at c.index.result.now c.in-Some.ensures.some c.index.ensures c.args.prio))

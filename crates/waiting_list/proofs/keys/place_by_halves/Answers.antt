@@ -1,0 +1,11 @@
+use Rattle.std.proofs.Common.{arith, rules}
+use Rattle.std.proofs.lemmas.List.Sorted.{IsPartitionPoint-from_clause}
+use Rattle.waiting_list.proofs.KeyLaws.{parted_by_key, place_from}
+use Rattle.waiting_list.proofs.keys.place_by_halves.Goals as goal
+use Rattle.waiting_list.specs.Keys.{is_before}
+
+pub returns : goal.returns
+returns c =
+    let ks = c.args.keys.now.items in
+    let facts = c.partition_point.ensures in
+    place_from c.args.key ks _ (omega (arith, facts.bound, c.args.keys.now.ok.0)) (IsPartitionPoint-from_clause (λ l. is_before l c.args.key) ks _ facts.partitioned (parted_by_key c.args.key ks c.requires) (λ a r f called. (search rules, search rules)))

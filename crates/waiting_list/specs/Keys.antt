@@ -1,0 +1,51 @@
+-- Keys in order. No public clause cites this module.
+use Rattle.std.specs.List.{AllByRecursion}
+use Rattle.std.specs.Prelude.{Bool, List, [], false, if◌then◌else◌, length, nat_lt, slice_index_or, suc, true, ℕ, ◌&&◌, ◌<◌, ◌==◌, ◌∷◌, ◌≡◌, ◌≤◌}
+use Rattle.waiting_list.specs.declared.keys.Key.{Key}
+
+-- it is key k
+abbrev pub is_key : Key → Key → Bool
+is_key k l = l.what == k.what && (l.prio == k.prio && l.arrival == k.arrival)
+
+-- it is a key of n
+abbrev pub is_of : ℕ → Key → Bool
+is_of n k = k.what == n
+
+-- by two numbers, and where they are the same by what else is known
+abbrev pub by_numbers : ℕ → ℕ → Bool → Bool
+by_numbers m n rest = if m == n then rest else nat_lt m n
+
+-- k stands before l: by what they are of, by falling priority, by arrival
+abbrev pub is_before : Key → Key → Bool
+is_before k l = by_numbers k.what l.what (by_numbers l.prio k.prio (nat_lt k.arrival l.arrival))
+
+-- no key stands before an earlier one
+abbrev pub IsSorted : List Key → Type 0
+IsSorted [] = Unit {0}
+IsSorted (k ∷ ks) = AllByRecursion (λ l. is_before l k ≡ false) ks × IsSorted ks
+
+-- the keys before this place stand before k, and no others do
+pub record IsPlace (k : Key) (ks : List Key) (i : ℕ) : Type 0 where
+  pub within : i ≤ length ks
+  pub before : (j : ℕ) (d : Key) → j < i → is_before (slice_index_or ks j d) k ≡ true
+  pub after : (j : ℕ) (d : Key) → i ≤ j → j < length ks → is_before (slice_index_or ks j d) k ≡ false
+
+-- the keys before this place are of less than n, and no others are
+pub record IsStart (n : ℕ) (ks : List Key) (i : ℕ) : Type 0 where
+  pub within : i ≤ length ks
+  pub before : (j : ℕ) (d : Key) → j < i → (slice_index_or ks j d).what < n
+  pub after : (j : ℕ) (d : Key) → i ≤ j → j < length ks → n ≤ (slice_index_or ks j d).what
+
+-- the keys before this place are of n at most, and no others are
+pub record IsEnd (n : ℕ) (ks : List Key) (i : ℕ) : Type 0 where
+  pub within : i ≤ length ks
+  pub before : (j : ℕ) (d : Key) → j < i → (slice_index_or ks j d).what ≤ n
+  pub after : (j : ℕ) (d : Key) → i ≤ j → j < length ks → n < (slice_index_or ks j d).what
+
+-- the key before this place, if there is one, stands before k
+abbrev pub IsBehind : Key → List Key → ℕ → Type 0
+IsBehind k ks i = (j : ℕ) (d : Key) → suc j ≡ i → is_before (slice_index_or ks j d) k ≡ true
+
+-- k stands before the key behind this place, if there is one
+abbrev pub IsAhead : Key → List Key → ℕ → Type 0
+IsAhead k ks i = (d : Key) → suc i < length ks → is_before k (slice_index_or ks (suc i) d) ≡ true

@@ -1,0 +1,121 @@
+// How those that wait are filed, and numbered anew where no greater number is left.
+ghost use Rattle.std.specs.Prelude.{◌≡◌, ◌<◌, ◌≤◌, ◌^◌, length, map, OnOk};
+ghost use Rattle.std.specs.List.{AllByRecursion};
+ghost use Rattle.std.specs.VecDeque.{deque_capacity};
+ghost use Rattle.thread_index.specs.Index.{IsEmpty, width_of};
+ghost use Rattle.waiting_list.specs.Entries.{AreRising, IsFiled, IsIndexed, IsKnown, IsOnce, arrival_key, arrivals, numbered, rank_of, waiting_of};
+
+use crate::keys::{self, Key};
+use crate::rows::{Entry, arrival_key, rank_of};
+use lwp_types::NoMemory;
+use std::collections::VecDeque;
+use thread_index::Index;
+
+// Each is numbered by its place.
+fn renumber(entries: &mut VecDeque<Entry>)
+    ensures items { entries.new.items ≡ numbered 0 entries.old.items }
+    ensures capacity { deque_capacity entries.new ≡ deque_capacity entries.old }
+{
+    for at in 0..entries.len() {
+        entries[at].arrival = at as u64;
+    }
+}
+
+// Files all that wait by what they wait for.
+fn file(entries: &VecDeque<Entry>, ranks: &mut VecDeque<Key>, arrived: &mut VecDeque<Key>)
+    requires ranks_fit { length entries.now.items ≤ deque_capacity ranks.old }
+    requires arrived_fit { length entries.now.items ≤ deque_capacity arrived.old }
+    ensures ranked { IsFiled rank_of entries.now.items ranks.new.items }
+    ensures queued { IsFiled arrival_key entries.now.items arrived.new.items }
+    ensures rank_room { deque_capacity ranks.old ≤ deque_capacity ranks.new }
+    ensures arrived_room { deque_capacity arrived.old ≤ deque_capacity arrived.new }
+{
+    ranks.clear();
+    arrived.clear();
+    for at in 0..entries.len() {
+        let entry = entries[at];
+        keys::add(ranks, rank_of(&entry));
+        keys::add(arrived, arrival_key(&entry));
+    }
+}
+
+// Files all that wait by their threads, of whom none is filed yet.
+pub fn file_threads(entries: &VecDeque<Entry>, index: &mut Index)
+    requires once { IsOnce entries.now.items }
+    requires empty { IsEmpty index.old }
+    requires cells { length entries.now.items ≤ width_of index.old }
+    requires room { width_of index.old ≤ index.old.room }
+    ensures known { IsKnown entries.now.items index.new }
+    ensures width { width_of index.new ≡ width_of index.old }
+    ensures room { index.new.room ≡ index.old.room }
+{
+    for at in 0..entries.len() {
+        let entry = entries[at];
+        index.put(entry.tid, entry.arrival as usize);
+    }
+}
+
+// How many cells there are to be for so many threads: twice as many where that can be, so that they are seldom made anew.
+fn width_for(n: usize) -> usize
+    ensures { n ≤ result }
+{
+    n.saturating_mul(2)
+}
+
+// An index with cells for so many threads at least.
+pub fn widen(entries: &VecDeque<Entry>, index: &mut Index, n: usize) -> Result<(), NoMemory>
+    requires once { IsOnce entries.now.items }
+    requires known { IsKnown entries.now.items index.old }
+    requires fits { length entries.now.items ≤ n }
+    requires room { width_of index.old ≤ index.old.room }
+    ensures known { IsKnown entries.now.items index.new }
+    ensures more { width_of index.old ≤ width_of index.new }
+    ensures room { width_of index.new ≤ index.new.room }
+    ensures ok { OnOk result (n ≤ width_of index.new) }
+{
+    if n <= index.width() {
+        return Ok(());
+    }
+    let mut wider = Index::with_cells(*entries.allocator(), width_for(n))?;
+    file_threads(entries, &mut wider);
+    *index = wider;
+    Ok(())
+}
+
+// A number for whoever comes next, greater than all that were given.
+pub fn next_arrival(
+    entries: &mut VecDeque<Entry>,
+    ranks: &mut VecDeque<Key>,
+    arrived: &mut VecDeque<Key>,
+    index: &mut Index,
+) -> u64
+    requires once { IsOnce entries.old.items }
+    requires indexed { IsIndexed entries.old.items ranks.old.items arrived.old.items }
+    requires known { IsKnown entries.old.items index.old }
+    requires ranks_fit { length entries.old.items ≤ deque_capacity ranks.old }
+    requires arrived_fit { length entries.old.items ≤ deque_capacity arrived.old }
+    requires cells { length entries.old.items ≤ width_of index.old }
+    requires room { width_of index.old ≤ index.old.room }
+    ensures same { map waiting_of entries.new.items ≡ map waiting_of entries.old.items }
+    ensures indexed { IsIndexed entries.new.items ranks.new.items arrived.new.items }
+    ensures known { IsKnown entries.new.items index.new }
+    ensures later { AllByRecursion (λ n. n < result) (arrivals entries.new.items) }
+    ensures room { deque_capacity entries.new ≡ deque_capacity entries.old }
+    ensures rank_room { deque_capacity ranks.old ≤ deque_capacity ranks.new }
+    ensures arrived_room { deque_capacity arrived.old ≤ deque_capacity arrived.new }
+    ensures width { width_of index.new ≡ width_of index.old }
+    ensures index_room { index.new.room ≡ index.old.room }
+{
+    let last = match entries.back() {
+        Some(entry) => entry.arrival,
+        None => return 0,
+    };
+    if last < u64::MAX {
+        return last + 1;
+    }
+    renumber(entries);
+    file(entries, ranks, arrived);
+    index.clear();
+    file_threads(entries, index);
+    entries.len() as u64
+}

@@ -1,0 +1,241 @@
+// Keys by which those that wait are found, in order.
+ghost use Rattle.std.specs.Prelude.{◌≡◌, ◌+◌, ◌<◌, ◌≤◌, IsTrue, ℕ, count_by, length, slice_set};
+ghost use Rattle.lwp_types.specs.CountLaws.{one};
+ghost use Rattle.std.specs.List.{find, insert, remove};
+ghost use Rattle.std.specs.VecDeque.{deque_capacity};
+ghost use Rattle.waiting_list.specs.Keys.{IsAhead, IsBehind, IsEnd, IsPlace, IsSorted, IsStart, is_before, is_key, is_of};
+
+use std::collections::VecDeque;
+
+/// What one waits for or who it is, the priority with which it waits, and when it came.
+#[derive(Clone, Copy)]
+pub struct Key {
+    pub what: u64,
+    pub prio: u32,
+    pub arrival: u64,
+}
+
+// Keys of the same thing stand together, those of a greater priority first, and among these whoever came first.
+#[inline(always)]
+fn is_before(key: Key, other: Key) -> bool
+    ensures { result ≡ is_before key other }
+{
+    if key.what != other.what {
+        return key.what < other.what;
+    }
+    if key.prio != other.prio {
+        return other.prio < key.prio;
+    }
+    key.arrival < other.arrival
+}
+
+// Where the key stands, or belongs, by halving.
+fn place_by_halves(keys: &VecDeque<Key>, key: Key) -> usize
+    requires { IsSorted keys.now.items }
+    ensures { IsPlace key keys.now.items result }
+{
+    keys.partition_point(|other| is_before(*other, key))
+}
+
+// Whether the key belongs behind all others.
+#[inline(always)]
+fn goes_last(keys: &VecDeque<Key>, key: Key) -> bool
+    requires { IsSorted keys.now.items }
+    ensures { IsTrue result → IsPlace key keys.now.items (length keys.now.items) }
+{
+    match keys.back() {
+        Some(last) => is_before(*last, key),
+        None => true,
+    }
+}
+
+// Whether the key stands before all others, if it stands there.
+#[inline(always)]
+fn stands_first(keys: &VecDeque<Key>, key: Key) -> bool
+    requires { IsSorted keys.now.items }
+    ensures { IsTrue result → IsPlace key keys.now.items 0 }
+{
+    match keys.front() {
+        Some(first) => !is_before(*first, key),
+        None => true,
+    }
+}
+
+// One key more, there.
+#[inline(always)]
+fn put(keys: &mut VecDeque<Key>, at: usize, key: Key)
+    requires within { at ≤ length keys.old.items }
+    requires room { length keys.old.items < deque_capacity keys.old }
+    ensures items { keys.new.items ≡ insert keys.old.items at key }
+    ensures capacity { deque_capacity keys.old ≤ deque_capacity keys.new }
+{
+    if at == keys.len() {
+        keys.push_back_reserved(key);
+    } else {
+        // There is room, so no memory is asked for.
+        let _ = keys.insert(at, key);
+    }
+}
+
+// One key less, the one there.
+#[inline(always)]
+fn take_out(keys: &mut VecDeque<Key>, at: usize)
+    requires { at < length keys.old.items }
+    ensures items { keys.new.items ≡ remove keys.old.items at }
+    ensures capacity { deque_capacity keys.new ≡ deque_capacity keys.old }
+{
+    if at == 0 {
+        keys.pop_front();
+    } else {
+        keys.remove(at);
+    }
+}
+
+// One key more, where halving says that it belongs.
+#[inline(never)]
+fn add_within(keys: &mut VecDeque<Key>, key: Key)
+    requires sorted { IsSorted keys.old.items }
+    requires room { length keys.old.items < deque_capacity keys.old }
+    ensures sorted { IsSorted keys.new.items }
+    ensures counts { (k : Key) → count_by (is_key k) keys.new.items ≡ count_by (is_key k) keys.old.items + one (is_key k key) }
+    ensures len { length keys.new.items ≡ length keys.old.items + 1 }
+    ensures capacity { deque_capacity keys.old ≤ deque_capacity keys.new }
+{
+    let at = place_by_halves(keys, key);
+    put(keys, at, key);
+}
+
+// One key more, where it belongs: at a look where it is the last.
+#[inline(always)]
+pub fn add(keys: &mut VecDeque<Key>, key: Key)
+    requires sorted { IsSorted keys.old.items }
+    requires room { length keys.old.items < deque_capacity keys.old }
+    ensures sorted { IsSorted keys.new.items }
+    ensures counts { (k : Key) → count_by (is_key k) keys.new.items ≡ count_by (is_key k) keys.old.items + one (is_key k key) }
+    ensures len { length keys.new.items ≡ length keys.old.items + 1 }
+    ensures capacity { deque_capacity keys.old ≤ deque_capacity keys.new }
+{
+    if goes_last(keys, key) {
+        let end = keys.len();
+        put(keys, end, key);
+    } else {
+        add_within(keys, key);
+    }
+}
+
+// One key less, found by halving.
+#[inline(never)]
+fn take_within(keys: &mut VecDeque<Key>, key: Key)
+    requires sorted { IsSorted keys.old.items }
+    requires there { 1 ≤ count_by (is_key key) keys.old.items }
+    ensures sorted { IsSorted keys.new.items }
+    ensures counts { (k : Key) → count_by (is_key k) keys.new.items + one (is_key k key) ≡ count_by (is_key k) keys.old.items }
+    ensures len { length keys.new.items + 1 ≡ length keys.old.items }
+    ensures capacity { deque_capacity keys.new ≡ deque_capacity keys.old }
+{
+    let at = place_by_halves(keys, key);
+    take_out(keys, at);
+}
+
+// One key less: at a look where it is the first.
+#[inline(always)]
+pub fn take(keys: &mut VecDeque<Key>, key: Key)
+    requires sorted { IsSorted keys.old.items }
+    requires there { 1 ≤ count_by (is_key key) keys.old.items }
+    ensures sorted { IsSorted keys.new.items }
+    ensures counts { (k : Key) → count_by (is_key k) keys.new.items + one (is_key k key) ≡ count_by (is_key k) keys.old.items }
+    ensures len { length keys.new.items + 1 ≡ length keys.old.items }
+    ensures capacity { deque_capacity keys.new ≡ deque_capacity keys.old }
+{
+    if stands_first(keys, key) {
+        take_out(keys, 0);
+    } else {
+        take_within(keys, key);
+    }
+}
+
+// Whether the key belongs behind the one before that place, if there is one.
+fn is_behind(keys: &VecDeque<Key>, at: usize, key: Key) -> bool
+    requires { at < length keys.now.items }
+    ensures { IsTrue result → IsBehind key keys.now.items at }
+{
+    at == 0 || is_before(keys[at - 1], key)
+}
+
+// Whether the key belongs before the one behind that place, if there is one.
+fn is_ahead(keys: &VecDeque<Key>, at: usize, key: Key) -> bool
+    requires { at < length keys.now.items }
+    ensures { IsTrue result → IsAhead key keys.now.items at }
+{
+    at + 1 == keys.len() || is_before(key, keys[at + 1])
+}
+
+// Whether the keys stay in order where this one stands there.
+fn fits_at(keys: &VecDeque<Key>, at: usize, key: Key) -> bool
+    requires sorted { IsSorted keys.now.items }
+    requires within { at < length keys.now.items }
+    ensures { IsTrue result → IsSorted (slice_set keys.now.items at key) }
+{
+    is_behind(keys, at, key) && is_ahead(keys, at, key)
+}
+
+// One key becomes another, in its place where that is in order.
+#[inline(never)]
+pub fn change(keys: &mut VecDeque<Key>, key: Key, after: Key)
+    requires sorted { IsSorted keys.old.items }
+    requires there { 1 ≤ count_by (is_key key) keys.old.items }
+    requires room { length keys.old.items ≤ deque_capacity keys.old }
+    ensures sorted { IsSorted keys.new.items }
+    ensures counts { (k : Key) → count_by (is_key k) keys.new.items + one (is_key k key) ≡ count_by (is_key k) keys.old.items + one (is_key k after) }
+    ensures len { length keys.new.items ≡ length keys.old.items }
+    ensures capacity { deque_capacity keys.old ≤ deque_capacity keys.new }
+{
+    let at = place_by_halves(keys, key);
+    if fits_at(keys, at, after) {
+        keys[at] = after;
+    } else {
+        take_out(keys, at);
+        add(keys, after);
+    }
+}
+
+// Where the keys of this begin, by halving.
+pub fn start_of(keys: &VecDeque<Key>, what: u64) -> usize
+    requires { IsSorted keys.now.items }
+    ensures { IsStart what keys.now.items result }
+{
+    keys.partition_point(|key| key.what < what)
+}
+
+// Where the keys of this end, by halving.
+pub fn end_of(keys: &VecDeque<Key>, what: u64) -> usize
+    requires { IsSorted keys.now.items }
+    ensures { IsEnd what keys.now.items result }
+{
+    keys.partition_point(|key| key.what <= what)
+}
+
+// The first key of this, by halving.
+#[inline(never)]
+fn first_by_halves(keys: &VecDeque<Key>, what: u64) -> Option<Key>
+    requires { IsSorted keys.now.items }
+    ensures { result ≡ find (is_of what) keys.now.items }
+{
+    match keys.get(start_of(keys, what)) {
+        Some(key) if key.what == what => Some(*key),
+        _ => None,
+    }
+}
+
+// The first key of this: at a look where it stands before all others, or there is none that could.
+#[inline(always)]
+pub fn first_of(keys: &VecDeque<Key>, what: u64) -> Option<Key>
+    requires { IsSorted keys.now.items }
+    ensures { result ≡ find (is_of what) keys.now.items }
+{
+    match keys.front() {
+        Some(first) if first.what < what => first_by_halves(keys, what),
+        Some(first) if first.what == what => Some(*first),
+        _ => None,
+    }
+}
