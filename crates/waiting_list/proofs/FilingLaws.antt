@@ -8,7 +8,7 @@ use Rattle.std.proofs.lemmas.List.{length-set, length_push}
 use Rattle.std.specs.List.{AllByRecursion, remove}
 use Rattle.waiting_list.proofs.EntryLaws.{never_falls, no_entry}
 use Rattle.waiting_list.proofs.KeyLaws.{key_itself}
-use Rattle.waiting_list.specs.Entries.{AreRising, IsFiled, IsIndexed, arrivals, numbered, rank_of, arrival_key, waiting_of}
+use Rattle.waiting_list.specs.Entries.{AreRising, IsFiled, IsIndexed, IsSortedOut, arrivals, numbered, waiting_of}
 use Rattle.waiting_list.specs.Keys.{IsSorted, is_key}
 use Rattle.waiting_list.specs.declared.keys.Key.{Key}
 use Rattle.waiting_list.specs.declared.rows.Entry.{Entry}
@@ -139,18 +139,14 @@ take_more (x ∷ es) (suc i) e within here = ap (λ ys. x ∷ ys) (take_more es 
 pub IsFiled-more : (f : Entry → Key) (es : List Entry) (i next : ℕ) (e : Entry) (ks after : List Key) → IsFiled f (take i es) ks → next ≡ suc i → i < length es → e ≡ get_or es i e → IsSorted after → ((k : Key) → count_by (is_key k) after ≡ count_by (is_key k) ks + one (is_key k (f e))) → length after ≡ length ks + 1 → IsFiled f (take next es) after
 IsFiled-more f es i next e ks after was then within here sorted counts len = rw (then, take_more es i e within here) (IsFiled-push f (take i es) ks after was e sorted counts len)
 
--- ---- by both keys
+-- ---- sorted out
 
 module _ (es : List Entry) (ranks arrived : List Key) (was : IsIndexed es ranks arrived) where
-  pub IsIndexed-push : (e : Entry) (ranks' arrived' : List Key) → AllByRecursion (λ n. n < e.arrival) (arrivals es) → IsFiled rank_of (es ++ e ∷ []) ranks' → IsFiled arrival_key (es ++ e ∷ []) arrived' → IsIndexed (es ++ e ∷ []) ranks' arrived'
-  IsIndexed-push e ranks' arrived' later ranked queued = record { rising = rising_push es e was.rising later; ranked = ranked; queued = queued }
+  pub IsIndexed-push : (e : Entry) (ranks' arrived' : List Key) → AllByRecursion (λ n. n < e.arrival) (arrivals es) → IsSortedOut (es ++ e ∷ []) ranks' arrived' → IsIndexed (es ++ e ∷ []) ranks' arrived'
+  IsIndexed-push e ranks' arrived' later sorted = record { rising = rising_push es e was.rising later; sorted = sorted }
 
-  pub IsIndexed-remove : (i : ℕ) (ranks' arrived' : List Key) → IsFiled rank_of (remove es i) ranks' → IsFiled arrival_key (remove es i) arrived' → IsIndexed (remove es i) ranks' arrived'
-  IsIndexed-remove i ranks' arrived' ranked queued = record { rising = rising_remove es i was.rising; ranked = ranked; queued = queued }
+  pub IsIndexed-remove : (i : ℕ) (ranks' arrived' : List Key) → IsSortedOut (remove es i) ranks' arrived' → IsIndexed (remove es i) ranks' arrived'
+  IsIndexed-remove i ranks' arrived' sorted = record { rising = rising_remove es i was.rising; sorted = sorted }
 
-  pub IsIndexed-set : (i : ℕ) (e e' : Entry) (ranks' : List Key) → i < length es → e ≡ get_or es i e → e'.arrival ≡ e.arrival → e'.what ≡ e.what → IsFiled rank_of (set es i e') ranks' → IsIndexed (set es i e') ranks' arrived
-  IsIndexed-set i e e' ranks' within here same for ranked = record {
-    rising = rw (arrivals_set es i e e' within here same) was.rising;
-    ranked = ranked;
-    queued = IsFiled-kept arrival_key es arrived was.queued i e e' within here (rw (same, for) refl);
-  }
+  pub IsIndexed-set : (i : ℕ) (e e' : Entry) (ranks' arrived' : List Key) → i < length es → e ≡ get_or es i e → e'.arrival ≡ e.arrival → IsSortedOut (set es i e') ranks' arrived' → IsIndexed (set es i e') ranks' arrived'
+  IsIndexed-set i e e' ranks' arrived' within here same sorted = record { rising = rw (arrivals_set es i e e' within here same) was.rising; sorted = sorted }

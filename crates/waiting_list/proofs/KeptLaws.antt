@@ -1,23 +1,21 @@
 -- Each call keeps what a `WaitingList` keeps of its fields; and what the entries say of those that wait.
 use Rattle.lwp_types.proofs.Ranks.{map-filter}
 use Rattle.lwp_types.specs.Choice.{best_by}
-use Rattle.lwp_types.specs.CountLaws.{any_counted, count-cons, count-push, count_and-le, count_any, count_none, find_none, one, one-le}
+use Rattle.lwp_types.specs.CountLaws.{count-cons, count-push, count_and-le, count_any, count_none, find_none, one, one-le}
 use Rattle.lwp_types.specs.OnlyLaws.{count_at, filter_none, map_none, remove_only, set_only}
-use Rattle.std.proofs.Common.{Bool, IsSome, List, None, Option, Some, [], ap, arith, cond, count_by, eqb, false, get_or, inl, inr, is_some, length, map, not, refl, set, suc, sym, true, zero, ℕ, ◌&&◌, ◌++◌, ◌+◌, ◌<◌, ◌∙◌, ◌∷◌, ◌≡◌, ◌≤◌}
-use Rattle.std.proofs.lemmas.Bool.{cases_eq, eq-eqb, eqb-true, ne_eqb}
+use Rattle.std.proofs.Common.{Bool, IfNone, IfSome, IsSome, List, None, Option, Some, [], ap, arith, cond, count_by, false, get_or, inl, inr, is_some, length, map, not, refl, set, suc, sym, true, zero, ℕ, ◌&&◌, ◌++◌, ◌+◌, ◌<◌, ◌∙◌, ◌∷◌, ◌≡◌, ◌≤◌}
+use Rattle.std.proofs.lemmas.Bool.{cases_eq, eq-eqb, ne_eqb}
 use Rattle.std.proofs.lemmas.List.Edits.{length-remove}
 use Rattle.std.proofs.lemmas.List.Sums.{sum_by-remove, sum_by-set}
 use Rattle.std.proofs.lemmas.List.{length-set, length_push}
 use Rattle.std.specs.List.{AllByRecursion, filter, find, list_any, remove}
 use Rattle.std.specs.Prelude.{option_map}
-use Rattle.waiting_list.proofs.EntryLaws.{count_waits, find_wait, none_filed}
-use Rattle.waiting_list.proofs.FilingLaws.{IsFiled-push, IsFiled-remove, IsFiled-set, IsIndexed-push, IsIndexed-remove, IsIndexed-set}
+use Rattle.waiting_list.proofs.EntryLaws.{count_waits, find_wait, no_entry}
+use Rattle.waiting_list.proofs.FilingLaws.{IsIndexed-push, IsIndexed-remove, IsIndexed-set}
 use Rattle.thread_index.specs.Index.{Found, Puts, count_of, place_of, width_of}
-use Rattle.waiting_list.proofs.KeyLaws.{find_passes, key_itself}
 use Rattle.waiting_list.proofs.KnownLaws.{IsKnown-push, IsKnown-remove, IsKnown-set}
-use Rattle.waiting_list.specs.Entries.{IsFiled, IsIndexed, IsArrivalOf, IsKnown, IsOnce, IsThreadAt, arrival_key, arrivals, entry_of, has_arrival, is_entry_for, is_entry_of, rank_of, waiting_of}
+use Rattle.waiting_list.specs.Entries.{IsIndexed, IsArrivalOf, IsBestAt, IsKnown, IsSortedOut, IsOnce, IsThreadAt, arrivals, entry_of, has_arrival, is_entry_for, is_entry_of, waiting_of}
 use Rattle.waiting_list.specs.Kept.{IsKept}
-use Rattle.waiting_list.specs.Keys.{IsSorted, is_key, is_of}
 use Rattle.waiting_list.specs.Line.{is_for, is_thread, priority_set}
 use Rattle.waiting_list.specs.declared.keys.Key.{Key}
 use Rattle.waiting_list.specs.declared.rows.Entry.{Entry}
@@ -29,7 +27,7 @@ length_waits (e ∷ es) = ap suc (length_waits es)
 
 -- ---- questions
 
-filtered_none : (p : Waiting → Bool) (ws : List Waiting) → count_by p ws ≡ 0 → filter p ws ≡ []
+pub filtered_none : {X : Type 0} (p : X → Bool) (ws : List X) → count_by p ws ≡ 0 → filter p ws ≡ []
 filtered_none p [] none = refl
 filtered_none p (w ∷ ws) none = by_test (filtered_none p ws) (p w) refl
   where
@@ -83,37 +81,16 @@ list_none p ws none = by_any (list_any p ws) refl
     by_any false e = refl
     by_any true e = absurd (omega (arith, none, count_any p ws e))
 
--- whether somebody waits is whether there is a key
-pub has_rank : (n : ℕ) (es : List Entry) (ks : List Key) → IsFiled rank_of es ks → (o : Option Key) → find (is_of n) ks ≡ o → is_some o ≡ list_any (is_for n) (map waiting_of es)
-has_rank n es ks filed None missing = sym (list_none (is_for n) (map waiting_of es) (omega (arith, none_filed rank_of es ks filed n missing, count_waits (is_for n) es)))
-has_rank n es ks filed (Some k) found = sym (any_counted (is_for n) (map waiting_of es) (omega (arith, count_waits (is_for n) es, some es (omega (arith, filed.each k, some_keys ks found)))))
+-- whether somebody waits is whether there is a best
+pub has_best : (n : ℕ) (es : List Entry) (o : Option ℕ) → IfNone o (count_by (is_entry_for n) es ≡ 0) → IfSome o (IsBestAt n es) → is_some o ≡ list_any (is_for n) (map waiting_of es)
+has_best n es None none some = sym (list_none (is_for n) (map waiting_of es) (omega (arith, none, count_waits (is_for n) es)))
+has_best n es (Some at) none some = by_any (list_any (is_for n) (map waiting_of es)) refl
   where
-    is_n : eqb k.what n ≡ true
-    is_n = find_passes (is_of n) ks k found
-
-    some_keys : (ks : List Key) → find (is_of n) ks ≡ Some k → 1 ≤ count_by (is_key k) ks
-    some_keys [] found = absurd (cc)
-    some_keys (l ∷ ls) found = by_test (some_keys ls) (is_of n l) found
-      where
-        by_test : (find (is_of n) ls ≡ Some k → 1 ≤ count_by (is_key k) ls) → (b : Bool) → cond b (Some l) (find (is_of n) ls) ≡ Some k → 1 ≤ count_by (is_key k) (l ∷ ls)
-        by_test rest true here =
-            let same : l ≡ k = cc in
-            omega (arith, count-cons (is_key k) l ls, ap (λ m. one (is_key k m)) same, ap one (key_itself k))
-        by_test rest false later = omega (arith, count-cons (is_key k) l ls, rest later)
-
-    keyed : (a b c : Bool) → one (a && (b && c)) ≤ one a
-    keyed true b c = one-le (b && c)
-    keyed false b c = omega arith
-
-    some : (es : List Entry) → 1 ≤ count_by (λ e. is_key k (rank_of e)) es → 1 ≤ count_by (λ e. is_for n (waiting_of e)) es
-    some es more = omega (arith, more, fewer es)
-      where
-        fewer : (es : List Entry) → count_by (λ e. is_key k (rank_of e)) es ≤ count_by (λ e. is_for n (waiting_of e)) es
-        fewer [] = omega arith
-        fewer (e ∷ es) = omega (arith, count-cons (λ e. is_key k (rank_of e)) e es, count-cons (λ e. is_for n (waiting_of e)) e es, keyed (eqb e.what k.what) (eqb e.prio k.prio) (eqb e.arrival k.arrival), ap (λ m. one (eqb e.what m)) k_is, fewer es)
-          where
-            k_is : k.what ≡ n
-            k_is = eqb-true k.what n is_n
+    by_any : (b : Bool) → list_any (is_for n) (map waiting_of es) ≡ b → true ≡ b
+    by_any true e = refl
+    by_any false e =
+        let nobody = none_chosen n es (omega (arith, count_none (is_for n) (map waiting_of es) e, count_waits (is_for n) es)) in
+        absurd (cc (nobody, some.best (get_or es at no_entry)))
 
 same_tids : (es : List Entry) → map (λ (w : Waiting). w.tid) (map waiting_of es) ≡ map (λ (e : Entry). e.tid) es
 same_tids [] = refl
@@ -140,17 +117,16 @@ module _ (es : List Entry) (ranks arrived : List Key) (index : Found) (room rank
   pub IsKept-joined : (es' : List Entry) (ranks' arrived' : List Key) (index' : Found) (n : ℕ) (w : Waiting) (e : Entry) (more_ranks more_arrived : List Key) (more_index : Found) (room' rank_room' arrived_room' : ℕ)
       → map waiting_of es' ≡ map waiting_of es → IsIndexed es' ranks' arrived' → IsKnown es' index' → AllByRecursion (λ m. m < n) (arrivals es') → e ≡ entry_of n w
       → list_any (is_thread w.tid) (map waiting_of es) ≡ false → length (map waiting_of es) < places
-      → IsSorted more_ranks → ((k : Key) → count_by (is_key k) more_ranks ≡ count_by (is_key k) ranks' + one (is_key k (rank_of e))) → length more_ranks ≡ length ranks' + 1
-      → IsSorted more_arrived → ((k : Key) → count_by (is_key k) more_arrived ≡ count_by (is_key k) arrived' + one (is_key k (arrival_key e))) → length more_arrived ≡ length arrived' + 1
+      → IsSortedOut (es' ++ e ∷ []) more_ranks more_arrived
       → Puts (place_of index') (place_of more_index) w.tid (Some n) → count_of more_index ≡ count_of index' + 1
       → places ≤ room' → places ≤ rank_room' → places ≤ arrived_room' → places ≤ width_of more_index → width_of more_index ≤ more_index.room
       → IsKept (es' ++ e ∷ []) more_ranks more_arrived more_index room' rank_room' arrived_room' places
-  IsKept-joined es' ranks' arrived' index' n w e more_ranks more_arrived more_index room' rank_room' arrived_room' same indexed known later is new more sorted_ranks count_ranks len_ranks sorted_arrived count_arrived len_arrived puts count fits rank_fits arrived_fits cells index_fits = record {
+  IsKept-joined es' ranks' arrived' index' n w e more_ranks more_arrived more_index room' rank_room' arrived_room' same indexed known later is new more sorted puts count fits rank_fits arrived_fits cells index_fits = record {
     once = λ t. elim (cases_eq e.tid t) [
       | inl here ↦ omega (arith, count-push (is_entry_of t) es' e, one-le (is_entry_of t e), nobody t (sym (ap (λ (x : Entry). x.tid) is) ∙ here))
       | inr other ↦ omega (arith, count-push (is_entry_of t) es' e, ap one (ne_eqb e.tid t other), once_same es es' same was.once t)
     ];
-    indexed = IsIndexed-push es' ranks' arrived' indexed e more_ranks more_arrived (rw is later) (IsFiled-push rank_of es' ranks' more_ranks indexed.ranked e sorted_ranks count_ranks len_ranks) (IsFiled-push arrival_key es' arrived' more_arrived indexed.queued e sorted_arrived count_arrived len_arrived);
+    indexed = IsIndexed-push es' ranks' arrived' indexed e more_ranks more_arrived (rw is later) sorted;
     known = IsKnown-push es' index' more_index known e (rw is puts) count;
     fits = omega (arith, length_push es' e, more, length_waits es, length_waits es', ap length same);
     places_fit = fits;
@@ -199,14 +175,13 @@ module _ (es : List Entry) (ranks arrived : List Key) (index : Found) (room rank
 
     -- it waits no more
     pub IsKept-left : (ranks' arrived' : List Key) (index' : Found) (rank_room' arrived_room' : ℕ)
-        → IsSorted ranks' → ((k : Key) → count_by (is_key k) ranks' + one (is_key k (rank_of e)) ≡ count_by (is_key k) ranks) → length ranks' + 1 ≡ length ranks
-        → IsSorted arrived' → ((k : Key) → count_by (is_key k) arrived' + one (is_key k (arrival_key e)) ≡ count_by (is_key k) arrived) → length arrived' + 1 ≡ length arrived
+        → IsSortedOut (remove es i) ranks' arrived'
         → Puts (place_of index) (place_of index') t None → count_of index' + 1 ≡ count_of index
         → places ≤ rank_room' → places ≤ arrived_room' → places ≤ width_of index' → width_of index' ≤ index'.room
         → IsKept (remove es i) ranks' arrived' index' room rank_room' arrived_room' places
-    IsKept-left ranks' arrived' index' rank_room' arrived_room' sorted_ranks count_ranks len_ranks sorted_arrived count_arrived len_arrived puts count rank_fits arrived_fits cells index_fits = record {
+    IsKept-left ranks' arrived' index' rank_room' arrived_room' sorted puts count rank_fits arrived_fits cells index_fits = record {
       once = λ u. omega (arith, was.once u, sum_by-remove (λ x. one (is_entry_of u x)) es i e there.within);
-      indexed = IsIndexed-remove es ranks arrived was.indexed i ranks' arrived' (IsFiled-remove rank_of es ranks ranks' was.indexed.ranked i e there.within here sorted_ranks count_ranks len_ranks) (IsFiled-remove arrival_key es arrived arrived' was.indexed.queued i e there.within here sorted_arrived count_arrived len_arrived);
+      indexed = IsIndexed-remove es ranks arrived was.indexed i ranks' arrived' sorted;
       known = IsKnown-remove es index index' was.known t i e there.within here (ap (λ (x : Entry). x.tid) here ∙ there.here e) (was.once t) puts count;
       fits = omega (arith, was.fits, length-remove es i there.within);
       places_fit = was.places_fit;
@@ -241,18 +216,18 @@ module _ (es : List Entry) (ranks arrived : List Key) (index : Found) (room rank
         set_itself (y ∷ ys) zero x within is = ap (λ z. z ∷ ys) is
         set_itself (y ∷ ys) (suc j) x within is = ap (λ zs. y ∷ zs) (set_itself ys j x (omega (arith, within)) is)
 
-    pub IsKept-prioritized : (p : ℕ) (ranks' : List Key) (rank_room' : ℕ)
-        → IsSorted ranks' → ((k : Key) → count_by (is_key k) ranks' + one (is_key k (rank_of e)) ≡ count_by (is_key k) ranks + one (is_key k (rank_of (record e { prio = p })))) → length ranks' ≡ length ranks
-        → places ≤ rank_room'
-        → IsKept (set es i (record e { prio = p })) ranks' arrived index room rank_room' arrived_room places
-    IsKept-prioritized p ranks' rank_room' sorted counts len rank_fits = record {
+    pub IsKept-prioritized : (p : ℕ) (ranks' arrived' : List Key) (rank_room' arrived_room' : ℕ)
+        → IsSortedOut (set es i (record e { prio = p })) ranks' arrived'
+        → places ≤ rank_room' → places ≤ arrived_room'
+        → IsKept (set es i (record e { prio = p })) ranks' arrived' index room rank_room' arrived_room' places
+    IsKept-prioritized p ranks' arrived' rank_room' arrived_room' sorted rank_fits arrived_fits = record {
       once = λ u. omega (arith, was.once u, sum_by-set (λ x. one (is_entry_of u x)) es i (record e { prio = p }) e there.within, ap (λ x. one (is_entry_of u x)) here);
-      indexed = IsIndexed-set es ranks arrived was.indexed i e (record e { prio = p }) ranks' there.within here refl refl (IsFiled-set rank_of es ranks ranks' was.indexed.ranked i e there.within here (record e { prio = p }) sorted counts len);
+      indexed = IsIndexed-set es ranks arrived was.indexed i e (record e { prio = p }) ranks' arrived' there.within here refl sorted;
       known = IsKnown-set es index was.known i p e there.within here;
       fits = omega (arith, was.fits, length-set es i (record e { prio = p }));
       places_fit = was.places_fit;
       ranks_fit = rank_fits;
-      arrived_fit = was.arrived_fit;
+      arrived_fit = arrived_fits;
       cells = was.cells;
       index_room = was.index_room;
     }

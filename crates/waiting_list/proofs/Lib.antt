@@ -4,5 +4,6 @@ pub mod EntryLaws
 pub mod FilingLaws
 pub mod KnownLaws
 pub mod RunLaws
+pub mod AlikeLaws
 pub mod KeptLaws
 pub mod LineLaws

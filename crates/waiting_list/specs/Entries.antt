@@ -90,11 +90,29 @@ pub record IsFiled (key : Entry → Key) (es : List Entry) (ks : List Key) : Typ
   pub each : (k : Key) → count_by (is_key k) ks ≡ count_by (λ e. is_key k (key e)) es
   pub len : length ks ≡ length es
 
--- they stand by rising arrivals, and are found as the best and as the first for what they wait for
+-- all wait for the same with the same priority
+abbrev pub AreAlike : List Entry → Type 0
+AreAlike [] = Unit {0}
+AreAlike (e ∷ es) = AllByRecursion (λ f. (f.what ≡ e.what) × (f.prio ≡ e.prio)) es
+
+-- e waits for the same with the same priority as whoever came first
+abbrev pub IsLike : Entry → List Entry → Type 0
+IsLike e es = (d : Entry) → 0 < length es → (e.what ≡ (slice_index_or es 0 d).what) × (e.prio ≡ (slice_index_or es 0 d).prio)
+
+-- all are alike where there are no keys, and else they are found by their keys as the best and as the first for what they wait for
+abbrev pub IsSortedOut : List Entry → List Key → List Key → Type 0
+IsSortedOut es [] arrived = AreAlike es × (arrived ≡ [])
+IsSortedOut es (k ∷ ks) arrived = IsFiled rank_of es (k ∷ ks) × IsFiled arrival_key es arrived
+
+-- they stand by rising arrivals, and are sorted out
 pub record IsIndexed (es : List Entry) (ranks arrived : List Key) : Type 0 where
   pub rising : AreRising (arrivals es)
-  pub ranked : IsFiled rank_of es ranks
-  pub queued : IsFiled arrival_key es arrived
+  pub sorted : IsSortedOut es ranks arrived
+
+-- whoever stands there is the best of those that wait for n, and came first of them
+pub record IsFrontAt (n : ℕ) (es : List Entry) (i : ℕ) : Type 0 where
+  pub best : IsBestAt n es i
+  pub first : IsFirstAt n es i
 
 -- nobody waits twice
 abbrev pub IsOnce : List Entry → Type 0

@@ -1,9 +1,9 @@
 // How those that wait are filed, and numbered anew where no greater number is left.
-ghost use Rattle.std.specs.Prelude.{◌≡◌, ◌<◌, ◌≤◌, ◌^◌, length, map, OnOk};
-ghost use Rattle.std.specs.List.{AllByRecursion};
+ghost use Rattle.std.specs.Prelude.{[], ◌∷◌, ◌++◌, ◌≡◌, ◌<◌, ◌≤◌, ◌^◌, IsTrue, length, map, slice_index_or, slice_set, OnOk};
+ghost use Rattle.std.specs.List.{AllByRecursion, remove};
 ghost use Rattle.std.specs.VecDeque.{deque_capacity};
 ghost use Rattle.thread_index.specs.Index.{IsEmpty, width_of};
-ghost use Rattle.waiting_list.specs.Entries.{AreRising, IsFiled, IsIndexed, IsKnown, IsOnce, arrival_key, arrivals, numbered, rank_of, waiting_of};
+ghost use Rattle.waiting_list.specs.Entries.{AreRising, IsFiled, IsIndexed, IsKnown, IsLike, IsOnce, IsSortedOut, arrival_key, arrivals, numbered, rank_of, waiting_of};
 
 use crate::keys::{self, Key};
 use crate::rows::{Entry, arrival_key, rank_of};
@@ -22,6 +22,7 @@ fn renumber(entries: &mut VecDeque<Entry>)
 }
 
 // Files all that wait by what they wait for.
+#[inline(never)]
 fn file(entries: &VecDeque<Entry>, ranks: &mut VecDeque<Key>, arrived: &mut VecDeque<Key>)
     requires ranks_fit { length entries.now.items ≤ deque_capacity ranks.old }
     requires arrived_fit { length entries.now.items ≤ deque_capacity arrived.old }
@@ -80,6 +81,103 @@ pub fn widen(entries: &VecDeque<Entry>, index: &mut Index, n: usize) -> Result<(
     file_threads(entries, &mut wider);
     *index = wider;
     Ok(())
+}
+
+// Whether it waits for the same with the same priority as whoever came first.
+#[inline(always)]
+fn is_like(entries: &VecDeque<Entry>, entry: &Entry) -> bool
+    ensures { IsTrue result → IsLike entry.now entries.now.items }
+{
+    match entries.front() {
+        Some(first) => entry.what == first.what && entry.prio == first.prio,
+        None => true,
+    }
+}
+
+// Files all that wait, where they are alike and have no keys so far.
+#[inline(always)]
+fn sort_out(entries: &VecDeque<Entry>, ranks: &mut VecDeque<Key>, arrived: &mut VecDeque<Key>)
+    requires sorted { IsSortedOut entries.now.items ranks.old.items arrived.old.items }
+    requires ranks_fit { length entries.now.items ≤ deque_capacity ranks.old }
+    requires arrived_fit { length entries.now.items ≤ deque_capacity arrived.old }
+    ensures ranked { IsFiled rank_of entries.now.items ranks.new.items }
+    ensures queued { IsFiled arrival_key entries.now.items arrived.new.items }
+    ensures rank_room { deque_capacity ranks.old ≤ deque_capacity ranks.new }
+    ensures arrived_room { deque_capacity arrived.old ≤ deque_capacity arrived.new }
+{
+    if ranks.is_empty() {
+        file(entries, ranks, arrived);
+    }
+}
+
+// One more is to wait, the last.
+#[inline(always)]
+pub fn file_next(
+    entries: &VecDeque<Entry>,
+    ranks: &mut VecDeque<Key>,
+    arrived: &mut VecDeque<Key>,
+    entry: &Entry,
+)
+    requires sorted { IsSortedOut entries.now.items ranks.old.items arrived.old.items }
+    requires ranks_fit { length entries.now.items < deque_capacity ranks.old }
+    requires arrived_fit { length entries.now.items < deque_capacity arrived.old }
+    ensures sorted { IsSortedOut (entries.now.items ++ entry.now ∷ []) ranks.new.items arrived.new.items }
+    ensures rank_room { deque_capacity ranks.old ≤ deque_capacity ranks.new }
+    ensures arrived_room { deque_capacity arrived.old ≤ deque_capacity arrived.new }
+{
+    if ranks.is_empty() && is_like(entries, entry) {
+        return;
+    }
+    sort_out(entries, ranks, arrived);
+    keys::add(ranks, rank_of(entry));
+    keys::add(arrived, arrival_key(entry));
+}
+
+// Whoever stands there is to wait no more.
+#[inline(always)]
+pub fn unfile(
+    entries: &VecDeque<Entry>,
+    ranks: &mut VecDeque<Key>,
+    arrived: &mut VecDeque<Key>,
+    at: usize,
+)
+    requires sorted { IsSortedOut entries.now.items ranks.old.items arrived.old.items }
+    requires within { at < length entries.now.items }
+    ensures sorted { IsSortedOut (remove entries.now.items at) ranks.new.items arrived.new.items }
+    ensures rank_room { deque_capacity ranks.new ≡ deque_capacity ranks.old }
+    ensures arrived_room { deque_capacity arrived.new ≡ deque_capacity arrived.old }
+{
+    if ranks.is_empty() {
+        return;
+    }
+    let gone = entries[at];
+    keys::take(ranks, rank_of(&gone));
+    keys::take(arrived, arrival_key(&gone));
+}
+
+// Whoever stands there is to have this priority.
+pub fn refile(
+    entries: &VecDeque<Entry>,
+    ranks: &mut VecDeque<Key>,
+    arrived: &mut VecDeque<Key>,
+    at: usize,
+    after: &Entry,
+)
+    requires sorted { IsSortedOut entries.now.items ranks.old.items arrived.old.items }
+    requires within { at < length entries.now.items }
+    requires same_thing { after.now.what ≡ (slice_index_or entries.now.items at after.now).what }
+    requires same_arrival { after.now.arrival ≡ (slice_index_or entries.now.items at after.now).arrival }
+    requires ranks_fit { length entries.now.items ≤ deque_capacity ranks.old }
+    requires arrived_fit { length entries.now.items ≤ deque_capacity arrived.old }
+    ensures sorted { IsSortedOut (slice_set entries.now.items at after.now) ranks.new.items arrived.new.items }
+    ensures rank_room { deque_capacity ranks.old ≤ deque_capacity ranks.new }
+    ensures arrived_room { deque_capacity arrived.old ≤ deque_capacity arrived.new }
+{
+    if ranks.is_empty() && entries.len() == 1 {
+        return;
+    }
+    sort_out(entries, ranks, arrived);
+    keys::change(ranks, rank_of(&entries[at]), rank_of(after));
 }
 
 // A number for whoever comes next, greater than all that were given.

@@ -4,11 +4,10 @@ ghost use Rattle.std.specs.List.{list_any};
 ghost use Rattle.waiting_list.specs.Line.{best_for, empty_line, first_for, found_for, has_thread, is_for, joined, left, prioritized, reserved, waiting_for};
 
 use crate::Waiting;
-use crate::filing::{next_arrival, widen};
-use crate::keys::{self, Key};
+use crate::filing::{file_next, next_arrival, refile, unfile, widen};
+use crate::keys::Key;
 use crate::rows::{
-    Entry, arrival_key, best_place, entry_of, first_place, place_of_thread, rank_of, take_out,
-    tids_for, waiting_of,
+    Entry, best_place, entry_of, first_place, place_of_thread, take_out, tids_for, waiting_of,
 };
 use lwp_types::{IdList, NoMemory, Tid};
 use std::alloc::Global;
@@ -21,7 +20,8 @@ pub struct WaitingList {
     // In the order of their arrival.
     entries: VecDeque<Entry>,
     // The key of each by what it waits for, its priority and its arrival, and by what it waits for and its arrival alone, in
-    // order. So nobody is looked at who waits for something else, or behind the first of the greatest priority.
+    // order. So nobody is looked at who waits for something else, or behind the first of the greatest priority. As long as
+    // all wait for the same with the same priority, there are no keys: whoever came first is the best.
     ranks: VecDeque<Key>,
     arrived: VecDeque<Key>,
     // The arrival of each thread that waits.
@@ -80,10 +80,9 @@ impl WaitingList {
         if n <= self.places {
             return Ok(());
         }
-        let more = n - self.entries.len();
-        self.entries.reserve(more)?;
-        self.ranks.reserve(more)?;
-        self.arrived.reserve(more)?;
+        self.entries.reserve(n - self.entries.len())?;
+        self.ranks.reserve(n - self.ranks.len())?;
+        self.arrived.reserve(n - self.arrived.len())?;
         widen(&self.entries, &mut self.index, n)?;
         self.places = n;
         Ok(())
@@ -102,8 +101,7 @@ impl WaitingList {
             &mut self.index,
         );
         let entry = entry_of(arrival, &next);
-        keys::add(&mut self.ranks, rank_of(&entry));
-        keys::add(&mut self.arrived, arrival_key(&entry));
+        file_next(&self.entries, &mut self.ranks, &mut self.arrived, &entry);
         self.index.put(next.tid, arrival as usize);
         self.entries.push_back_reserved(entry);
     }
@@ -112,7 +110,7 @@ impl WaitingList {
     pub fn best(&self, what: u64) -> Option<Waiting>
         ensures { result ≡ best_for self.now what }
     {
-        let at = best_place(&self.entries, &self.ranks, what)?;
+        let at = best_place(&self.entries, &self.ranks, &self.arrived, what)?;
         Some(waiting_of(&self.entries[at]))
     }
 
@@ -120,7 +118,7 @@ impl WaitingList {
     pub fn first(&self, what: u64) -> Option<Waiting>
         ensures { result ≡ first_for self.now what }
     {
-        let at = first_place(&self.entries, &self.arrived, what)?;
+        let at = first_place(&self.entries, &self.ranks, &self.arrived, what)?;
         Some(waiting_of(&self.entries[at]))
     }
 
@@ -140,7 +138,7 @@ impl WaitingList {
     pub fn has(&self, what: u64) -> bool
         ensures { result ≡ list_any (is_for what) self.now.waiting }
     {
-        keys::first_of(&self.ranks, what).is_some()
+        best_place(&self.entries, &self.ranks, &self.arrived, what).is_some()
     }
 
     /// The thread waits no more, if it did.
@@ -150,9 +148,7 @@ impl WaitingList {
         let Some(at) = place_of_thread(&self.entries, &self.index, tid) else {
             return;
         };
-        let gone = self.entries[at];
-        keys::take(&mut self.ranks, rank_of(&gone));
-        keys::take(&mut self.arrived, arrival_key(&gone));
+        unfile(&self.entries, &mut self.ranks, &mut self.arrived, at);
         self.index.take(tid);
         take_out(&mut self.entries, at);
     }
@@ -169,7 +165,13 @@ impl WaitingList {
             return;
         }
         let after = Entry { prio, ..before };
-        keys::change(&mut self.ranks, rank_of(&before), rank_of(&after));
+        refile(
+            &self.entries,
+            &mut self.ranks,
+            &mut self.arrived,
+            at,
+            &after,
+        );
         self.entries[at] = after;
     }
 
@@ -180,6 +182,7 @@ impl WaitingList {
         tids_for(
             *self.entries.allocator(),
             &self.entries,
+            &self.ranks,
             &self.arrived,
             what,
         )

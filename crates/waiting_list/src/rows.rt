@@ -2,7 +2,7 @@
 ghost use Rattle.std.specs.Prelude.{◌≡◌, ◌<◌, count_by, length, map, IfNone, IfOk, IfSome};
 ghost use Rattle.std.specs.List.{filter, remove};
 ghost use Rattle.std.specs.VecDeque.{deque_capacity};
-ghost use Rattle.waiting_list.specs.Entries.{AreRising, IsAt, IsBestAt, IsFiled, IsFirstAt, IsKnown, IsThreadAt, arrival_key, arrivals, entry_of, has_arrival, is_entry_for, is_entry_of, rank_of, tid_in, waiting_of};
+ghost use Rattle.waiting_list.specs.Entries.{AreAlike, AreRising, IsAt, IsBestAt, IsFiled, IsFirstAt, IsFrontAt, IsIndexed, IsKnown, IsThreadAt, arrival_key, arrivals, entry_of, has_arrival, is_entry_for, is_entry_of, rank_of, tid_in, waiting_of};
 
 use crate::keys::{self, Key};
 use lwp_types::{IdList, NoMemory, Tid};
@@ -90,15 +90,25 @@ fn place_by_halves(entries: &VecDeque<Entry>, arrival: u64) -> Option<usize>
     }
 }
 
-// Where whoever came then stands: before all others, where it does, at a look.
+// How far behind the first whoever came then stands, if nobody between them has left.
+#[inline(always)]
+fn likely_place(entries: &VecDeque<Entry>, arrival: u64) -> usize {
+    match entries.front() {
+        Some(first) => arrival.saturating_sub(first.arrival) as usize,
+        None => 0,
+    }
+}
+
+// Where whoever came then stands: at a look where nobody before it has left, or all have.
 #[inline(always)]
 fn place_of(entries: &VecDeque<Entry>, arrival: u64) -> Option<usize>
     requires { AreRising (arrivals entries.now.items) }
     ensures none { IfNone result (count_by (has_arrival arrival) entries.now.items ≡ 0) }
     ensures some { IfSome result (IsAt arrival entries.now.items) }
 {
-    match entries.front() {
-        Some(entry) if entry.arrival == arrival => Some(0),
+    let at = likely_place(entries, arrival);
+    match entries.get(at) {
+        Some(entry) if entry.arrival == arrival => Some(at),
         _ => place_by_halves(entries, arrival),
     }
 }
@@ -129,8 +139,8 @@ pub fn place_of_thread(entries: &VecDeque<Entry>, index: &Index, tid: Tid) -> Op
     }
 }
 
-// Where the first of the greatest priority stands of those that wait for this.
-pub fn best_place(entries: &VecDeque<Entry>, ranks: &VecDeque<Key>, what: u64) -> Option<usize>
+// Where the first of the greatest priority stands of those that wait for this, by their keys.
+fn best_filed(entries: &VecDeque<Entry>, ranks: &VecDeque<Key>, what: u64) -> Option<usize>
     requires rising { AreRising (arrivals entries.now.items) }
     requires filed { IsFiled rank_of entries.now.items ranks.now.items }
     ensures none { IfNone result (count_by (is_entry_for what) entries.now.items ≡ 0) }
@@ -140,8 +150,8 @@ pub fn best_place(entries: &VecDeque<Entry>, ranks: &VecDeque<Key>, what: u64) -
     place_of(entries, key.arrival)
 }
 
-// Where the one stands that came first of those that wait for this.
-pub fn first_place(entries: &VecDeque<Entry>, arrived: &VecDeque<Key>, what: u64) -> Option<usize>
+// Where the one stands that came first of those that wait for this, by their keys.
+fn first_filed(entries: &VecDeque<Entry>, arrived: &VecDeque<Key>, what: u64) -> Option<usize>
     requires rising { AreRising (arrivals entries.now.items) }
     requires filed { IsFiled arrival_key entries.now.items arrived.now.items }
     ensures none { IfNone result (count_by (is_entry_for what) entries.now.items ≡ 0) }
@@ -149,6 +159,57 @@ pub fn first_place(entries: &VecDeque<Entry>, arrived: &VecDeque<Key>, what: u64
 {
     let key = keys::first_of(arrived, what)?;
     place_of(entries, key.arrival)
+}
+
+// Where all are alike, whoever came first of all, if they wait for this.
+#[inline(always)]
+fn front_for(entries: &VecDeque<Entry>, what: u64) -> Option<usize>
+    requires { AreAlike entries.now.items }
+    ensures none { IfNone result (count_by (is_entry_for what) entries.now.items ≡ 0) }
+    ensures some { IfSome result (IsFrontAt what entries.now.items) }
+{
+    match entries.front() {
+        Some(first) if first.what == what => Some(0),
+        _ => None,
+    }
+}
+
+// Where the first of the greatest priority stands of those that wait for this.
+#[inline(always)]
+pub fn best_place(
+    entries: &VecDeque<Entry>,
+    ranks: &VecDeque<Key>,
+    arrived: &VecDeque<Key>,
+    what: u64,
+) -> Option<usize>
+    requires { IsIndexed entries.now.items ranks.now.items arrived.now.items }
+    ensures none { IfNone result (count_by (is_entry_for what) entries.now.items ≡ 0) }
+    ensures some { IfSome result (IsBestAt what entries.now.items) }
+{
+    if ranks.is_empty() {
+        front_for(entries, what)
+    } else {
+        best_filed(entries, ranks, what)
+    }
+}
+
+// Where the one stands that came first of those that wait for this.
+#[inline(always)]
+pub fn first_place(
+    entries: &VecDeque<Entry>,
+    ranks: &VecDeque<Key>,
+    arrived: &VecDeque<Key>,
+    what: u64,
+) -> Option<usize>
+    requires { IsIndexed entries.now.items ranks.now.items arrived.now.items }
+    ensures none { IfNone result (count_by (is_entry_for what) entries.now.items ≡ 0) }
+    ensures some { IfSome result (IsFirstAt what entries.now.items) }
+{
+    if ranks.is_empty() {
+        front_for(entries, what)
+    } else {
+        first_filed(entries, arrived, what)
+    }
 }
 
 // All but whoever stands there.
@@ -176,8 +237,8 @@ fn tid_of(entries: &VecDeque<Entry>, arrival: u64) -> u64
     }
 }
 
-// The threads that wait for this.
-pub fn tids_for(
+// The threads that wait for this, by their keys.
+fn tids_filed(
     alloc: Global,
     entries: &VecDeque<Entry>,
     arrived: &VecDeque<Key>,
@@ -192,4 +253,38 @@ pub fn tids_for(
         ids.push(tid_of(entries, arrived[at].arrival))?;
     }
     Ok(ids)
+}
+
+// The threads that wait for this, of whom all are looked at.
+fn tids_among(alloc: Global, entries: &VecDeque<Entry>, what: u64) -> Result<IdList, NoMemory>
+    ensures { IfOk result (λ ids. ids ≡ map (λ e. e.tid) (filter (is_entry_for what) entries.now.items)) }
+{
+    let mut ids = IdList::new(alloc);
+    for i in 0..entries.len() {
+        let next = &entries[i];
+        if next.what == what {
+            ids.push(next.tid.number)?;
+        }
+    }
+    Ok(ids)
+}
+
+// The threads that wait for this.
+pub fn tids_for(
+    alloc: Global,
+    entries: &VecDeque<Entry>,
+    ranks: &VecDeque<Key>,
+    arrived: &VecDeque<Key>,
+    what: u64,
+) -> Result<IdList, NoMemory>
+    requires { IsIndexed entries.now.items ranks.now.items arrived.now.items }
+    ensures { IfOk result (λ ids. ids ≡ map (λ e. e.tid) (filter (is_entry_for what) entries.now.items)) }
+{
+    if !ranks.is_empty() {
+        return tids_filed(alloc, entries, arrived, what);
+    }
+    match front_for(entries, what) {
+        Some(_) => tids_among(alloc, entries, what),
+        None => Ok(IdList::new(alloc)),
+    }
 }

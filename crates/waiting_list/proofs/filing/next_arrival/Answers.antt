@@ -1,4 +1,5 @@
 use Rattle.std.proofs.Common.{ap, arith, length, refl}
+use Rattle.waiting_list.proofs.AlikeLaws.{sorted_out}
 use Rattle.waiting_list.proofs.FilingLaws.{below-numbered, last_is_most, length-numbered, rising-numbered, waits-numbered}
 use Rattle.waiting_list.proofs.KeptLaws.{once_same}
 use Rattle.waiting_list.proofs.filing.next_arrival.Goals as goal
@@ -25,8 +26,7 @@ returns-clause-same c = rw c.renumber.ensures.items (waits-numbered 0 c.args.ent
 pub returns-clause-indexed : goal.returns-clause-indexed
 returns-clause-indexed c = record {
   rising = rw c.renumber.ensures.items (rising-numbered 0 c.args.entries.now.items);
-  ranked = c.file.ensures.ranked;
-  queued = c.file.ensures.queued;
+  sorted = sorted_out _ _ _ c.file.ensures.ranked c.file.ensures.queued;
 }
 
 pub returns-clause-later : goal.returns-clause-later

@@ -1,22 +1,8 @@
-use Rattle.std.proofs.Common.{ap, arith, length, sym, ◌+◌, ◌<◌, ◌∙◌, ◌≡◌}
-use Rattle.waiting_list.proofs.RunLaws.{all_listed, run_end, run_start, run_step}
+use Rattle.std.proofs.Common.{ap, map, sym, ◌∙◌}
+use Rattle.waiting_list.proofs.KeptLaws.{filtered_none}
 use Rattle.waiting_list.proofs.rows.tids_for.Goals as goal
-use Rattle.waiting_list.specs.declared.keys.Key.{Key}
+use Rattle.waiting_list.specs.Entries.{is_entry_for}
+use Rattle.waiting_list.specs.declared.rows.Entry.{Entry}
 
-pub loop-at-init : goal.loop-at-init
-loop-at-init c = rw c.new-ids.ensures (run_start c.args.entries.now.items c.args.what c.args.arrived.now.items c.start_of-at.result c.start_of-at.ensures)
-
-pub loop-at-preserved : goal.loop-at-preserved
-loop-at-preserved c =
-    let ks = c.args.arrived.now.items in
-    let at = c.loop-at.at in
-    let k = c.index.result.now in
-    let here = c.index.ensures in
-    let within : at < length ks = omega (arith, c.loop-at-test.true, c.end_of-at-end.ensures.within) in
-    let same : k.what ≡ c.args.what = omega (arith, ap (λ (l : Key). l.what) here, c.end_of-at-end.ensures.before at k c.loop-at-test.true, c.start_of-at.ensures.after at k c.loop-at.auto.at within) in
-    rw (c.in_ok-push.ensures.ok, c.tid_of.ensures) (run_step c.args.entries.now.items c.args.what ks at (at + 1) k c.loop-at.ids (omega arith) within here same c.loop-at.invariant)
-
-pub returns : goal.returns
-returns c =
-    sym (run_end c.args.entries.now.items c.args.what c.args.arrived.now.items c.loop-at.at c.end_of-at-end.result c.loop-at.ids c.end_of-at-end.ensures c.loop-at-test.false c.loop-at.invariant)
-    ∙ all_listed c.args.entries.now.items c.args.arrived.now.items c.requires.filed c.requires.rising c.args.what
+pub returns-in-None : goal.returns-in-None
+returns-in-None c = c.new.ensures ∙ sym (ap (map (λ (e : Entry). e.tid)) (filtered_none (is_entry_for c.args.what) c.args.entries.now.items c.in-None.ensures.none))

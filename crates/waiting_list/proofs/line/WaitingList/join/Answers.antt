@@ -21,11 +21,10 @@ invariant_of-self c =
     (IsKept-joined c.self.inside.entries.items _ _ _ _ _ _ _ was c.next_arrival-arrival.new.entries.items _ _ c.next_arrival-arrival.new.index c.next_arrival-arrival.result c.args.next c.entry_of-entry.result _ _ _ _ _ _
     facts.same facts.indexed facts.known facts.later c.entry_of-entry.ensures
     (rw (← c.self.view_is) at c.requires.waits_nowhere) (rw (← c.self.view_is) at c.requires.room)
-    c.add.ensures.sorted (rw c.rank_of.ensures at c.add.ensures.counts) c.add.ensures.len
-    c.add-2.ensures.sorted (rw c.arrival_key.ensures at c.add-2.ensures.counts) c.add-2.ensures.len
+    c.file_next.ensures.sorted
     c.put.ensures.puts c.put.ensures.count
     (omega (arith, c.push_back_reserved.ensures.capacity, facts.room, was.places_fit))
-    (omega (arith, c.add.ensures.capacity, facts.rank_room, was.ranks_fit))
-    (omega (arith, c.add-2.ensures.capacity, facts.arrived_room, was.arrived_fit))
+    (omega (arith, c.file_next.ensures.rank_room, facts.rank_room, was.ranks_fit))
+    (omega (arith, c.file_next.ensures.arrived_room, facts.arrived_room, was.arrived_fit))
     (omega (arith, c.put.ensures.width, facts.width, was.cells))
     (omega (arith, c.put.ensures.width, c.put.ensures.room, facts.width, facts.index_room, was.index_room)))

@@ -1,8 +1,6 @@
 use Rattle.std.proofs.Common.{ap, arith, sym}
-use Rattle.waiting_list.proofs.FilingLaws.{key_filed}
 use Rattle.waiting_list.proofs.KeptLaws.{IsKept-prioritized, none_prioritized, prioritized_same, prioritized_there}
 use Rattle.waiting_list.proofs.line.WaitingList.set_prio.Goals as goal
-use Rattle.waiting_list.specs.Entries.{rank_of}
 
 pub returns-in_default : goal.returns-in_default
 returns-in_default c =
@@ -10,17 +8,14 @@ returns-in_default c =
 
 pub returns-then-before-prio : goal.returns-then-before-prio
 returns-then-before-prio c =
-    rw (← c.self.view_is) (ap (λ ws. record { waiting = ws; places = c.self.inside.places }) (prioritized_same c.self.inside.entries.items _ _ _ _ _ _ _ c.self.invariant c.args.tid c.in-Some.at c.index.result.now c.in-Some.ensures.some c.index.ensures c.args.prio c.if-before-prio.true))
-
-pub change-requires-clause-there : goal.change-requires-clause-there
-change-requires-clause-there c =
-    rw c.rank_of.ensures (key_filed rank_of c.self.inside.entries.items c.self.inside.ranks.items c.self.inside.ranks.items c.self.invariant.indexed.ranked c.in-Some.at c.index.result.now c.in-Some.ensures.some.within c.index.ensures)
+    rw (← c.self.view_is) (ap (λ ws. record { waiting = ws; places = c.self.inside.places }) (prioritized_same c.self.inside.entries.items _ _ _ _ _ _ _ c.self.invariant c.args.tid c.in-Some.at c.index-before.result.now c.in-Some.ensures.some c.index-before.ensures c.args.prio c.if-before-prio.true))
 
 pub invariant_of-self : goal.invariant_of-self
 invariant_of-self c =
-    IsKept-prioritized c.self.inside.entries.items _ _ _ _ _ _ _ c.self.invariant c.args.tid c.in-Some.at c.index.result.now c.in-Some.ensures.some c.index.ensures c.args.prio _ _
-    c.change.ensures.sorted (rw (c.rank_of.ensures, c.rank_of-2.ensures) at c.change.ensures.counts) c.change.ensures.len
-    (omega (arith, c.change.ensures.capacity, c.self.invariant.ranks_fit))
+    IsKept-prioritized c.self.inside.entries.items _ _ _ _ _ _ _ c.self.invariant c.args.tid c.in-Some.at c.index-before.result.now c.in-Some.ensures.some c.index-before.ensures c.args.prio _ _ _ _
+    c.refile.ensures.sorted
+    (omega (arith, c.refile.ensures.rank_room, c.self.invariant.ranks_fit))
+    (omega (arith, c.refile.ensures.arrived_room, c.self.invariant.arrived_fit))
 
 pub returns : goal.returns
-returns c = rw (← c.self.view_is) (ap (λ ws. record { waiting = ws; places = c.self.inside.places }) (prioritized_there c.self.inside.entries.items _ _ _ _ _ _ _ c.self.invariant c.args.tid c.in-Some.at c.index.result.now c.in-Some.ensures.some c.index.ensures c.args.prio))
+returns c = rw (← c.self.view_is) (ap (λ ws. record { waiting = ws; places = c.self.inside.places }) (prioritized_there c.self.inside.entries.items _ _ _ _ _ _ _ c.self.invariant c.args.tid c.in-Some.at c.index-before.result.now c.in-Some.ensures.some c.index-before.ensures c.args.prio))

@@ -1,7 +1,7 @@
 use Rattle.std.proofs.Common.{refl, sym}
 use Rattle.waiting_list.proofs.EntryLaws.{first_at, none_filed, not_missed}
 use Rattle.waiting_list.proofs.LineLaws.{if_none, if_some}
-use Rattle.waiting_list.proofs.rows.first_place.Goals as goal
+use Rattle.waiting_list.proofs.rows.first_filed.Goals as goal
 use Rattle.waiting_list.specs.Entries.{arrival_key}
 
 pub returns-in_err-key-clause-none : goal.returns-in_err-key-clause-none

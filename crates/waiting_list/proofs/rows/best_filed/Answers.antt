@@ -1,7 +1,7 @@
 use Rattle.std.proofs.Common.{refl, sym}
 use Rattle.waiting_list.proofs.EntryLaws.{best_at, none_filed, not_missed}
 use Rattle.waiting_list.proofs.LineLaws.{if_none, if_some}
-use Rattle.waiting_list.proofs.rows.best_place.Goals as goal
+use Rattle.waiting_list.proofs.rows.best_filed.Goals as goal
 use Rattle.waiting_list.specs.Entries.{rank_of}
 
 pub returns-in_err-key-clause-none : goal.returns-in_err-key-clause-none

@@ -1,0 +1,23 @@
+use Rattle.std.proofs.Common.{ap, refl, sym, ◌∙◌, ◌≡◌}
+use Rattle.waiting_list.proofs.AlikeLaws.{sorted_out}
+use Rattle.waiting_list.proofs.FilingLaws.{IsFiled-kept, IsFiled-set, key_filed}
+use Rattle.waiting_list.proofs.filing.refile.Goals as goal
+use Rattle.waiting_list.proofs.EntryLaws.{any_default}
+use Rattle.waiting_list.specs.Entries.{arrival_key, rank_of}
+use Rattle.waiting_list.specs.declared.rows.Entry.{Entry}
+
+pub change-requires-clause-there : goal.change-requires-clause-there
+change-requires-clause-there c =
+    rw c.rank_of.ensures (key_filed rank_of c.args.entries.now.items c.sort_out.new.ranks.items c.sort_out.new.ranks.items c.sort_out.ensures.ranked c.args.at c.index.result.now c.requires.within c.index.ensures)
+
+pub returns-clause-sorted : goal.returns-clause-sorted
+returns-clause-sorted c =
+    let es = c.args.entries.now.items in
+    let e = c.index.result.now in
+    let here = c.index.ensures in
+    let default = any_default es c.args.at c.args.after.now e c.requires.within in
+    let whats : c.args.after.now.what ≡ e.what = c.requires.same_thing ∙ ap (λ (x : Entry). x.what) (default ∙ sym here) in
+    let arrivals : c.args.after.now.arrival ≡ e.arrival = c.requires.same_arrival ∙ ap (λ (x : Entry). x.arrival) (default ∙ sym here) in
+    sorted_out _ _ _
+    (IsFiled-set rank_of es c.sort_out.new.ranks.items _ c.sort_out.ensures.ranked c.args.at e c.requires.within here c.args.after.now c.change.ensures.sorted (rw (c.rank_of.ensures, c.rank_of-2.ensures) at c.change.ensures.counts) c.change.ensures.len)
+    (IsFiled-kept arrival_key es c.sort_out.new.arrived.items c.sort_out.ensures.queued c.args.at e c.args.after.now c.requires.within here (rw (whats, arrivals) refl))
