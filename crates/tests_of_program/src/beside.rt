@@ -1,4 +1,5 @@
-// Runs whose gate and sink wait for each other. They end well only where lines are posted, and taken, beside the pod.
+// Runs whose gate and sink wait for each other. They end well only where lines are posted, and taken, beside the pod, and what is
+// written is handed on before the pod waits.
 ghost use Rattle.std.specs.Prelude.{◌≤◌};
 
 use crossbeam_utils::atomic::AtomicCell;
