@@ -14,11 +14,11 @@ use std::thread::Threads;
 // How often one looks for the other's flag.
 const LOOKS: u32 = 100_000_000;
 
-// What the gate and the sink tell each other: line 1 is about to be posted, the mark was written, one of them gave up.
+// What the gate and the sink tell each other: line 1 is about to be posted, the mark was handed on, one of them gave up.
 #[derive(Drop)]
 struct Flags {
     posting: AtomicCell<bool>,
-    written: AtomicCell<bool>,
+    handed_on: AtomicCell<bool>,
     gave_up: AtomicCell<bool>,
 }
 
@@ -26,7 +26,7 @@ impl Flags {
     fn new() -> Flags {
         Flags {
             posting: AtomicCell::new(false),
-            written: AtomicCell::new(false),
+            handed_on: AtomicCell::new(false),
             gave_up: AtomicCell::new(false),
         }
     }
@@ -56,7 +56,7 @@ impl PostGate for Signals<'_> {
         }
         self.flags.posting.store(true);
         if self.waits {
-            self.flags.look_for(&self.flags.written);
+            self.flags.look_for(&self.flags.handed_on);
         }
     }
 }
@@ -86,7 +86,7 @@ impl Sink for Watches<'_> {
 
     fn hand_on(&mut self) {
         if self.seen {
-            self.flags.written.store(true);
+            self.flags.handed_on.store(true);
         }
     }
 }
