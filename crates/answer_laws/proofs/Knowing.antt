@@ -25,6 +25,7 @@ use Rattle.line_server.specs.Tables.{is_quit}
 use Rattle.line_server.specs.Turns.{is_replied, stops}
 use Rattle.line_server.specs.declared.session.SessionPlace.{SessionPlace}
 use Rattle.line_server.specs.declared.session.SessionPlace.TheVariants as at
+use Rattle.lwp_types.specs.declared.call.PodParams.{PodParams}
 use Rattle.pod_events.specs.Events.{EventState, is_trapped, passed_on, rites_event, take_event, trap_taken}
 use Rattle.pod_events.specs.Rites.{as_rites, first_reported, report_text, reports_after, rites_said}
 use Rattle.pod_events.specs.Step.{event_step, event_step_by, event_step_if}
@@ -133,7 +134,7 @@ take_named n es e text = by_trapped (is_trapped es.trapped e)
 
 module _ {B : Type 0} (n : ℕ) where
   -- each is polled with an answer that names somebody born, if anybody
-  abbrev RowsNamed : List (Row B) → Type 0
+  abbrev pub RowsNamed : List (Row B) → Type 0
   RowsNamed [] = Unit {0}
   RowsNamed (row ∷ rows) = Below n (thread_in row.answer) × RowsNamed rows
 
@@ -196,10 +197,10 @@ rows_later n m more (row ∷ rows) all = (below_later n m more (thread_in row.an
 
 -- ---- names
 
-abbrev Known : ℕ → ℕ → Type 0
+abbrev pub Known : ℕ → ℕ → Type 0
 Known n x = (x ≡ null_id) ⊎ (x < n)
 
-abbrev AllKnown : ℕ → Names → Type 0
+abbrev pub AllKnown : ℕ → Names → Type 0
 AllKnown n names = (place : ℕ) → Known n (id_at names.threads place)
 
 known_later : (n m x : ℕ) → n ≤ m → Known n x → Known m x
@@ -250,9 +251,9 @@ module _ (n : ℕ) where
 
 -- ---- sessions
 
-record Tells (live : Live ThreadBody) : Type 0 where
-  rows : RowsNamed live.pod.state.births live.rows
-  names : AllKnown live.pod.state.births live.names
+pub record Tells (live : Live ThreadBody) : Type 0 where
+  pub rows : RowsNamed live.pod.state.births live.rows
+  pub names : AllKnown live.pod.state.births live.names
 
 module _ (setting : Setting ThreadBody) (scripts : setting.next ≡ body_next) where
   tells_called : (live : Live ThreadBody) → Lawful live.pod.state None → (t : ℕ) (reply : Polled ThreadBody) → live.pod.state.births ≤ (event_step live.pod reply.0).after.state.births → RowsNamed live.pod.state.births live.rows → AllKnown live.pod.state.births reply.2
@@ -287,7 +288,7 @@ module _ (setting : Setting ThreadBody) (scripts : setting.next ≡ body_next) w
         names = λ place. known_later live.pod.state.births _ (id_at live.names.threads place) more (h.names place);
       }
 
-  tells_moved : (session : Session ThreadBody) (m : Option Took) → Lawful session.live.pod.state None → Tells session.live → Tells (moved_by setting session m).live
+  pub tells_moved : (session : Session ThreadBody) (m : Option Took) → Lawful session.live.pod.state None → Tells session.live → Tells (moved_by setting session m).live
   tells_moved session None was h = subst (λ next. Tells (move next setting.bodies session.live).live) (sym scripts) (tells_call session.live was h)
   tells_moved session (Some took) was h = tells_take session.live took h
 
@@ -295,10 +296,14 @@ module _ (setting : Setting ThreadBody) (scripts : setting.next ≡ body_next) w
   tells_gone [] session can was h = h
   tells_gone (m ∷ ms) session can was h = tells_gone ms (moved_by setting session m) can.1 (moved_lawful setting session m can.0 was) (tells_moved session m was h)
 
+-- whoever has known names at the opening
+pub tells_opening : (bodies : List ThreadBody) (params : PodParams) (names : Names) → KnowsItsNames (opening_session (scripted bodies params names)) → Tells (opening_session (scripted bodies params names)).live
+tells_opening bodies params names known = record { rows = rows_opened (opening_session (scripted bodies params names)).live.pod.state.births 0 (slice_get bodies 0); names = known }
+
 pub names_are_of_the_born : NamesAreOfTheBorn
 names_are_of_the_born bodies params names least most known takes n defined =
     subst (λ (x : Session ThreadBody). KnowsItsNames x) (sym r.is)
-    (tells_gone setting refl r.moves (opening_session setting) r.can (Lawful-opening params least most) (record { rows = rows_opened (opening_session setting).live.pod.state.births 0 (slice_get bodies 0); names = known })).names
+    (tells_gone setting refl r.moves (opening_session setting) r.can (Lawful-opening params least most) (tells_opening bodies params names known)).names
   where
     setting : Setting ThreadBody
     setting = scripted bodies params names
@@ -317,7 +322,7 @@ null_names_are_known bodies params threads monitors conditions place = inl (null
 -- ---- sends
 
 module _ (n : ℕ) (body : SessionBody) (names : Names) (known : AllKnown n names) where
-  abbrev SendsKnown : Call → Type 0
+  abbrev pub SendsKnown : Call → Type 0
   SendsKnown c = (to room : ℕ) (text : List ℕ) → c ≡ call.Send to room text → Known n to
 
   sends_commands : (text : List ℕ) (o : Option Command) → SendsKnown (session_sends body names text o).0
@@ -360,7 +365,7 @@ module _ (n : ℕ) (body : SessionBody) (names : Names) (known : AllKnown n name
   sends_by x at.Bye = sends_returns (is_replied x)
   sends_by x at.End = λ to room text e. absurd (cc)
 
-  sends_next : (x : Answer) → SendsKnown (session_next body names x).0
+  pub sends_next : (x : Answer) → SendsKnown (session_next body names x).0
   unfolding session_next
   sends_next x = sends_by x body.place
 

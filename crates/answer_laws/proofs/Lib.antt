@@ -27,7 +27,7 @@ mod Meetings
 mod Openings
 mod Reports
 mod Creating
-mod Uncalled
+mod Unsent
 mod Wholes
 mod Naming
 mod Unnamed

@@ -32,25 +32,26 @@ use Rattle.std.proofs.lemmas.Bool.{eqb-true, ne_eqb}
 use Rattle.lwp_types.specs.declared.rows.Block.TheVariants as block
 
 -- a session at its beginning, and a store that has no table of it and reads no letter of it
-pub meet : (s k event place a : ℕ) (st : State) → Lawful st None → sight st s ≡ resting → (kb : StoreBody) (kz : Answer) → AloneAt s k st kb kz → st.births ≤ a → TellsAt s k a st (session_opening event place) zero_answer kb kz [] []
-meet s k event place a st was seen kb kz h low = record {
+pub meet : (s k event place a : ℕ) → eqb s k ≡ false → (st : State) → Lawful st None → sight st s ≡ resting → (kb : StoreBody) (kz : Answer) → AloneAt s k st kb kz → st.births ≤ a → TellsAt s k a st (session_opening event place) zero_answer kb kz [] []
+meet s k event place a s_k st was seen kb kz h low = record {
   talk = record { session = session_opening event place; client = Hears zero_answer; store = kb; keeper = h.stand; mail = Nothing; agent_lives = true; lines = []; told = [] };
   waiting = [];
   stands = record {
     client = seen;
-    keeper = h.seen;
+    keeper = λ apart. h.seen;
     posted = refl;
     placed = refl;
     reads = h.reads;
     untimed = rests_untimed st was s seen;
-    untimed_keeper = h.untimed;
+    untimed_keeper = λ apart. h.untimed;
+    alone = λ same. differ (sym same ∙ s_k);
     agent = Unmade low refl refl refl;
   };
   inv = Goes (Idle [] (record { replied = refl; kept = h.table; clean = refl }) refl refl refl) h.apart;
   session = refl;
   store = refl;
   heard = refl;
-  heard_keeper = h.heard;
+  heard_keeper = λ apart. h.heard;
   texts = refl;
   told = refl;
 }
@@ -63,7 +64,7 @@ module _ {B : Type 0} (setting : Setting B) (server : LineServer setting.next) (
     (kb : StoreBody) (kz : Answer) (row_k : K_of setting server s k s_k live.rows kb kz) (alone : AloneAt s k live.pod.state kb kz) where
   met : Stood setting server s k s_k (begun live)
   met = Starting (alive_seen live.pod.state s block.Not (ap (λ (v : Sight). v.waits) begins.thread)) (session_opening event place) zero_answer kb kz begins.row row_k
-      (λ a low away. meet s k event place a live.pod.state was begins.thread kb kz alone low) refl (λ a. refl)
+      (λ a low away. meet s k event place a s_k live.pod.state was begins.thread kb kz alone low) refl (λ a. refl)
 
   pub met_answers : (moves : List (Option Took)) → CanGoOn setting moves (begun live) → Serves s k (gone_on setting moves (begun live)) → TextsAreShort (gone_on setting moves (begun live)) → (a : ℕ) → IsAnsweredInTurn s a (steps_of (gone_on setting moves (begun live)).steps)
   met_answers moves can serves short a =

@@ -1,25 +1,29 @@
 -- The first step of a session that names a thread, and the session behind it.
 use Rattle.answer_laws.proofs.Creating.{call_bears, none_opened, none_settled, none_with, take_bears}
-use Rattle.answer_laws.proofs.Meetings.{begin_alone, gone_lawful, gone_push, meet}
+use Rattle.answer_laws.proofs.Knowing.{Tells, null_names_are_known, sends_next, tells_moved, tells_opening}
+use Rattle.answer_laws.proofs.Meetings.{gone_lawful, gone_push}
 use Rattle.answer_laws.proofs.Openings.{can_before, can_behind, gone_append, move_silent, move_untold, moves_silent, moves_untold, sessions_are_reached}
-use Rattle.answer_laws.proofs.OwnSteps.{alive_seen, others_reply_nothing}
-use Rattle.answer_laws.proofs.Phases.{Phase.Over, Phase.Starting, TellsAt, phase_first}
+use Rattle.answer_laws.proofs.OwnSteps.{alive_seen}
+use Rattle.answer_laws.proofs.Phases.{Phase.Starting, TellsAt, phase_first}
 use Rattle.answer_laws.proofs.Reports.{moves_short}
-use Rattle.answer_laws.proofs.Servings.{K_of, S_of, Stood, gone_fades, gone_stood, moved_lawful, said_push}
+use Rattle.answer_laws.proofs.Servings.{Grows, K_of, S_of, Stood, gone_fades, gone_grows, gone_stood, moved_lawful, sends_before, sends_last, sends_named, short_before}
 use Rattle.answer_laws.proofs.TalkSteps.{apart_of}
-use Rattle.answer_laws.proofs.Uncalled.{Idle, Idle.Dead, Idle.Ready, idle_take, passes_call}
+use Rattle.answer_laws.proofs.Unsent.{IsQuiet, Lone, Quiet, Sent, Sent.IsNone, Sent.IsSend, Unpolled, alone_at, is_quiet_by, lone_moves, own_effects, phase_met, quiet_behind, sent_of}
 use Rattle.answer_laws.proofs.Wholes.{in_whole_sessions, line_server}
-use Rattle.answer_laws.specs.Births.{InEveryScript, InEverySession, begins_in, born_in, is_call_of, is_idle_till, is_named}
-use Rattle.answer_laws.specs.Clients.{IsAnsweredInTurn, delivered_to, replied_to}
-use Rattle.answer_laws.specs.Served.{Begins, CanGoOn, IsReached, LineServer, Serves, TextsAreShort, gone_on, is_move_due, line_is_short, moved_by, steps_of}
+use Rattle.answer_laws.specs.Births.{FromNullNames, InEveryScript, InEverySession, IsAnsweredAlways, IsUnsentTill, begins_in, born_in, is_named, is_send_of, is_unsent_till}
+use Rattle.answer_laws.specs.Clients.{IsAnsweredInTurn, all_sends_to, delivered_to, names_only, replied_to, sends_nothing, sends_only}
+use Rattle.answer_laws.specs.Known.{KnowsItsNames, scripted}
+use Rattle.answer_laws.specs.Lengths.{is_short}
+use Rattle.answer_laws.specs.Served.{Begins, CanGoOn, IsReached, LineServer, Serves, TextsAreShort, gone_on, line_is_short, moved_by, steps_of}
 use Rattle.answer_laws.specs.Sights.{Sight}
-use Rattle.line_server.specs.Sessions.{session_opening}
+use Rattle.line_server.specs.Sessions.{session_next, session_opening}
 use Rattle.line_server.specs.Stores.{store_opening}
-use Rattle.line_server.specs.Tables.{line_answers}
 use Rattle.lwp_types.specs.Choice.{choice}
 use Rattle.lwp_types.specs.Lawful.{Lawful}
-use Rattle.lwp_types.specs.Names.{null_id, polled_as}
+use Rattle.lwp_types.specs.Names.{Names, null_id, null_names, polled_as}
 use Rattle.lwp_types.specs.Poll.{Polled}
+use Rattle.lwp_types.specs.declared.call.Call.{Call}
+use Rattle.lwp_types.specs.declared.call.PodParams.{PodParams}
 use Rattle.lwp_types.specs.Unblock.{zero_answer}
 use Rattle.pod_laws.proofs.Elements.{false_of}
 use Rattle.pod_laws.proofs.Opening.{Lawful-opening}
@@ -30,7 +34,7 @@ use Rattle.pod_runner.specs.declared.session.Took.{Took}
 use Rattle.script_program.specs.Bodies.{body_next}
 use Rattle.script_program.specs.declared.body.ThreadBody.{ThreadBody}
 use Rattle.std.proofs.Common.{Bool, List, None, Option, Some, [], ap, append-nil, append_assoc, arith, cond, eqb, false, inl, inr, not, refl, subst, sym, true, ℕ, ◌&&◌, ◌++◌, ◌<◌, ◌∙◌, ◌∷◌, ◌≡◌, ◌≤◌, ◌≢◌, ◌||◌, ◌⊎◌}
-use Rattle.std.proofs.lemmas.Bool.{and_parts, leb-false, leb-true, ne_eqb}
+use Rattle.std.proofs.lemmas.Bool.{and_parts, eqb-true, leb-false, leb-true, ne_eqb}
 use Rattle.std.specs.List.{list_all, list_any}
 use Rattle.std.specs.Prelude.{nat_le, slice_get}
 use Rattle.lwp_types.specs.declared.rows.Block.TheVariants as block
@@ -136,49 +140,24 @@ module _ {B : Type 0} (setting : Setting B) where
   move_bears u p session None was bears = call_bears_it u p session.live was bears
   move_bears u p session (Some took) was bears = absurd (let bad : Some p ≡ None = sym bears ∙ take_bears u session.live.pod took.event took.line.text in cc)
 
-  -- ---- s makes no call
-
-  abbrev Uncalled : ℕ → List (Option Took) → Session B → Type 0
-  Uncalled s [] session = Unit {0}
-  Uncalled s (m ∷ ms) session = (list_any (is_call_of s) (made_by session m).effects ≡ false) × Uncalled s ms (moved_by setting session m)
-
-  uncalled_till : (s k : ℕ) (before : List (Option Took)) (birth : Option Took) (later : List (Option Took)) (session : Session B) → Unnamed k before session → is_idle_till k s (made_in (before ++ birth ∷ later) session) ≡ true → Uncalled s (before ++ birth ∷ []) session
-  uncalled_till s k [] birth later session unnamed idle = (false_of (list_any (is_call_of s) (made_by session birth).effects) (and_parts (not (list_any (is_call_of s) (made_by session birth).effects)) _ idle).0, tt)
-  uncalled_till s k (m ∷ ms) birth later session unnamed idle =
-      let parts = and_parts (not (list_any (is_call_of s) (made_by session m).effects)) (is_named k (made_by session m).effects || is_idle_till k s (made_in (ms ++ birth ∷ later) (moved_by setting session m))) idle in (
-        false_of (list_any (is_call_of s) (made_by session m).effects) parts.0,
-        uncalled_till s k ms birth later (moved_by setting session m) unnamed.1 (ap (λ b. b || is_idle_till k s (made_in (ms ++ birth ∷ later) (moved_by setting session m))) (sym unnamed.0) ∙ parts.1),
-      )
-
-  uncalled_behind : (s : ℕ) (one two : List (Option Took)) (session : Session B) → Uncalled s (one ++ two) session → Uncalled s two (gone_on setting one session)
-  uncalled_behind s [] two session uncalled = uncalled
-  uncalled_behind s (m ∷ ms) two session uncalled = uncalled_behind s ms two (moved_by setting session m) uncalled.1
-
   -- from the opening on
   opening_none : (u : ℕ) → u ≢ 0 → row_of u (opening_session setting).live.rows ≡ None
   opening_none u other = none_opened u 0 (slice_get setting.bodies 0) (ne_eqb 0 u (λ e. other (sym e)))
 
--- ---- a session that makes no call
+-- ---- s sends nothing
 
-module _ {B : Type 0} (setting : Setting B) (server : LineServer setting.next) (s k : ℕ) (s_k : eqb s k ≡ false) (body : B) where
-  -- it is idle, and was never heard
-  record Passed (session : Session B) : Type 0 where
-    idle : Idle setting s body session.live
-    silent : (a : ℕ) → replied_to s a (steps_of session.steps) ≡ []
+module _ {B : Type 0} (setting : Setting B) (server : LineServer setting.next) (s k : ℕ) where
+  quiet_one : (m : Option Took) (session : Session B) → list_any (is_send_of s) (made_by setting session m).effects ≡ false → m ≡ None → IsQuiet setting server s session.live
+  quiet_one None session none is = is_quiet_by setting server s session.live none
+  quiet_one (Some took) session none is = absurd (cc)
 
-  passed_move : (session : Session B) (m : Option Took) → Lawful session.live.pod.state None → is_move_due session m ≡ true → list_any (is_call_of s) (made_by setting session m).effects ≡ false → Passed session → Passed (moved_by setting session m)
-  unfolding taken
-  passed_move session None was due uncalled h =
-      let p = passes_call setting s body session.live was h.idle uncalled in
-      record { idle = p.idle; silent = λ a. sym (said_push setting server s k s_k session.steps (made_by setting session None) a) ∙ (λ i. h.silent a i ++ p.silent a i) }
-  passed_move session (Some took) was due uncalled h = record {
-    idle = idle_take setting s body session.live was took due h.idle;
-    silent = λ a. sym (said_push setting server s k s_k session.steps (made_by setting session (Some took)) a) ∙ (λ i. h.silent a i ++ (others_reply_nothing s a session.live.pod).1 took.event took.line.text i);
-  }
-
-  passed_moves : (moves : List (Option Took)) (session : Session B) → Lawful session.live.pod.state None → CanGoOn setting moves session → Uncalled setting s moves session → Passed session → Passed (gone_on setting moves session)
-  passed_moves [] session was can uncalled h = h
-  passed_moves (m ∷ ms) session was can uncalled h = passed_moves ms (moved_by setting session m) (moved_lawful setting session m can.0 was) can.1 uncalled.1 (passed_move session m was can.0 uncalled.0 h)
+  quiet_till : (before : List (Option Took)) (birth : Option Took) (later : List (Option Took)) (session : Session B) → Unnamed setting k before session → is_unsent_till k s (made_in setting (before ++ birth ∷ later) session) ≡ true → Quiet setting server s (before ++ birth ∷ []) session
+  quiet_till [] birth later session unnamed unsent = (quiet_one birth session (false_of (list_any (is_send_of s) (made_by setting session birth).effects) (and_parts (not (list_any (is_send_of s) (made_by setting session birth).effects)) _ unsent).0), tt)
+  quiet_till (m ∷ ms) birth later session unnamed unsent =
+      let parts = and_parts (not (list_any (is_send_of s) (made_by setting session m).effects)) (is_named k (made_by setting session m).effects || is_unsent_till k s (made_in setting (ms ++ birth ∷ later) (moved_by setting session m))) unsent in (
+        quiet_one m session (false_of (list_any (is_send_of s) (made_by setting session m).effects) parts.0),
+        quiet_till ms birth later (moved_by setting session m) unnamed.1 (ap (λ b. b || is_unsent_till k s (made_in setting (ms ++ birth ∷ later) (moved_by setting session m))) (sym unnamed.0) ∙ parts.1),
+      )
 
 -- two splits of one list
 record Inside {X : Type 0} (before : List X) (x : X) (one : List X) : Type 0 where
@@ -268,8 +247,8 @@ module _ {B : Type 0} (setting : Setting B) (server : LineServer setting.next) (
           by_split (inl i) = later_answers i
           by_split (inr sh) = absurd (born_in_order nk ns below sh)
 
-      -- the session was, and made no call till then
-      module _ (below : s < k) (idle : is_idle_till k s (made_in setting moves (opening_session setting)) ≡ true) (i : Inside ns.before ns.birth nk.before) where
+      -- the session was, and sent nothing till then
+      module _ (below : s < k) (quiet : Quiet setting server s (nk.before ++ nk.birth ∷ []) (opening_session setting)) (i : Inside ns.before ns.birth nk.before) where
         s_k : eqb s k ≡ false
         s_k = ne_eqb s k (λ e. omega (arith, e, below))
 
@@ -328,81 +307,173 @@ module _ {B : Type 0} (setting : Setting B) (server : LineServer setting.next) (
         was_first : Lawful first.live.pod.state None
         was_first = gone_lawful setting ns.before start can_ns was
 
-        uncalled : Uncalled setting s (ns.before ++ (ns.birth ∷ (i.between ++ nk.birth ∷ []))) start
-        uncalled = subst (λ ms. Uncalled setting s ms start) apart_so (uncalled_till setting s k nk.before nk.birth nk.later start nk.unnamed (ap (λ ms. is_idle_till k s (made_in setting ms start)) (sym nk.is) ∙ idle))
+        quiet_two : Quiet setting server s (i.between ++ nk.birth ∷ []) one
+        quiet_two = (quiet_behind setting server s ns.before (ns.birth ∷ (i.between ++ nk.birth ∷ [])) start (subst (λ ms. Quiet setting server s ms start) apart_so quiet)).1
 
         low : first.live.pod.state.births ≤ s
         low = omega (arith, (born_at s in_s ns).number)
 
-        passed_one : Passed setting server s k s_k (server.serving (session_opening event place)) one
-        passed_one = record {
-          idle = Ready (begins_at s in_s ns (server.serving (session_opening event place)) body_s);
-          silent = move_silent setting server s k s_k first ns.birth was_first low (moves_silent setting server s k s_k ns.before start was can_ns low (λ a. refl));
-        }
+        was_one : Lawful one.live.pod.state None
+        was_one = moved_lawful setting first ns.birth can_s.0 was_first
 
-        passed_two : Passed setting server s k s_k (server.serving (session_opening event place)) two
-        passed_two = subst (Passed setting server s k s_k (server.serving (session_opening event place))) (gone_push setting i.between nk.birth one ∙ ap (λ x. moved_by setting x nk.birth) (sym before_is))
-            (passed_moves setting server s k s_k (server.serving (session_opening event place)) (i.between ++ nk.birth ∷ []) one (moved_lawful setting first ns.birth can_s.0 was_first) can_s.1
-            (uncalled_behind setting s ns.before (ns.birth ∷ (i.between ++ nk.birth ∷ [])) start uncalled).1 passed_one)
+        begins_s : Begins s (server.serving (session_opening event place)) one.live
+        begins_s = begins_at s in_s ns (server.serving (session_opening event place)) body_s
+
+        untold : (b : ℕ) → one.live.pod.state.births ≤ b → eqb null_id b ≡ false → delivered_to b (steps_of one.steps) ≡ []
+        untold = move_untold setting server s k s_k first ns.birth was_first (moves_untold setting server s k s_k ns.before start was can_ns (λ b low away. refl))
+
+        silent : (b : ℕ) → replied_to s b (steps_of one.steps) ≡ []
+        silent = move_silent setting server s k s_k first ns.birth was_first low (moves_silent setting server s k s_k ns.before start was can_ns low (λ a. refl))
+
+        lone_one : Lone setting server s k s_k one
+        lone_one = Starting (alive_seen one.live.pod.state s block.Not (ap (λ (v : Sight). v.waits) begins_s.thread)) (session_opening event place) zero_answer store_opening zero_answer begins_s.row refl
+            (λ a low away. subst (λ xs. TellsAt s s a one.live.pod.state (session_opening event place) zero_answer store_opening zero_answer xs (replied_to s a (steps_of one.steps))) (sym (untold a low away))
+            (subst (λ xs. TellsAt s s a one.live.pod.state (session_opening event place) zero_answer store_opening zero_answer [] xs) (sym (silent a)) (alone_at s event place a one.live.pod.state was_one begins_s.thread low)))
+            refl silent
+
+        two_is : gone_on setting (i.between ++ nk.birth ∷ []) one ≡ two
+        two_is = gone_push setting i.between nk.birth one ∙ ap (λ x. moved_by setting x nk.birth) (sym before_is)
+
+        abbrev end : Session B
+        end = gone_on setting nk.later two
+
+        ends : Serves s k end
+        ends = subst (λ (x : Session B). Serves s k x) whole serves
+
+        short : TextsAreShort end
+        short = subst (λ (x : Session B). TextsAreShort x) whole (moves_short setting moves start was can (record { below = refl; short = λ a. refl }) serves.few lines).short
+
+        lone_two : Lone setting server s k s_k two
+        lone_two = subst (Lone setting server s k s_k) two_is (lone_moves setting server s k s_k (i.between ++ nk.birth ∷ []) one was_one can_s.1 quiet_two lone_one
+            (λ a. subst (λ (x : Session B). list_all is_short (delivered_to a (steps_of x.steps)) ≡ true) (sym two_is) (short_before setting server s k s_k a two.steps end.steps (gone_grows setting nk.later two) (short a)))
+            (subst (λ (x : Session B). x.live.pod.state.births < null_id) (sym two_is) (omega (arith, ends.few, (gone_fades setting k nk.later two).births))))
 
         begins_k : Begins k (server.storing store_opening) two.live
         begins_k = begins_at k in_k nk (server.storing store_opening) body_k
 
-        untold : (b : ℕ) → two.live.pod.state.births ≤ b → eqb null_id b ≡ false → delivered_to b (steps_of two.steps) ≡ []
-        untold = move_untold setting server s k s_k before nk.birth was_before (moves_untold setting server s k s_k nk.before start was can_k (λ b low away. refl))
-
         stood : Stood setting server s k s_k two
-        stood = by_idle passed_two.idle
-          where
-            by_idle : Idle setting s (server.serving (session_opening event place)) two.live → Stood setting server s k s_k two
-            by_idle (Dead low off) = Over low off (λ b. record { rest = line_answers (delivered_to b (steps_of two.steps)); whole = ap (λ xs. xs ++ line_answers (delivered_to b (steps_of two.steps))) (passed_two.silent b) })
-            by_idle (Ready b) = Starting (alive_seen two.live.pod.state s block.Not (ap (λ (v : Sight). v.waits) b.thread)) (session_opening event place) zero_answer store_opening zero_answer b.row begins_k.row
-                (λ a low away. subst (λ xs. TellsAt s k a two.live.pod.state (session_opening event place) zero_answer store_opening zero_answer xs (replied_to s a (steps_of two.steps))) (sym (untold a low away))
-                (subst (λ xs. TellsAt s k a two.live.pod.state (session_opening event place) zero_answer store_opening zero_answer [] xs) (sym (passed_two.silent a))
-                (meet s k event place a two.live.pod.state was_two b.thread store_opening zero_answer (begin_alone s k two.live.pod.state was_two begins_k.thread) low)))
-                refl passed_two.silent
+        stood = phase_met s k two.live.pod.state was_two begins_k.thread (S_of setting server s k s_k two.live.rows) (Unpolled setting server s k s_k) (K_of setting server s k s_k two.live.rows) (λ b z is. is) begins_k.row
+            (λ b. delivered_to b (steps_of two.steps)) (λ b. replied_to s b (steps_of two.steps)) lone_two
 
         early_answers : Answered
         early_answers =
-            let end = gone_on setting nk.later two in
-            let ends = subst (λ (x : Session B). Serves s k x) whole serves in
-            let short = subst (λ (x : Session B). TextsAreShort x) whole (moves_short setting moves start was can (record { below = refl; short = λ a. refl }) serves.few lines).short in
             subst (λ (x : Session B). IsAnsweredInTurn s a (steps_of x.steps)) (sym whole)
             (phase_first s k end.live.pod.state (S_of setting server s k s_k end.live.rows) (K_of setting server s k s_k end.live.rows) (λ b. delivered_to b (steps_of end.steps)) (λ b. replied_to s b (steps_of end.steps))
             (gone_stood setting server s k s_k nk.later two was_two can_end.1 stood (alive_seen two.live.pod.state k block.Not (ap (λ (v : Sight). v.waits) begins_k.thread)) ends.lives ends.sends short ends.few) a)
 
-      session_first : s < k → is_idle_till k s (made_in setting moves (opening_session setting)) ≡ true → Answered
-      session_first below idle = by_split (split_two ns.before ns.birth ns.later nk.before nk.birth nk.later (sym ns.is ∙ nk.is))
+      session_first : s < k → Quiet setting server s (nk.before ++ nk.birth ∷ []) (opening_session setting) → Answered
+      session_first below quiet = by_split (split_two ns.before ns.birth ns.later nk.before nk.birth nk.later (sym ns.is ∙ nk.is))
         where
           by_split : Inside ns.before ns.birth nk.before ⊎ Short ns.before nk.before → Answered
-          by_split (inl i) = early_answers below idle i
+          by_split (inl i) = early_answers below quiet i
           by_split (inr sh) = absurd (born_in_order ns nk below sh)
 
-      both_answers : eqb s k ≡ false → (s < k → is_idle_till k s (made_in setting moves (opening_session setting)) ≡ true) → Answered
-      both_answers apart idle = by_order (nat_le s k) (nat_le k s) refl refl
+      both_answers : eqb s k ≡ false → (s < k → Quiet setting server s (nk.before ++ nk.birth ∷ []) (opening_session setting)) → Answered
+      both_answers apart quiet = by_order (nat_le s k) (nat_le k s) refl refl
         where
           by_order : (b d : Bool) → nat_le s k ≡ b → nat_le k s ≡ d → Answered
           by_order false d e f = store_first (leb-false s k e)
-          by_order true false e f = let less : s < k = leb-false k s f in session_first less (idle less)
+          by_order true false e f = let less : s < k = leb-false k s f in session_first less (quiet less)
           by_order true true e f = absurd (apart_of s k apart (omega (arith, leb-true s k e, leb-true k s f)))
 
+module _ {B : Type 0} (setting : Setting B) (server : LineServer setting.next) (IsEarly : ℕ → ℕ → Session B → Type 0) where
+  -- an early session sends nothing till the birth of its store
+  abbrev EarlyIsQuiet : Type 0
+  EarlyIsQuiet = (moves : List (Option Took)) → CanGoOn setting moves (opening_session setting) → (s k in_k : ℕ) → eqb s k ≡ false → (nk : Named setting k in_k moves (opening_session setting)) → (gone_on setting nk.before (opening_session setting)).live.pod.state.births ≡ k
+      → Serves s k (gone_on setting moves (opening_session setting)) → IsEarly s k (gone_on setting moves (opening_session setting)) → Quiet setting server s (nk.before ++ nk.birth ∷ []) (opening_session setting)
+
+  in_every_by : (1 ≤ setting.params.maxpri → setting.params.maxpri ≤ 255 → EarlyIsQuiet) → IsAnsweredAlways setting server.serving server.storing IsEarly
+  in_every_by quiets least most takes n defined s k in_s in_k event place apart early begins_s body_s begins_k body_k serves lines a =
+      subst Goal (sym r.is) core early begins_s begins_k serves lines
+    where
+      r : IsReached setting (play setting takes n)
+      r = sessions_are_reached B setting takes n defined
+
+      Goal : Session B → Type 0
+      Goal x = (s < k → IsEarly s k x) → begins_in s x.steps ≡ Some in_s → begins_in k x.steps ≡ Some in_k → Serves s k x → list_all (λ (m : Made). line_is_short m.take) x.steps ≡ true → IsAnsweredInTurn s a (steps_of x.steps)
+
+      core : Goal (gone_on setting r.moves (opening_session setting))
+      core early begins_s begins_k serves lines =
+          let steps = steps_are setting r.moves (opening_session setting) in
+          let nk = named_by setting k in_k r.moves (opening_session setting) (ap (begins_in k) (sym steps) ∙ begins_k) in
+          both_answers setting server least most r.moves r.can s k in_s in_k event place
+          (named_by setting s in_s r.moves (opening_session setting) (ap (begins_in s) (sym steps) ∙ begins_s)) nk
+          body_s body_k serves (sym (lines_of setting server least most r.moves (opening_session setting)) ∙ ap (list_all (λ (m : Made). line_is_short m.take)) (sym steps) ∙ lines) a apart
+          (λ less. quiets least most r.moves r.can s k in_k apart nk (born_at setting server least most r.moves r.can k in_k nk).number serves (early less))
+
+-- who is told to send nothing till then
+unsent_is_quiet : {B : Type 0} (setting : Setting B) (server : LineServer setting.next) → EarlyIsQuiet setting server IsUnsentTill
+unsent_is_quiet setting server moves can s k in_k apart nk born serves unsent = quiet_till setting server s k nk.before nk.birth nk.later (opening_session setting) nk.unnamed
+    (ap (λ ms. is_unsent_till k s (made_in setting ms (opening_session setting))) (sym nk.is) ∙ ap (is_unsent_till k s) (sym (steps_are setting moves (opening_session setting))) ∙ unsent)
+
 pub in_every_session : (B : Type 0) → InEverySession B
-in_every_session B setting server least most takes n defined s k in_s in_k event place apart idle begins_s body_s begins_k body_k serves lines a =
-    subst Goal (sym r.is) core idle begins_s begins_k serves lines
-  where
-    r : IsReached setting (play setting takes n)
-    r = sessions_are_reached B setting takes n defined
+in_every_session B setting server = in_every_by setting server IsUnsentTill (λ least most. unsent_is_quiet setting server)
 
-    Goal : Session B → Type 0
-    Goal x = (s < k → is_idle_till k s x.steps ≡ true) → begins_in s x.steps ≡ Some in_s → begins_in k x.steps ≡ Some in_k → Serves s k x → list_all (λ (m : Made). line_is_short m.take) x.steps ≡ true → IsAnsweredInTurn s a (steps_of x.steps)
+-- ---- scripts
 
-    core : Goal (gone_on setting r.moves (opening_session setting))
-    core idle begins_s begins_k serves lines =
-        let steps = steps_are setting r.moves (opening_session setting) in
-        both_answers setting server least most r.moves r.can s k in_s in_k event place
-        (named_by setting s in_s r.moves (opening_session setting) (ap (begins_in s) (sym steps) ∙ begins_s)) (named_by setting k in_k r.moves (opening_session setting) (ap (begins_in k) (sym steps) ∙ begins_k))
-        body_s body_k serves (sym (lines_of setting server least most r.moves (opening_session setting)) ∙ ap (list_all (λ (m : Made). line_is_short m.take)) (sym steps) ∙ lines) a apart (λ less. ap (is_idle_till k s) (sym steps) ∙ idle less)
+-- whoever sends to its store alone, by names that it knows, sends nothing before that is born
+module _ (setting : Setting ThreadBody) (scripts : setting.next ≡ body_next) (server : LineServer setting.next) (s k : ℕ) (s_k : eqb s k ≡ false) (few : k < null_id) where
+  quiet_at : (session : Session ThreadBody) → Tells session.live → session.live.pod.state.births ≤ k → all_sends_to s k (steps_of (moved_by setting session None).steps) ≡ true → IsQuiet setting server s session.live
+  quiet_at session h low sends turn free b z row = by_sent (sent_of c)
+    where
+      c : Call
+      c = (session_next b (polled_as s session.live.names) z).0
+
+      only : names_only k c ≡ true
+      only = sends_named s k session.live.pod turn c free (ap (list_all (sends_only s k)) (sym (own_effects setting server s session.live turn b z row)) ∙ sends_last s k session.steps (record { take = None; effects = (move setting.next setting.bodies session.live).effects }) sends)
+
+      unknown : (to : ℕ) → to ≡ k → (to ≡ null_id) ⊎ (to < session.live.pod.state.births) → ⊥
+      unknown to is (inl null) = omega (arith, is, null, few)
+      unknown to is (inr below) = omega (arith, is, below, low)
+
+      by_sent : Sent c → sends_nothing c ≡ true
+      by_sent (IsNone none) = none
+      by_sent (IsSend to room text is) = absurd (unknown to (eqb-true to k (subst (λ c. names_only k c ≡ true) is only)) (sends_next session.live.pod.state.births b (polled_as s session.live.names) h.names z to room text is))
+
+  quiet_known : (moves : List (Option Took)) (birth : Option Took) (session : Session ThreadBody) → Lawful session.live.pod.state None → CanGoOn setting (moves ++ birth ∷ []) session → Tells session.live → (gone_on setting moves session).live.pod.state.births ≤ k
+      → all_sends_to s k (steps_of (gone_on setting (moves ++ birth ∷ []) session).steps) ≡ true → Quiet setting server s (moves ++ birth ∷ []) session
+  quiet_known [] birth session was can h low sends = (λ is. quiet_at session h low (subst (λ m. all_sends_to s k (steps_of (moved_by setting session m).steps) ≡ true) is sends), tt)
+  quiet_known (m ∷ ms) birth session was can h low sends =
+      let next = moved_by setting session m in
+      let sends_next = sends_before setting server s k s_k next.steps (gone_on setting (ms ++ birth ∷ []) next).steps (gone_grows setting (ms ++ birth ∷ []) next) sends in (
+        λ is. quiet_at session h (omega (arith, low, (gone_fades setting k (m ∷ ms) session).births)) (subst (λ m. all_sends_to s k (steps_of (moved_by setting session m).steps) ≡ true) is sends_next),
+        quiet_known ms birth next (moved_lawful setting session m can.0 was) can.1 (tells_moved setting scripts session m was h) low sends,
+      )
+
+module _ (bodies : List ThreadBody) (params : PodParams) (names : Names) (server : LineServer body_next) (least : 1 ≤ params.maxpri) (most : params.maxpri ≤ 255) where
+  abbrev script : Setting ThreadBody
+  script = scripted bodies params names
+
+  abbrev opened : Session ThreadBody
+  opened = opening_session script
+
+  known_is_quiet : EarlyIsQuiet script server (λ s k end. KnowsItsNames (opening_session (scripted bodies params names)))
+  known_is_quiet moves can s k in_k apart nk born serves known =
+      quiet_known script refl server s k apart (omega (arith, born, serves.few, (gone_fades script k (nk.birth ∷ nk.later) (gone_on script nk.before opened)).births, ap (λ (x : Session ThreadBody). x.live.pod.state.births) whole))
+      nk.before nk.birth opened (Lawful-opening params least most) can_two (tells_opening bodies params names known) (omega (arith, born))
+      (sends_before script server s k apart (gone_on script (nk.before ++ nk.birth ∷ []) opened).steps (gone_on script moves opened).steps grows serves.sends)
+    where
+      whole : gone_on script moves opened ≡ gone_on script (nk.birth ∷ nk.later) (gone_on script nk.before opened)
+      whole = ap (λ ms. gone_on script ms opened) nk.is ∙ gone_append script nk.before (nk.birth ∷ nk.later) opened
+
+      moves_are : moves ≡ (nk.before ++ nk.birth ∷ []) ++ nk.later
+      moves_are = nk.is ∙ sym (append_assoc nk.before (nk.birth ∷ []) nk.later)
+
+      can_two : CanGoOn script (nk.before ++ nk.birth ∷ []) opened
+      can_two = can_before script (nk.before ++ nk.birth ∷ []) nk.later opened (subst (λ ms. CanGoOn script ms opened) moves_are can)
+
+      grows : Grows script (gone_on script (nk.before ++ nk.birth ∷ []) opened).steps (gone_on script moves opened).steps
+      grows = subst (λ (x : Session ThreadBody). Grows script (gone_on script (nk.before ++ nk.birth ∷ []) opened).steps x.steps) (sym (ap (λ ms. gone_on script ms opened) moves_are ∙ gone_append script (nk.before ++ nk.birth ∷ []) nk.later opened))
+          (gone_grows script nk.later (gone_on script (nk.before ++ nk.birth ∷ []) opened))
+
+  by_premise : EarlyIsQuiet script server (λ s k end. KnowsItsNames (opening_session (scripted bodies params names)) ⊎ IsUnsentTill s k end)
+  by_premise moves can s k in_k apart nk born serves (inl known) = known_is_quiet moves can s k in_k apart nk born serves known
+  by_premise moves can s k in_k apart nk born serves (inr unsent) = unsent_is_quiet script server moves can s k in_k apart nk born serves unsent
 
 pub in_every_script : InEveryScript
 unfolding line_server
-in_every_script bodies params names = in_every_session ThreadBody (record { next = body_next; bodies = bodies; params = params; names = names }) line_server
+in_every_script bodies params names = in_every_by (scripted bodies params names) line_server (λ s k end. KnowsItsNames (opening_session (scripted bodies params names)) ⊎ IsUnsentTill s k end) (λ least most. by_premise bodies params names line_server least most)
+
+pub from_null_names : FromNullNames
+from_null_names bodies params threads monitors conditions least most takes n defined s k in_s in_k event place apart early =
+    in_every_script bodies params (null_names threads monitors conditions) least most takes n defined s k in_s in_k event place apart (λ less. inl (null_names_are_known bodies params threads monitors conditions))

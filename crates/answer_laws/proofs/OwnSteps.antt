@@ -6,7 +6,7 @@ use Rattle.answer_laws.proofs.SessionSteps.{hears_no_mail, sessions_calls_are_ev
 use Rattle.answer_laws.proofs.Events.{rites_same}
 use Rattle.answer_laws.proofs.StoreSteps.{StoreDoes, StoreDoes.DoesReceive, StoreDoes.DoesReply, StoreDoes.DoesStop, does_by, stores_calls_are_events}
 use Rattle.answer_laws.proofs.TalkSteps.{attends_seen, attentive}
-use Rattle.answer_laws.specs.Clients.{names_only, replied_in, reply_to}
+use Rattle.answer_laws.specs.Clients.{replied_in, reply_to, sends_well}
 use Rattle.answer_laws.specs.Events.{machine_of}
 use Rattle.answer_laws.specs.Owns.{OthersReplyNothing, PodsSessionsCallsAreEvents, PodsStoresCallsAreEvents, SessionComes, SessionComes.GoesOn, SessionComes.IsTurnedAway, SessionComes.Dies}
 use Rattle.answer_laws.specs.Sights.{IsDelivered, IsLeft, IsWoken, Sight, answers_to, is_attentive, sight}
@@ -241,10 +241,10 @@ pods_stores_calls_are_events s k a es was talk waiting h s_k turn x hears names 
     plain = plain_store (store_by talk.store x talk.store.place) (does_by talk.store x talk.store.place)
 
     marks : marks_in es.state k ≡ mark.Frame ∷ []
-    marks = ap (λ (v : Sight). v.marks) h.keeper
+    marks = ap (λ (v : Sight). v.marks) (h.keeper s_k)
 
     lives : is_thread es.state k ≡ true
-    lives = alive_seen es.state k (block_of None talk.keeper) (ap (λ (v : Sight). v.waits) h.keeper)
+    lives = alive_seen es.state k (block_of None talk.keeper) (ap (λ (v : Sight). v.waits) (h.keeper s_k))
 
     Goal : Outcome → Type 0
     Goal out = is_thread out.after k ≡ true → ((sent : List ℕ) → talk.mail ≡ Received sent → is_short_to s c ≡ true) → (talk.session.place ≡ at.Start → out.after.births ≤ a)
@@ -254,7 +254,7 @@ pods_stores_calls_are_events s k a es was talk waiting h s_k turn x hears names 
     gone out off = λ alive short low. differ (sym alive ∙ gone_thread (rites_said out.state out.effects (reports_after es.state out.state es.reports out.effects)).state k (gone_said k out.state out.effects (reports_after es.state out.state es.reports out.effects) off))
 
     by_stop : (b : Bool) → goes_on_with c ≡ b → Goal (done_by es (stepped es.trapped (step es.state c)))
-    by_stop true on = λ alive short low. becomes_said s k a talk waiting s_k talk.session (store_next talk.store names x).1 [] (step es.state c).after (step es.state c).effects (reports_after es.state (step es.state c).after es.reports (step es.state c).effects) (Lawful-step es.state was c) (step_texts a es.state c)
+    by_stop true on = λ alive short low. becomes_said s k a talk waiting talk.session (store_next talk.store names x).1 [] (step es.state c).after (step es.state c).effects (reports_after es.state (step es.state c).after es.reports (step es.state c).effects) (Lawful-step es.state was c) (step_texts a es.state c)
         (stores_calls_are_events s k a es.state was talk waiting h s_k turn x hears names on short (λ start. omega (arith, low start, births_said (step es.state c).after (step es.state c).effects (reports_after es.state (step es.state c).after es.reports (step es.state c).effects))))
     by_stop false off = gone (stepped es.trapped (step es.state c)) (subst (λ c. IsGone (step es.state c).after k) (sym (plain.stop off)) (returned_is_gone es.state was k turn marks))
 
@@ -375,7 +375,7 @@ module _ (s a : ℕ) where
 
 pub pods_sessions_calls_are_events : PodsSessionsCallsAreEvents
 unfolding session_next
-pods_sessions_calls_are_events s k a es was talk waiting h s_k turn x hears names = subst Goal (sym (event_is es s c turn)) (by_pending es.pending refl)
+pods_sessions_calls_are_events s k a es was talk waiting h turn x hears names = subst Goal (sym (event_is es s c turn)) (by_pending es.pending refl)
   where
     c : Call
     c = (session_next talk.session names x).0
@@ -393,7 +393,7 @@ pods_sessions_calls_are_events s k a es was talk waiting h s_k turn x hears name
     seen = h.client ∙ (λ i. record { waits = Some (block_of (Some a) (hears i)); marks = mark.Frame ∷ []; letters = mail_letters s k (hears_no_mail x talk.mail (subst (λ c. is_posted c talk.mail ≡ true) hears h.posted) i) })
 
     Goal : Outcome → Type 0
-    Goal out = (talk.agent_lives ≡ true → is_short_reply c ≡ true) → (es.pending ≡ None → names_only k c ≡ true) → (talk.session.place ≡ at.Start → (b : ℕ) → answers_to s (step es.state c).effects ≡ answer.Thread b ∷ [] → b ≡ a)
+    Goal out = (talk.agent_lives ≡ true → is_short_reply c ≡ true) → (es.pending ≡ None → sends_well s k c ≡ true) → (talk.session.place ≡ at.Start → (b : ℕ) → answers_to s (step es.state c).effects ≡ answer.Thread b ∷ [] → b ≡ a)
         → SessionComes s k a talk waiting (session_next talk.session names x).1 out
 
     gone : (out : Trapping) → IsGone out.state s → Mute s a out.effects → Goal (done_by es out)
@@ -413,7 +413,7 @@ pods_sessions_calls_are_events s k a es was talk waiting h s_k turn x hears name
     stop off (Plainly plain) = plain.stop off
 
     stepped_by : es.pending ≡ None → (b : Bool) → goes_on_with c ≡ b → Goal (done_by es (stepped es.trapped (step es.state c)))
-    stepped_by free true on = λ short only given. by_coming (sessions_calls_are_events s k a es.state was talk waiting h s_k turn x hears names on short (only free) given)
+    stepped_by free true on = λ short only given. by_coming (sessions_calls_are_events s k a es.state was talk waiting h turn x hears names on short (only free) given)
       where
         reports : List ℕ
         reports = reports_after es.state (step es.state c).after es.reports (step es.state c).effects
@@ -422,7 +422,7 @@ pods_sessions_calls_are_events s k a es was talk waiting h s_k turn x hears name
             → SessionComes s k a talk waiting (session_next talk.session names x).1 (done_by es (stepped es.trapped (step es.state c)))
         by_coming (inl b) = GoesOn (subst (λ xs. Becomes s k a talk (session_next talk.session names x).1 talk.store waiting (texts_in a None (done_by es (stepped es.trapped (step es.state c))).effects) xs (done_by es (stepped es.trapped (step es.state c))))
             (sym (replied_said s a es.state c turn (Lawful-step es.state was c) (block_of (Some a) (talked s a talk b.events).client) (ap (λ (v : Sight). v.waits) b.stands.client) (attentive (Some a) (talked s a talk b.events).client) b.stands.untimed reports))
-            (becomes_said s k a talk waiting s_k (session_next talk.session names x).1 talk.store (replied_in s a (step es.state c).effects) (step es.state c).after (step es.state c).effects reports (Lawful-step es.state was c) (step_texts a es.state c) b))
+            (becomes_said s k a talk waiting (session_next talk.session names x).1 talk.store (replied_in s a (step es.state c).effects) (step es.state c).after (step es.state c).effects reports (Lawful-step es.state was c) (step_texts a es.state c) b))
         by_coming (inr v) = turned (stepped es.trapped (step es.state c)) (Lawful-step es.state was c) v (mute_step s a s c (mute_unreplied s a c (starts v.place)) es.state turn)
     stepped_by free false off =
         let is = stop off kind in

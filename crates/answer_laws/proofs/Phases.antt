@@ -8,7 +8,7 @@ use Rattle.answer_laws.proofs.TalkLaws.{Inv, inv_events, inv_first}
 use Rattle.answer_laws.proofs.TalkShort.{session_short}
 use Rattle.answer_laws.proofs.TalkSteps.{unborn_absent, unsome}
 use Rattle.answer_laws.proofs.TalkTexts.{placed_recv}
-use Rattle.answer_laws.specs.Clients.{names_only, replied_in, reply_to}
+use Rattle.answer_laws.specs.Clients.{replied_in, reply_to, sends_well}
 use Rattle.answer_laws.specs.Events.{machine_of}
 use Rattle.answer_laws.specs.Lengths.{is_short}
 use Rattle.answer_laws.specs.Owns.{SessionComes, SessionComes.Dies, SessionComes.GoesOn, SessionComes.IsTurnedAway}
@@ -58,7 +58,7 @@ pub record TellsAt (s k a : ℕ) (st : State) (sb : SessionBody) (sz : Answer) (
   pub session : talk.session ≡ sb
   pub store : talk.store ≡ kb
   pub heard : HeardAs talk.client sz
-  pub heard_keeper : HeardAs talk.keeper kz
+  pub heard_keeper : eqb s k ≡ false → HeardAs talk.keeper kz
   pub texts : talk.lines ++ waiting ≡ got
   pub told : talk.told ≡ said
 
@@ -73,7 +73,7 @@ module _ (s k a : ℕ) (st : State) (sb : SessionBody) (sz : Answer) (kb : Store
     session = b.session_then;
     store = b.store_then;
     heard = b.heard sz t.heard;
-    heard_keeper = b.heard_keeper kz t.heard_keeper;
+    heard_keeper = λ s_k. b.heard_keeper s_k kz (t.heard_keeper s_k);
     texts = b.texts ∙ ap (λ xs. xs ++ new) t.texts;
     told = b.said ∙ ap (λ xs. xs ++ replies) t.told;
   }
@@ -401,7 +401,7 @@ away_returns : (sb : SessionBody) (names later : Names) (x : Answer) (why : LwpE
 unfolding session_next
 away_returns sb names later x why start = ap (λ (p : SessionPlace). (session_by (session_by sb names x p).1 later (answer.Refused why) (session_by sb names x p).1.place).0) start
 
-module _ (s k : ℕ) (s_k : eqb s k ≡ false) (es : EventState) (was : Lawful es.state None) (turn : choice es.state ≡ Some s) (S S2 : SessionBody → Answer → Type 0) (K K2 : StoreBody → Answer → Type 0) (got said : ℕ → Texts) (sb0 : SessionBody) (sz0 : Answer) (names : Names)
+module _ (s k : ℕ) (es : EventState) (was : Lawful es.state None) (turn : choice es.state ≡ Some s) (S S2 : SessionBody → Answer → Type 0) (K K2 : StoreBody → Answer → Type 0) (got said : ℕ → Texts) (sb0 : SessionBody) (sz0 : Answer) (names : Names)
     (same : (b : SessionBody) (z : Answer) → S b z → (b ≡ sb0) × (z ≡ sz0)) where
   abbrev own : Call
   own = (session_next sb0 names sz0).0
@@ -414,7 +414,7 @@ module _ (s k : ℕ) (s_k : eqb s k ≡ false) (es : EventState) (was : Lawful e
 
   module _ (s_on : is_thread made_out.after s ≡ true → S2 (session_next sb0 names sz0).1 (last_heard sz0 (answers_to s made_out.effects)))
       (k_on : (b : StoreBody) (z : Answer) → K b z → K2 b (last_heard z (answers_to k made_out.effects)))
-      (short : (b : ℕ) → list_all is_short (got b) ≡ true) (only : es.pending ≡ None → names_only k own ≡ true) (low : eqb null_id es.state.births ≡ false) where
+      (short : (b : ℕ) → list_all is_short (got b) ≡ true) (only : es.pending ≡ None → sends_well s k own ≡ true) (low : eqb null_id es.state.births ≡ false) where
     abbrev PhaseOwn : Type 0
     PhaseOwn = Phase s k made_out.after S2 K2 (λ b. got b ++ new_texts b) (λ b. said b ++ replied_in s b made_out.effects)
 
@@ -440,7 +440,7 @@ module _ (s k : ℕ) (s_k : eqb s k ≡ false) (es : EventState) (was : Lawful e
       answer_is = sym (subst (λ c. HeardAs c sz) hearing.is t.heard) ∙ (same sb sz row).1
 
       Comes : SessionBody → Answer → Type 0
-      Comes b z = (es.pending ≡ None → names_only k (session_next b names z).0 ≡ true) → (b.place ≡ at.Start → (n : ℕ) → answers_to s (step es.state (session_next b names z).0).effects ≡ answer.Thread n ∷ [] → n ≡ a)
+      Comes b z = (es.pending ≡ None → sends_well s k (session_next b names z).0 ≡ true) → (b.place ≡ at.Start → (n : ℕ) → answers_to s (step es.state (session_next b names z).0).effects ≡ answer.Thread n ∷ [] → n ≡ a)
           → SessionComes s k a t.talk t.waiting (session_next b names z).1 (machine_of (event_step es (session_next b names z).0))
 
       given_agent : sb0.place ≡ at.Start → (n : ℕ) → answers_to s (step es.state own).effects ≡ answer.Thread n ∷ [] → n ≡ a
@@ -450,7 +450,7 @@ module _ (s k : ℕ) (s_k : eqb s k ≡ false) (es : EventState) (was : Lawful e
       comes : SessionComes s k a t.talk t.waiting (session_next sb0 names sz0).1 made_out
       unfolding Comes
       comes = subst (Comes sb0) answer_is (subst (λ b. Comes b hearing.answer) session_is
-          (λ only given. pods_sessions_calls_are_events s k a es was t.talk t.waiting t.stands s_k turn hearing.answer hearing.is names (session_short s a t.talk t.inv hearing.answer hearing.is names (lines_short s k a es.state sb sz kb kz (got a) (said a) t (short a))) only given))
+          (λ only given. pods_sessions_calls_are_events s k a es was t.talk t.waiting t.stands turn hearing.answer hearing.is names (session_short s a t.talk t.inv hearing.answer hearing.is names (lines_short s k a es.state sb sz kb kz (got a) (said a) t (short a))) only given))
           only given_agent
 
       firsts_then : replied_in s a made_out.effects ≡ [] → (b : ℕ) → AreFirst (said b ++ replied_in s b made_out.effects) (line_answers (got b ++ new_texts b))

@@ -39,7 +39,7 @@ use Rattle.pod_laws.proofs.EveryStep.{Lawful-step}
 use Rattle.pod_laws.proofs.TimerMoves.{no_timer_comes_unasked}
 use Rattle.std.proofs.Common.{Bool, List, None, Option, Some, [], ap, append-nil, append_assoc, arith, cond, drop, eqb, false, inl, inr, not, refl, subst, sym, true, ℕ, ◌&&◌, ◌++◌, ◌+◌, ◌∙◌, ◌∷◌, ◌≡◌, ◌≤◌, ◌⊎◌}
 use Rattle.std.proofs.Math.Numerals.{one-add}
-use Rattle.std.proofs.lemmas.Bool.{and_from, and_parts}
+use Rattle.std.proofs.lemmas.Bool.{and_from, and_parts, eqb-true}
 use Rattle.std.specs.List.{list_all}
 use Rattle.std.specs.Prelude.{is_some, map, nat_lt, option_map, replicate}
 use Rattle.lwp_types.specs.declared.call.Call.TheVariants as call
@@ -164,7 +164,7 @@ module _ (s k a : ℕ) (talk : Talk) (waiting : List (List ℕ)) where
     texts = b.texts;
     said = b.said;
     heard = subst (IsHeard talk.client (talked s a talk b.events).client) (sym same) b.heard;
-    heard_keeper = subst (IsHeard talk.keeper (talked s a talk b.events).keeper) (sym same_k) b.heard_keeper;
+    heard_keeper = λ s_k. subst (IsHeard talk.keeper (talked s a talk b.events).keeper) (sym same_k) (b.heard_keeper s_k);
   }
 
   leaves_same : (out : Outcome) (es : List Effect) → answers_to s es ≡ answers_to s out.effects → Leaves s talk out → Leaves s talk (record { after = out.after; effects = es })
@@ -190,8 +190,8 @@ module _ (s k a : ℕ) (talk : Talk) (waiting : List (List ℕ)) where
     said = ap (λ (x : Talk). x.told) now ∙ d.said ∙ append-nil (talked s a talk b.events).told ∙ b.said;
     heard = subst (IsHeard talk.client (talked s a talk (b.events ++ d.events)).client) (sym (answers_append s one.effects es))
         (subst (λ (x : Talk). IsHeard talk.client x.client (answers_to s one.effects ++ answers_to s es)) (sym now) (heard_then talk.client (talked s a talk b.events).client (talked s a (talked s a talk b.events) d.events).client (answers_to s one.effects) (answers_to s es) b.heard d.heard));
-    heard_keeper = subst (IsHeard talk.keeper (talked s a talk (b.events ++ d.events)).keeper) (sym (answers_append k one.effects es))
-        (subst (λ (x : Talk). IsHeard talk.keeper x.keeper (answers_to k one.effects ++ answers_to k es)) (sym now) (heard_then talk.keeper (talked s a talk b.events).keeper (talked s a (talked s a talk b.events) d.events).keeper (answers_to k one.effects) (answers_to k es) b.heard_keeper d.heard_keeper));
+    heard_keeper = λ s_k. subst (IsHeard talk.keeper (talked s a talk (b.events ++ d.events)).keeper) (sym (answers_append k one.effects es))
+        (subst (λ (x : Talk). IsHeard talk.keeper x.keeper (answers_to k one.effects ++ answers_to k es)) (sym now) (heard_then talk.keeper (talked s a talk b.events).keeper (talked s a (talked s a talk b.events) d.events).keeper (answers_to k one.effects) (answers_to k es) (b.heard_keeper s_k) (d.heard_keeper s_k)));
   }
     where
       now : talked s a talk (b.events ++ d.events) ≡ talked s a (talked s a talk b.events) d.events
@@ -202,10 +202,10 @@ module _ (s k a : ℕ) (talk : Talk) (waiting : List (List ℕ)) where
   said_same es sent u dead = answers_append u es (map (as_rites dead) sent) ∙ ap (λ x. answers_to u es ++ x) (rites_same u dead sent) ∙ sym (answers_append u es sent)
 
   -- and so it is with the report behind it
-  pub becomes_said : eqb s k ≡ false → (session : SessionBody) (store : StoreBody) (replies : List (List ℕ)) (after : State) (es : List Effect) (reports : List ℕ) → Lawful after None → texts_in a None es ≡ []
+  pub becomes_said : (session : SessionBody) (store : StoreBody) (replies : List (List ℕ)) (after : State) (es : List Effect) (reports : List ℕ) → Lawful after None → texts_in a None es ≡ []
       → Becomes s k a talk session store waiting [] replies (record { after = after; effects = es })
       → Becomes s k a talk session store waiting (texts_in a None (rites_said after es reports).effects) replies (record { after = (rites_said after es reports).state; effects = (rites_said after es reports).effects })
-  becomes_said s_k session store replies after es reports was none b = by_armed (armed after rites_event) refl reports
+  becomes_said session store replies after es reports was none b = by_armed (armed after rites_event) refl reports
     where
       Done : State → List Effect → Type 0
       Done st fs = Becomes s k a talk session store waiting (texts_in a None fs) replies (record { after = st; effects = fs })
@@ -218,7 +218,7 @@ module _ (s k a : ℕ) (talk : Talk) (waiting : List (List ℕ)) where
       by_armed false arms rs = silent
       by_armed true arms (dead ∷ later) =
           let out = deliver after rites_event (report_text dead) in
-          let two = deliveries_are_events s k a after was (talked s a talk b.events) b.waits b.stands s_k rites_event (report_text dead) arms in
+          let two = deliveries_are_events s k a after was (talked s a talk b.events) b.waits b.stands rites_event (report_text dead) arms in
           let both = becomes_then session store [] (replicate (deliveries_to a out.effects) (report_text dead)) replies (record { after = after; effects = es }) out.effects out.after b two in
           subst (λ xs. Becomes s k a talk session store waiting xs replies (record { after = out.after; effects = es ++ map (as_rites dead) out.effects })) (sym texts)
           (becomes_same session store ([] ++ replicate (deliveries_to a out.effects) (report_text dead)) replies (record { after = out.after; effects = es ++ out.effects }) (es ++ map (as_rites dead) out.effects) (said_same es out.effects s dead) (said_same es out.effects k dead) both)
@@ -279,7 +279,7 @@ record Micro (s k a : ℕ) (talk : Talk) (waiting : List (List ℕ)) (after : St
   texts : texts_in a None es ≡ []
 
 module _ (s k a : ℕ) (st : State) (was : Lawful st None) (talk : Talk) (waiting : List (List ℕ)) (h : Stands s k a st talk waiting) (t : ℕ) (turn : choice st ≡ Some t)
-    (t_s : eqb t s ≡ false) (t_k : eqb t k ≡ false) (s_k : eqb s k ≡ false) where
+    (t_s : eqb t s ≡ false) (t_k : eqb t k ≡ false) where
   abbrev After : State → List Effect → Type 0
   After after es = Micro s k a talk waiting after es
 
@@ -305,16 +305,24 @@ module _ (s k a : ℕ) (st : State) (was : Lawful st None) (talk : Talk) (waitin
       by_row None e = absurd (cc)
       by_row (Some row) e = refl
 
+  -- the session is there, and the store if there is one
+  there_s : is_thread st s ≡ true
+  there_s = lives_seen s (block_of (Some a) talk.client) (ap (λ x. x.waits) h.client)
+
+  there_k : (b : Bool) → eqb s k ≡ b → is_thread st k ≡ true
+  there_k true same = ap (is_thread st) (sym (eqb-true s k same)) ∙ there_s
+  there_k false s_k = lives_seen k (block_of None talk.keeper) (ap (λ x. x.waits) (h.keeper s_k))
+
   spared_by : (c : Call) → Fine c (step st c).after → spares_agent s k c ≡ true
   spared_by c (inl spared) = spared
   spared_by c (inr alive) = by_end (ends_of c)
     where
       by_end : Ends c → spares_agent s k c ≡ true
       by_end (Spared fine free) = free s k
-      by_end (Destroys v e) = subst (λ c. spares_agent s k c ≡ true) (sym e) (and_from _ _ (ap not (not_destroyed st was t s v turn (lives_seen s (block_of (Some a) talk.client) (ap (λ x. x.waits) h.client)) c e alive.0)) (ap not (not_destroyed st was t k v turn (lives_seen k (block_of None talk.keeper) (ap (λ x. x.waits) h.keeper)) c e alive.1)))
+      by_end (Destroys v e) = subst (λ c. spares_agent s k c ≡ true) (sym e) (and_from _ _ (ap not (not_destroyed st was t s v turn there_s c e alive.0)) (ap not (not_destroyed st was t k v turn (there_k (eqb s k) refl) c e alive.1)))
 
   after_step : (c : Call) → Fine c (step st c).after → Low (step st c).after → After (step st c).after (step st c).effects
-  after_step c fine low = record { comes = others_calls_are_events s k a st was talk waiting h t turn t_s t_k s_k c (spared_by c fine) low; lawful = Lawful-step st was c; texts = step_texts a st c }
+  after_step c fine low = record { comes = others_calls_are_events s k a st was talk waiting h t turn t_s t_k c (spared_by c fine) low; lawful = Lawful-step st was c; texts = step_texts a st c }
 
   -- a call that the machine doesn't see
   after_none : (c : Call) (x : Answer) → After st (effect.Called t c ∷ effect.Answered t x ∷ [])
@@ -328,7 +336,7 @@ module _ (s k a : ℕ) (st : State) (was : Lawful st None) (talk : Talk) (waitin
       texts = sym (append-nil (talk.lines ++ waiting));
       said = sym (append-nil talk.told);
       heard = unheard talk.client (answers_to s (effect.Called t c ∷ effect.Answered t x ∷ [])) (rw t_s refl);
-      heard_keeper = unheard talk.keeper (answers_to k (effect.Called t c ∷ effect.Answered t x ∷ [])) (rw t_k refl);
+      heard_keeper = λ s_k. unheard talk.keeper (answers_to k (effect.Called t c ∷ effect.Answered t x ∷ [])) (rw t_k refl);
     });
     lawful = was;
     texts = refl;
@@ -379,7 +387,7 @@ module _ (s k a : ℕ) (st : State) (was : Lawful st None) (talk : Talk) (waitin
   after_said after es reports m = by_comes m.comes
     where
       by_comes : Becomes s k a talk talk.session talk.store waiting [] [] (record { after = after; effects = es }) ⊎ Leaves s talk (record { after = after; effects = es }) → Done (rites_said after es reports).state (rites_said after es reports).effects
-      by_comes (inl b) = inl (becomes_said s k a talk waiting s_k talk.session talk.store [] after es reports m.lawful m.texts b)
+      by_comes (inl b) = inl (becomes_said s k a talk waiting talk.session talk.store [] after es reports m.lawful m.texts b)
       by_comes (inr l) =
           let r = rests_said s (nonexist ∷ []) after es reports m.lawful (record { client = l.client; untimed = l.untimed; told = l.told }) in
           inr (record { client = r.client; untimed = r.untimed; place = l.place; told = r.told })
@@ -388,31 +396,31 @@ module _ (s k a : ℕ) (st : State) (was : Lawful st None) (talk : Talk) (waitin
   low_before after es reports low place = omega (arith, low place, births_said after es reports)
 
 module _ (s k a : ℕ) (es : EventState) (was : Lawful es.state None) (talk : Talk) (waiting : List (List ℕ)) (h : Stands s k a es.state talk waiting) (t : ℕ) (turn : choice es.state ≡ Some t)
-    (t_s : eqb t s ≡ false) (t_k : eqb t k ≡ false) (s_k : eqb s k ≡ false) (c : Call) where
-  fine_before : (after : State) (fs : List Effect) (reports : List ℕ) → Fine s k a es.state was talk waiting h t turn t_s t_k s_k c (rites_said after fs reports).state → Fine s k a es.state was talk waiting h t turn t_s t_k s_k c after
+    (t_s : eqb t s ≡ false) (t_k : eqb t k ≡ false) (c : Call) where
+  fine_before : (after : State) (fs : List Effect) (reports : List ℕ) → Fine s k a es.state was talk waiting h t turn t_s t_k c (rites_said after fs reports).state → Fine s k a es.state was talk waiting h t turn t_s t_k c after
   fine_before after fs reports (inl spared) = inl spared
   fine_before after fs reports (inr alive) = inr (sym (thread_said s after fs reports) ∙ alive.0, sym (thread_said k after fs reports) ∙ alive.1)
 
-  calls_fine : Fine s k a es.state was talk waiting h t turn t_s t_k s_k c (event_step es c).after.state → (talk.session.place ≡ at.Start → (event_step es c).after.state.births ≤ a)
+  calls_fine : Fine s k a es.state was talk waiting h t turn t_s t_k c (event_step es c).after.state → (talk.session.place ≡ at.Start → (event_step es c).after.state.births ≤ a)
       → Becomes s k a talk talk.session talk.store waiting (texts_in a None (event_step es c).effects) [] (machine_of (event_step es c)) ⊎ Leaves s talk (machine_of (event_step es c))
   unfolding event_step event_step_by
   calls_fine fine low =
       let out = called es.state es.trapped t c es.pending in
       let reports = reports_after es.state out.state es.reports out.effects in
-      subst (λ o. Fine s k a es.state was talk waiting h t turn t_s t_k s_k c (event_step_if es c o).after.state → (talk.session.place ≡ at.Start → (event_step_if es c o).after.state.births ≤ a) → Becomes s k a talk talk.session talk.store waiting (texts_in a None (event_step_if es c o).effects) [] (machine_of (event_step_if es c o)) ⊎ Leaves s talk (machine_of (event_step_if es c o))) (sym turn)
-      (λ fine low. after_said s k a es.state was talk waiting h t turn t_s t_k s_k out.state out.effects reports (after_called s k a es.state was talk waiting h t turn t_s t_k s_k es.trapped c es.pending (fine_before out.state out.effects reports fine)
-      (low_before s k a es.state was talk waiting h t turn t_s t_k s_k out.state out.effects reports low))) fine low
+      subst (λ o. Fine s k a es.state was talk waiting h t turn t_s t_k c (event_step_if es c o).after.state → (talk.session.place ≡ at.Start → (event_step_if es c o).after.state.births ≤ a) → Becomes s k a talk talk.session talk.store waiting (texts_in a None (event_step_if es c o).effects) [] (machine_of (event_step_if es c o)) ⊎ Leaves s talk (machine_of (event_step_if es c o))) (sym turn)
+      (λ fine low. after_said s k a es.state was talk waiting h t turn t_s t_k out.state out.effects reports (after_called s k a es.state was talk waiting h t turn t_s t_k es.trapped c es.pending (fine_before out.state out.effects reports fine)
+      (low_before s k a es.state was talk waiting h t turn t_s t_k out.state out.effects reports low))) fine low
 
 pub pods_calls_are_events : PodsCallsAreEvents
-pods_calls_are_events s k a es was talk waiting h t turn t_s t_k s_k c spared low = calls_fine s k a es was talk waiting h t turn t_s t_k s_k c (inl spared) low
+pods_calls_are_events s k a es was talk waiting h t turn t_s t_k c spared low = calls_fine s k a es was talk waiting h t turn t_s t_k c (inl spared) low
 
 -- the same, where both are there behind it
 pub living_calls_are_events : LivingCallsAreEvents
-living_calls_are_events s k a es was talk waiting h t turn t_s t_k s_k c lives lives_k low = calls_fine s k a es was talk waiting h t turn t_s t_k s_k c (inr (lives, lives_k)) low
+living_calls_are_events s k a es was talk waiting h t turn t_s t_k c lives lives_k low = calls_fine s k a es was talk waiting h t turn t_s t_k c (inr (lives, lives_k)) low
 
 pub takes_are_events : TakesAreEvents
 unfolding take_event
-takes_are_events s k a es was talk waiting h s_k away e text may = by_trapped (is_trapped es.trapped e) may
+takes_are_events s k a es was talk waiting h away e text may = by_trapped (is_trapped es.trapped e) may
   where
     still_told : texts_in a (Some text) (effect.Delivered null_id e ∷ []) ≡ []
     still_told = rw away refl
@@ -428,7 +436,7 @@ takes_are_events s k a es was talk waiting h s_k away e text may = by_trapped (i
       texts = sym (append-nil (talk.lines ++ waiting));
       said = sym (append-nil talk.told);
       heard = λ z x. x;
-      heard_keeper = λ z x. x;
+      heard_keeper = λ s_k z x. x;
     })
     by_trapped false may = subst (λ xs. Becomes s k a talk talk.session talk.store waiting xs [] (deliver es.state e text)) (sym (lines_told a text (deliver es.state e text).effects (tame_deliver es.state e text)))
-        (deliveries_are_events s k a es.state was talk waiting h s_k e text (and_parts (nat_lt e rites_event) (armed es.state e) may).1)
+        (deliveries_are_events s k a es.state was talk waiting h e text (and_parts (nat_lt e rites_event) (armed es.state e) may).1)

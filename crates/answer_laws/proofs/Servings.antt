@@ -10,7 +10,7 @@ use Rattle.answer_laws.proofs.TalkShort.{store_short}
 use Rattle.answer_laws.proofs.TalkSteps.{attends_seen, unsome}
 use Rattle.answer_laws.proofs.StoreSteps.{sends_at}
 use Rattle.answer_laws.proofs.ThreadRows.{row_polled_other, row_polled_own, row_settled}
-use Rattle.answer_laws.specs.Clients.{Step, all_sends_to, delivered_to, names_only, replied_in, replied_to, sends_only, text_to}
+use Rattle.answer_laws.specs.Clients.{Step, all_sends_to, delivered_to, names_only, replied_in, replied_to, sends_nothing, sends_only, text_to}
 use Rattle.answer_laws.specs.Events.{machine_of}
 use Rattle.answer_laws.specs.Lengths.{is_short}
 use Rattle.answer_laws.specs.Served.{CanGoOn, LineServer, gone_on, is_move_due, moved_by, step_of, steps_of}
@@ -118,17 +118,22 @@ module _ (s k : ℕ) (es : EventState) (turn : choice es.state ≡ Some s) (c : 
           (sym (list_all-append (sends_only s k) fs (map (as_rites dead) (deliver after rites_event (report_text dead)).effects)) ∙ all)).0
 
   -- where no trap is raised before it, the call of s is told of
-  sends_named : es.pending ≡ None → list_all (sends_only s k) (event_step es c).effects ≡ true → names_only k c ≡ true
+  pub sends_named : es.pending ≡ None → list_all (sends_only s k) (event_step es c).effects ≡ true → names_only k c ≡ true
   sends_named free all =
       let out = made es.state es.trapped s c in
       let whole = event_is es s c turn ∙ ap (λ p. done_by es (traps_called es.state es.trapped s c p)) free in
       head_said out.state out.effects (reports_after es.state out.state es.reports out.effects) (head_made es.trapped) (ap (λ (o : Outcome). list_all (sends_only s k) o.effects) (sym whole) ∙ all)
 
+-- where there is a store, it may send to that
+sends_so : (s k : ℕ) (c : Call) (b : Bool) → b ≡ false → names_only k c ≡ true → cond b (sends_nothing c) (names_only k c) ≡ true
+sends_so s k c true e only = absurd (cc)
+sends_so s k c false e only = only
+
 pub chosen_lives : (st : State) → Lawful st None → (t : ℕ) → choice st ≡ Some t → is_thread st t ≡ true
 chosen_lives st was t turn = let run = chosen st was.nine t turn in ap is_some run.known
 
 -- the last step sends to nobody but k
-sends_last : (s k : ℕ) (steps : List Made) (m : Made) → all_sends_to s k (steps_of (steps ++ m ∷ [])) ≡ true → list_all (sends_only s k) m.effects ≡ true
+pub sends_last : (s k : ℕ) (steps : List Made) (m : Made) → all_sends_to s k (steps_of (steps ++ m ∷ [])) ≡ true → list_all (sends_only s k) m.effects ≡ true
 sends_last s k steps m all = (and_parts (list_all (sends_only s k) m.effects) true (and_parts (all_sends_to s k (steps_of steps)) (list_all (sends_only s k) m.effects && true)
     (sym (list_all-append (λ (step : Step). list_all (sends_only s k) step.effects) (steps_of steps) (step_of m ∷ [])) ∙ ap (all_sends_to s k) (sym (map-append step_of steps (m ∷ []))) ∙ all)).1).0
 
@@ -212,7 +217,7 @@ module _ {B : Type 0} (setting : Setting B) (server : LineServer setting.next) (
           goes : (a : ℕ) (sb : SessionBody) (sz : Answer) (kb : StoreBody) (kz : Answer) → K_of live.rows kb kz → (x : TellsAt s k a live.pod.state sb sz kb kz (got_in steps a) (said_in steps a)) → eqb null_id a ≡ false → (x.talk.agent_lives ≡ true) ⊎ (sb.place ≡ at.Agent) → (sb.place ≡ at.Start → out.after.births ≤ a) → is_thread out.after s ≡ true
               → Becomes s k a x.talk x.talk.session kb x.waiting (texts_in a None out.effects) [] out ⊎ Leaves s x.talk out
           goes a sb sz kb kz row x away ok low lives_s = subst (λ body. Becomes s k a x.talk x.talk.session body x.waiting (texts_in a None out.effects) [] out ⊎ Leaves s x.talk out) x.store
-              (living_calls_are_events s k a live.pod was x.talk x.waiting x.stands t turn t_s t_k s_k reply.0 lives_s lives (λ start. low (sym (ap (λ (b : SessionBody). b.place) x.session) ∙ start)))
+              (living_calls_are_events s k a live.pod was x.talk x.waiting x.stands t turn t_s t_k reply.0 lives_s lives (λ start. low (sym (ap (λ (b : SessionBody). b.place) x.session) ∙ start)))
 
     -- the store's call
     module _ (turn : choice live.pod.state ≡ Some k) (names : Names) (row : Row B) (found : row_of k live.rows ≡ Some row) where
@@ -251,10 +256,10 @@ module _ {B : Type 0} (setting : Setting B) (server : LineServer setting.next) (
               (sym (ap (λ (r : Polled B). r.0) (reply_is kb kz is))) (subst (λ z. Comes kb z) heard_is (subst (λ b. Comes b hearing.answer) x.store now)) lives low)
             where
               hearing : IsHearing x.talk.keeper
-              hearing = reader_hears live.pod.state was k turn x.talk.keeper (ap (λ (v : Sight). v.waits) x.stands.keeper) x.stands.reads
+              hearing = reader_hears live.pod.state was k turn x.talk.keeper (ap (λ (v : Sight). v.waits) (x.stands.keeper s_k)) x.stands.reads
 
               heard_is : hearing.answer ≡ kz
-              heard_is = sym (subst (λ c. HeardAs c kz) hearing.is x.heard_keeper)
+              heard_is = sym (subst (λ c. HeardAs c kz) hearing.is (x.heard_keeper s_k))
 
               Comes : StoreBody → Answer → Type 0
               Comes b z = is_thread (event_step live.pod (store_next b names z).0).after.state k ≡ true → (sb.place ≡ at.Start → (event_step live.pod (store_next b names z).0).after.state.births ≤ a)
@@ -289,12 +294,12 @@ module _ {B : Type 0} (setting : Setting B) (server : LineServer setting.next) (
 
       session_call : ((b : ℕ) → list_all is_short (got_in steps b) ≡ true) → eqb null_id live.pod.state.births ≡ false → is_thread out_s.after k ≡ true → list_all (sends_only s k) out_s.effects ≡ true
           → Phase s k out_s.after (S_of rows_s) (K_of rows_s) (λ b. got_in steps b ++ texts_in b None out_s.effects) (λ b. said_in steps b ++ replied_in s b out_s.effects)
-      session_call short low lives sends = phase_own s k s_k live.pod was turn (S_of live.rows) (S_of rows_s) (K_of live.rows) (K_of rows_s) (got_in steps) (said_in steps) its.body its.answer names same_row
+      session_call short low lives sends = phase_own s k live.pod was turn (S_of live.rows) (S_of rows_s) (K_of live.rows) (K_of rows_s) (got_in steps) (said_in steps) its.body its.answer names same_row
           (λ lives_s. row_settled s setting.bodies (proc_of next_s.0) out_s.effects (polled s (server.serving next_s.1) live.rows) (record { tid = s; body = server.serving next_s.1; answer = its.answer })
           (row_polled_own s (server.serving next_s.1) live.rows (record { tid = s; body = server.serving its.body; answer = its.answer }) its.row) (alive_then live.pod.state out_s.after out_s.effects (call_moved live.pod was next_s.0) s lives_s))
           (λ b z is. row_settled k setting.bodies (proc_of next_s.0) out_s.effects (polled s (server.serving next_s.1) live.rows) (record { tid = k; body = server.storing b; answer = z })
           (row_polled_other k s s_k (server.serving next_s.1) live.rows ∙ is) (alive_then live.pod.state out_s.after out_s.effects (call_moved live.pod was next_s.0) k lives))
-          short (λ free. sends_named s k live.pod turn next_s.0 free sends) low stood
+          short (λ free. sends_so s k next_s.0 (eqb s k) s_k (sends_named s k live.pod turn next_s.0 free sends)) low stood
 
     -- ---- a call, whoever makes it
 
@@ -371,7 +376,7 @@ module _ {B : Type 0} (setting : Setting B) (server : LineServer setting.next) (
           goes : (a : ℕ) (sb : SessionBody) (sz : Answer) (kb : StoreBody) (kz : Answer) → K_of live.rows kb kz → (x : TellsAt s k a live.pod.state sb sz kb kz (got_in steps a) (said_in steps a)) → eqb null_id a ≡ false → (x.talk.agent_lives ≡ true) ⊎ (sb.place ≡ at.Agent) → (sb.place ≡ at.Start → out_t.after.births ≤ a) → is_thread out_t.after s ≡ true
               → Becomes s k a x.talk x.talk.session kb x.waiting (texts_in a (Some took.line.text) out_t.effects) [] out_t ⊎ Leaves s x.talk out_t
           goes a sb sz kb kz row x away ok low lives_s = inl (subst (λ body. Becomes s k a x.talk x.talk.session body x.waiting (texts_in a (Some took.line.text) out_t.effects) [] out_t) x.store
-              (takes_are_events s k a live.pod was x.talk x.waiting x.stands s_k away took.event took.line.text may))
+              (takes_are_events s k a live.pod was x.talk x.waiting x.stands away took.event took.line.text may))
 
       pub take_stood : Behind (Some took) (taken setting.bodies took live).live (taken setting.bodies took live).effects
       unfolding taken
@@ -455,11 +460,11 @@ module _ {B : Type 0} (setting : Setting B) where
 
 module _ {B : Type 0} (setting : Setting B) (server : LineServer setting.next) (s k : ℕ) (s_k : eqb s k ≡ false) where
   -- what is said of all steps is said of the first
-  sends_before : (before after : List Made) → Grows setting before after → all_sends_to s k (steps_of after) ≡ true → all_sends_to s k (steps_of before) ≡ true
+  pub sends_before : (before after : List Made) → Grows setting before after → all_sends_to s k (steps_of after) ≡ true → all_sends_to s k (steps_of before) ≡ true
   sends_before before after grows all = (and_parts (all_sends_to s k (steps_of before)) (all_sends_to s k (steps_of grows.rest))
       (sym (list_all-append (λ (step : Step). list_all (sends_only s k) step.effects) (steps_of before) (steps_of grows.rest)) ∙ ap (all_sends_to s k) (sym (map-append step_of before grows.rest)) ∙ ap (λ xs. all_sends_to s k (steps_of xs)) (sym grows.is) ∙ all)).0
 
-  short_before : (a : ℕ) (before after : List Made) → Grows setting before after → list_all is_short (delivered_to a (steps_of after)) ≡ true → list_all is_short (delivered_to a (steps_of before)) ≡ true
+  pub short_before : (a : ℕ) (before after : List Made) → Grows setting before after → list_all is_short (delivered_to a (steps_of after)) ≡ true → list_all is_short (delivered_to a (steps_of before)) ≡ true
   short_before a before after grows all = (and_parts (list_all is_short (delivered_to a (steps_of before))) (list_all is_short (delivered_to a (steps_of grows.rest)))
       (sym (list_all-append is_short (delivered_to a (steps_of before)) (delivered_to a (steps_of grows.rest)))
       ∙ ap (list_all is_short) (sym (flat_map-append (λ (step : Step). flat_map (text_to a step.text) step.effects) (steps_of before) (steps_of grows.rest)) ∙ ap (delivered_to a) (sym (map-append step_of before grows.rest)) ∙ ap (λ xs. delivered_to a (steps_of xs)) (sym grows.is)) ∙ all)).0

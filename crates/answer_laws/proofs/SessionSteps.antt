@@ -7,7 +7,7 @@ use Rattle.answer_laws.proofs.AgentTexts.{At, at_of}
 use Rattle.answer_laws.proofs.TalkSteps.{apart_of, attends_seen, attentive, awaits, either_of, heard_one, neither, talked_append, unborn_absent, unheard, unsome}
 use Rattle.answer_laws.proofs.TalkTexts.{becomes_as, line_is, unborn_silent}
 use Rattle.answer_laws.specs.Agents.{agent_sight}
-use Rattle.answer_laws.specs.Clients.{names_only, replied_in, reply_to}
+use Rattle.answer_laws.specs.Clients.{names_only, replied_in, reply_to, sends_nothing, sends_well}
 use Rattle.answer_laws.specs.Lengths.{is_short}
 use Rattle.answer_laws.specs.Owners.{Sends, letter_sent, sending}
 use Rattle.answer_laws.specs.Sights.{IsLeft, IsSent, IsWoken, Sight, Spares, answers_to, going_on, sight}
@@ -170,15 +170,15 @@ told_any s (effect.Ended status ∷ es) = told_any s es
 told_any s (effect.Trapped t e ∷ es) = told_any s es
 told_any s (effect.Rites a d ∷ es) = told_any s es
 
-module _ (s k a : ℕ) (st : State) (was : Lawful st None) (talk : Talk) (waiting : List (List ℕ)) (h : Stands s k a st talk waiting) (s_k : eqb s k ≡ false) (turn : choice st ≡ Some s) (x : Answer) (hears : talk.client ≡ Hears x) where
+module _ (s k a : ℕ) (st : State) (was : Lawful st None) (talk : Talk) (waiting : List (List ℕ)) (h : Stands s k a st talk waiting) (turn : choice st ≡ Some s) (x : Answer) (hears : talk.client ≡ Hears x) where
   mail : talk.mail ≡ Nothing
   mail = hears_no_mail x talk.mail (subst (λ c. is_posted c talk.mail ≡ true) hears h.posted)
 
   s_row : At st s (block_of (Some a) talk.client)
   s_row = at_of st s (block_of (Some a) talk.client) (ap (λ x. x.waits) h.client)
 
-  k_row : At st k (block_of None talk.keeper)
-  k_row = at_of st k (block_of None talk.keeper) (ap (λ x. x.waits) h.keeper)
+  k_row : eqb s k ≡ false → At st k (block_of None talk.keeper)
+  k_row s_k = at_of st k (block_of None talk.keeper) (ap (λ x. x.waits) (h.keeper s_k))
 
   s_seen : sight st s ≡ record { waits = Some block.Not; marks = mark.Frame ∷ []; letters = mail_letters s k talk.mail }
   s_seen = h.client ∙ ap (λ c. record { waits = Some (block_of (Some a) c); marks = mark.Frame ∷ []; letters = mail_letters s k talk.mail }) hears
@@ -191,12 +191,12 @@ module _ (s k a : ℕ) (st : State) (was : Lawful st None) (talk : Talk) (waitin
   untimed_after c u asks none = omega (arith, none, (no_timer_comes_unasked st (is_timer_of u)).called c, count-append (is_timer_of u) st.timers (timers_asked st (choice st) c), ap (λ o. count_by (is_timer_of u) (timers_asked st o c)) turn, ap (count_by (is_timer_of u)) asks)
 
   -- the store is left, unless it is written to
-  k_left : (c : Call) → Spares st k c → ((room : ℕ) (text : List ℕ) → c ≡ call.Send k room text → ⊥) → IsLeft k st (step st c)
-  k_left c spared never = by_fate (others_leave_it st was s k turn s_k (attends_seen st k (block_of None talk.keeper) (ap (λ x. x.waits) h.keeper) (attentive None talk.keeper)) (ap (λ x. count_by (is_to s) x.letters) h.keeper) c spared)
+  k_left : (c : Call) → Spares st k c → ((room : ℕ) (text : List ℕ) → c ≡ call.Send k room text → ⊥) → eqb s k ≡ false → IsLeft k st (step st c)
+  k_left c spared never s_k = by_fate (others_leave_it st was s k turn s_k (attends_seen st k (block_of None talk.keeper) (ap (λ x. x.waits) (h.keeper s_k)) (attentive None talk.keeper)) (ap (λ x. count_by (is_to s) x.letters) (h.keeper s_k)) c spared)
     where
       by_fate : IsLeft k st (step st c) ⊎ IsWoken k (IsSent s k c) st (step st c) → IsLeft k st (step st c)
       by_fate (inl left) = left
-      by_fate (inr woken) = by_right (awaits None woken.from talk.keeper (unsome (sym (ap (λ x. x.waits) h.keeper) ∙ woken.waited))) woken.right
+      by_fate (inr woken) = by_right (awaits None woken.from talk.keeper (unsome (sym (ap (λ x. x.waits) (h.keeper s_k)) ∙ woken.waited))) woken.right
         where
           by_right : (talk.keeper ≡ AwaitsLetter) × (woken.from ≡ None) → IsSent s k c woken.from woken.heard ⊎ ((woken.heard ≡ nonexist) × (is_some woken.from ≡ true)) → IsLeft k st (step st c)
           by_right w (inl sent) = absurd (never sent.room sent.text sent.sends)
@@ -220,7 +220,7 @@ module _ (s k a : ℕ) (st : State) (was : Lawful st None) (talk : Talk) (waitin
   -- ---- the whole
 
   goes : (c : Call) (body : SessionBody) (later : Talk) (events : List Event) → talked s a talk events ≡ later → later.session ≡ body → later.store ≡ talk.store → (waits : List (List ℕ)) → Stands s k a (step st c).after later waits
-      → later.lines ++ waits ≡ (talk.lines ++ waiting) ++ [] → later.told ≡ talk.told ++ replied_in s a (step st c).effects → IsHeard talk.client later.client (answers_to s (step st c).effects) → IsHeard talk.keeper later.keeper (answers_to k (step st c).effects)
+      → later.lines ++ waits ≡ (talk.lines ++ waiting) ++ [] → later.told ≡ talk.told ++ replied_in s a (step st c).effects → IsHeard talk.client later.client (answers_to s (step st c).effects) → (eqb s k ≡ false → IsHeard talk.keeper later.keeper (answers_to k (step st c).effects))
       → SessionGoesOn s k a talk waiting (replied_in s a (step st c).effects) body (step st c)
   goes c body later events now its its_store waits stands texts said heard heard_keeper = becomes_as s k a talk body talk.store waiting [] (replied_in s a (step st c).effects) (step st c) events later now its its_store waits stands texts said heard heard_keeper
 
@@ -246,7 +246,7 @@ module _ (s k a : ℕ) (st : State) (was : Lawful st None) (talk : Talk) (waitin
       abbrev Goal : Type 0
       Goal = SessionGoesOn s k a talk waiting (replied_in s a (step st recv).effects) (session_at body at.Recv) (step st recv)
 
-      left : IsLeft k st (step st recv)
+      left : eqb s k ≡ false → IsLeft k st (step st recv)
       left = k_left recv tt (λ room text e. absurd (cc))
 
       said_none : talk.told ≡ talk.told ++ replied_in s a (step st recv).effects
@@ -263,15 +263,16 @@ module _ (s k a : ℕ) (st : State) (was : Lawful st None) (talk : Talk) (waitin
           (now ∙ ap (λ b. record talk { session = session_at body at.Recv; client = cond b AwaitsLetter (Hears nonexist) }) lives) refl refl waiting
           (record {
             client = r.itself_then ∙ ap (λ (v : Sight). record v { waits = Some (block.Receiving (Some a)) }) s_seen;
-            keeper = left.same ∙ h.keeper;
+            keeper = λ s_k. (left s_k).same ∙ h.keeper s_k;
             posted = ap (is_posted AwaitsLetter) mail;
             placed = refl;
             reads = h.reads;
             untimed = untimed_after recv s refl h.untimed;
-            untimed_keeper = untimed_after recv k refl h.untimed_keeper;
+            untimed_keeper = λ s_k. untimed_after recv k refl (h.untimed_keeper s_k);
+            alone = λ same. record { mail = (h.alone same).mail; keeper = (h.alone same).keeper };
             agent = Made row (ap (λ x. x.row) r.agent_then ∙ there) owns lives known_so (Idle refl none (ap (λ x. x.letters) r.agent_then ∙ letters));
           })
-          (sym (append-nil (talk.lines ++ waiting))) said_none (λ z heard. tt) (unheard talk.keeper (answers_to k (step st recv).effects) left.quiet)
+          (sym (append-nil (talk.lines ++ waiting))) said_none (λ z heard. tt) (λ s_k. unheard talk.keeper (answers_to k (step st recv).effects) (left s_k).quiet)
       receives_made row there owns lives (Waiting text owed some letters) =
           let r = (owners_receive st was s a row turn there owns).finds (line_letter a s text false) letters refl in
           goes recv (session_at body at.Recv) (record talk { session = session_at body at.Recv; client = Hears (answer.Letter a text 240); lines = talk.lines ++ text ∷ [] }) (SessionTurn names ∷ Line text ∷ [])
@@ -279,15 +280,16 @@ module _ (s k a : ℕ) (st : State) (was : Lawful st None) (talk : Talk) (waitin
           ∙ line_is s a text (record talk { session = session_at body at.Recv; client = AwaitsLetter }) refl lives) refl refl []
           (record {
             client = r.itself_then ∙ s_seen;
-            keeper = left.same ∙ h.keeper;
+            keeper = λ s_k. (left s_k).same ∙ h.keeper s_k;
             posted = ap (is_posted (Hears (answer.Letter a text 240))) mail;
             placed = refl;
             reads = h.reads;
             untimed = untimed_after recv s refl h.untimed;
-            untimed_keeper = untimed_after recv k refl h.untimed_keeper;
+            untimed_keeper = λ s_k. untimed_after recv k refl (h.untimed_keeper s_k);
+            alone = λ same. record { mail = (h.alone same).mail; keeper = (h.alone same).keeper };
             agent = Made row (ap (λ x. x.row) r.agent_then) owns lives known_so (Owed text refl refl (ap (λ x. x.letters) r.agent_then));
           })
-          (ap (λ w. (talk.lines ++ w) ++ []) (sym some)) said_none (heard_one talk.client (answer.Letter a text 240) (answers_to s (step st recv).effects) r.told) (unheard talk.keeper (answers_to k (step st recv).effects) left.quiet)
+          (ap (λ w. (talk.lines ++ w) ++ []) (sym some)) said_none (heard_one talk.client (answer.Letter a text 240) (answers_to s (step st recv).effects) r.told) (λ s_k. unheard talk.keeper (answers_to k (step st recv).effects) (left s_k).quiet)
 
       receives_by : AgentIs s a st talk waiting → Goal
       receives_by (Unmade below place lives none) = absurd (not_start place)
@@ -298,15 +300,16 @@ module _ (s k a : ℕ) (st : State) (was : Lawful st None) (talk : Talk) (waitin
           (now ∙ ap (λ b. record talk { session = session_at body at.Recv; client = cond b AwaitsLetter (Hears nonexist) }) lives) refl refl waiting
           (record {
             client = r.itself_then ∙ s_seen;
-            keeper = left.same ∙ h.keeper;
+            keeper = λ s_k. (left s_k).same ∙ h.keeper s_k;
             posted = ap (is_posted (Hears nonexist)) mail;
             placed = refl;
             reads = h.reads;
             untimed = untimed_after recv s refl h.untimed;
-            untimed_keeper = untimed_after recv k refl h.untimed_keeper;
+            untimed_keeper = λ s_k. untimed_after recv k refl (h.untimed_keeper s_k);
+            alone = λ same. record { mail = (h.alone same).mail; keeper = (h.alone same).keeper };
             agent = Gone (gone_after recv off below) (below_after recv below) lives known_so;
           })
-          (sym (append-nil (talk.lines ++ waiting))) said_none (heard_one talk.client nonexist (answers_to s (step st recv).effects) r.told) (unheard talk.keeper (answers_to k (step st recv).effects) left.quiet)
+          (sym (append-nil (talk.lines ++ waiting))) said_none (heard_one talk.client nonexist (answers_to s (step st recv).effects) r.told) (λ s_k. unheard talk.keeper (answers_to k (step st recv).effects) (left s_k).quiet)
 
     -- ---- it replies
 
@@ -317,7 +320,7 @@ module _ (s k a : ℕ) (st : State) (was : Lawful st None) (talk : Talk) (waitin
       abbrev GoalReply : Type 0
       GoalReply = SessionGoesOn s k a talk waiting (replied_in s a (step st reply).effects) body (step st reply)
 
-      left_reply : IsLeft k st (step st reply)
+      left_reply : eqb s k ≡ false → IsLeft k st (step st reply)
       left_reply = k_left reply tt (λ room text e. absurd (cc))
 
       replies_made : (row : AgentRow) → agent_of st.agents a ≡ Some row → row.owner ≡ s → talk.agent_lives ≡ true → AgentLetters s a (owes talk.session.place talk.client) waiting (agent_sight st a).letters → GoalReply
@@ -329,16 +332,17 @@ module _ (s k a : ℕ) (st : State) (was : Lawful st None) (talk : Talk) (waitin
           (now ∙ ap (λ b. cond b (record talk { session = body; told = talk.told ++ text ∷ []; client = Hears zero_answer }) (record talk { session = body; client = Hears nonexist })) lives) refl refl waiting
           (record {
             client = r.itself_then ∙ s_seen;
-            keeper = left_reply.same ∙ h.keeper;
+            keeper = λ s_k. (left_reply s_k).same ∙ h.keeper s_k;
             posted = ap (is_posted (Hears zero_answer)) mail;
             placed = refl;
             reads = h.reads;
             untimed = untimed_after reply s refl h.untimed;
-            untimed_keeper = untimed_after reply k refl h.untimed_keeper;
+            untimed_keeper = λ s_k. untimed_after reply k refl (h.untimed_keeper s_k);
+            alone = λ same. record { mail = (h.alone same).mail; keeper = (h.alone same).keeper };
             agent = Made (record row { holding = false }) (ap (λ x. x.row) r.agent_then) owns lives (later_so zero_answer).knows_it (Idle (later_so zero_answer).owes_so none (ap (λ x. x.letters) r.agent_then));
           })
           (sym (append-nil (talk.lines ++ waiting))) (ap (λ xs. talk.told ++ xs) (sym (replied_one text true (ap (list_any is_zero) r.told)))) (heard_one talk.client zero_answer (answers_to s (step st reply).effects) r.told)
-          (unheard talk.keeper (answers_to k (step st reply).effects) left_reply.quiet)
+          (λ s_k. unheard talk.keeper (answers_to k (step st reply).effects) (left_reply s_k).quiet)
 
       replies_by : AgentIs s a st talk waiting → GoalReply
       replies_by (Unmade below place lives none) = absurd (not_start place)
@@ -349,20 +353,21 @@ module _ (s k a : ℕ) (st : State) (was : Lawful st None) (talk : Talk) (waitin
           (now ∙ ap (λ b. cond b (record talk { session = body; told = talk.told ++ text ∷ []; client = Hears zero_answer }) (record talk { session = body; client = Hears nonexist })) lives) refl refl waiting
           (record {
             client = r.itself_then ∙ s_seen;
-            keeper = left_reply.same ∙ h.keeper;
+            keeper = λ s_k. (left_reply s_k).same ∙ h.keeper s_k;
             posted = ap (is_posted (Hears nonexist)) mail;
             placed = refl;
             reads = h.reads;
             untimed = untimed_after reply s refl h.untimed;
-            untimed_keeper = untimed_after reply k refl h.untimed_keeper;
+            untimed_keeper = λ s_k. untimed_after reply k refl (h.untimed_keeper s_k);
+            alone = λ same. record { mail = (h.alone same).mail; keeper = (h.alone same).keeper };
             agent = Gone (gone_after reply off below) (below_after reply below) lives (later_so nonexist).knows_it;
           })
           (sym (append-nil (talk.lines ++ waiting))) (sym (append-nil talk.told) ∙ ap (λ xs. talk.told ++ xs) (sym (replied_one text false (ap (list_any is_zero) r.told)))) (heard_one talk.client nonexist (answers_to s (step st reply).effects) r.told)
-          (unheard talk.keeper (answers_to k (step st reply).effects) left_reply.quiet)
+          (λ s_k. unheard talk.keeper (answers_to k (step st reply).effects) (left_reply s_k).quiet)
 
     -- ---- it sends
 
-    module _ (body : SessionBody) (its : body.agent ≡ a) (text : List ℕ) (owed : owes talk.session.place (Hears x) ≡ true) (now : talked s a talk (SessionTurn names ∷ []) ≡ record talk { session = session_at body at.Send; mail = Sent text; client = AwaitsReply }) where
+    module _ (s_k : eqb s k ≡ false) (body : SessionBody) (its : body.agent ≡ a) (text : List ℕ) (owed : owes talk.session.place (Hears x) ≡ true) (now : talked s a talk (SessionTurn names ∷ []) ≡ record talk { session = session_at body at.Send; mail = Sent text; client = AwaitsReply }) where
       abbrev send : Call
       send = call.Send k 240 text
 
@@ -370,7 +375,7 @@ module _ (s k a : ℕ) (st : State) (was : Lawful st None) (talk : Talk) (waitin
       GoalSend = SessionGoesOn s k a talk waiting (replied_in s a (step st send).effects) (session_at body at.Send) (step st send)
 
       sends : Sends st s k 240 text (step st send)
-      sends = sends_are_letters st was s k turn (ap is_some k_row.known) (ne_eqb k s (λ e. apart_of s k s_k (sym e))) 240 text
+      sends = sends_are_letters st was s k turn (ap is_some (k_row s_k).known) (ne_eqb k s (λ e. apart_of s k s_k (sym e))) 240 text
 
       agent_kept : s ≢ a → agent_sight (step st send).after a ≡ agent_sight st a
       agent_kept other = ap (λ out. agent_sight out.after a) (step_is send) ∙ by_checks (checked st _ _)
@@ -400,7 +405,7 @@ module _ (s k a : ℕ) (st : State) (was : Lawful st None) (talk : Talk) (waitin
       said_send = sym (append-nil talk.told) ∙ ap (λ xs. talk.told ++ xs) (sym (replied_none send refl))
 
       k_takes : (c : Stand) → talk.keeper ≡ c → passes (λ (row : ThreadRow). takes_from s row.block) (thread_of st k) ≡ takes_from s (block_of None c)
-      k_takes c e = ap (passes (λ (row : ThreadRow). takes_from s row.block)) k_row.known ∙ ap (takes_from s) (k_row.waits ∙ ap (block_of None) e)
+      k_takes c e = ap (passes (λ (row : ThreadRow). takes_from s row.block)) (k_row s_k).known ∙ ap (takes_from s) ((k_row s_k).waits ∙ ap (block_of None) e)
 
       sends_by : (c : Stand) → talk.keeper ≡ c → is_reading c ≡ true → GoalSend
       sends_by AwaitsReply e reads = absurd (cc)
@@ -410,44 +415,52 @@ module _ (s k a : ℕ) (st : State) (was : Lawful st None) (talk : Talk) (waitin
           goes send (session_at body at.Send) (record talk { session = session_at body at.Send; mail = Sent text; client = AwaitsReply }) (SessionTurn names ∷ []) now refl refl waiting
           (record {
             client = r.sender_then ∙ ap (λ (v : Sight). sending v (letter_sent s k 240 text)) s_seen ∙ ap (λ m. record { waits = Some block.Sending; marks = mark.Frame ∷ []; letters = mail_letters s k m ++ letter_sent s k 240 text ∷ [] }) mail;
-            keeper = r.receiver_then ∙ h.keeper;
+            keeper = λ apart. r.receiver_then ∙ h.keeper apart;
             posted = refl;
             placed = refl;
             reads = h.reads;
             untimed = untimed_after send s refl h.untimed;
-            untimed_keeper = untimed_after send k refl h.untimed_keeper;
+            untimed_keeper = λ apart. untimed_after send k refl (h.untimed_keeper apart);
+            alone = λ same. differ (sym same ∙ s_k);
             agent = agent_send _ refl refl h.agent;
           })
-          (sym (append-nil (talk.lines ++ waiting))) said_send (λ z heard. tt) (unheard talk.keeper (answers_to k (step st send).effects) r.receiver_told)
+          (sym (append-nil (talk.lines ++ waiting))) said_send (λ z heard. tt) (λ apart. unheard talk.keeper (answers_to k (step st send).effects) r.receiver_told)
       sends_by AwaitsLetter e reads =
           let r = sends.handed (k_takes AwaitsLetter e) in
           goes send (session_at body at.Send) (record talk { session = session_at body at.Send; mail = Received text; client = AwaitsReply; keeper = Hears (answer.Letter s text 240) }) (SessionTurn names ∷ OwnLetter ∷ [])
           (talked_append s a talk (SessionTurn names ∷ []) (OwnLetter ∷ []) ∙ ap (λ t. talked s a t (OwnLetter ∷ [])) now ∙ own_is s a text (record talk { session = session_at body at.Send; mail = Sent text; client = AwaitsReply }) e refl) refl refl waiting
           (record {
             client = r.sender_then ∙ ap (λ (v : Sight). sending v (as_received (letter_sent s k 240 text))) s_seen ∙ ap (λ m. record { waits = Some block.Sending; marks = mark.Frame ∷ []; letters = mail_letters s k m ++ as_received (letter_sent s k 240 text) ∷ [] }) mail;
-            keeper = r.receiver_then ∙ ap going_on h.keeper;
+            keeper = λ apart. r.receiver_then ∙ ap going_on (h.keeper apart);
             posted = refl;
             placed = refl;
             reads = refl;
             untimed = untimed_after send s refl h.untimed;
-            untimed_keeper = untimed_after send k refl h.untimed_keeper;
+            untimed_keeper = λ apart. untimed_after send k refl (h.untimed_keeper apart);
+            alone = λ same. differ (sym same ∙ s_k);
             agent = agent_send _ refl refl h.agent;
           })
-          (sym (append-nil (talk.lines ++ waiting))) said_send (λ z heard. tt) (heard_one talk.keeper (answer.Letter s text 240) (answers_to k (step st send).effects) r.receiver_told)
+          (sym (append-nil (talk.lines ++ waiting))) said_send (λ z heard. tt) (λ apart. heard_one talk.keeper (answer.Letter s text 240) (answers_to k (step st send).effects) r.receiver_told)
 
     -- ---- every call of it that knows its agent
 
     abbrev Goes : Turn SessionBody → Type 0
-    Goes does = (talked s a talk (SessionTurn names ∷ []) ≡ session_calls a (record talk { session = does.1 }) (deed_of does.0)) → goes_on_with does.0 ≡ true → (talk.agent_lives ≡ true → is_short_reply does.0 ≡ true) → names_only k does.0 ≡ true
+    Goes does = (talked s a talk (SessionTurn names ∷ []) ≡ session_calls a (record talk { session = does.1 }) (deed_of does.0)) → goes_on_with does.0 ≡ true → (talk.agent_lives ≡ true → is_short_reply does.0 ≡ true) → sends_well s k does.0 ≡ true
         → SessionGoesOn s k a talk waiting (replied_in s a (step st does.0).effects) does.1 (step st does.0)
+
+    -- who sends has a store, and sends to that
+    sends_there : (to : ℕ) (text : List ℕ) (b : Bool) → eqb s k ≡ b → cond b (sends_nothing (call.Send to 240 text)) (names_only k (call.Send to 240 text)) ≡ true → (eqb s k ≡ false) × (eqb to k ≡ true)
+    sends_there to text true e none = absurd (cc)
+    sends_there to text false e only = (e, only)
 
     goes_so : (does : Turn SessionBody) → SessionDoes a (owes talk.session.place (Hears x)) does → Goes does
     goes_so does (DoesReceive body free is its) = subst Goes (sym is) (λ now on short only. receives_by body its free now h.agent)
     goes_so does (DoesReply text body owed is later_so) = subst Goes (sym is) (λ now on short only. replies_by body text later_so owed short now h.agent)
     goes_so does (DoesSend to text body owed is its) = λ now on short only.
-        (let same : to ≡ k = eqb-true to k (subst (λ (d : Turn SessionBody). names_only k d.0 ≡ true) is only) in
+        (let there = sends_there to text (eqb s k) refl (subst (λ (d : Turn SessionBody). sends_well s k d.0 ≡ true) is only) in
+        let same : to ≡ k = eqb-true to k there.1 in
         let now_is : does ≡ (call.Send k 240 text, session_at body at.Send) = is ∙ ap (λ n. (call.Send n 240 text, session_at body at.Send)) same in
-        subst Goes (sym now_is) (λ now on short only. sends_by body its text owed now talk.keeper refl h.reads) now on short only)
+        subst Goes (sym now_is) (λ now on short only. sends_by there.0 body its text owed now talk.keeper refl h.reads) now on short only)
     goes_so does (DoesStop is) = λ now on short only. differ (sym on ∙ ap goes_on_with is)
 
   -- ---- it asks for an agent
@@ -464,7 +477,7 @@ module _ (s k a : ℕ) (st : State) (was : Lawful st None) (talk : Talk) (waitin
     none_found None h = refl
     none_found (Some y) h = absurd (cc)
 
-    left_ask : IsLeft k st (step st ask)
+    left_ask : eqb s k ≡ false → IsLeft k st (step st ask)
     left_ask = k_left ask tt (λ room text e. absurd (cc))
 
     opens : SessionGoesOn s k a talk waiting (replied_in s a (step st ask).effects) (session_at talk.session at.Agent) (step st ask) ⊎ OpensInVain s talk (step st ask)
@@ -485,18 +498,19 @@ module _ (s k a : ℕ) (st : State) (was : Lawful st None) (talk : Talk) (waitin
             (now ∙ ap (λ b. record talk { session = session_at talk.session at.Agent; client = Hears (cond b (answer.Thread a) (answer.Refused error.NoRoom)) }) lives) refl refl waiting
             (record {
               client = ap (λ out. sight out.after s) (step_is ask ∙ ap (finished s ask) is) ∙ s_seen;
-              keeper = left_ask.same ∙ h.keeper;
+              keeper = λ s_k. (left_ask s_k).same ∙ h.keeper s_k;
               posted = ap (is_posted (Hears (answer.Thread a))) mail;
               placed = refl;
               reads = h.reads;
               untimed = untimed_after ask s refl h.untimed;
-              untimed_keeper = untimed_after ask k refl h.untimed_keeper;
+              untimed_keeper = λ s_k. untimed_after ask k refl (h.untimed_keeper s_k);
+              alone = λ same. record { mail = (h.alone same).mail; keeper = (h.alone same).keeper };
               agent = Made (new_agent st.births e s)
                   (ap (λ out. agent_of out.after.agents a) (step_is ask ∙ ap (finished s ask) is) ∙ find_push_new (is_agent_row a) st.agents (new_agent st.births e s) (eq-eqb st.births a born) (none_found (agent_of st.agents a) absent.1))
                   refl lives (eq-eqb a a refl) (Idle refl none (ap (λ out. filter (is_letter_of a) out.after.letters) (step_is ask ∙ ap (finished s ask) is) ∙ unborn_silent st was a below));
             })
             (sym (append-nil (talk.lines ++ waiting))) (sym (append-nil talk.told) ∙ ap (λ xs. talk.told ++ xs) (sym (replied_none ask refl)))
-            (heard_one talk.client (answer.Thread a) (answers_to s (step st ask).effects) (told_so ∙ ap (λ n. answer.Thread n ∷ []) born)) (unheard talk.keeper (answers_to k (step st ask).effects) left_ask.quiet))
+            (heard_one talk.client (answer.Thread a) (answers_to s (step st ask).effects) (told_so ∙ ap (λ n. answer.Thread n ∷ []) born)) (λ s_k. unheard talk.keeper (answers_to k (step st ask).effects) (left_ask s_k).quiet))
 
 abbrev Coming : (s k a : ℕ) → State → Talk → List (List ℕ) → Turn SessionBody → Type 0
 Coming s k a st talk waiting does = SessionGoesOn s k a talk waiting (replied_in s a (step st does.0).effects) does.1 (step st does.0) ⊎ OpensInVain s talk (step st does.0)
@@ -506,7 +520,7 @@ Opening s k a st talk waiting names does = (talked s a talk (SessionTurn names �
 
 pub sessions_calls_are_events : SessionsCallsAreEvents
 unfolding session_next
-sessions_calls_are_events s k a st was talk waiting h s_k turn x hears names on short only given = by_agent h.agent
+sessions_calls_are_events s k a st was talk waiting h turn x hears names on short only given = by_agent h.agent
   where
     now : talked s a talk (SessionTurn names ∷ []) ≡ session_calls a (record talk { session = (session_by talk.session names x talk.session.place).1 }) (deed_of (session_by talk.session names x talk.session.place).0)
     now = ap (session_turn a names talk) hears
@@ -514,10 +528,10 @@ sessions_calls_are_events s k a st was talk waiting h s_k turn x hears names on 
     knowing : knows a talk.session.agent talk.session.place talk.client ≡ true → Coming s k a st talk waiting (session_by talk.session names x talk.session.place)
     knowing known =
         let known_x = subst (λ c. knows a talk.session.agent talk.session.place c ≡ true) hears known in
-        inl (goes_so s k a st was talk waiting h s_k turn x hears names known_x (session_by talk.session names x talk.session.place) (does_by a talk.session names x talk.session.place known_x) now on short only)
+        inl (goes_so s k a st was talk waiting h turn x hears names known_x (session_by talk.session names x talk.session.place) (does_by a talk.session names x talk.session.place known_x) now on short only)
 
     by_agent : AgentIs s a st talk waiting → Coming s k a st talk waiting (session_by talk.session names x talk.session.place)
     by_agent (Unmade below place lives none) = subst (λ p. Opening s k a st talk waiting names (session_by talk.session names x p)) (sym place)
-        (λ now given. opens s k a st was talk waiting h s_k turn x hears names below place lives none talk.session.event now given) now (given place)
+        (λ now given. opens s k a st was talk waiting h turn x hears names below place lives none talk.session.event now given) now (given place)
     by_agent (Made row there owns lives known letters) = knowing known
     by_agent (Gone off below lives known) = knowing known

@@ -257,7 +257,7 @@ module _ (s k a : ℕ) (st : State) (was : Lawful st None) (talk : Talk) (waitin
   s_row = at_of st s (block_of (Some a) talk.client) (ap (λ x. x.waits) h.client)
 
   k_seen : sight st k ≡ record { waits = Some block.Not; marks = mark.Frame ∷ []; letters = [] }
-  k_seen = h.keeper ∙ ap (λ c. record { waits = Some (block_of None c); marks = mark.Frame ∷ []; letters = [] }) hears
+  k_seen = h.keeper s_k ∙ ap (λ c. record { waits = Some (block_of None c); marks = mark.Frame ∷ []; letters = [] }) hears
 
   attends_s : attends st s ≡ true
   attends_s = attends_seen st s (block_of (Some a) talk.client) (ap (λ x. x.waits) h.client) (attentive (Some a) talk.client)
@@ -282,8 +282,8 @@ module _ (s k a : ℕ) (st : State) (was : Lawful st None) (talk : Talk) (waitin
       → (AgentIs s a (step st c).after talk waiting → AgentIs s a (step st c).after (record talk { store = body; keeper = stand; client = client; mail = mail }) waiting) → IsHeard talk.client client (answers_to s (step st c).effects)
       → (events : List Event) → talked s a talk events ≡ record talk { store = body; keeper = stand; client = client; mail = mail } → StoreGoesOn s k a talk waiting body (step st c)
   goes c body stand heard spared asks low keeps reads kept client mail seen posted placed agent told events now = becomes_as s k a talk talk.session body waiting [] [] (step st c) events (record talk { store = body; keeper = stand; client = client; mail = mail }) now refl refl waiting
-      (record { client = seen; keeper = keeps.seen; posted = posted; placed = placed; reads = reads; untimed = untimed_after c s asks h.untimed; untimed_keeper = untimed_after c k asks h.untimed_keeper; agent = agent (agent_after c spared low h.agent) })
-      (sym (append-nil (talk.lines ++ waiting))) (sym (append-nil talk.told)) told (subst (IsHeard talk.keeper stand) (sym keeps.told) kept)
+      (record { client = seen; keeper = λ apart. keeps.seen; posted = posted; placed = placed; reads = reads; untimed = untimed_after c s asks h.untimed; untimed_keeper = λ apart. untimed_after c k asks (h.untimed_keeper apart); alone = λ same. differ (sym same ∙ s_k); agent = agent (agent_after c spared low h.agent) })
+      (sym (append-nil (talk.lines ++ waiting))) (sym (append-nil talk.told)) told (λ apart. subst (IsHeard talk.keeper stand) (sym keeps.told) kept)
 
   module _ (names : Names) (body : StoreBody) where
     -- ---- it receives

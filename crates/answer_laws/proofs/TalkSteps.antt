@@ -3,7 +3,7 @@ use Rattle.answer_laws.proofs.AgentSights.{destroyed_agents_are_gone, others_lea
 use Rattle.answer_laws.proofs.Others.{others_leave_it}
 use Rattle.answer_laws.specs.Agents.{agent_sight, no_agent, spares_agent}
 use Rattle.answer_laws.specs.Sights.{IsLeft, IsSent, IsWoken, Spares, answers_to, attends, going_on, is_attentive, sight, waits_for, written_to}
-use Rattle.answer_laws.specs.Stands.{AgentIs, AgentIs.Gone, AgentIs.Made, AgentIs.Unmade, AgentLetters, Becomes, IsHeard, Leaves, OthersCallsAreEvents, Stands, block_of, is_placed, is_posted, is_reading, knows, mail_letters, owes}
+use Rattle.answer_laws.specs.Stands.{AgentIs, AgentIs.Gone, AgentIs.Made, AgentIs.Unmade, AgentLetters, Becomes, IsHeard, IsUnwritten, Leaves, OthersCallsAreEvents, Stands, block_of, is_placed, is_posted, is_reading, knows, mail_letters, owes}
 use Rattle.answer_laws.specs.Talks.{Event, Event.AgentEnds, Event.OtherLetter, Mail, Mail.Nothing, Mail.Received, Mail.Sent, Stand, Stand.AwaitsLetter, Stand.AwaitsReply, Stand.Hears, Stand.IsOver, Talk, line_refused, talk_on, talked}
 use Rattle.line_server.specs.declared.session.SessionPlace.{SessionPlace}
 use Rattle.line_server.specs.declared.session.SessionPlace.TheVariants as at
@@ -154,9 +154,10 @@ pub record KeeperTo (s k a : ℕ) (talk : Talk) (out : Outcome) : Type 0 where
   pub events : List Event
   pub keeper : Stand
   pub is : talked s a talk events ≡ record talk { keeper = keeper }
-  pub seen : sight out.after k ≡ record { waits = Some (block_of None keeper); marks = mark.Frame ∷ []; letters = [] }
+  pub seen : eqb s k ≡ false → sight out.after k ≡ record { waits = Some (block_of None keeper); marks = mark.Frame ∷ []; letters = [] }
   pub reads : is_reading keeper ≡ true
-  pub heard : IsHeard talk.keeper keeper (answers_to k out.effects)
+  pub heard : eqb s k ≡ false → IsHeard talk.keeper keeper (answers_to k out.effects)
+  pub alone : eqb s k ≡ true → IsUnwritten (record talk { keeper = keeper })
 
 -- the session and its agent stand so then, and nothing else changes
 pub record ClientTo (s k a : ℕ) (talk : Talk) (waiting : List (List ℕ)) (out : Outcome) : Type 0 where
@@ -176,7 +177,7 @@ agent_as {s} {a} {st} {one} {two} {waiting} e f g (Made row there owns lives kno
     (subst (λ b. AgentLetters s a b waiting (agent_sight st a).letters) (λ i. owes (sym e i).place (sym f i)) letters)
 agent_as {s} {a} {st} {one} {two} {waiting} e f g (Gone off low lives known) = Gone off low (g ∙ lives) ((λ i. knows a (e i).agent (e i).place (f i)) ∙ known)
 
-pub becomes : (s k a : ℕ) (talk : Talk) (waiting : List (List ℕ)) (out : Outcome) → timers_of out.after.timers s ≡ 0 → timers_of out.after.timers k ≡ 0 → KeeperTo s k a talk out → ClientTo s k a talk waiting out → Becomes s k a talk talk.session talk.store waiting [] [] out
+pub becomes : (s k a : ℕ) (talk : Talk) (waiting : List (List ℕ)) (out : Outcome) → timers_of out.after.timers s ≡ 0 → (eqb s k ≡ false → timers_of out.after.timers k ≡ 0) → KeeperTo s k a talk out → ClientTo s k a talk waiting out → Becomes s k a talk talk.session talk.store waiting [] [] out
 becomes s k a talk waiting out timers timers_k one two = record {
   events = one.events ++ two.events;
   waits = waiting;
@@ -190,12 +191,13 @@ becomes s k a talk waiting out timers timers_k one two = record {
     reads = one.reads;
     untimed = timers;
     untimed_keeper = timers_k;
+    alone = λ same. record { mail = (one.alone same).mail; keeper = (one.alone same).keeper };
     agent = agent_as refl refl refl two.agent;
   });
   texts = ap (λ (x : Talk). x.lines ++ waiting) now ∙ sym (append-nil (talk.lines ++ waiting));
   said = ap (λ (x : Talk). x.told) now ∙ sym (append-nil talk.told);
   heard = subst (λ (x : Talk). IsHeard talk.client x.client (answers_to s out.effects)) (sym now) two.heard;
-  heard_keeper = subst (λ (x : Talk). IsHeard talk.keeper x.keeper (answers_to k out.effects)) (sym now) one.heard;
+  heard_keeper = λ s_k. subst (λ (x : Talk). IsHeard talk.keeper x.keeper (answers_to k out.effects)) (sym now) (one.heard s_k);
 }
   where
     now : talked s a talk (one.events ++ two.events) ≡ record talk { keeper = one.keeper; client = two.client; agent_lives = two.lives }
@@ -214,27 +216,33 @@ heard_one before x answers one = subst (IsHeard before (Hears x)) (sym one) (λ 
 pub other_is : (s a x : ℕ) (text : List ℕ) (room : ℕ) (talk : Talk) → talk.keeper ≡ AwaitsLetter → x ≢ s → talked s a talk (OtherLetter x text room ∷ []) ≡ record talk { keeper = Hears (answer.Letter x text room) }
 other_is s a x text room talk waits other = rw (waits, ne_eqb x s other) refl
 
--- the store is left
-pub keeper_left : (s k a : ℕ) (st : State) (talk : Talk) (waiting : List (List ℕ)) (out : Outcome) → Stands s k a st talk waiting → IsLeft k st out → KeeperTo s k a talk out
+-- the store is left, if there is one
+pub keeper_left : (s k a : ℕ) (st : State) (talk : Talk) (waiting : List (List ℕ)) (out : Outcome) → Stands s k a st talk waiting → (eqb s k ≡ false → IsLeft k st out) → KeeperTo s k a talk out
 keeper_left s k a st talk waiting out was left = record {
   events = [];
   keeper = talk.keeper;
   is = refl;
-  seen = left.same ∙ was.keeper;
+  seen = λ s_k. (left s_k).same ∙ was.keeper s_k;
   reads = was.reads;
-  heard = unheard talk.keeper (answers_to k out.effects) left.quiet;
+  heard = λ s_k. unheard talk.keeper (answers_to k out.effects) (left s_k).quiet;
+  alone = was.alone;
 }
 
+-- where there is none
+pub none_left : (s k : ℕ) (st : State) (out : Outcome) → eqb s k ≡ true → eqb s k ≡ false → IsLeft k st out
+none_left s k st out same s_k = differ (sym same ∙ s_k)
+
 -- or handed a letter of x
-pub keeper_handed : (s k a : ℕ) (st : State) (talk : Talk) (waiting : List (List ℕ)) (out : Outcome) → Stands s k a st talk waiting → (x : ℕ) (text : List ℕ) (room : ℕ) → x ≢ s → talk.keeper ≡ AwaitsLetter
+pub keeper_handed : (s k a : ℕ) (st : State) (talk : Talk) (waiting : List (List ℕ)) (out : Outcome) → Stands s k a st talk waiting → eqb s k ≡ false → (x : ℕ) (text : List ℕ) (room : ℕ) → x ≢ s → talk.keeper ≡ AwaitsLetter
     → sight out.after k ≡ going_on (sight st k) → answers_to k out.effects ≡ answer.Letter x text room ∷ [] → KeeperTo s k a talk out
-keeper_handed s k a st talk waiting out was x text room other waits goes told = record {
+keeper_handed s k a st talk waiting out was s_k x text room other waits goes told = record {
   events = OtherLetter x text room ∷ [];
   keeper = Hears (answer.Letter x text room);
   is = other_is s a x text room talk waits other;
-  seen = goes ∙ ap going_on was.keeper;
+  seen = λ apart. goes ∙ ap going_on (was.keeper apart);
   reads = refl;
-  heard = heard_one talk.keeper (answer.Letter x text room) (answers_to k out.effects) told;
+  heard = λ apart. heard_one talk.keeper (answer.Letter x text room) (answers_to k out.effects) told;
+  alone = λ same. differ (sym same ∙ s_k);
 }
 
 -- ---- the session and its agent
@@ -341,7 +349,7 @@ unsome {X} {x} {y} e = cc e
 -- ---- a call of another
 
 module _ (s k a : ℕ) (st : State) (was : Lawful st None) (talk : Talk) (waiting : List (List ℕ)) (h : Stands s k a st talk waiting) (t : ℕ) (turn : choice st ≡ Some t)
-    (t_s : eqb t s ≡ false) (t_k : eqb t k ≡ false) (s_k : eqb s k ≡ false) (c : Call) (low : talk.session.place ≡ at.Start → (step st c).after.births ≤ a) where
+    (t_s : eqb t s ≡ false) (t_k : eqb t k ≡ false) (c : Call) (low : talk.session.place ≡ at.Start → (step st c).after.births ≤ a) where
   abbrev out : Outcome
   out = step st c
 
@@ -358,23 +366,27 @@ module _ (s k a : ℕ) (st : State) (was : Lawful st None) (talk : Talk) (waitin
   attends_of : (u : ℕ) (from : Option ℕ) (stand : Stand) → (sight st u).waits ≡ Some (block_of from stand) → attends st u ≡ true
   attends_of u from stand seen = attends_seen st u (block_of from stand) seen (attentive from stand)
 
-  module _ (spared : Spares st s c) (spared_k : Spares st k c) where
+  module _ (spared : Spares st s c) (spared_k : eqb s k ≡ false → Spares st k c) where
     s_fate : IsLeft s st out ⊎ IsWoken s (IsSent t s c) st out
     s_fate = others_leave_it st was t s turn t_s (attends_of s (Some a) talk.client (ap (λ x. x.waits) h.client)) (ap (λ x. count_by (is_to t) x.letters) h.client ∙ mail_off s k t (apart_of t k t_k) talk.mail) c spared
 
-    k_fate : IsLeft k st out ⊎ IsWoken k (IsSent t k c) st out
-    k_fate = others_leave_it st was t k turn t_k (attends_of k None talk.keeper (ap (λ x. x.waits) h.keeper)) (ap (λ x. count_by (is_to t) x.letters) h.keeper) c spared_k
+    k_fate : eqb s k ≡ false → IsLeft k st out ⊎ IsWoken k (IsSent t k c) st out
+    k_fate s_k = others_leave_it st was t k turn t_k (attends_of k None talk.keeper (ap (λ x. x.waits) (h.keeper s_k))) (ap (λ x. count_by (is_to t) x.letters) (h.keeper s_k)) c (spared_k s_k)
 
     keeper_to : KeeperTo s k a talk out
-    keeper_to = by_fate k_fate
+    keeper_to = by_store (eqb s k) refl
       where
-        by_fate : IsLeft k st out ⊎ IsWoken k (IsSent t k c) st out → KeeperTo s k a talk out
-        by_fate (inl left) = keeper_left s k a st talk waiting out h left
-        by_fate (inr woken) = by_right (awaits None woken.from talk.keeper (unsome (sym (ap (λ x. x.waits) h.keeper) ∙ woken.waited))) woken.right
+        by_fate : eqb s k ≡ false → IsLeft k st out ⊎ IsWoken k (IsSent t k c) st out → KeeperTo s k a talk out
+        by_fate s_k (inl left) = keeper_left s k a st talk waiting out h (λ apart. left)
+        by_fate s_k (inr woken) = by_right (awaits None woken.from talk.keeper (unsome (sym (ap (λ x. x.waits) (h.keeper s_k)) ∙ woken.waited))) woken.right
           where
             by_right : (talk.keeper ≡ AwaitsLetter) × (woken.from ≡ None) → IsSent t k c woken.from woken.heard ⊎ ((woken.heard ≡ nonexist) × (is_some woken.from ≡ true)) → KeeperTo s k a talk out
-            by_right w (inl sent) = keeper_handed s k a st talk waiting out h t sent.text sent.room (apart_of t s t_s) w.0 woken.goes_on (woken.told ∙ ap (λ x. x ∷ []) sent.letter)
+            by_right w (inl sent) = keeper_handed s k a st talk waiting out h s_k t sent.text sent.room (apart_of t s t_s) w.0 woken.goes_on (woken.told ∙ ap (λ x. x ∷ []) sent.letter)
             by_right w (inr none) = absurd (let bad : false ≡ true = sym (ap is_some w.1) ∙ none.1 in cc)
+
+        by_store : (b : Bool) → eqb s k ≡ b → KeeperTo s k a talk out
+        by_store true same = keeper_left s k a st talk waiting out h (none_left s k st out same)
+        by_store false s_k = by_fate s_k (k_fate s_k)
 
     -- whoever isn't there and was born stays away
     away_after : is_thread st a ≡ false → a < st.births → agent_sight out.after a ≡ no_agent → is_id out.after a ≡ false
@@ -471,7 +483,7 @@ module _ (s k a : ℕ) (st : State) (was : Lawful st None) (talk : Talk) (waitin
       both = by_fate s_fate
         where
           done : ClientTo s k a talk waiting out → Becomes s k a talk talk.session talk.store waiting [] [] out
-          done to = becomes s k a talk waiting out (timers_after s t_s h.untimed) (timers_after k t_k h.untimed_keeper) keeper_to to
+          done to = becomes s k a talk waiting out (timers_after s t_s h.untimed) (λ s_k. timers_after k t_k (h.untimed_keeper s_k)) keeper_to to
 
           by_to : ClientTo s k a talk waiting out ⊎ Leaves s talk out → Becomes s k a talk talk.session talk.store waiting [] [] out ⊎ Leaves s talk out
           by_to (inl to) = inl (done to)
@@ -482,12 +494,12 @@ module _ (s k a : ℕ) (st : State) (was : Lawful st None) (talk : Talk) (waitin
           by_fate (inr woken) = by_to (woken_to woken)
 
 pub others_calls_are_events : OthersCallsAreEvents
-others_calls_are_events s k a st was talk waiting h t turn t_s t_k s_k c spared low = by_end (ends_of c)
+others_calls_are_events s k a st was talk waiting h t turn t_s t_k c spared low = by_end (ends_of c)
   where
     by_end : Ends c → Becomes s k a talk talk.session talk.store waiting [] [] (step st c) ⊎ Leaves s talk (step st c)
-    by_end (Spared fine free) = both s k a st was talk waiting h t turn t_s t_k s_k c low (fine st s) (fine st k)
+    by_end (Spared fine free) = both s k a st was talk waiting h t turn t_s t_k c low (fine st s) (λ s_k. fine st k)
         (λ row there owns. inl (others_leave_agents st was t a row turn there (ap (eqb t) owns ∙ t_s) c (free a row.owner)))
-    by_end (Destroys v e) = both s k a st was talk waiting h t turn t_s t_k s_k c low (subst (Spares st s) (sym e) (off.0, written)) (subst (Spares st k) (sym e) (off.1, ap (λ x. count_by (is_to v) x.letters) h.keeper)) fate
+    by_end (Destroys v e) = both s k a st was talk waiting h t turn t_s t_k c low (subst (Spares st s) (sym e) (off.0, written)) (λ s_k. subst (Spares st k) (sym e) (off.1, ap (λ x. count_by (is_to v) x.letters) (h.keeper s_k))) fate
       where
         off : (eqb v s ≡ false) × (eqb v k ≡ false)
         off = parts_of (eqb v s) (eqb v k) (subst (λ c. spares_agent s k c ≡ true) e spared)

@@ -2,7 +2,7 @@
 use Rattle.answer_laws.proofs.AgentTexts.{At, at_of, deliveries_pass_others_by, deliveries_reach_agents, found_in, left_deliver}
 use Rattle.answer_laws.proofs.Others.{attends_of, deliver_but}
 use Rattle.answer_laws.proofs.Sights.{Turn, Turn.Left, Turn.Woken}
-use Rattle.answer_laws.proofs.TalkSteps.{IsMade, KeeperTo, attends_seen, attentive, awaits, becomes, either_of, heard_one, keeper_handed, keeper_left, knows_on, neither, posted_on, talked_append, unborn_absent, unheard, unsome}
+use Rattle.answer_laws.proofs.TalkSteps.{IsMade, KeeperTo, attends_seen, attentive, awaits, becomes, either_of, heard_one, keeper_handed, keeper_left, knows_on, none_left, neither, posted_on, talked_append, unborn_absent, unheard, unsome}
 use Rattle.answer_laws.specs.Agents.{IsHandedOn, IsReached, Reaches, agent_sight, deliveries_to, is_busy}
 use Rattle.answer_laws.specs.Sights.{IsLeft, answers_to, going_on, sight}
 use Rattle.answer_laws.specs.Stands.{AgentIs, AgentIs.Gone, AgentIs.Made, AgentIs.Unmade, AgentLetters, AgentLetters.Idle, AgentLetters.Owed, AgentLetters.Waiting, Becomes, DeliveriesAreEvents, IsHeard, Stands, block_of, is_placed, is_posted, knows, line_letter, owes}
@@ -67,7 +67,7 @@ unborn_silent st was s low = none_kept (is_letter_of s) st.letters (omega (
 
 -- events that lead to a talk in which the pod stands
 abbrev pub becomes_as : (s k a : ℕ) (talk : Talk) (session : SessionBody) (store : StoreBody) (waiting delivered replies : List (List ℕ)) (out : Outcome) (events : List Event) (later : Talk) → talked s a talk events ≡ later → later.session ≡ session → later.store ≡ store → (waits : List (List ℕ)) → Stands s k a out.after later waits
-    → later.lines ++ waits ≡ (talk.lines ++ waiting) ++ delivered → later.told ≡ talk.told ++ replies → IsHeard talk.client later.client (answers_to s out.effects) → IsHeard talk.keeper later.keeper (answers_to k out.effects)
+    → later.lines ++ waits ≡ (talk.lines ++ waiting) ++ delivered → later.told ≡ talk.told ++ replies → IsHeard talk.client later.client (answers_to s out.effects) → (eqb s k ≡ false → IsHeard talk.keeper later.keeper (answers_to k out.effects))
     → Becomes s k a talk session store waiting delivered replies out
 becomes_as s k a talk session store waiting delivered replies out events later now its_session its_store waits stands texts said heard heard_keeper = record {
   events = events;
@@ -78,7 +78,7 @@ becomes_as s k a talk session store waiting delivered replies out events later n
   texts = ap (λ (x : Talk). x.lines ++ waits) now ∙ texts;
   said = ap (λ (x : Talk). x.told) now ∙ said;
   heard = subst (λ (x : Talk). IsHeard talk.client x.client (answers_to s out.effects)) (sym now) heard;
-  heard_keeper = subst (λ (x : Talk). IsHeard talk.keeper x.keeper (answers_to k out.effects)) (sym now) heard_keeper;
+  heard_keeper = λ s_k. subst (λ (x : Talk). IsHeard talk.keeper x.keeper (answers_to k out.effects)) (sym now) (heard_keeper s_k);
 }
 
 pub line_is : (s a : ℕ) (text : List ℕ) (talk : Talk) → talk.client ≡ AwaitsLetter → talk.agent_lives ≡ true → talked s a talk (Line text ∷ []) ≡ record talk { client = Hears (answer.Letter a text 240); lines = talk.lines ++ text ∷ [] }
@@ -130,7 +130,7 @@ only_a a AwaitsLetter n other = ne_eqb a n (λ e. other (sym e))
 only_a a AwaitsReply n other = refl
 only_a a IsOver n other = refl
 
-module _ (s k a : ℕ) (st : State) (was : Lawful st None) (talk : Talk) (waiting : List (List ℕ)) (h : Stands s k a st talk waiting) (s_k : eqb s k ≡ false) (e : ℕ) (text : List ℕ) (arms : armed st e ≡ true) where
+module _ (s k a : ℕ) (st : State) (was : Lawful st None) (talk : Talk) (waiting : List (List ℕ)) (h : Stands s k a st talk waiting) (e : ℕ) (text : List ℕ) (arms : armed st e ≡ true) where
   abbrev out : Outcome
   out = deliver st e text
 
@@ -144,16 +144,23 @@ module _ (s k a : ℕ) (st : State) (was : Lawful st None) (talk : Talk) (waitin
   timers_after u none = omega (arith, none, (no_timer_comes_unasked st (is_timer_of u)).delivered e text)
 
   keeper_to : KeeperTo s k a talk out
-  keeper_to = by_turn (deliver_but k s (FromAgent s text) st was.nine (attends_of k (FromAgent s text) st (attends_seen st k (block_of None talk.keeper) (ap (λ x. x.waits) h.keeper) (attentive None talk.keeper)))
-      (no_rows st None was.nine s s_row.row s_row.known) h.untimed_keeper e text (λ agent away from takes. record { agent = agent; away = away; letter = refl }))
+  keeper_to = by_store (eqb s k) refl
     where
-      by_turn : Turn k (FromAgent s text) st out → KeeperTo s k a talk out
-      by_turn (Left left) = keeper_left s k a st talk waiting out h left
-      by_turn (Woken woken) = by_right (awaits None woken.from talk.keeper (unsome (sym (ap (λ x. x.waits) h.keeper) ∙ woken.waited))) woken.right
+      turn_k : eqb s k ≡ false → Turn k (FromAgent s text) st out
+      turn_k s_k = deliver_but k s (FromAgent s text) st was.nine (attends_of k (FromAgent s text) st (attends_seen st k (block_of None talk.keeper) (ap (λ x. x.waits) (h.keeper s_k)) (attentive None talk.keeper)))
+          (no_rows st None was.nine s s_row.row s_row.known) (h.untimed_keeper s_k) e text (λ agent away from takes. record { agent = agent; away = away; letter = refl })
+
+      by_turn : eqb s k ≡ false → Turn k (FromAgent s text) st out → KeeperTo s k a talk out
+      by_turn s_k (Left left) = keeper_left s k a st talk waiting out h (λ apart. left)
+      by_turn s_k (Woken woken) = by_right (awaits None woken.from talk.keeper (unsome (sym (ap (λ x. x.waits) (h.keeper s_k)) ∙ woken.waited))) woken.right
         where
           by_right : (talk.keeper ≡ AwaitsLetter) × (woken.from ≡ None) → FromAgent s text woken.from woken.heard ⊎ ((woken.heard ≡ nonexist) × (is_some woken.from ≡ true)) → KeeperTo s k a talk out
-          by_right w (inl sent) = keeper_handed s k a st talk waiting out h sent.agent text 240 sent.away w.0 woken.goes_on (woken.told ∙ ap (λ x. x ∷ []) sent.letter)
+          by_right w (inl sent) = keeper_handed s k a st talk waiting out h s_k sent.agent text 240 sent.away w.0 woken.goes_on (woken.told ∙ ap (λ x. x ∷ []) sent.letter)
           by_right w (inr none) = differ (sym none.1 ∙ ap is_some w.1)
+
+      by_store : (b : Bool) → eqb s k ≡ b → KeeperTo s k a talk out
+      by_store true same = keeper_left s k a st talk waiting out h (none_left s k st out same)
+      by_store false s_k = by_turn s_k (turn_k s_k)
 
   -- ---- it passes by
 
@@ -170,7 +177,7 @@ module _ (s k a : ℕ) (st : State) (was : Lawful st None) (talk : Talk) (waitin
       let by = deliveries_pass_others_by st was a e text off in
       let left = left_deliver s (block_of (Some a) talk.client) (attentive (Some a) talk.client) a (only_a a talk.client) st was s_waits h.untimed e text off in
       subst (λ n. Becomes s k a talk talk.session talk.store waiting (replicate n text) [] out) (sym by.none)
-      (becomes s k a talk waiting out (timers_after s h.untimed) (timers_after k h.untimed_keeper) keeper_to (record {
+      (becomes s k a talk waiting out (timers_after s h.untimed) (λ s_k. timers_after k (h.untimed_keeper s_k)) keeper_to (record {
         events = [];
         client = talk.client;
         lives = talk.agent_lives;
@@ -258,7 +265,8 @@ module _ (s k a : ℕ) (st : State) (was : Lawful st None) (talk : Talk) (waitin
           placed = refl;
           reads = keeper_to.reads;
           untimed = timers_after s h.untimed;
-          untimed_keeper = timers_after k h.untimed_keeper;
+          untimed_keeper = λ s_k. timers_after k (h.untimed_keeper s_k);
+          alone = λ same. record { mail = (keeper_to.alone same).mail; keeper = (keeper_to.alone same).keeper };
           agent = Made (record m.row { holding = true }) (ap (λ x. x.row) both.0.seen) m.owns m.lives
               (knows_on a talk.session.agent talk.session.place (answer.Letter a text 240) (subst (λ c. knows a talk.session.agent talk.session.place c ≡ true) waits m.known))
               (Owed text (ap (λ p. owes p (Hears (answer.Letter a text 240))) place) refl (lettered true both.0));
@@ -282,7 +290,8 @@ module _ (s k a : ℕ) (st : State) (was : Lawful st None) (talk : Talk) (waitin
           placed = h.placed;
           reads = keeper_to.reads;
           untimed = timers_after s h.untimed;
-          untimed_keeper = timers_after k h.untimed_keeper;
+          untimed_keeper = λ s_k. timers_after k (h.untimed_keeper s_k);
+          alone = λ same. record { mail = (keeper_to.alone same).mail; keeper = (keeper_to.alone same).keeper };
           agent = Made (record m.row { holding = true }) (ap (λ x. x.row) both.0.seen) m.owns m.lives m.known (Waiting text owed_not refl (lettered false both.0));
         })
         (λ i. (sym (append-nil talk.lines) ∙ ap (λ w. talk.lines ++ w) (sym none_waits)) i ++ text ∷ [])
@@ -313,4 +322,4 @@ module _ (s k a : ℕ) (st : State) (was : Lawful st None) (talk : Talk) (waitin
           by_event false its = passed (ap (passes (is_for e)) is ∙ its)
 
 pub deliveries_are_events : DeliveriesAreEvents
-deliveries_are_events s k a st was talk waiting h s_k e text arms = delivered s k a st was talk waiting h s_k e text arms
+deliveries_are_events s k a st was talk waiting h e text arms = delivered s k a st was talk waiting h e text arms

@@ -100,7 +100,7 @@ in_whole_sessions B setting server least most s k event place first moves birth 
         (moves_silent setting server s k s_k moves one was_one can_moves low_before (moves_silent setting server s k s_k first start was can_first_part (omega (arith, low_before, (gone_fades setting s moves one).births)) (λ a. refl))) in
         let stood = Starting lives_s (session_opening event place) zero_answer alone.body alone.answer begins_s.row alone.row
         (λ a low away. subst (λ xs. TellsAt s k a after.live.pod.state (session_opening event place) zero_answer alone.body alone.answer xs (replied_to s a (steps_of after.steps))) (sym (untold a low away))
-        (subst (λ xs. TellsAt s k a after.live.pod.state (session_opening event place) zero_answer alone.body alone.answer [] xs) (sym (silent a)) (meet s k event place a after.live.pod.state was_after begins_s.thread alone.body alone.answer alone.alone low)))
+        (subst (λ xs. TellsAt s k a after.live.pod.state (session_opening event place) zero_answer alone.body alone.answer [] xs) (sym (silent a)) (meet s k event place a s_k after.live.pod.state was_after begins_s.thread alone.body alone.answer alone.alone low)))
         refl silent in
         let end = gone_on setting later after in
         phase_first s k end.live.pod.state (S_of setting server s k s_k end.live.rows) (K_of setting server s k s_k end.live.rows) (λ b. delivered_to b (steps_of end.steps)) (λ b. replied_to s b (steps_of end.steps))

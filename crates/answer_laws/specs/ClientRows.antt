@@ -1,5 +1,5 @@
 -- Steps of two sessions, worked out by hand. The store is thread 1, the client's session 2, and its agent 4.
-use Rattle.answer_laws.specs.Births.{begins_in, is_idle_till}
+use Rattle.answer_laws.specs.Births.{begins_in, is_unsent_till}
 use Rattle.answer_laws.specs.Clients.{Step, all_sends_to, delivered_to, replied_to}
 use Rattle.lwp_types.specs.Names.{null_id}
 use Rattle.lwp_types.specs.Unblock.{nonexist, zero_answer}
@@ -71,6 +71,14 @@ two_created = called (effect.Called 0 (call.Create 5 2 plain) ∷ effect.Answere
 abbrev pub Begin : List Made → ℕ → ℕ → Type 0
 Begin steps one two = (begins_in 1 steps ≡ Some one) × (begins_in 2 steps ≡ Some two) × (begins_in 0 steps ≡ None) × (begins_in 3 steps ≡ None)
 
--- thread 1 has made no call when thread 1 is born, nor has thread 3 when 2 is; but 1 has, and 0, which creates it
+-- thread 0 creates thread 1, which sends to it, and then thread 2
+abbrev pub sent_between : List Made
+sent_between = called (effect.Called 0 (call.Create 5 2 plain) ∷ effect.Answered 0 (answer.Thread 1) ∷ [])
+    ∷ called (effect.Called 1 (call.Agent 1) ∷ effect.Answered 1 (answer.Thread 4) ∷ [])
+    ∷ called (effect.Called 1 (call.Send 0 240 (codes "hello")) ∷ [])
+    ∷ called (effect.Called 0 (call.Create 6 1 plain) ∷ effect.Answered 0 (answer.Thread 2) ∷ [])
+    ∷ []
+
+-- thread 1 has sent something when thread 2 is born, and nothing when thread 4 is, though it calls; thread 0 has sent nothing, which creates them
 abbrev pub Wait : List Made → Type 0
-Wait steps = (is_idle_till 1 1 steps ≡ true) × (is_idle_till 2 3 steps ≡ true) × (is_idle_till 2 1 steps ≡ false) × (is_idle_till 1 0 steps ≡ false)
+Wait steps = (is_unsent_till 2 1 steps ≡ false) × (is_unsent_till 4 1 steps ≡ true) × (is_unsent_till 2 0 steps ≡ true) × (is_unsent_till 1 1 steps ≡ true)

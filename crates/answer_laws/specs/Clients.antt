@@ -7,7 +7,7 @@ use Rattle.pod_events.specs.Rites.{report_text}
 use Rattle.pod_laws.specs.Waiters.{is_zero, told}
 use Rattle.std.specs.List.{flat_map, list_all, list_any}
 use Rattle.std.specs.Option.{option_to_list}
-use Rattle.std.specs.Prelude.{Bool, List, Option, [], if◌then◌else◌, not, true, ℕ, ◌&&◌, ◌==◌, ◌||◌, ◌∷◌}
+use Rattle.std.specs.Prelude.{Bool, List, Option, [], false, if◌then◌else◌, not, true, ℕ, ◌&&◌, ◌==◌, ◌||◌, ◌∷◌}
 use Rattle.lwp_types.specs.declared.call.Call.TheVariants as call
 use Rattle.lwp_types.specs.declared.call.Effect.TheVariants as effect
 
@@ -52,7 +52,16 @@ abbrev pub names_only : ℕ → Call → Bool
 names_only k (call.Send b room text) = b == k
 names_only k _ = true
 
--- so it is, if s makes it
+-- it sends to nobody at all
+abbrev pub sends_nothing : Call → Bool
+sends_nothing (call.Send b room text) = false
+sends_nothing _ = true
+
+-- a session s sends to nobody but its store k; where k is s it has none, and sends nothing
+abbrev pub sends_well : ℕ → ℕ → Call → Bool
+sends_well s k c = if s == k then sends_nothing c else names_only k c
+
+-- it sends to nobody but k, if s makes it
 abbrev pub sends_only : ℕ → ℕ → Effect → Bool
 sends_only s k (effect.Called t c) = not (t == s) || names_only k c
 sends_only s k _ = true

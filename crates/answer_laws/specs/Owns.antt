@@ -1,5 +1,5 @@
 -- The calls of the two themselves, in a pod with its own events: with the trap before a call, and the report behind it.
-use Rattle.answer_laws.specs.Clients.{names_only, replied_in}
+use Rattle.answer_laws.specs.Clients.{replied_in, sends_well}
 use Rattle.answer_laws.specs.Events.{machine_of}
 use Rattle.answer_laws.specs.Stands.{Becomes, Leaves, OpensInVain, Stands, is_short_reply, is_short_to, texts_in}
 use Rattle.answer_laws.specs.Talks.{Mail.Received, Stand.Hears, Talk}
@@ -27,7 +27,7 @@ OthersReplyNothing = (s a : ℕ) (es : EventState) → ((t : ℕ) → choice es.
 -- A call of another, if the two are there behind it: it is a letter to the store, or the end of the agent, or nothing, and the report.
 abbrev pub LivingCallsAreEvents : Type 0
 LivingCallsAreEvents = (s k a : ℕ) (es : EventState) → Lawful es.state None → (talk : Talk) (waiting : List (List ℕ)) → Stands s k a es.state talk waiting
-    → (t : ℕ) → choice es.state ≡ Some t → (t == s) ≡ false → (t == k) ≡ false → (s == k) ≡ false → (c : Call) → is_thread (event_step es c).after.state s ≡ true → is_thread (event_step es c).after.state k ≡ true
+    → (t : ℕ) → choice es.state ≡ Some t → (t == s) ≡ false → (t == k) ≡ false → (c : Call) → is_thread (event_step es c).after.state s ≡ true → is_thread (event_step es c).after.state k ≡ true
     → (talk.session.place ≡ at.Start → (event_step es c).after.state.births ≤ a)
     → Becomes s k a talk talk.session talk.store waiting (texts_in a None (event_step es c).effects) [] (machine_of (event_step es c)) ⊎ Leaves s talk (machine_of (event_step es c))
 
@@ -45,9 +45,10 @@ pub data SessionComes (s k a : ℕ) (talk : Talk) (waiting : List (List ℕ)) (b
   IsTurnedAway : OpensInVain s talk out → replied_in s a out.effects ≡ [] → SessionComes s k a talk waiting body out
   Dies : IsGone out.after s → replied_in s a out.effects ≡ [] → SessionComes s k a talk waiting body out
 
--- The session's call, where its reply to its agent is short and it sends to nobody but the store, unless a trap is raised before it.
+-- The session's call, where its reply to its agent is short and it sends to nobody but the store, and to nobody where there is none, unless a
+-- trap is raised before it.
 abbrev pub PodsSessionsCallsAreEvents : Type 0
-PodsSessionsCallsAreEvents = (s k a : ℕ) (es : EventState) → Lawful es.state None → (talk : Talk) (waiting : List (List ℕ)) → Stands s k a es.state talk waiting → (s == k) ≡ false
-    → choice es.state ≡ Some s → (x : Answer) → talk.client ≡ Hears x → (names : Names) → (talk.agent_lives ≡ true → is_short_reply (session_next talk.session names x).0 ≡ true) → (es.pending ≡ None → names_only k (session_next talk.session names x).0 ≡ true)
+PodsSessionsCallsAreEvents = (s k a : ℕ) (es : EventState) → Lawful es.state None → (talk : Talk) (waiting : List (List ℕ)) → Stands s k a es.state talk waiting
+    → choice es.state ≡ Some s → (x : Answer) → talk.client ≡ Hears x → (names : Names) → (talk.agent_lives ≡ true → is_short_reply (session_next talk.session names x).0 ≡ true) → (es.pending ≡ None → sends_well s k (session_next talk.session names x).0 ≡ true)
     → (talk.session.place ≡ at.Start → (b : ℕ) → answers_to s (step es.state (session_next talk.session names x).0).effects ≡ answer.Thread b ∷ [] → b ≡ a)
     → SessionComes s k a talk waiting (session_next talk.session names x).1 (machine_of (event_step es (session_next talk.session names x).0))

@@ -1,7 +1,7 @@
 -- How a pod stands in which a session and a store talk: the machine's state, and the talk that it comes to.
 use Rattle.answer_laws.specs.Agents.{agent_sight, deliveries_to, spares_agent}
 use Rattle.lwp_types.specs.Agents.{armed, deliver}
-use Rattle.answer_laws.specs.Clients.{names_only, replied_in, text_to}
+use Rattle.answer_laws.specs.Clients.{replied_in, sends_well, text_to}
 use Rattle.answer_laws.specs.Events.{machine_of}
 use Rattle.answer_laws.specs.Lengths.{is_short}
 use Rattle.answer_laws.specs.Sights.{answers_to, sight}
@@ -16,7 +16,7 @@ use Rattle.lwp_types.specs.Lawful.{Lawful}
 use Rattle.lwp_types.specs.Names.{Names, null_id}
 use Rattle.lwp_types.specs.State.{Outcome, State, agent_of, is_id}
 use Rattle.lwp_types.specs.Step.{step}
-use Rattle.lwp_types.specs.Unblock.{nonexist}
+use Rattle.lwp_types.specs.Unblock.{nonexist, zero_answer}
 use Rattle.lwp_types.specs.declared.call.Call.{Call}
 use Rattle.lwp_types.specs.declared.call.Answer.{Answer}
 use Rattle.lwp_types.specs.declared.call.Answer.TheVariants as answer
@@ -98,15 +98,22 @@ pub data AgentIs (s a : ℕ) (state : State) (talk : Talk) (waiting : List (List
       → AgentLetters s a (owes talk.session.place talk.client) waiting (agent_sight state a).letters → AgentIs s a state talk waiting
   Gone : is_id state a ≡ false → a < state.births → talk.agent_lives ≡ false → knows a talk.session.agent talk.session.place talk.client ≡ true → AgentIs s a state talk waiting
 
--- the session is thread s, the store k, and the agent a; these texts wait for the session
+-- nothing was sent to the store, and it wasn't polled
+pub record IsUnwritten (talk : Talk) : Type 0 where
+  pub mail : talk.mail ≡ Nothing
+  pub keeper : talk.keeper ≡ Hears zero_answer
+
+-- The session is thread s, the store k, and the agent a; these texts wait for the session. Where k is s there is no store yet: nothing is
+-- said of it, and the session has sent it nothing.
 pub record Stands (s k a : ℕ) (state : State) (talk : Talk) (waiting : List (List ℕ)) : Type 0 where
   pub client : sight state s ≡ record { waits = Some (block_of (Some a) talk.client); marks = mark.Frame ∷ []; letters = mail_letters s k talk.mail }
-  pub keeper : sight state k ≡ record { waits = Some (block_of None talk.keeper); marks = mark.Frame ∷ []; letters = [] }
+  pub keeper : (s == k) ≡ false → sight state k ≡ record { waits = Some (block_of None talk.keeper); marks = mark.Frame ∷ []; letters = [] }
   pub posted : is_posted talk.client talk.mail ≡ true
   pub placed : is_placed talk.client talk.session.place ≡ true
   pub reads : is_reading talk.keeper ≡ true
   pub untimed : timers_of state.timers s ≡ 0
-  pub untimed_keeper : timers_of state.timers k ≡ 0
+  pub untimed_keeper : (s == k) ≡ false → timers_of state.timers k ≡ 0
+  pub alone : (s == k) ≡ true → IsUnwritten talk
   pub agent : AgentIs s a state talk waiting
 
 -- ---- steps
@@ -136,7 +143,7 @@ pub record Becomes (s k a : ℕ) (talk : Talk) (session : SessionBody) (store : 
   pub texts : (talked s a talk events).lines ++ waits ≡ (talk.lines ++ waiting) ++ delivered
   pub said : (talked s a talk events).told ≡ talk.told ++ replies
   pub heard : IsHeard talk.client (talked s a talk events).client (answers_to s out.effects)
-  pub heard_keeper : IsHeard talk.keeper (talked s a talk events).keeper (answers_to k out.effects)
+  pub heard_keeper : (s == k) ≡ false → IsHeard talk.keeper (talked s a talk events).keeper (answers_to k out.effects)
 
 -- the session has asked for an agent in vain
 pub record OpensInVain (s : ℕ) (talk : Talk) (out : Outcome) : Type 0 where
@@ -156,12 +163,12 @@ pub record Leaves (s : ℕ) (talk : Talk) (out : Outcome) : Type 0 where
 -- A call of another, which destroys neither: it is a letter to the store, or the end of the agent, or nothing.
 abbrev pub OthersCallsAreEvents : Type 0
 OthersCallsAreEvents = (s k a : ℕ) (state : State) → Lawful state None → (talk : Talk) (waiting : List (List ℕ)) → Stands s k a state talk waiting
-    → (t : ℕ) → choice state ≡ Some t → (t == s) ≡ false → (t == k) ≡ false → (s == k) ≡ false → (c : Call) → spares_agent s k c ≡ true → (talk.session.place ≡ at.Start → (step state c).after.births ≤ a)
+    → (t : ℕ) → choice state ≡ Some t → (t == s) ≡ false → (t == k) ≡ false → (c : Call) → spares_agent s k c ≡ true → (talk.session.place ≡ at.Start → (step state c).after.births ≤ a)
     → Becomes s k a talk talk.session talk.store waiting [] [] (step state c) ⊎ Leaves s talk (step state c)
 
 -- A text that is delivered is a line of the session's agent, or a letter to the store, or nothing.
 abbrev pub DeliveriesAreEvents : Type 0
-DeliveriesAreEvents = (s k a : ℕ) (state : State) → Lawful state None → (talk : Talk) (waiting : List (List ℕ)) → Stands s k a state talk waiting → (s == k) ≡ false
+DeliveriesAreEvents = (s k a : ℕ) (state : State) → Lawful state None → (talk : Talk) (waiting : List (List ℕ)) → Stands s k a state talk waiting
     → (e : ℕ) (text : List ℕ) → armed state e ≡ true
     → Becomes s k a talk talk.session talk.store waiting (replicate (deliveries_to a (deliver state e text).effects) text) [] (deliver state e text)
 
@@ -188,11 +195,11 @@ abbrev pub is_short_reply : Call → Bool
 is_short_reply (call.Reply v text) = is_short text
 is_short_reply _ = true
 
--- The session's call, where it is its turn, it goes on, its reply to its agent is short, and it sends to nobody but the store: as the
--- talk says, and a letter with it if there is one; unless it asks for an agent in vain.
+-- The session's call, where it is its turn, it goes on, its reply to its agent is short, and it sends to nobody but the store, and to nobody
+-- where there is none: as the talk says, and a letter with it if there is one; unless it asks for an agent in vain.
 abbrev pub SessionsCallsAreEvents : Type 0
-SessionsCallsAreEvents = (s k a : ℕ) (state : State) → Lawful state None → (talk : Talk) (waiting : List (List ℕ)) → Stands s k a state talk waiting → (s == k) ≡ false
-    → choice state ≡ Some s → (x : Answer) → talk.client ≡ Hears x → (names : Names) → goes_on_with (session_next talk.session names x).0 ≡ true → (talk.agent_lives ≡ true → is_short_reply (session_next talk.session names x).0 ≡ true) → names_only k (session_next talk.session names x).0 ≡ true
+SessionsCallsAreEvents = (s k a : ℕ) (state : State) → Lawful state None → (talk : Talk) (waiting : List (List ℕ)) → Stands s k a state talk waiting
+    → choice state ≡ Some s → (x : Answer) → talk.client ≡ Hears x → (names : Names) → goes_on_with (session_next talk.session names x).0 ≡ true → (talk.agent_lives ≡ true → is_short_reply (session_next talk.session names x).0 ≡ true) → sends_well s k (session_next talk.session names x).0 ≡ true
     → (talk.session.place ≡ at.Start → (b : ℕ) → answers_to s (step state (session_next talk.session names x).0).effects ≡ answer.Thread b ∷ [] → b ≡ a)
     → Becomes s k a talk (session_next talk.session names x).1 talk.store waiting [] (replied_in s a (step state (session_next talk.session names x).0).effects) (step state (session_next talk.session names x).0) ⊎ OpensInVain s talk (step state (session_next talk.session names x).0)
 
@@ -205,10 +212,10 @@ texts_in a text es = flat_map (text_to a text) es
 -- A call of another, with the trap before it and the report behind it: a report is a line of the agent, if that is one of event 32.
 abbrev pub PodsCallsAreEvents : Type 0
 PodsCallsAreEvents = (s k a : ℕ) (es : EventState) → Lawful es.state None → (talk : Talk) (waiting : List (List ℕ)) → Stands s k a es.state talk waiting
-    → (t : ℕ) → choice es.state ≡ Some t → (t == s) ≡ false → (t == k) ≡ false → (s == k) ≡ false → (c : Call) → spares_agent s k c ≡ true → (talk.session.place ≡ at.Start → (event_step es c).after.state.births ≤ a)
+    → (t : ℕ) → choice es.state ≡ Some t → (t == s) ≡ false → (t == k) ≡ false → (c : Call) → spares_agent s k c ≡ true → (talk.session.place ≡ at.Start → (event_step es c).after.state.births ≤ a)
     → Becomes s k a talk talk.session talk.store waiting (texts_in a None (event_step es c).effects) [] (machine_of (event_step es c)) ⊎ Leaves s talk (machine_of (event_step es c))
 
 -- A line that is taken: it is delivered, or is a trap to be raised. No agent has the number to which a trapped line is delivered.
 abbrev pub TakesAreEvents : Type 0
-TakesAreEvents = (s k a : ℕ) (es : EventState) → Lawful es.state None → (talk : Talk) (waiting : List (List ℕ)) → Stands s k a es.state talk waiting → (s == k) ≡ false → (null_id == a) ≡ false
+TakesAreEvents = (s k a : ℕ) (es : EventState) → Lawful es.state None → (talk : Talk) (waiting : List (List ℕ)) → Stands s k a es.state talk waiting → (null_id == a) ≡ false
     → (e : ℕ) (text : List ℕ) → is_takeable es e ≡ true → Becomes s k a talk talk.session talk.store waiting (texts_in a (Some text) (take_event es e text).effects) [] (machine_of (take_event es e text))

@@ -3,7 +3,7 @@
 //!
 //! | what is said | law, and where it stands |
 //! |---|---|
-//! | in every session of every script, whenever lines are taken and whatever the other clients do: of a client's session and a store that has begun before it makes a call, the accepted replies to the session's agent are a first part of the answers to the lines delivered to that | `InEveryScript`, and of any bodies `InEverySession` (`specs/Births.antt`) |
+//! | in every session of every script, with names that are null at the opening, whenever lines are taken and whatever the other clients do: of a client's session and a store, whichever of the two is born first, the accepted replies to the session's agent are a first part of the answers to the lines delivered to that | `FromNullNames`, of any names `InEveryScript`, and of any bodies `InEverySession` (`specs/Births.antt`) |
 //! | so it is from any point of a session on at which the two begin, or the session behind a store that has served others | `ClientsAreAnsweredInTurn`, `LaterClientsAreAnsweredInTurn`, and by moves from the opening on `InWholeSessions`, `SessionsAreReached` (`specs/Served.antt`) |
 //! | in every session of every script each name of a thread is null, or the number of somebody who was born; so a client's session sends to nobody else | `NullNamesAreKnown`, `NamesAreOfTheBorn`, `SessionsSendToTheBorn` (`specs/Known.antt`) |
 //! | a session and a store that talk, whatever others send to the store and whoever ends: what the client is told is a first part of the answers to its lines | `TalksAreAnswers` (`specs/Talks.antt`) |
@@ -22,12 +22,14 @@
 //! In a talk (`Talk`) the two bodies are polled as they are in a session, and the pod answers them: a reply to the session goes to the
 //! letter that the store has received, and a line comes only to a session that waits for one. What a thread shows to others (`Sight`)
 //! is what it waits for, its marks and its letters; what an agent shows (`AgentSight`) is its row and its letters. How the two bodies,
-//! their letters and the agent stand in the machine while they talk, `Stands` says.
+//! their letters and the agent stand in the machine while they talk, `Stands` says; and of a session whose store isn't born yet, that it stands
+//! without one.
 //!
-//! Of a session it is asked that the store lives in the end, that whatever the client's session has sent went to it, that the store was born
-//! before the session makes a call, that the lines that were taken have room in a letter, and that fewer were born than there are numbers. That a trap may be raised in
-//! either, that somebody may destroy the session or its agent, and what reports and other agents of the event there are, makes no difference:
-//! a trap is the end of whoever has no handler, and a store that lives in the end has met none.
+//! Of a session it is asked that the store lives in the end, that whatever the client's session has sent went to it, that the lines that were
+//! taken have room in a letter, and that fewer were born than there are numbers. Where the client's session is born before its store, it must
+//! send nothing till that is born; so it is if each name is null at the opening, since it can't name its store before. That a trap may be
+//! raised in either, that somebody may destroy the session or its agent, and what reports and other agents of the event there are, makes no
+//! difference: a trap is the end of whoever has no handler, and a store that lives in the end has met none.
 //!
 //! It stands on the bodies of `line_server`, on the laws of the machine in `pod_laws`, on the events of `pod_events`, and on the sessions of
 //! `pod_runner` with their laws in `session_laws`; that scripts are such sessions it takes from `script_program`.
@@ -36,7 +38,7 @@
 pub mod rows;
 
 ghost use Rattle.answer_laws.specs.Agents.{DeliveriesPassOthersBy, DeliveriesReachAgents, DestroyedAgentsAreGone, OthersLeaveAgents};
-ghost use Rattle.answer_laws.specs.Births.{InEveryScript, InEverySession};
+ghost use Rattle.answer_laws.specs.Births.{FromNullNames, InEveryScript, InEverySession};
 ghost use Rattle.answer_laws.specs.Events.{PodsLeaveIt, TakesLeaveIt};
 ghost use Rattle.answer_laws.specs.Known.{NamesAreOfTheBorn, NullNamesAreKnown, SessionsSendToTheBorn};
 ghost use Rattle.answer_laws.specs.Lengths.{ShortLinesHaveShortAnswers};
@@ -50,15 +52,21 @@ ghost use Rattle.answer_laws.specs.Talks.{TalksAreAnswers};
 
 use lwp_types::Body;
 
-/// In every session, whatever its bodies do and whenever lines are taken: of a client's session and a store that has begun before it makes a
-/// call, what the client is told is a first part of the answers to its lines.
+/// In every session, whatever its bodies do and whenever lines are taken: of a client's session and a store, before whose birth it sends
+/// nothing, what the client is told is a first part of the answers to its lines.
 pub fn every_client<B: Body>()
     ensures { InEverySession B }
 {}
 
-/// So it is in every session of every script.
+/// So it is in every session of every script; and where each name at the opening is null or stands for somebody born, whatever the session
+/// does before the birth of its store.
 pub fn every_client_of_a_script()
     ensures { InEveryScript }
+{}
+
+/// So it is with names that are null at the opening, as all are that a run begins with.
+pub fn every_client_from_null_names()
+    ensures { FromNullNames }
 {}
 
 /// Names that are null at the opening of a script's session stand for nobody who isn't born.

@@ -1,7 +1,7 @@
 // Two talks, the steps of two sessions and the births of two threads, worked out by hand.
 ghost use Rattle.std.specs.Prelude.{[], codes, false, true, ◌∷◌};
 ghost use Rattle.answer_laws.specs.Clients.{IsAnsweredInTurn};
-ghost use Rattle.answer_laws.specs.ClientRows.{Begin, Tells, Wait, asked_and_quit, trapped_and_gone, two_created};
+ghost use Rattle.answer_laws.specs.ClientRows.{Begin, Tells, Wait, asked_and_quit, sent_between, trapped_and_gone, two_created};
 ghost use Rattle.answer_laws.specs.Rows.{Comes, answers_of_a, answers_of_b, lines_of_a, lines_of_b, talk_of_a, talk_of_b};
 
 /// A client that asks for what another has put, says what is no command, and quits: the other's key isn't there.
@@ -31,7 +31,7 @@ pub fn threads_that_begin()
     ensures { Begin two_created 5 6 }
 {}
 
-/// Of the same steps, who has made no call when another is born; whoever creates it has.
+/// Who has sent nothing when another is born, whatever else it calls.
 pub fn threads_that_wait()
-    ensures { Wait two_created }
+    ensures { Wait sent_between }
 {}
