@@ -32,3 +32,4 @@ mod Wholes
 mod Naming
 mod Unnamed
 mod Knowing
+mod Writing

@@ -49,16 +49,20 @@ abbrev pub is_unsent_till : ℕ → ℕ → List Made → Bool
 is_unsent_till k s [] = true
 is_unsent_till k s (made ∷ steps) = not (list_any (is_send_of s) made.effects) && (is_named k made.effects || is_unsent_till k s steps)
 
--- In every session: for a session of a client, which begins in a procedure that is one, and a store, the replies of the session to its agent
--- that were accepted are a first part of the answers to the lines delivered to that; if the store lives in the end, all that the session has
--- sent went to it, the lines that were taken are no longer than a text may be, and IsEarly holds of a session that is born before its store.
-abbrev pub IsAnsweredAlways : {B : Type 0} → Setting B → (SessionBody → B) → (StoreBody → B) → (ℕ → ℕ → Session B → Type 0) → Type 0
-IsAnsweredAlways setting serving storing IsEarly = 1 ≤ setting.params.maxpri → setting.params.maxpri ≤ 255 → (takes : List Took) (n : ℕ) → IsDefined setting takes n
+-- In every session something holds of a session of a client, which begins in a procedure that is one, if there is a store that lives in the
+-- end, all that the session has sent went to it, the lines that were taken are no longer than a text may be, and IsEarly holds of a session
+-- that is born before its store.
+abbrev pub HoldsAlways : {B : Type 0} → Setting B → (SessionBody → B) → (StoreBody → B) → (ℕ → ℕ → Session B → Type 0) → (ℕ → Session B → Type 0) → Type 0
+HoldsAlways setting serving storing IsEarly Says = 1 ≤ setting.params.maxpri → setting.params.maxpri ≤ 255 → (takes : List Took) (n : ℕ) → IsDefined setting takes n
     → (s k in_s in_k event place : ℕ) → (s == k) ≡ false → (s < k → IsEarly s k (play setting takes n))
     → begins_in s (play setting takes n).steps ≡ Some in_s → slice_get setting.bodies in_s ≡ Some (serving (session_opening event place))
     → begins_in k (play setting takes n).steps ≡ Some in_k → slice_get setting.bodies in_k ≡ Some (storing store_opening)
     → Serves s k (play setting takes n) → list_all (λ made. line_is_short made.take) (play setting takes n).steps ≡ true
-    → (a : ℕ) → IsAnsweredInTurn s a (steps_of (play setting takes n).steps)
+    → Says s (play setting takes n)
+
+-- The replies of the session to its agent that were accepted are a first part of the answers to the lines delivered to that.
+abbrev pub IsAnsweredAlways : {B : Type 0} → Setting B → (SessionBody → B) → (StoreBody → B) → (ℕ → ℕ → Session B → Type 0) → Type 0
+IsAnsweredAlways setting serving storing IsEarly = HoldsAlways setting serving storing IsEarly (λ s end. (a : ℕ) → IsAnsweredInTurn s a (steps_of end.steps))
 
 -- till its store is born, the session sends nothing
 abbrev pub IsUnsentTill : {B : Type 0} → ℕ → ℕ → Session B → Type 0

@@ -13,3 +13,4 @@ pub mod Owns
 pub mod Served
 pub mod Births
 pub mod Known
+pub mod Written

@@ -1,0 +1,57 @@
+-- What is written of a client: the replies to the agents of its event, and those of one thread to one agent.
+use Rattle.answer_laws.specs.Births.{HoldsAlways}
+use Rattle.answer_laws.specs.Clients.{delivered_to, replied_to}
+use Rattle.answer_laws.specs.Served.{steps_of}
+use Rattle.answer_laws.specs.Talks.{AreFirst}
+use Rattle.line_server.specs.Tables.{line_answers}
+use Rattle.lwp_types.specs.declared.call.Call.{Call}
+use Rattle.lwp_types.specs.declared.call.Call.TheVariants as call
+use Rattle.pod_runner.specs.Due.{IsDefined}
+use Rattle.pod_runner.specs.Play.{play}
+use Rattle.pod_runner.specs.Session.{Setting}
+use Rattle.pod_runner.specs.Session as Sessions
+use Rattle.pod_runner.specs.declared.session.Made.{Made}
+use Rattle.pod_runner.specs.declared.session.Took.{Took}
+use Rattle.script_answers.specs.Replies.{call_in, event_of, known_in, replies_in}
+use Rattle.script_program.specs.declared.body.ThreadBody.TheVariants.{Serving, Storing}
+use Rattle.script_session.specs.SoFar.{setting_of}
+use Rattle.script_text.specs.declared.script.Script.{Script}
+use Rattle.std.specs.List.{flat_map, list_all}
+use Rattle.std.specs.Prelude.{Bool, List, None, Option, Some, [], false, not, true, ℕ, ◌&&◌, ◌++◌, ◌==◌, ◌∷◌, ◌≡◌, ◌≤◌, ◌||◌}
+
+-- each text on a line of its own
+abbrev pub spelled : List (List ℕ) → List ℕ
+spelled texts = flat_map (λ text. text ++ 10 ∷ []) texts
+
+-- the call is a reply to a
+abbrev pub is_reply_to : ℕ → Call → Bool
+is_reply_to a (call.Reply b text) = b == a
+is_reply_to a _ = false
+
+-- the call, if it is an accepted reply to a, is of s
+abbrev pub is_reply_of : ℕ → ℕ → Option Made → Bool
+is_reply_of s a None = true
+is_reply_of s a (Some made) = not (is_reply_to a made.call && made.zero) || made.tid == s
+
+-- nobody but s is told that a reply of his to a was accepted
+abbrev pub replies_are_of : ℕ → ℕ → List Sessions.Made → Bool
+replies_are_of s a steps = list_all (λ step. is_reply_of s a (call_in step.take step.effects)) steps
+
+-- Where an event has had one agent, and nobody but s has replied to that: what its client was told are the accepted replies of s, each on a line
+-- of its own.
+abbrev pub RepliesAreWritten : Type 0 → Type 0
+RepliesAreWritten B = (setting : Setting B) → 1 ≤ setting.params.maxpri → setting.params.maxpri ≤ 255 → (takes : List Took) (n : ℕ) → IsDefined setting takes n
+    → (s e a : ℕ) → (known_in (Some e) (play setting takes n).steps).agents ≡ a ∷ [] → replies_are_of s a (play setting takes n).steps ≡ true
+    → replies_in (Some e) (play setting takes n).steps ≡ spelled (replied_to s a (steps_of (play setting takes n).steps))
+
+-- these bytes are the first answers to the lines delivered to a, each on a line of its own
+pub record IsFirstWritten (a : ℕ) (steps : List Sessions.Made) (bytes : List ℕ) : Type 0 where
+  pub texts : List (List ℕ)
+  pub first : AreFirst texts (line_answers (delivered_to a (steps_of steps)))
+  pub written : bytes ≡ spelled texts
+
+-- So what `answers` writes of a client of a script, in each of its sessions: where the client's event has had one agent, and of the accepted replies
+-- to that all are of one client's session, it is a first part of the answers to the lines delivered to that agent.
+abbrev pub ClientsAreWritten : Type 0
+ClientsAreWritten = (script : Script) → HoldsAlways (setting_of script) Serving Storing (λ s k end. Unit {0})
+    (λ s end. (client e a : ℕ) → event_of script client ≡ Some e → (known_in (Some e) end.steps).agents ≡ a ∷ [] → replies_are_of s a end.steps ≡ true → IsFirstWritten a end.steps (replies_in (event_of script client) end.steps))
