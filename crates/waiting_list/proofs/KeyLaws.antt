@@ -2,11 +2,13 @@
 use Rattle.lwp_types.specs.CountLaws.{count-cons, find_none, one}
 use Rattle.std.proofs.Common.{Bool, List, None, Some, [], ap, arith, cond, count_by, eqb, false, get_or, inl, inr, leb, length, ltb, refl, set, suc, sym, true, zero, ℕ, ◌&&◌, ◌+◌, ◌-◌, ◌<◌, ◌∙◌, ◌∷◌, ◌≡◌, ◌≤◌}
 use Rattle.std.proofs.lemmas.Bool.{and_parts, cases_eq, cases_lt, eq-eqb, eqb-true, le-ltb, leb-false, leb-true, lt-ltb, ltb-false, ltb-true, ne_eqb}
+use Rattle.std.proofs.lemmas.List.{get_or-set_same}
 use Rattle.std.proofs.lemmas.List.Edits.{length-remove}
+use Rattle.std.proofs.lemmas.List.Sums.{sum_by-remove, sum_by-set}
 use Rattle.std.specs.List.{AllByRecursion, find, insert, remove}
 use Rattle.std.specs.List.Sorted.{IsNonDecreasingBy, IsPartitionPoint, IsPartitionedBy}
 use Rattle.waiting_list.proofs.SearchLaws.{none_pass}
-use Rattle.waiting_list.specs.Keys.{IsAhead, IsBehind, IsEnd, IsPlace, IsSorted, IsStart, by_numbers, is_before, is_key, is_of}
+use Rattle.waiting_list.specs.Keys.{GoesBack, GoesForward, IsAhead, IsBehind, IsEnd, IsPlace, IsSorted, IsStart, by_numbers, is_before, is_key, is_of}
 use Rattle.waiting_list.specs.declared.keys.Key.{Key}
 
 -- ---- the order
@@ -69,6 +71,14 @@ pub before_one_way : (k l : Key) → is_before k l ≡ true → is_before l k �
 before_one_way k l first =
     one_way k.what l.what _ _ first (λ f.
     one_way l.prio k.prio _ _ f (λ g. le-ltb l.arrival k.arrival (omega (arith, ltb-true k.arrival l.arrival g))))
+
+-- what doesn't stand before l doesn't stand before what l doesn't stand before
+never_between : (k l m : Key) → is_before k l ≡ false → is_before l m ≡ false → is_before k m ≡ false
+never_between k l m first second = by_answer (is_before k m) refl
+  where
+    by_answer : (b : Bool) → is_before k m ≡ b → b ≡ false
+    by_answer false e = refl
+    by_answer true e = absurd (cc (second, before_mixed l k m first e))
 
 not_before_itself : (k : Key) → is_before k k ≡ false
 not_before_itself k = rw (eq-eqb k.what k.what refl, eq-eqb k.prio k.prio refl) (le-ltb k.arrival k.arrival (omega arith))
@@ -148,17 +158,20 @@ All-insert P ks zero k within all here = (here, all)
 All-insert P [] (suc at) k within all here = absurd (omega arith)
 All-insert P (l ∷ ks) (suc at) k within all here = (all.0, All-insert P ks at k (omega arith) all.1 here)
 
-pub IsSorted-insert : (ks : List Key) (at : ℕ) (k : Key) → IsSorted ks → IsPlace k ks at → IsSorted (insert ks at k)
-IsSorted-insert ks zero k sorted place = (All-from (λ l. is_before l k ≡ false) ks (λ j d lt. place.after j d (omega arith) lt), sorted)
-IsSorted-insert [] (suc at) k sorted place = absurd (omega (arith, place.within))
-IsSorted-insert (l ∷ ks) (suc at) k sorted place = (
-  All-insert (λ m. is_before m l ≡ false) ks at k (omega (arith, place.within)) sorted.0 (before_one_way l k (place.before 0 l (omega arith))),
-  IsSorted-insert ks at k sorted.1 (record {
-    within = omega (arith, place.within);
-    before = λ j d lt. place.before (suc j) d (omega (arith, lt));
-    after = λ j d ge lt. place.after (suc j) d (omega (arith, ge)) (omega (arith, lt));
-  }),
+-- a key may stand where it stands before none of those before it, and none of those behind stands before it
+IsSorted-between : (ks : List Key) (at : ℕ) (k : Key) → IsSorted ks → at ≤ length ks
+    → ((j : ℕ) (d : Key) → j < at → is_before k (get_or ks j d) ≡ false)
+    → ((j : ℕ) (d : Key) → at ≤ j → j < length ks → is_before (get_or ks j d) k ≡ false)
+    → IsSorted (insert ks at k)
+IsSorted-between ks zero k sorted within before after = (All-from (λ l. is_before l k ≡ false) ks (λ j d lt. after j d (omega arith) lt), sorted)
+IsSorted-between [] (suc at) k sorted within before after = absurd (omega (arith, within))
+IsSorted-between (l ∷ ks) (suc at) k sorted within before after = (
+  All-insert (λ m. is_before m l ≡ false) ks at k (omega (arith, within)) sorted.0 (before 0 l (omega arith)),
+  IsSorted-between ks at k sorted.1 (omega (arith, within)) (λ j d lt. before (suc j) d (omega (arith, lt))) (λ j d ge lt. after (suc j) d (omega (arith, ge)) (omega (arith, lt))),
 )
+
+pub IsSorted-insert : (ks : List Key) (at : ℕ) (k : Key) → IsSorted ks → IsPlace k ks at → IsSorted (insert ks at k)
+IsSorted-insert ks at k sorted place = IsSorted-between ks at k sorted place.within (λ j d lt. before_one_way (get_or ks j d) k (place.before j d lt)) place.after
 
 -- ---- one less
 
@@ -196,26 +209,60 @@ read_after (l ∷ ks) (suc at) zero d le = absurd (omega (arith, le))
 read_after (l ∷ ks) (suc at) (suc j) d le = read_after ks at j d (omega (arith, le))
 
 -- a key that stands between its neighbours may stand there
-pub IsSorted-set : (ks : List Key) (at : ℕ) (k : Key) → IsSorted ks → at < length ks
+pub IsSorted-set : (ks : List Key) (at : ℕ) (k : Key) → IsSorted (remove ks at) → at < length ks
     → IsBehind k ks at → IsAhead k ks at
     → IsSorted (set ks at k)
-IsSorted-set ks at k sorted within behind before = rw (← insert_removed ks at k within) (IsSorted-insert (remove ks at) at k (IsSorted-remove ks at sorted) (record {
-  within = omega (arith, length-remove ks at within, within);
-  before = λ j d lt. rw (read_before ks at j d lt) (elim (cases_eq (suc j) at) [
-    | inl next ↦ behind j d (omega (arith, next))
-    | inr far ↦
-        let i : ℕ = at - 1 in
-        let less : is_before (get_or ks i d) k ≡ true = behind i d (omega (arith, lt)) in
-        before_mixed (get_or ks j d) (get_or ks i d) k (ordered ks j i d sorted (omega (arith, lt)) (omega (arith, within))) less
-  ]);
-  after = λ j d ge lt. rw (read_after ks at j d ge) (by_answer j d ge (omega (arith, lt, length-remove ks at within)) (is_before (get_or ks (suc j) d) k) refl);
-}))
-  where
-    by_answer : (j : ℕ) (d : Key) → at ≤ j → suc j < length ks → (b : Bool) → is_before (get_or ks (suc j) d) k ≡ b → b ≡ false
-    by_answer j d ge lt false e = refl
-    by_answer j d ge lt true e =
-        let less : is_before (get_or ks (suc at) d) k ≡ true = before_mixed (get_or ks (suc at) d) (get_or ks (suc j) d) k (ordered ks (suc at) (suc j) d sorted (omega (arith, ge)) lt) e in
-        absurd (cc (less, before_one_way k (get_or ks (suc at) d) (before d (omega (arith, ge, lt)))))
+IsSorted-set ks at k sorted within behind ahead = rw (← insert_removed ks at k within) (IsSorted-between (remove ks at) at k sorted
+    (omega (arith, length-remove ks at within, within))
+    (λ j d lt.
+    let i : ℕ = at - 1 in
+    let less : is_before k (get_or (remove ks at) i d) ≡ false = ap (is_before k) (read_before ks at i d (omega (arith, lt))) ∙ behind i d (omega (arith, lt)) in
+    never_between k (get_or (remove ks at) i d) (get_or (remove ks at) j d) less (ordered (remove ks at) j i d sorted (omega (arith, lt)) (omega (arith, lt, within, length-remove ks at within))))
+    (λ j d ge lt.
+    let more : is_before (get_or (remove ks at) at d) k ≡ false = ap (λ l. is_before l k) (read_after ks at at d (omega arith)) ∙ ahead d (omega (arith, ge, lt, length-remove ks at within)) in
+    never_between (get_or (remove ks at) j d) (get_or (remove ks at) at d) k (ordered (remove ks at) at j d sorted ge lt) more))
+
+-- the key in the place of another counts once, and all others as before
+pub set_counts : (ks : List Key) (at : ℕ) (x k : Key) → at < length ks → count_by (is_key k) (set ks at x) ≡ count_by (is_key k) (remove ks at) + one (is_key k x)
+set_counts ks at x k within = omega (arith, sum_by-set (λ l. one (is_key k l)) ks at x x within, sum_by-remove (λ l. one (is_key k l)) ks at x within)
+
+-- ---- one goes past its neighbour, which takes its place
+
+forward_kept : (ks : List Key) (i : ℕ) (x : Key) → suc i < length ks → x ≡ get_or ks i x → remove (set ks (suc i) x) i ≡ remove ks (suc i)
+forward_kept [] i x within here = absurd (omega (arith, within))
+forward_kept (k ∷ []) i x within here = absurd (omega (arith, within))
+forward_kept (k ∷ l ∷ ks) zero x within here = ap (λ m. m ∷ ks) here
+forward_kept (k ∷ l ∷ ks) (suc i) x within here = ap (λ ms. k ∷ ms) (forward_kept (l ∷ ks) i x (omega (arith, within)) here)
+
+back_kept : (ks : List Key) (i : ℕ) (x : Key) → suc i < length ks → x ≡ get_or ks (suc i) x → remove (set ks i x) (suc i) ≡ remove ks i
+back_kept [] i x within here = absurd (omega (arith, within))
+back_kept (k ∷ []) i x within here = absurd (omega (arith, within))
+back_kept (k ∷ l ∷ ks) zero x within here = ap (λ m. m ∷ ks) here
+back_kept (k ∷ l ∷ ks) (suc i) x within here = ap (λ ms. k ∷ ms) (back_kept (l ∷ ks) i x (omega (arith, within)) here)
+
+pub gone_forward : (ks : List Key) (at i : ℕ) (x : Key) → suc i ≡ at → at < length ks → x ≡ get_or ks i x → remove (set ks at x) i ≡ remove ks at
+gone_forward ks at i x next within here = ap (λ n. remove (set ks n x) i) (sym next) ∙ forward_kept ks i x (omega (arith, next, within)) here ∙ ap (remove ks) next
+
+pub gone_back : (ks : List Key) (at i : ℕ) (x : Key) → i ≡ suc at → suc at < length ks → x ≡ get_or ks i x → remove (set ks at x) i ≡ remove ks at
+gone_back ks at i x next within here = ap (remove (set ks at x)) next ∙ back_kept ks at x within (here ∙ ap (λ n. get_or ks n x) next)
+
+-- it may stand before the one that it went past
+pub ahead_of_passed : (k : Key) (ks : List Key) (at i : ℕ) (x : Key) → suc i ≡ at → at < length ks → x ≡ get_or ks i x → GoesForward k ks at → IsAhead k (set ks at x) i
+ahead_of_passed k ks at i x next within here goes d lt =
+    ap (λ l. is_before l k) (ap (λ n. get_or (set ks at x) n d) next ∙ get_or-set_same ks at x d within)
+    ∙ before_one_way k x (ap (is_before k) here ∙ goes.before i x next)
+
+-- it may stand behind the one that it went past
+pub behind_passed : (k : Key) (ks : List Key) (at i : ℕ) (x : Key) → i ≡ suc at → x ≡ get_or ks i x → GoesBack k ks at → IsBehind k (set ks at x) i
+behind_passed k ks at i x next here goes j d before =
+    let same : j ≡ at = omega (arith, next, before) in
+    ap (is_before k) (ap (λ n. get_or (set ks at x) n d) same ∙ get_or-set_same ks at x d (omega (arith, goes.some)))
+    ∙ before_one_way x k (ap (λ l. is_before l k) (here ∙ ap (λ n. get_or ks n x) next) ∙ goes.before x)
+
+-- what belongs behind the key behind a place may stand behind the one before it
+pub behind_both : (ks : List Key) (at : ℕ) (k : Key) → IsSorted ks → GoesBack k ks at → IsBehind k ks at
+behind_both ks at k sorted goes j d next =
+    before_one_way (get_or ks j d) k (before_mixed (get_or ks j d) (get_or ks (suc at) d) k (ordered ks j (suc at) d sorted (omega (arith, next)) goes.some) (goes.before d))
 
 module _ {X : Type 0} (p : X → Bool) where
   -- where some pass, one stands somewhere

@@ -42,10 +42,20 @@ pub record IsEnd (n : ℕ) (ks : List Key) (i : ℕ) : Type 0 where
   pub before : (j : ℕ) (d : Key) → j < i → (slice_index_or ks j d).what ≤ n
   pub after : (j : ℕ) (d : Key) → i ≤ j → j < length ks → n < (slice_index_or ks j d).what
 
--- the key before this place, if there is one, stands before k
+-- k doesn't stand before the key before this place, if there is one
 abbrev pub IsBehind : Key → List Key → ℕ → Type 0
-IsBehind k ks i = (j : ℕ) (d : Key) → suc j ≡ i → is_before (slice_index_or ks j d) k ≡ true
+IsBehind k ks i = (j : ℕ) (d : Key) → suc j ≡ i → is_before k (slice_index_or ks j d) ≡ false
 
--- k stands before the key behind this place, if there is one
+-- the key behind this place, if there is one, doesn't stand before k
 abbrev pub IsAhead : Key → List Key → ℕ → Type 0
-IsAhead k ks i = (d : Key) → suc i < length ks → is_before k (slice_index_or ks (suc i) d) ≡ true
+IsAhead k ks i = (d : Key) → suc i < length ks → is_before (slice_index_or ks (suc i) d) k ≡ false
+
+-- k stands before the key before this place
+pub record GoesForward (k : Key) (ks : List Key) (i : ℕ) : Type 0 where
+  pub some : 0 < i
+  pub before : (j : ℕ) (d : Key) → suc j ≡ i → is_before k (slice_index_or ks j d) ≡ true
+
+-- the key behind this place stands before k
+pub record GoesBack (k : Key) (ks : List Key) (i : ℕ) : Type 0 where
+  pub some : suc i < length ks
+  pub before : (d : Key) → is_before (slice_index_or ks (suc i) d) k ≡ true

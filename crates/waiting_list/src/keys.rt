@@ -1,9 +1,9 @@
 // Keys by which those that wait are found, in order.
-ghost use Rattle.std.specs.Prelude.{◌≡◌, ◌+◌, ◌<◌, ◌≤◌, IsTrue, ℕ, count_by, length, slice_set};
+ghost use Rattle.std.specs.Prelude.{◌≡◌, ◌+◌, ◌<◌, ◌≤◌, IsTrue, count_by, false, length, true};
 ghost use Rattle.lwp_types.specs.CountLaws.{one};
 ghost use Rattle.std.specs.List.{find, insert, remove};
 ghost use Rattle.std.specs.VecDeque.{deque_capacity};
-ghost use Rattle.waiting_list.specs.Keys.{IsAhead, IsBehind, IsEnd, IsPlace, IsSorted, IsStart, is_before, is_key, is_of};
+ghost use Rattle.waiting_list.specs.Keys.{GoesBack, GoesForward, IsAhead, IsBehind, IsEnd, IsPlace, IsSorted, IsStart, is_before, is_key, is_of};
 
 use std::collections::VecDeque;
 
@@ -14,6 +14,9 @@ pub struct Key {
     pub prio: u32,
     pub arrival: u64,
 }
+
+// How many others make room one by one for a key that goes elsewhere.
+const STEPS: usize = 16;
 
 // Keys of the same thing stand together, those of a greater priority first, and among these whoever came first.
 #[inline(always)]
@@ -154,32 +157,88 @@ pub fn take(keys: &mut VecDeque<Key>, key: Key)
     }
 }
 
-// Whether the key belongs behind the one before that place, if there is one.
+// Whether the key may stand behind the one before that place, if there is one.
+#[inline(always)]
 fn is_behind(keys: &VecDeque<Key>, at: usize, key: Key) -> bool
     requires { at < length keys.now.items }
-    ensures { IsTrue result → IsBehind key keys.now.items at }
+    ensures stays { result ≡ true → IsBehind key keys.now.items at }
+    ensures goes { result ≡ false → GoesForward key keys.now.items at }
 {
-    at == 0 || is_before(keys[at - 1], key)
+    at == 0 || !is_before(key, keys[at - 1])
 }
 
-// Whether the key belongs before the one behind that place, if there is one.
+// Whether the key may stand before the one behind that place, if there is one.
+#[inline(always)]
 fn is_ahead(keys: &VecDeque<Key>, at: usize, key: Key) -> bool
     requires { at < length keys.now.items }
-    ensures { IsTrue result → IsAhead key keys.now.items at }
+    ensures stays { result ≡ true → IsAhead key keys.now.items at }
+    ensures goes { result ≡ false → GoesBack key keys.now.items at }
 {
-    at + 1 == keys.len() || is_before(key, keys[at + 1])
+    at + 1 == keys.len() || !is_before(keys[at + 1], key)
 }
 
-// Whether the keys stay in order where this one stands there.
-fn fits_at(keys: &VecDeque<Key>, at: usize, key: Key) -> bool
-    requires sorted { IsSorted keys.now.items }
-    requires within { at < length keys.now.items }
-    ensures { IsTrue result → IsSorted (slice_set keys.now.items at key) }
+// The key there gives way to another, which goes where it belongs.
+#[inline(never)]
+fn replace(keys: &mut VecDeque<Key>, at: usize, key: Key)
+    requires within { at < length keys.old.items }
+    requires sorted { IsSorted (remove keys.old.items at) }
+    requires room { length keys.old.items ≤ deque_capacity keys.old }
+    ensures sorted { IsSorted keys.new.items }
+    ensures counts { (k : Key) → count_by (is_key k) keys.new.items ≡ count_by (is_key k) (remove keys.old.items at) + one (is_key k key) }
+    ensures len { length keys.new.items ≡ length keys.old.items }
+    ensures capacity { deque_capacity keys.old ≤ deque_capacity keys.new }
 {
-    is_behind(keys, at, key) && is_ahead(keys, at, key)
+    take_out(keys, at);
+    add(keys, key);
 }
 
-// One key becomes another, in its place where that is in order.
+// The same where the other belongs no further back: those that it belongs before make room one by one, where they are few.
+fn go_forward(keys: &mut VecDeque<Key>, from: usize, key: Key)
+    requires within { from < length keys.old.items }
+    requires sorted { IsSorted (remove keys.old.items from) }
+    requires ahead { IsAhead key keys.old.items from }
+    requires room { length keys.old.items ≤ deque_capacity keys.old }
+    ensures sorted { IsSorted keys.new.items }
+    ensures counts { (k : Key) → count_by (is_key k) keys.new.items ≡ count_by (is_key k) (remove keys.old.items from) + one (is_key k key) }
+    ensures len { length keys.new.items ≡ length keys.old.items }
+    ensures capacity { deque_capacity keys.old ≤ deque_capacity keys.new }
+{
+    let mut at = from;
+    for _ in 0..STEPS {
+        if is_behind(keys, at, key) {
+            keys[at] = key;
+            return;
+        }
+        keys[at] = keys[at - 1];
+        at -= 1;
+    }
+    replace(keys, at, key);
+}
+
+// The same where the other belongs no further forward.
+fn go_back(keys: &mut VecDeque<Key>, from: usize, key: Key)
+    requires within { from < length keys.old.items }
+    requires sorted { IsSorted (remove keys.old.items from) }
+    requires behind { IsBehind key keys.old.items from }
+    requires room { length keys.old.items ≤ deque_capacity keys.old }
+    ensures sorted { IsSorted keys.new.items }
+    ensures counts { (k : Key) → count_by (is_key k) keys.new.items ≡ count_by (is_key k) (remove keys.old.items from) + one (is_key k key) }
+    ensures len { length keys.new.items ≡ length keys.old.items }
+    ensures capacity { deque_capacity keys.old ≤ deque_capacity keys.new }
+{
+    let mut at = from;
+    for _ in 0..STEPS {
+        if is_ahead(keys, at, key) {
+            keys[at] = key;
+            return;
+        }
+        keys[at] = keys[at + 1];
+        at += 1;
+    }
+    replace(keys, at, key);
+}
+
+// One key becomes another, which goes from its place to where it belongs.
 #[inline(never)]
 pub fn change(keys: &mut VecDeque<Key>, key: Key, after: Key)
     requires sorted { IsSorted keys.old.items }
@@ -191,11 +250,10 @@ pub fn change(keys: &mut VecDeque<Key>, key: Key, after: Key)
     ensures capacity { deque_capacity keys.old ≤ deque_capacity keys.new }
 {
     let at = place_by_halves(keys, key);
-    if fits_at(keys, at, after) {
-        keys[at] = after;
+    if is_ahead(keys, at, after) {
+        go_forward(keys, at, after);
     } else {
-        take_out(keys, at);
-        add(keys, after);
+        go_back(keys, at, after);
     }
 }
 
