@@ -33,3 +33,4 @@ mod Naming
 mod Unnamed
 mod Knowing
 mod Writing
+mod Planning

@@ -12,7 +12,8 @@ use Rattle.pod_runner.specs.Session.{Setting}
 use Rattle.pod_runner.specs.Session as Sessions
 use Rattle.pod_runner.specs.declared.session.Made.{Made}
 use Rattle.pod_runner.specs.declared.session.Took.{Took}
-use Rattle.script_answers.specs.Replies.{call_in, event_of, known_in, replies_in}
+use Rattle.script_answers.specs.Replies.{answers_after, answers_of, call_in, event_of, known_in, replies_in}
+use Rattle.script_plan.specs.Planned.{calls_of, takes_of}
 use Rattle.script_program.specs.declared.body.ThreadBody.TheVariants.{Serving, Storing}
 use Rattle.script_session.specs.SoFar.{setting_of}
 use Rattle.script_text.specs.declared.script.Script.{Script}
@@ -55,3 +56,8 @@ pub record IsFirstWritten (a : ℕ) (steps : List Sessions.Made) (bytes : List �
 abbrev pub ClientsAreWritten : Type 0
 ClientsAreWritten = (script : Script) → HoldsAlways (setting_of script) Serving Storing (λ s k end. Unit {0})
     (λ s end. (client e a : ℕ) → event_of script client ≡ Some e → (known_in (Some e) end.steps).agents ≡ a ∷ [] → replies_are_of s a end.steps ≡ true → IsFirstWritten a end.steps (replies_in (event_of script client) end.steps))
+
+-- What a client is told in a plan is what it is told in the session that the plan's takes and calls play; and that each of these was due,
+-- `answers_main` says.
+abbrev pub PlansAreSessions : Type 0
+PlansAreSessions = (script : Script) (turns client : ℕ) → answers_of client script turns ≡ answers_after client script (takes_of script turns) (calls_of script turns)

@@ -4,7 +4,7 @@
 //! | what is said | law, and where it stands |
 //! |---|---|
 //! | in every session of every script, with names that are null at the opening, whenever lines are taken and whatever the other clients do: of a client's session and a store, whichever of the two is born first, the accepted replies to the session's agent are a first part of the answers to the lines delivered to that | `FromNullNames`, of any names `InEveryScript`, and of any bodies `InEverySession` (`specs/Births.antt`) |
-//! | what `answers` writes of a client are the accepted replies to the agent of its event, if that has had one alone and one thread alone has replied to it; so of a client's session and a store it is a first part of the answers to the client's lines | `RepliesAreWritten`, `ClientsAreWritten` (`specs/Written.antt`) |
+//! | what `answers` writes of a client are the accepted replies to the agent of its event, if that has had one alone and one thread alone has replied to it; so of a client's session and a store it is a first part of the answers to the client's lines | `RepliesAreWritten`, `ClientsAreWritten`, and of plans `PlansAreSessions` (`specs/Written.antt`) |
 //! | so it is from any point of a session on at which the two begin, or the session behind a store that has served others | `ClientsAreAnsweredInTurn`, `LaterClientsAreAnsweredInTurn`, and by moves from the opening on `InWholeSessions`, `SessionsAreReached` (`specs/Served.antt`) |
 //! | in every session of every script each name of a thread is null, or the number of somebody who was born; so a client's session sends to nobody else | `NullNamesAreKnown`, `NamesAreOfTheBorn`, `SessionsSendToTheBorn` (`specs/Known.antt`) |
 //! | a session and a store that talk, whatever others send to the store and whoever ends: what the client is told is a first part of the answers to its lines | `TalksAreAnswers` (`specs/Talks.antt`) |
@@ -51,7 +51,7 @@ ghost use Rattle.answer_laws.specs.Served.{ClientsAreAnsweredInTurn, InWholeSess
 ghost use Rattle.answer_laws.specs.Sights.{DeliveriesLeaveIt, OthersLeaveIt};
 ghost use Rattle.answer_laws.specs.Stands.{DeliveriesAreEvents, OthersCallsAreEvents, PodsCallsAreEvents, SessionsCallsAreEvents, StoresCallsAreEvents, TakesAreEvents};
 ghost use Rattle.answer_laws.specs.Talks.{TalksAreAnswers};
-ghost use Rattle.answer_laws.specs.Written.{ClientsAreWritten, RepliesAreWritten};
+ghost use Rattle.answer_laws.specs.Written.{ClientsAreWritten, PlansAreSessions, RepliesAreWritten};
 
 use lwp_types::Body;
 
@@ -81,6 +81,11 @@ pub fn every_reply_written<B: Body>()
 /// So what `answers` writes of a client of a script is a first part of the answers to the lines of its agent, each on a line of its own.
 pub fn every_client_written()
     ensures { ClientsAreWritten }
+{}
+
+/// What a client is told in a plan is what it is told in the session that the plan's takes and calls play.
+pub fn every_plan_written()
+    ensures { PlansAreSessions }
 {}
 
 /// Names that are null at the opening of a script's session stand for nobody who isn't born.
