@@ -10,8 +10,11 @@
 //! - `.trace`, `.report`, `.answers`, `.verdict`, `.fault`: it is the whole of what is written, and behind it what is said on standard
 //!   error;
 //! - `.tail`: it is the last lines of that;
+//! - `.some`: it is some lines of that, in their order; what else is written isn't known from outside;
 //! - `.damages`: the script is run cut at each length and then with each byte zeroed; the text has, for each, a line with the
 //!   damage and the status, and then the whole text; the status of the row is the greatest of theirs.
+//!
+//! A script whose file ends with `.times` is long: the file's first line says how often the rest of it is read.
 //!
 //! A row is added by its files, its line in `data/rows`, and its line in `stdout`: `sed 's/ .*/: same/' data/rows > stdout`. Its
 //! text is worked out by hand, and never taken from the program.
@@ -19,8 +22,10 @@
 //! The crate stands on `lwp_serve`, on the rows of `stored_rows`, and on the streams of `lwp_types`.
 #![tactic(auto)]
 
+mod long;
 mod outcome;
 
+use long::{lines_among, repeated};
 use lwp_types::NoMemory;
 use outcome::{Outcome, damaged_sessions, session};
 use std::alloc::Global;
@@ -65,8 +70,13 @@ fn print_row<R: Threads + Wait + Sync>(
         return Ok(false);
     };
     let outcome = outcome_of(rt.alloc(), threads, row, script.as_slice()).map_err(io_error)?;
-    let text = compared(row, outcome.text.as_slice(), wanted.len());
-    let said = compare(outcome.status, text, row.status, wanted.as_slice());
+    let text = compared(rt.alloc(), row, outcome.text, wanted.as_slice()).map_err(io_error)?;
+    let said = compare(
+        outcome.status,
+        text.as_slice(),
+        row.status,
+        wanted.as_slice(),
+    );
     print_verdict(rt, row.name, &said)?;
     Ok(matches!(said, Verdict::Same))
 }
@@ -80,16 +90,26 @@ fn outcome_of<R: Threads + Wait + Sync>(
 ) -> Result<Outcome, NoMemory> {
     if row.wanted.ends_with(".damages") {
         damaged_sessions(threads, alloc, &row.words, script)
+    } else if row.given.ends_with(".times") {
+        let long = repeated(alloc, script)?;
+        session(threads, alloc, &row.words, long.as_slice())
     } else {
         session(threads, alloc, &row.words, script)
     }
 }
 
 // As much of the text as is compared.
-fn compared<'t>(row: &Row<'_>, text: &'t [u8], count: usize) -> &'t [u8] {
+fn compared(
+    alloc: Global,
+    row: &Row<'_>,
+    text: Vec<u8>,
+    wanted: &[u8],
+) -> Result<Vec<u8>, NoMemory> {
     if row.wanted.ends_with(".tail") {
-        ending(text, count)
+        Ok(ending(text.as_slice(), wanted.len()).to_vec(alloc)?)
+    } else if row.wanted.ends_with(".some") {
+        lines_among(alloc, text.as_slice(), wanted)
     } else {
-        text
+        Ok(text)
     }
 }
