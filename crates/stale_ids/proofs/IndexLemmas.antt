@@ -1,4 +1,5 @@
 -- From slots and index to the list of the living: what a search finds, and what each change does to that list.
+use Rattle.std.specs.Prelude.{slice_index}
 use Rattle.std.proofs.Common.{◌≡◌, Result, Ok, Err, IfSome, IfNone, ◌≢◌, ℕ, zero, suc, ◌+◌, ◌<◌, ◌≤◌, List, [], ◌∷◌, ◌++◌, map, length, get_or, set, Option, Some, None, IsSome, is_some, count_by, cond, inl, inr, refl, sym, ap, ◌∙◌, arith}
 use Rattle.std.specs.List.{AllByRecursion, remove}
 use Rattle.std.specs.List.Sorted.{IsSearchInRange, IsBinarySearchResult, IsNonDecreasingBy}
@@ -9,7 +10,7 @@ use Rattle.std.proofs.lemmas.Bool.{false≢true, cases_lt}
 use Rattle.std.proofs.lemmas.List.Sorted.{IsNonDecreasingBy-from_default}
 use Rattle.std.proofs.lemmas.List.Elements.{recursion_from_All, All-from_get_or}
 use Rattle.std.proofs.lemmas.List.Edits.{length-remove}
-use Rattle.std.proofs.lemmas.List.{length_push}
+use Rattle.std.proofs.lemmas.List.{get_or-map, length_push}
 use Rattle.std.proofs.lemmas.List.Sums.{sum_by-set}
 use Rattle.std.proofs.lemmas.Bool.Decides.{nat_tests}
 use Rattle.std.proofs.lemmas.List.{get_or-set_same, get_or-set_other, get_or_past}
@@ -247,6 +248,13 @@ module _ {T : Type 0} (slots now : List (Option T)) (key : ℕ) (others : (other
 
   pub AreFull-others : (es : List Place) → AllByRecursion (λ e. e.slot ≢ key) es → AreFull slots es → AreFull now es
   AreFull-others es apart full = All-both _ _ _ (λ e differs was. ap is_some (others e.slot differs) ∙ was) es apart full
+
+-- the place of a number in the list of pairs is its place in the index
+pub at_number : {T : Type 0} (slots : List (Option T)) (es : List Place) (n i : ℕ) → AreFull slots es → i < length (pairs slots es) → slice_index (numbers (pairs slots es)) i ≡ n → IsAt n es i
+at_number slots es n i full within here =
+    let longer = length-pairs slots es full in
+    let inside : i < length es = omega arith in
+    record { within = inside; here = λ d. sym (get_or-map (λ e. e.number) es i d 0 inside) ∙ (rw (numbers-pairs slots es full) at here) }
 
 -- the index names no vacant slot
 pub vacant_apart : {T : Type 0} (slots : List (Option T)) (es : List Place) (key : ℕ) → AreFull slots es → get_or slots key None ≡ None → AllByRecursion (λ e. e.slot ≢ key) es

@@ -112,20 +112,20 @@ impl<T> Registry<T> {
         ensures value { option_copied_mut result ≡ value_of n self.old.live }
         ensures rising { AreRising self.old.live }
     {
-        if self.is_live(n) {
-            Some(self.value_mut(n))
-        } else {
-            None
+        match place_of(&self.index, n) {
+            Some(at) => Some(self.value_at(n, at)),
+            None => None,
         }
     }
 
-    // The same, of one that lives.
-    fn value_mut(&mut self, n: u64) -> &mut T
-        requires { IsSome (value_of n self.old.live) }
+    // The same, of the one at a place of the index.
+    fn value_at(&mut self, n: u64, at: usize) -> &mut T
+        requires within { at < length self.old.live }
+        requires here { slice_index (numbers self.old.live) at ≡ n }
         ensures* writes_back { sem 𝓛 (lends_living T.row self.entry n result) }
         ensures value { value_of n self.old.live ≡ Some result.now }
     {
-        let at = place_of(&self.index, n).unwrap();
+        let _ = n;
         let slot = self.index[at].slot;
         &mut self.values[slot]
     }
