@@ -30,6 +30,7 @@ mod poster;
 mod posts;
 mod rack;
 mod rule;
+mod rung;
 mod sent;
 mod shelf;
 mod taker;

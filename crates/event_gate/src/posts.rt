@@ -1,6 +1,6 @@
 // What one outside thread does.
-ghost use Rattle.std.specs.Prelude.{◌≡◌, ◌+◌, ◌≤◌, length};
-ghost use Rattle.event_gate.specs.Texts.{PostsSome};
+ghost use Rattle.std.specs.Prelude.{◌≡◌, ◌+◌, ◌≤◌, ℕ, length};
+ghost use Rattle.event_gate.specs.Texts.{PostsSome, asked_each, lines_asked};
 
 use crate::bell::Bell;
 use crate::poster::{PostPass, Poster};
@@ -9,8 +9,12 @@ use std::sync::Wait;
 
 /// What is done before each post.
 pub trait PostGate: Send + Drop {
+    /// What the gate is once it was asked of this client's line of this number.
+    ghost asked: { Self → ℕ → ℕ → Self };
+
     /// Called before the client's line of that number is posted.
-    fn before(&mut self, client: u8, seq: u32);
+    fn before(&mut self, client: u8, seq: u32)
+        ensures { self.new ≡ asked self.old client seq };
 }
 
 /// Does nothing.
@@ -18,6 +22,8 @@ pub trait PostGate: Send + Drop {
 pub struct NoGate;
 
 impl PostGate for NoGate {
+    ghost asked = { λ gate client seq. gate };
+
     fn before(&mut self, _client: u8, _seq: u32) {}
 }
 
@@ -37,7 +43,8 @@ fn post_texts<G: PostGate, R: Wait>(
     bell: &Bell,
 ) -> bool
     requires { length poster.old.posted + length texts.now ≤ 4294967295 }
-    ensures { PostsSome poster.old texts.now result poster.new }
+    ensures posts { PostsSome poster.old texts.now result poster.new }
+    ensures gate { gate.new ≡ asked_each G.asked gate.old (lines_asked poster.old texts.now result poster.new) }
 {
     let client = poster.client();
     for text in texts {
@@ -56,18 +63,20 @@ fn post_texts<G: PostGate, R: Wait>(
     true
 }
 
-/// Posts the texts in order, with a ring of the bell after each, until a post is refused. Then the poster leaves.
+/// Posts the texts in order, with a ring of the bell after each, until a post is refused. Then the poster leaves. The gate was asked
+/// of exactly the lines posted, in order, and then of the one refused, if one was.
 pub fn post_all<G: PostGate, R: Wait>(
     rt: &R,
     mut poster: Poster,
-    mut gate: G,
+    gate: &mut G,
     texts: &[Text],
     bell: &Bell,
 ) -> PostEnd
     requires { length poster.posted + length texts.now ≤ 4294967295 }
-    ensures { PostsSome poster texts.now result.all result.pass }
+    ensures posts { PostsSome poster texts.now result.all result.pass }
+    ensures gate { gate.new ≡ asked_each G.asked gate.old (lines_asked poster texts.now result.all result.pass) }
 {
-    let all = post_texts(rt, &mut poster, &mut gate, texts, bell);
+    let all = post_texts(rt, &mut poster, gate, texts, bell);
     bell.leave(rt);
     PostEnd {
         pass: poster.finish(),

@@ -1,5 +1,6 @@
 // What one outside thread does on a lane.
 ghost use Rattle.std.specs.Prelude.{◌≡◌, ◌+◌, ◌≤◌, length};
+ghost use Rattle.event_gate.specs.Texts.{asked_each, lines_from};
 ghost use Rattle.lanes.specs.Texts.{lane_posted};
 
 use crate::lane::{LanePass, LanePoster};
@@ -7,16 +8,18 @@ use event_gate::{Bell, PostGate};
 use lwp_types::{Line, Text};
 use std::sync::Wait;
 
-/// Posts the texts in order, with a ring of the bell after each. Then the poster leaves.
+/// Posts the texts in order, with a ring of the bell after each. Then the poster leaves. The gate was asked of exactly these lines,
+/// in order.
 pub fn lane_post_all<G: PostGate, R: Wait>(
     rt: &R,
     mut poster: LanePoster,
-    mut gate: G,
+    gate: &mut G,
     texts: &[Text],
     bell: &Bell,
 ) -> LanePass
     requires { length poster.posted + length texts.now ≤ poster.lines }
-    ensures { result ≡ lane_posted poster texts.now }
+    ensures posts { result ≡ lane_posted poster texts.now }
+    ensures gate { gate.new ≡ asked_each G.asked gate.old (lines_from poster.client (length poster.posted) texts.now) }
 {
     let client = poster.client();
     for text in texts {

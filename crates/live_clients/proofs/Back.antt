@@ -1,17 +1,19 @@
 -- What the taking in of one more pass does to the ties.
 use Rattle.event_gate.proofs.Lines.{same_or}
+use Rattle.event_gate.proofs.Texts.{length-lines_from}
 use Rattle.event_gate.specs.Inlet.{Intake}
 use Rattle.event_gate.specs.Port.{is_noted, is_told, told_of}
 use Rattle.event_gate.specs.Shelves.{event_of}
 use Rattle.live_clients.proofs.Served.{is_client}
-use Rattle.live_clients.proofs.Ties.{IsSame, for_kept, known_again, out_kept}
+use Rattle.live_clients.proofs.Ties.{IsSame, for_kept, known_again, out_kept, short_again}
 use Rattle.live_clients.specs.Ends.{AnyPosting, IsEnd, IsTakenIn, passed_of}
-use Rattle.live_clients.specs.Served.{EachInlet, Hears, clients_of, texts_of}
+use Rattle.live_clients.specs.Inlets.{is_lane}
+use Rattle.live_clients.specs.Served.{EachInlet, FellShort, Hears, clients_of, texts_of}
 use Rattle.live_clients.specs.Ties.{AreTied, IsKnown, IsOut, IsWork, any_intake}
 use Rattle.live_clients.specs.declared.inlet.AnyInlet.{AnyInlet}
 use Rattle.live_clients.specs.declared.outside.Client.{Client}
 use Rattle.live_clients.specs.declared.poster.AnyEnd.{AnyEnd}
-use Rattle.std.proofs.Common.{Bool, List, [], ap, arith, eqb, false, get_or-set_other, get_or-set_same, length, length-append, length-set, map, ne_eqb, refl, set, slice_index_or, subst, sym, true, true≢false, ℕ, ◌&&◌, ◌+◌, ◌++◌, ◌<◌, ◌∙◌, ◌∷◌, ◌≡◌, ◌≢◌, ⊎_elim}
+use Rattle.std.proofs.Common.{Bool, List, [], ap, arith, eqb, false, get_or-set_other, get_or-set_same, inl, inr, length, length-append, length-set, length-take-le, map, ne_eqb, refl, set, slice_index_or, subst, sym, take, true, true≢false, ℕ, ◌&&◌, ◌+◌, ◌++◌, ◌<◌, ◌∙◌, ◌∷◌, ◌≡◌, ◌≢◌, ◌⊎◌, ⊎_elim}
 use Rattle.std.proofs.Math.Seq.{get_or-append_seam}
 use Rattle.std.proofs.lemmas.Bool.{cases_order}
 use Rattle.std.proofs.lemmas.List.{get_or-map, get_or_append_left, length-map}
@@ -24,6 +26,10 @@ first_of_both false b e = e
 second_of_both : (a b : Bool) → (a && b) ≡ true → b ≡ true
 second_of_both true b e = e
 second_of_both false b e = absurd (true≢false (sym e))
+
+one_not : (a b : Bool) → (a && b) ≡ false → (a ≡ false) ⊎ (b ≡ false)
+one_not true b e = inr e
+one_not false b e = inl refl
 
 -- ---- one inlet changes
 
@@ -50,23 +56,24 @@ hears before k t u p inside at h = each_set Hears before k u (λ v. refl) inside
 -- ---- the client that is back
 
 -- of the client that is back
-known_mine : (texts : List (List (List ℕ))) (all : Bool) (c : ℕ) (place : List ℕ) (e : AnyEnd) (t u : Intake) → IsEnd place c (texts_of texts c) e → IsTakenIn t (passed_of e.pass) u → IsKnown texts (all && e.all) c u
-known_mine texts all c place e t u end h = record {
+known_mine : (texts : List (List (List ℕ))) (all : Bool) (c : ℕ) (e : AnyEnd) (t u : Intake) → IsEnd t.place c (texts_of texts c) e → IsTakenIn t (passed_of e.pass) u → IsKnown texts (all && e.all) c u
+known_mine texts all c e t u end h = record {
   told = subst (λ (d : ℕ). is_told d u.known ≡ true) end.client_is h.told;
   count = end.count;
   posted = subst (λ (d : ℕ). told_of d u.known ≡ (passed_of e.pass).posted) end.client_is h.posted ∙ end.posted;
   whole = λ both. end.whole (second_of_both all e.all both);
+  sole = λ lane. end.whole (end.sure (sym (ap is_lane (ap (λ (v : Intake). v.place) h.same)) ∙ lane));
 }
 
 -- fewer say that they have posted all
 known_less : (texts : List (List (List ℕ))) (all more : Bool) (c : ℕ) (t : Intake) → IsKnown texts all c t → IsKnown texts (all && more) c t
-known_less texts all more c t h = record { told = h.told; count = h.count; posted = h.posted; whole = λ both. h.whole (first_of_both all more both) }
+known_less texts all more c t h = record { told = h.told; count = h.count; posted = h.posted; whole = λ both. h.whole (first_of_both all more both); sole = h.sole }
 
 -- of the others
 known_still : (texts : List (List (List ℕ))) (all more : Bool) (c : ℕ) (t u : Intake) (p : AnyPosting) → is_noted c t.noted ≡ true → eqb p.client c ≡ false → IsTakenIn t p u → IsKnown texts all c t → IsKnown texts (all && more) c u
 known_still texts all more c t u p noted other h k =
     let r = h.others c noted other in
-    known_less texts all more c u (known_again texts all c t u r.0 r.1 k)
+    known_less texts all more c u (known_again texts all c t u (ap (λ (v : Intake). v.place) h.same) r.0 r.1 k)
 
 -- no other inlet has its event
 one_inlet : (before : List Intake) (i j : ℕ) (d : Intake) → ((i j : ℕ) (d : Intake) → i < j → j < length before → (slice_index_or before i d).event < (slice_index_or before j d).event)
@@ -78,6 +85,30 @@ one_inlet before i j d rise low high e = ⊎_elim
     (λ (l : j < i). let r = rise j i d l low in absurd (omega (arith, r, e)))
     o)
     (cases_order i j)
+
+-- the client that is back has not posted all
+short_mine : (events : List ℕ) (texts : List (List (List ℕ))) (c k : ℕ) (before : List Intake) (t u : Intake) (e : AnyEnd)
+    → EachInlet IsSame before (set before k u) → ((i j : ℕ) (d : Intake) → i < j → j < length before → (slice_index_or before i d).event < (slice_index_or before j d).event)
+    → k < length before → ((d : Intake) → (slice_index_or before k d).event ≡ event_of events c) → c < length events
+    → IsEnd t.place c (texts_of texts c) e → IsTakenIn t (passed_of e.pass) u → e.all ≡ false → FellShort events texts c (set before k u)
+unfolding known_mine
+short_mine events texts c k before t u e same rise inside event low end taken not = record {
+  client = c;
+  high = omega arith;
+  low = low;
+  short = λ j d there is.
+      let inside' : j < length before = (let s = same.0 in omega (arith, s, there)) in
+      ⊎_elim
+      (λ (here : j ≡ k).
+      let now : slice_index_or (set before k u) j d ≡ u = ap (λ (i : ℕ). slice_index_or (set before k u) i d) here ∙ get_or-set_same before k u d inside in
+      let ts : List (List ℕ) = take end.count (texts_of texts c) in
+      let size : length (told_of c u.known) ≡ length ts = ap length (known_mine texts true c e t u end taken).posted ∙ length-lines_from c 0 ts in
+      let few = end.short not in
+      let count : length ts ≡ end.count = length-take-le end.count (texts_of texts c) (omega (arith, few)) in
+      subst (λ (v : Intake). length (told_of c v.known) < length (texts_of texts c)) (sym now) (omega (arith, size, few, count)))
+      (λ (away : j ≢ k). absurd (away (one_inlet before j k d rise inside' inside (sym (same.1 j d inside').event ∙ is ∙ sym (event d)))))
+      (same_or j k);
+}
 
 -- one client more is back
 pub tied_back : (events : List ℕ) (texts : List (List (List ℕ))) (all : Bool) (out : List Client) (before : List Intake) (client : Client) (t u : Intake) (e : AnyEnd)
@@ -110,7 +141,7 @@ tied_back events texts all out before client t u e h at end taken =
           let now : slice_index_or after j d ≡ u = ap (λ (i : ℕ). slice_index_or after i d) here ∙ get_or-set_same before k u d mine.inside in
           let was : slice_index_or before j d ≡ t = ap (λ (i : ℕ). slice_index_or before i d) here ∙ at d in
           subst (IsKnown texts (all && e.all) b) (sym now) (⊎_elim
-          (λ (it : c ≡ b). subst (λ (i : ℕ). IsKnown texts (all && e.all) i u) it (known_mine texts all c t.place e t u end taken))
+          (λ (it : c ≡ b). subst (λ (i : ℕ). IsKnown texts (all && e.all) i u) it (known_mine texts all c e t u end taken))
           (λ (other : c ≢ b).
           let event : t.event ≡ event_of events b = ap (λ (v : Intake). v.event) (sym was) ∙ is' in
           let noted : is_noted b t.noted ≡ true = ap (is_noted b) (subst (λ (v : Intake). v.noted ≡ clients_of events v.event) was (h.are_for.clients j d inside')) ∙ is_client events t.event b low (sym event) in
@@ -124,6 +155,22 @@ tied_back events texts all out before client t u e h at end taken =
           (λ (other : c ≢ b). known_less texts all e.all b (slice_index_or before j d) (h.back b (omega (arith, size, high, other)) low j d inside' is'))
           (same_or c b)))
           (same_or j k);
+      short = λ not. ⊎_elim
+          (λ (others : all ≡ false).
+          short_again events texts (length (out ++ client ∷ [])) c before after (omega (arith, size)) same
+          (λ b high low j d inside' is'. ⊎_elim
+          (λ (here : j ≡ k).
+          let now : slice_index_or after j d ≡ u = ap (λ (i : ℕ). slice_index_or after i d) here ∙ get_or-set_same before k u d mine.inside in
+          let was : slice_index_or before j d ≡ t = ap (λ (i : ℕ). slice_index_or before i d) here ∙ at d in
+          let event : t.event ≡ event_of events b = ap (λ (v : Intake). v.event) (sym was) ∙ is' in
+          let noted : is_noted b t.noted ≡ true = ap (is_noted b) (subst (λ (v : Intake). v.noted ≡ clients_of events v.event) was (h.are_for.clients j d inside')) ∙ is_client events t.event b low (sym event) in
+          let client_is = end.client_is in
+          ap (λ (v : Intake). told_of b v.known) now ∙ (taken.others b noted (ne_eqb (passed_of e.pass).client b (λ q. omega (arith, size, high, client_is, q)))).1 ∙ sym (ap (λ (v : Intake). told_of b v.known) was))
+          (λ (away : j ≢ k). ap (λ (v : Intake). told_of b v.known) (get_or-set_other before k j u d away))
+          (same_or j k))
+          (h.short others))
+          (λ (mine' : e.all ≡ false). short_mine events texts c k before t u e same h.are_for.rise.1 mine.inside mine.event (omega (arith, size, few)) end taken mine')
+          (one_not all e.all not);
     }
 
 -- what the next thread brings back fits its inlet

@@ -6,7 +6,7 @@ use Rattle.event_gate.specs.Port.{is_noted}
 use Rattle.event_gate.specs.Shelves.{event_of}
 use Rattle.live_clients.proofs.Served.{at_noted, clients_are, is_client}
 use Rattle.live_clients.specs.Ends.{IsReady, of_port, posting_of}
-use Rattle.live_clients.specs.Inlets.{fresh}
+use Rattle.live_clients.specs.Inlets.{fresh, is_lane}
 use Rattle.live_clients.specs.Opening.{AreOpen, AreSeated, HasSeat, HaveSeatsFrom, IsSeatAt}
 use Rattle.live_clients.specs.Served.{AreFor, clients_of, texts_of}
 use Rattle.live_clients.specs.Ties.{AreTied, IsOut, IsWork}
@@ -164,10 +164,14 @@ seat_kept events texts inlets t c seat h =
       at = λ d. subst (λ (u : Intake). IsSeatAt h.index u.place c (texts_of texts c) seat) (sym (same d)) (h.at d);
     }
 
+-- a lane exactly where there is one client
+abbrev IsFitting : Intake → Type 0
+IsFitting t = is_lane t.place ≡ eqb (length t.noted) 1
+
 pub open_more : (events : List ℕ) (texts : List (List (List ℕ))) (e : ℕ) (inlets : List Intake) (t : Intake) (old new : List (Option Seat))
-    → AreOpen events texts e inlets old → t ≡ fresh t.place e (clients_of events e) → AreSeated texts (length inlets) t.place (clients_of events e) old new
+    → AreOpen events texts e inlets old → t ≡ fresh t.place e (clients_of events e) → is_lane t.place ≡ eqb (length (clients_of events e)) 1 → AreSeated texts (length inlets) t.place (clients_of events e) old new
     → AreOpen events texts (e + 1) (inlets ++ t ∷ []) new
-open_more events texts e inlets t old new h is seats =
+open_more events texts e inlets t old new h is lane seats =
     let size : length (inlets ++ t ∷ []) ≡ length inlets + 1 = length-append inlets (t ∷ []) in
     let event : t.event ≡ e = ap (λ (u : Intake). u.event) is in
     let last : (d : Intake) → slice_index_or (inlets ++ t ∷ []) (length inlets) d ≡ t = λ d. get_or-append_seam inlets t [] d in
@@ -204,6 +208,13 @@ open_more events texts e inlets t old new h is seats =
           let lt' : k < length inlets = omega (arith, size, lt, n) in
           subst (IsNew events) (sym (first k d lt')) (h.new k d lt'))
           (same_or k (length inlets));
+      lanes = λ k d lt. ⊎_elim
+          (λ (it : k ≡ length inlets).
+          subst (λ (i : ℕ). IsFitting (slice_index_or (inlets ++ t ∷ []) i d)) (sym it) (subst IsFitting (sym (last d)) (lane ∙ ap (λ (cs : List ℕ). eqb (length cs) 1) (sym (ap (λ (u : Intake). u.noted) is)))))
+          (λ (n : k ≢ length inlets).
+          let lt' : k < length inlets = omega (arith, size, lt, n) in
+          subst IsFitting (sym (first k d lt')) (h.lanes k d lt'))
+          (same_or k (length inlets));
       size = seats.size ∙ h.size;
       seated = λ c d low small. ⊎_elim
           (λ (it : event_of events c ≡ e). record {
@@ -224,6 +235,7 @@ open_none events texts seats size = record {
   low = λ k d lt. absurd (omega (arith, lt));
   rise = λ i j d low high. absurd (omega (arith, high));
   new = λ k d lt. absurd (omega (arith, lt));
+  lanes = λ k d lt. absurd (omega (arith, lt));
   size = size;
   seated = λ c d low small. absurd (omega (arith, small));
 }
@@ -234,6 +246,7 @@ open_nothing events texts e inlets seats h none = record {
   low = λ k d lt. let l = h.low k d lt in omega (arith, l);
   rise = h.rise;
   new = h.new;
+  lanes = h.lanes;
   size = h.size;
   seated = λ c d low small. ⊎_elim
       (λ (it : event_of events c ≡ e). absurd (true≢false (sym (is_client events e c low it) ∙ ap (is_noted c) none)))
@@ -252,6 +265,7 @@ open_for events texts inlets seats h sound = record {
       let s = sound k 0 lt in
       let seat = h.seated k None lt (omega (arith, s)) in
       (seat.index, seat.inside, λ u. seat.event u ∙ sym zero_is);
+  lanes = h.lanes;
 }
 
 -- ---- the threads
@@ -322,4 +336,5 @@ all_out events texts inlets out are_for as_many few size work = record {
   out_of = omega (arith, size);
   at_work = work;
   back = λ c high low. absurd (omega (arith, size, high, low));
+  short = λ not. absurd (true≢false not);
 }

@@ -5,7 +5,7 @@ use Rattle.event_gate.specs.Port.{IsNumbered, is_noted, is_told, of, told_of}
 use Rattle.event_gate.specs.Shelves.{event_of}
 use Rattle.event_gate.specs.Texts.{lines_from}
 use Rattle.live_clients.specs.Inlets.{TakesFirst, TakesNone}
-use Rattle.live_clients.specs.Served.{HasLines, IsServed, clients_of, texts_of}
+use Rattle.live_clients.specs.Served.{FellShort, HasLines, IsServed, clients_of, texts_of}
 use Rattle.live_clients.specs.Ties.{ClosedAreServed, IsKnown, all_texts, any_intake, events_of, intakes}
 use Rattle.live_clients.specs.declared.inlet.AnyInlet.{AnyInlet}
 use Rattle.lwp_types.specs.declared.call.Line.{Line}
@@ -89,6 +89,7 @@ has_lines events texts all t c first noted h =
       count = h.count;
       posted = h.posted;
       whole = h.whole;
+      sole = h.sole;
       rest = rest;
       lines = ap (λ xs. xs ++ rest) (sym (first c h.told)) ∙ take-append-drop (length mine) whole ∙ h.posted;
       done = λ all_taken. ap (drop (length mine)) (at_noted (λ d. told_of d t.known ≡ of d t.taken) c t.noted all_taken noted) ∙ drop-length mine;
@@ -138,4 +139,5 @@ closed_are_served o tied closed = record {
       (subst (λ (t : Intake). t.noted ≡ clients_of (events_of o) t.event) at (tied.are_for.clients k (any_intake d) (omega (arith, size, lt))))
       (λ c. few_texts (all_texts o) c tied.few)
       (λ c low is. subst (IsKnown (all_texts o) o.all c) at (tied.back c (omega (arith, ap length closed)) low k (any_intake d) (omega (arith, size, lt)) (ap (λ (t : Intake). t.event) at ∙ sym is))));
+  short = λ not. subst (λ (n : ℕ). FellShort (events_of o) (all_texts o) n (intakes o)) (ap length closed) (tied.short not);
 }

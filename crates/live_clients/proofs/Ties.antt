@@ -1,10 +1,12 @@
 -- What keeps the inlets tied to the threads that post to them.
 use Rattle.event_gate.specs.Inlet.{Intake}
 use Rattle.event_gate.specs.Port.{is_told, told_of}
-use Rattle.live_clients.specs.Served.{AreFor, EachInlet, Gave, clients_of, texts_of}
+use Rattle.live_clients.specs.Inlets.{is_lane}
+use Rattle.live_clients.specs.Served.{AreFor, EachInlet, FellShort, Gave, clients_of, texts_of}
+use Rattle.event_gate.specs.Shelves.{event_of}
 use Rattle.live_clients.specs.Ties.{DrawsKeepTies, IsKnown, IsOut, IsWork}
 use Rattle.live_clients.specs.declared.outside.Client.{Client}
-use Rattle.std.proofs.Common.{Bool, List, ap, arith, length, slice_index_or, subst, sym, ℕ, ◌<◌, ◌∙◌, ◌≡◌, ◌≤◌}
+use Rattle.std.proofs.Common.{Bool, List, ap, arith, eqb, length, slice_index_or, subst, sym, ℕ, ◌<◌, ◌∙◌, ◌≡◌, ◌≤◌}
 
 -- the same inlet, event and clients
 pub record IsSame (t u : Intake) : Type 0 where
@@ -31,10 +33,30 @@ for_kept events before after same h =
       found = λ k d lt.
           let f = h.found k d lt in
           (f.0, omega (arith, size, f.1), λ e. event f.0 e f.1 ∙ f.2 e);
+      lanes = λ k d lt.
+          let low : k < length before = omega (arith, size, lt) in
+          ap is_lane (same.1 k d low).place ∙ h.lanes k d low ∙ ap (λ (cs : List ℕ). eqb (length cs) 1) (sym (same.1 k d low).noted);
     }
 
-pub known_again : (texts : List (List (List ℕ))) (all : Bool) (c : ℕ) (t u : Intake) → is_told c u.known ≡ is_told c t.known → told_of c u.known ≡ told_of c t.known → IsKnown texts all c t → IsKnown texts all c u
-known_again texts all c t u told lines h = record { told = told ∙ h.told; count = h.count; posted = lines ∙ h.posted; whole = h.whole }
+pub known_again : (texts : List (List (List ℕ))) (all : Bool) (c : ℕ) (t u : Intake) → u.place ≡ t.place → is_told c u.known ≡ is_told c t.known → told_of c u.known ≡ told_of c t.known → IsKnown texts all c t → IsKnown texts all c u
+known_again texts all c t u place told lines h = record { told = told ∙ h.told; count = h.count; posted = lines ∙ h.posted; whole = h.whole; sole = λ lane. h.sole (sym (ap is_lane place) ∙ lane) }
+
+-- whoever fell short still does, where as much is known of what it has posted
+pub short_again : (events : List ℕ) (texts : List (List (List ℕ))) (n m : ℕ) (before after : List Intake) → m ≤ n → EachInlet IsSame before after
+    → ((c : ℕ) → n ≤ c → c < length events → (k : ℕ) (d : Intake) → k < length before → (slice_index_or before k d).event ≡ event_of events c → told_of c (slice_index_or after k d).known ≡ told_of c (slice_index_or before k d).known)
+    → FellShort events texts n before → FellShort events texts m after
+short_again events texts n m before after less same told h = record {
+  client = h.client;
+  high = (let high = h.high in omega (arith, high, less));
+  low = h.low;
+  short = λ k d inside is.
+      let size = same.0 in
+      let low : k < length before = omega (arith, size, inside) in
+      let is' : (slice_index_or before k d).event ≡ event_of events h.client = sym (same.1 k d low).event ∙ is in
+      let l = h.short k d low is' in
+      let e = ap length (told h.client h.high h.low k d low is') in
+      omega (arith, l, e);
+}
 
 pub out_kept : (events : List ℕ) (texts : List (List (List ℕ))) (before after : List Intake) (c : ℕ) (out : Client) → EachInlet IsSame before after → IsOut events texts before c out → IsOut events texts after c out
 out_kept events texts before after c out same h = record {
@@ -69,5 +91,9 @@ draws_keep_ties events texts all out before after h gave =
           let size = gave.0 in
           let low : k < length before = omega (arith, size, inside) in
           let known = ap (λ (t : Intake). t.known) (gave.1 k d low).after in
-          known_again texts all c (slice_index_or before k d) (slice_index_or after k d) (ap (is_told c) known) (ap (told_of c) known) (h.back c high lt k d low (sym (same.1 k d low).event ∙ is));
+          known_again texts all c (slice_index_or before k d) (slice_index_or after k d) (same.1 k d low).place (ap (is_told c) known) (ap (told_of c) known) (h.back c high lt k d low (sym (same.1 k d low).event ∙ is));
+      short = λ not.
+          let stays : length out ≤ length out = omega arith in
+          short_again events texts (length out) (length out) before after stays same
+          (λ c high lt k d low is. ap (told_of c) (ap (λ (t : Intake). t.known) (gave.1 k d low).after)) (h.short not);
     }

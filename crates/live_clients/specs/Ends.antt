@@ -4,11 +4,12 @@ use Rattle.event_gate.specs.Inlet.{Intake}
 use Rattle.event_gate.specs.Port.{is_noted, is_told, told_of}
 use Rattle.event_gate.specs.Texts.{lines_from}
 use Rattle.lanes.specs.Ends.{LanePosting, lane_place}
+use Rattle.live_clients.specs.Inlets.{is_lane}
 use Rattle.live_clients.specs.declared.poster.AnyEnd.{AnyEnd}
 use Rattle.live_clients.specs.declared.poster.AnyPass.{AnyPass}
 use Rattle.live_clients.specs.declared.poster.AnyPoster.{AnyPoster}
 use Rattle.lwp_types.specs.declared.call.Line.{Line}
-use Rattle.std.specs.Prelude.{List, [], ◌∷◌, eqb, false, length, take, true, ℕ, ◌≡◌, ◌≤◌}
+use Rattle.std.specs.Prelude.{List, [], ◌∷◌, cond, eqb, false, length, take, true, ℕ, ◌+◌, ◌<◌, ◌≡◌, ◌≤◌}
 use Rattle.live_clients.specs.declared.poster.AnyPass.TheVariants as passes
 use Rattle.live_clients.specs.declared.poster.AnyPoster.TheVariants as posters
 
@@ -44,13 +45,19 @@ pub record IsReady (place : List ℕ) (client : ℕ) (texts : List (List ℕ)) (
   pub posted_is : p.posted ≡ []
   pub room : length texts ≤ p.room
 
--- the client of this inlet has posted the first of these texts, and all of them where it says so
+-- the client of this inlet has posted the first of these texts: all of them where it says so, and else fewer; on a lane it says so
 pub record IsEnd (place : List ℕ) (client : ℕ) (texts : List (List ℕ)) (e : AnyEnd) : Type 0 where
   pub place_is : (passed_of e.pass).place ≡ place
   pub client_is : (passed_of e.pass).client ≡ client
   pub count : ℕ
   pub posted : (passed_of e.pass).posted ≡ lines_from client 0 (take count texts)
   pub whole : e.all ≡ true → take count texts ≡ texts
+  pub short : e.all ≡ false → count < length texts
+  pub sure : is_lane place ≡ true → e.all ≡ true
+
+-- the lines of which the client's gate was asked: those posted, and where these aren't all the next one, which was refused
+abbrev pub lines_tried : ℕ → List (List ℕ) → AnyEnd → List Line
+lines_tried client texts e = lines_from client 0 (take (length (passed_of e.pass).posted + cond e.all 0 1) texts)
 
 -- what the client has posted in all is known from now on; of the inlet's other clients that is known which was known before
 pub record IsTakenIn (t : Intake) (p : AnyPosting) (u : Intake) : Type 0 where

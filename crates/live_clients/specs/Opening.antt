@@ -3,11 +3,11 @@ use Rattle.event_gate.specs.Inlet.{Intake}
 use Rattle.event_gate.specs.Port.{is_noted}
 use Rattle.event_gate.specs.Shelves.{event_of}
 use Rattle.live_clients.specs.Ends.{IsReady, posting_of}
-use Rattle.live_clients.specs.Inlets.{fresh}
+use Rattle.live_clients.specs.Inlets.{fresh, is_lane}
 use Rattle.live_clients.specs.Served.{clients_of, texts_of}
 use Rattle.live_clients.specs.declared.opening.Seat.{Seat}
 use Rattle.std.specs.List.{All, AllPairs, slice_index_or}
-use Rattle.std.specs.Prelude.{List, None, Option, Some, false, length, true, ℕ, ◌+◌, ◌<◌, ◌≡◌}
+use Rattle.std.specs.Prelude.{List, None, Option, Some, eqb, false, length, true, ℕ, ◌+◌, ◌<◌, ◌≡◌}
 
 -- a client's end is there, ready for its texts, of the inlet that stands or will stand at this index
 abbrev pub IsSeatAt : ℕ → List ℕ → ℕ → List (List ℕ) → Option Seat → Type 0
@@ -32,6 +32,7 @@ pub record AreOpen (events : List ℕ) (texts : List (List (List ℕ))) (e : ℕ
   pub low : All (λ t. t.event < e) inlets
   pub rise : AllPairs (λ t u. t.event < u.event) inlets
   pub new : All (λ t. t ≡ fresh t.place t.event (clients_of events t.event)) inlets
+  pub lanes : All (λ t. is_lane t.place ≡ eqb (length t.noted) 1) inlets
   pub size : length seats ≡ length events
   pub seated : (c : ℕ) (d : Option Seat) → c < length events → event_of events c < e → HasSeat events texts inlets c (slice_index_or seats c d)
 

@@ -3,9 +3,10 @@ use Rattle.event_gate.specs.Inlet.{Intake, IsInletTaken, IsInletTold}
 use Rattle.event_gate.specs.Port.{IsNumbered, of, told_of}
 use Rattle.event_gate.specs.Shelves.{event_of}
 use Rattle.event_gate.specs.Texts.{lines_from}
+use Rattle.live_clients.specs.Inlets.{is_lane}
 use Rattle.lwp_types.specs.declared.call.Line.{Line}
 use Rattle.std.specs.List.{All, AllPairs, HoldsAt, SomeIndex, filter, range_with_len, slice_index_or}
-use Rattle.std.specs.Prelude.{Bool, List, [], ◌++◌, eqb, length, take, true, ℕ, ◌<◌, ◌≡◌, ◌≤◌, ◌+◌}
+use Rattle.std.specs.Prelude.{Bool, List, [], ◌++◌, eqb, false, length, take, true, ℕ, ◌<◌, ◌≡◌, ◌≤◌, ◌+◌}
 
 -- the clients that post to an event, in order
 abbrev pub clients_of : List ℕ → ℕ → List ℕ
@@ -23,11 +24,12 @@ EventsRise inlets = All (λ t. t.event ≤ 31) inlets × AllPairs (λ t u. t.eve
 abbrev pub HasEvent : List Intake → ℕ → Type 0
 HasEvent inlets e = SomeIndex inlets (λ k. HoldsAt (λ t. t.event ≡ e) inlets k)
 
--- there is an inlet of each event that has a client, for just the clients of this event
+-- there is an inlet of each event that has a client, for just the clients of this event: a lane where there is one, and else a port
 pub record AreFor (events : List ℕ) (inlets : List Intake) : Type 0 where
   pub rise : EventsRise inlets
   pub clients : All (λ t. t.noted ≡ clients_of events t.event) inlets
   pub found : All (HasEvent inlets) events
+  pub lanes : All (λ t. is_lane t.place ≡ eqb (length t.noted) 1) inlets
 
 -- so it is of each inlet, before and after, in its place
 abbrev pub EachInlet : (Intake → Intake → Type 0) → List Intake → List Intake → Type 0
@@ -44,12 +46,13 @@ pub record Gave (t u : Intake) : Type 0 where
 abbrev pub Hears : Intake → Intake → Type 0
 Hears t u = u ≡ record t { known = u.known }
 
--- What an inlet has of a client of its event: the client posted the first of its texts, and all of them where `all` is true. The lines
--- taken are the first of these, and then come the rest.
+-- What an inlet has of a client of its event: the client posted the first of its texts, and all of them where `all` is true or it is a
+-- lane. The lines taken are the first of these, and then come the rest.
 pub record HasLines (client : ℕ) (texts : List (List ℕ)) (all : Bool) (t : Intake) : Type 0 where
   pub count : ℕ
   pub posted : told_of client t.known ≡ lines_from client 0 (take count texts)
   pub whole : all ≡ true → take count texts ≡ texts
+  pub sole : is_lane t.place ≡ true → take count texts ≡ texts
   pub rest : List Line
   pub lines : of client t.taken ++ rest ≡ lines_from client 0 (take count texts)
   pub done : IsInletTaken t → rest ≡ []
@@ -61,7 +64,15 @@ pub record IsServed (events : List ℕ) (texts : List (List (List ℕ))) (all : 
   pub lines : (c : ℕ) → c < length events → event_of events c ≡ t.event → HasLines c (texts_of texts c) all t
   pub numbered : (c : ℕ) → IsNumbered 0 (of c t.taken)
 
--- so it is of each inlet, and each client's event has one
+-- a client from n on has not posted all its lines, as the inlet of its event knows
+pub record FellShort (events : List ℕ) (texts : List (List (List ℕ))) (n : ℕ) (inlets : List Intake) : Type 0 where
+  pub client : ℕ
+  pub high : n ≤ client
+  pub low : client < length events
+  pub short : All (λ t. t.event ≡ event_of events client → length (told_of client t.known) < length (texts_of texts client)) inlets
+
+-- so it is of each inlet, and each client's event has one; where `all` is false, some client has not posted all its lines
 pub record AreServed (events : List ℕ) (texts : List (List (List ℕ))) (all : Bool) (inlets : List Intake) : Type 0 where
   pub are_for : AreFor events inlets
   pub served : All (IsServed events texts all) inlets
+  pub short : all ≡ false → FellShort events texts 0 inlets

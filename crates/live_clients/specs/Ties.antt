@@ -4,15 +4,15 @@ use Rattle.event_gate.specs.Port.{is_told, told_of}
 use Rattle.event_gate.specs.Shelves.{event_of}
 use Rattle.event_gate.specs.Texts.{lines_from}
 use Rattle.live_clients.specs.Ends.{IsEnd, posting_of}
-use Rattle.live_clients.specs.Inlets.{intake_of}
-use Rattle.live_clients.specs.Served.{AreFor, AreServed, EachInlet, Gave, texts_of}
+use Rattle.live_clients.specs.Inlets.{intake_of, is_lane}
+use Rattle.live_clients.specs.Served.{AreFor, AreServed, EachInlet, FellShort, Gave, texts_of}
 use Rattle.live_clients.specs.declared.inlet.AnyInlet.{AnyInlet}
 use Rattle.live_clients.specs.declared.outside.Client.{Client}
 use Rattle.live_clients.specs.declared.outside.Outside.{Outside}
 use Rattle.live_clients.specs.declared.outside.Work.{Work}
 use Rattle.live_clients.specs.declared.outside.Work.TheVariants.{Here, There}
 use Rattle.std.specs.List.{All, slice_index_or}
-use Rattle.std.specs.Prelude.{Bool, List, [], length, map, take, true, ℕ, ◌<◌, ◌≡◌, ◌≤◌}
+use Rattle.std.specs.Prelude.{Bool, List, [], false, length, map, take, true, ℕ, ◌<◌, ◌≡◌, ◌≤◌}
 
 -- an inlet as any runner's end
 abbrev pub any_intake : AnyInlet → Intake
@@ -41,14 +41,15 @@ pub record IsOut (events : List ℕ) (texts : List (List (List ℕ))) (inlets : 
   pub event : (d : Intake) → (slice_index_or inlets out.inlet d).event ≡ event_of events c
   pub work : (d : Intake) → IsWork (slice_index_or inlets out.inlet d).place c (texts_of texts c) out.work
 
--- what a client has posted is known to the inlet: the first of its texts, and all of them where `all` is true
+-- what a client has posted is known to the inlet: the first of its texts, and all of them where `all` is true or it is a lane
 pub record IsKnown (texts : List (List (List ℕ))) (all : Bool) (c : ℕ) (t : Intake) : Type 0 where
   pub told : is_told c t.known ≡ true
   pub count : ℕ
   pub posted : told_of c t.known ≡ lines_from c 0 (take count (texts_of texts c))
   pub whole : all ≡ true → take count (texts_of texts c) ≡ texts_of texts c
+  pub sole : is_lane t.place ≡ true → take count (texts_of texts c) ≡ texts_of texts c
 
--- the first clients are out, each with its inlet, and what the others have posted is known to theirs
+-- the first clients are out, each with its inlet, and what the others have posted is known to theirs; where `all` is false, one of these others has not posted all its lines
 pub record AreTied (events : List ℕ) (texts : List (List (List ℕ))) (all : Bool) (out : List Client) (inlets : List Intake) : Type 0 where
   pub are_for : AreFor events inlets
   pub as_many : length texts ≡ length events
@@ -56,6 +57,7 @@ pub record AreTied (events : List ℕ) (texts : List (List (List ℕ))) (all : B
   pub out_of : length out ≤ length events
   pub at_work : (c : ℕ) (d : Client) → c < length out → IsOut events texts inlets c (slice_index_or out c d)
   pub back : (c : ℕ) → length out ≤ c → c < length events → All (λ t. t.event ≡ event_of events c → IsKnown texts all c t) inlets
+  pub short : all ≡ false → FellShort events texts (length out) inlets
 
 -- whoever runs the pod keeps this: it only takes lines from the inlets, or none
 abbrev pub IsTied : Outside → Type 0

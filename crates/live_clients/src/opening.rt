@@ -1,10 +1,10 @@
 // How the inlets are opened.
 ghost use Rattle.event_gate.specs.Port.{is_noted};
-ghost use Rattle.live_clients.specs.Inlets.{fresh};
+ghost use Rattle.live_clients.specs.Inlets.{fresh, is_lane};
 ghost use Rattle.live_clients.specs.Opening.{AreOpen, AreSeated};
 ghost use Rattle.live_clients.specs.Served.{clients_of};
 ghost use Rattle.live_clients.specs.Ties.{any_intake};
-ghost use Rattle.std.specs.Prelude.{All, AllPairs, IfOk, MatchOption, OnOk, [], length, map, set, true, vec_len, ◌<◌, ◌∷◌, ◌≡◌, ◌≢◌, ◌≤◌, ◌+◌};
+ghost use Rattle.std.specs.Prelude.{All, AllPairs, IfOk, MatchOption, OnOk, [], eqb, false, length, map, set, true, vec_len, ◌<◌, ◌∷◌, ◌≡◌, ◌≢◌, ◌≤◌, ◌+◌};
 
 use crate::inlet::{AnyInlet, RunnerEnd};
 use crate::poster::AnyPoster;
@@ -65,6 +65,7 @@ fn open_for_one(
     requires few { All (λ ts. length ts.items ≤ 20000) texts.now }
     requires seats { client < vec_len seats.old }
     ensures inlet { IfOk result (λ r. any_intake r ≡ fresh (any_intake r).place event (client ∷ [])) }
+    ensures lane { IfOk result (λ r. is_lane (any_intake r).place ≡ true) }
     ensures seats { IfOk result (λ r. AreSeated (map (λ v. v.items) texts.now) index (any_intake r).place (client ∷ []) seats.old.items seats.new.items) }
 {
     let lines = texts[usize::from(client)].len() as u32;
@@ -94,6 +95,7 @@ fn open_for_many<R: Wait>(
     requires few { All (λ ts. length ts.items ≤ 20000) texts.now }
     requires seats { All (λ c. c < vec_len seats.old) clients.now }
     ensures inlet { IfOk result (λ r. any_intake r ≡ fresh (any_intake r).place event clients.now) }
+    ensures port { IfOk result (λ r. is_lane (any_intake r).place ≡ false) }
     ensures seats { IfOk result (λ r. AreSeated (map (λ v. v.items) texts.now) index (any_intake r).place clients.now seats.old.items seats.new.items) }
 {
     let (port, posters) = open_port(rt, alloc, event, clients)?;
@@ -136,6 +138,7 @@ fn open_inlet<R: Wait>(
     requires few { All (λ ts. length ts.items ≤ 20000) texts.now }
     requires seats { vec_len seats.old ≡ length texts.now }
     ensures inlet { IfOk result (λ r. any_intake r ≡ fresh (any_intake r).place event clients.now) }
+    ensures lane { IfOk result (λ r. is_lane (any_intake r).place ≡ eqb (length clients.now) 1) }
     ensures seats { IfOk result (λ r. AreSeated (map (λ v. v.items) texts.now) index (any_intake r).place clients.now seats.old.items seats.new.items) }
 {
     if let Some(client) = sole_client(clients) {

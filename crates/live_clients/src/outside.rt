@@ -76,7 +76,10 @@ fn start_client<'s, E, G: PostGate + 's, R: Threads + Wait + Sync>(
         move || -> AnyEnd
             requires { IsReady (posting_of poster).place (posting_of poster).client texts.now.items (posting_of poster) }
             ensures { IsEnd (posting_of poster).place (posting_of poster).client texts.entry.now.items result }
-        { post_any(rt, poster, gate, texts.as_slice(), bell) },
+        {
+            let mut gate = gate;
+            post_any(rt, poster, &mut gate, texts.as_slice(), bell)
+        },
     );
     let work = match started {
         Ok(handle) => Work::There(handle),

@@ -1,5 +1,7 @@
 // A client's end of a lane or of a port, and what its thread does.
-ghost use Rattle.live_clients.specs.Ends.{IsEnd, IsReady, posting_of};
+ghost use Rattle.event_gate.specs.Texts.{asked_each};
+ghost use Rattle.live_clients.specs.Ends.{IsEnd, IsReady, lines_tried, posting_of};
+ghost use Rattle.std.specs.Prelude.{◌≡◌};
 
 use event_gate::{Bell, PostEnd, PostGate, PostPass, Poster, post_all};
 use lanes::{LanePass, LanePoster, lane_post_all};
@@ -27,16 +29,18 @@ pub(crate) struct AnyEnd {
     pub(crate) all: bool,
 }
 
-/// Posts the texts in order, until a post is refused, which can't be on a lane. Then the poster leaves.
+/// Posts the texts in order, until a post is refused, which can't be on a lane. Then the poster leaves. The gate was asked of exactly
+/// the lines posted, in order, and then of the one refused, if one was.
 pub(crate) fn post_any<G: PostGate, R: Wait>(
     rt: &R,
     poster: AnyPoster,
-    gate: G,
+    gate: &mut G,
     texts: &[Text],
     bell: &Bell,
 ) -> AnyEnd
     requires { IsReady (posting_of poster).place (posting_of poster).client texts.now (posting_of poster) }
-    ensures { IsEnd (posting_of poster).place (posting_of poster).client texts.now result }
+    ensures end { IsEnd (posting_of poster).place (posting_of poster).client texts.now result }
+    ensures gate { gate.new ≡ asked_each G.asked gate.old (lines_tried (posting_of poster).client texts.now result) }
 {
     match poster {
         AnyPoster::Lane(poster) => AnyEnd {

@@ -12,7 +12,7 @@ fn early<R: Wait>(rt: &R, alloc: Global, lines: u32, texts: &[Text]) -> Result<L
     requires { (length texts.now ≤ lines) × (lines ≤ 20000) }
 {
     let (mut taker, poster) = open_lane(alloc, 7, 3, lines)?;
-    let pass = lane_post_all(rt, poster, NoGate, texts, &Bell::new());
+    let pass = lane_post_all(rt, poster, &mut NoGate, texts, &Bell::new());
     taker.take_in(pass);
     Ok(taker)
 }

@@ -100,7 +100,7 @@ fn start_all<'s, E, R: Threads + Wait + Sync>(
             move || -> PostEnd
                 requires { length poster.posted + length texts.now ≤ 4294967295 }
                 ensures { result.pass.port ≡ poster.port }
-            { post_all(rt, poster, NoGate, texts, bell) },
+            { post_all(rt, poster, &mut NoGate, texts, bell) },
         );
         let Ok(handle) = started else {
             return Err(NoMemory);
@@ -218,7 +218,7 @@ fn take_in_each<R: Wait>(
 {
     let mut out = 0u32;
     for poster in posters {
-        let end = post_all(rt, poster, NoGate, texts, bell);
+        let end = post_all(rt, poster, &mut NoGate, texts, bell);
         taker.take_in(rt, end.pass);
         out = out.wrapping_add(u32::from(!taker.told()));
     }

@@ -1,6 +1,6 @@
 ghost use Rattle.live_clients.specs.Served.{Gave};
 ghost use Rattle.live_clients.specs.Ties.{IsTied, any_intake};
-ghost use Rattle.std.specs.Prelude.{All, IfOk, OnOk, length, ◌+◌, ◌≡◌, ◌≤◌};
+ghost use Rattle.std.specs.Prelude.{All, IfOk, OnOk, length, ◌+◌, ◌%◌, ◌≡◌, ◌≤◌};
 ghost use denote.Param.Send.{IsSync};
 
 use crossbeam_utils::atomic::AtomicCell;
@@ -9,31 +9,52 @@ use live_clients::{AnyInlet, Outside, draws_keep_ties};
 use lwp_types::{NoMemory, Text};
 use std::alloc::Global;
 use std::sync::Wait;
+use std::sync::atomic::{AtomicU64, Ordering};
 use std::test::*;
 use std::thread::{self, Scope, Threads};
 
-// The gate of one client, which tells whether another has asked it.
+// What gates tell: how often they were asked, and whether one was asked of a line that wasn't its client's next.
+#[derive(Drop)]
+struct Asked {
+    times: AtomicU64,
+    strange: AtomicCell<bool>,
+}
+
+// The gate of one client, which wants to be asked of its next line.
 #[derive(Drop)]
 struct Own<'a> {
     client: u8,
-    strange: &'a AtomicCell<bool>,
+    next: u32,
+    asked: &'a Asked,
 }
 
 impl PostGate for Own<'_> {
-    fn before(&mut self, client: u8, _seq: u32) {
-        if client != self.client {
-            self.strange.store(true);
+    ghost asked = { λ gate client seq. record gate { next = (gate.next + 1) % 4294967296 } };
+
+    fn before(&mut self, client: u8, seq: u32) {
+        if client != self.client || seq != self.next {
+            self.asked.strange.store(true);
         }
+        self.asked.times.fetch_add(1, Ordering::SeqCst);
+        self.next = self.next.wrapping_add(1);
     }
 }
 
-fn three_gates<'a>(alloc: Global, strange: &'a AtomicCell<bool>) -> Result<Vec<Own<'a>>, NoMemory>
+fn own_gate<'a>(client: u8, asked: &'a Asked) -> Own<'a> {
+    Own {
+        client,
+        next: 0,
+        asked,
+    }
+}
+
+fn three_gates<'a>(alloc: Global, asked: &'a Asked) -> Result<Vec<Own<'a>>, NoMemory>
     ensures { IfOk result (λ v. length v.items ≡ 3) }
 {
     let mut gates = Vec::with_capacity(alloc, 3)?;
-    gates.push(Own { client: 0, strange })?;
-    gates.push(Own { client: 1, strange })?;
-    gates.push(Own { client: 2, strange })?;
+    gates.push(own_gate(0, asked))?;
+    gates.push(own_gate(1, asked))?;
+    gates.push(own_gate(2, asked))?;
     Ok(gates)
 }
 
@@ -137,11 +158,11 @@ fn run_three<R: Threads + Wait + Sync>(
     rt: &R,
     alloc: Global,
     texts: &[Vec<Text>],
-    strange: &AtomicCell<bool>,
+    asked: &Asked,
 ) -> Result<Harvest, NoMemory>
     requires { (length texts.now ≡ 3) × All (λ ts. length ts.items ≤ 20000) texts.now }
 {
-    let gates = three_gates(alloc, strange)?;
+    let gates = three_gates(alloc, asked)?;
     let bell = Bell::new();
     let bell = &bell;
     thread::scope(
@@ -184,8 +205,12 @@ fn is_whole(harvest: &Harvest) -> bool {
 #[test]
 fn each_line_comes_once_and_in_order(rt: HostRuntime) -> Result<(), Fail> {
     let texts = three_texts(rt.alloc())?;
-    let strange = AtomicCell::new(false);
-    let harvest = run_three(&rt, rt.alloc(), &texts, &strange)?;
-    assert!(rt; is_whole(&harvest) && !strange.load());
+    let asked = Asked {
+        times: AtomicU64::new(0),
+        strange: AtomicCell::new(false),
+    };
+    let harvest = run_three(&rt, rt.alloc(), &texts, &asked)?;
+    let times = asked.times.load(Ordering::SeqCst);
+    assert!(rt; is_whole(&harvest) && times == 600 && !asked.strange.load());
     Ok(())
 }

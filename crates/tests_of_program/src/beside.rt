@@ -50,6 +50,8 @@ struct Signals<'f> {
 }
 
 impl PostGate for Signals<'_> {
+    ghost asked = { λ gate client seq. gate };
+
     fn before(&mut self, client: u8, seq: u32) {
         if client != 0 || seq != 1 {
             return;

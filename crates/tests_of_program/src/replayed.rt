@@ -135,6 +135,8 @@ struct Pauses<'f> {
 }
 
 impl PostGate for Pauses<'_> {
+    ghost asked = { λ gate client seq. gate };
+
     fn before(&mut self, client: u8, seq: u32) {
         let place = seq.wrapping_add(u32::from(client)).wrapping_add(self.round);
         for _ in 0..(place % 5).wrapping_mul(2_000) {

@@ -6,7 +6,7 @@ use Rattle.live_clients.specs.Inlets.{fresh}
 use Rattle.live_clients.specs.Opening.{AreOpen, AreSeated}
 use Rattle.live_clients.specs.Served.{clients_of}
 use Rattle.live_clients.specs.Ties.{any_intake}
-use Rattle.std.proofs.Common.{All, AllPairs, List, [], ap, arith, length, map, rules, subst, sym, ℕ, ◌+◌, ◌<◌, ◌∙◌, ◌∷◌, ◌≡◌, ◌≢◌}
+use Rattle.std.proofs.Common.{All, AllPairs, List, [], ap, arith, eqb, length, map, rules, subst, sym, ℕ, ◌+◌, ◌<◌, ◌∙◌, ◌∷◌, ◌≡◌, ◌≢◌}
 use Rattle.std.proofs.lemmas.List.{length-map, map-append, nil_from_length}
 
 pub returns-then-is_empty : goal.returns-then-is_empty
@@ -35,9 +35,10 @@ returns g c =
     let len = c.len.ensures in
     let index : c.len.result ≡ length before = omega (arith, len, ok, size) in
     let is : t ≡ fresh t.place c.args.event (clients_of c.args.events.now c.args.event) = c.in_ok-inlet.ensures.inlet ∙ ap (fresh t.place c.args.event) clients in
+    let lane = c.in_ok-inlet.ensures.lane ∙ ap (λ (cs : List ℕ). eqb (length cs) 1) clients in
     let seats : AreSeated texts (length before) t.place (clients_of c.args.events.now c.args.event) c.args.seats.now.items c.open_inlet.new.seats.items =
     subst (λ (i : ℕ). AreSeated texts i t.place (clients_of c.args.events.now c.args.event) c.args.seats.now.items c.open_inlet.new.seats.items) index
     (subst (λ (cs : List ℕ). AreSeated texts c.len.result t.place cs c.args.seats.now.items c.open_inlet.new.seats.items) clients c.in_ok-inlet.ensures.seats) in
     subst (λ (inlets : List Intake). AreOpen c.args.events.now texts (c.args.event + 1) inlets c.open_inlet.new.seats.items)
     (sym (ap (map any_intake) c.in_ok-push.ensures.items ∙ map-append any_intake c.args.inlets.now.items (c.in_ok-inlet.inlet ∷ [])))
-    (open_more c.args.events.now texts c.args.event before t c.args.seats.now.items c.open_inlet.new.seats.items c.requires.before is seats)
+    (open_more c.args.events.now texts c.args.event before t c.args.seats.now.items c.open_inlet.new.seats.items c.requires.before is lane seats)

@@ -1,5 +1,7 @@
 use Rattle.live_clients.proofs.opening.open_inlet.Goals as goal
-use Rattle.std.proofs.Common.{All, arith, length, subst, ◌<◌}
+use Rattle.live_clients.specs.Inlets.{is_lane}
+use Rattle.live_clients.specs.Ties.{any_intake}
+use Rattle.std.proofs.Common.{All, Bool, IfOk, arith, length, ne_eqb, subst, sym, ◌<◌, ◌≡◌}
 
 pub open_for_one-requires-clause-texts : goal.open_for_one-requires-clause-texts
 open_for_one-requires-clause-texts g c = subst (All (λ b. b < length c.args.texts.now)) c.in-Some.ensures c.requires.texts 0 0 (omega arith)
@@ -27,3 +29,9 @@ returns-in_default-clause-inlet g c = c.open_for_many.ensures.inlet
 
 pub returns-in_default-clause-seats : goal.returns-in_default-clause-seats
 returns-in_default-clause-seats g c = c.open_for_many.ensures.seats
+
+pub returns-in-Some-clause-lane : goal.returns-in-Some-clause-lane
+returns-in-Some-clause-lane g c = rw c.in-Some.ensures c.open_for_one.ensures.lane
+
+pub returns-in_default-clause-lane : goal.returns-in_default-clause-lane
+returns-in_default-clause-lane g c = subst (λ (b : Bool). IfOk c.open_for_many.result (λ r. is_lane (any_intake r).place ≡ b)) (sym (ne_eqb (length c.args.clients.now) 1 c.in_default.ensures)) c.open_for_many.ensures.port

@@ -1,11 +1,12 @@
 use Rattle.event_gate.specs.Ends.{Posting}
-use Rattle.event_gate.specs.Texts.{PostsSome, lines_from}
+use Rattle.event_gate.proofs.Texts.{length-lines_from}
+use Rattle.event_gate.specs.Texts.{PostsSome, asked_each, lines_asked, lines_from}
 use Rattle.lanes.specs.Ends.{LanePosting, lane_place}
 use Rattle.lanes.specs.Texts.{lane_posted}
 use Rattle.live_clients.proofs.poster.post_any.Goals as goal
-use Rattle.live_clients.specs.Ends.{IsEnd, IsReady, of_lane, of_port}
+use Rattle.live_clients.specs.Ends.{IsEnd, IsReady, lines_tried, of_lane, of_port}
 use Rattle.live_clients.specs.declared.poster.AnyPass.TheVariants.{Lane, Port}
-use Rattle.std.proofs.Common.{Bool, List, [], ap, arith, length, sym, take, true, ℕ, ◌++◌, ◌∙◌, ◌∷◌, ◌≡◌}
+use Rattle.std.proofs.Common.{Bool, List, [], ap, arith, cond, length, length-append, refl, sym, take, true, true≢false, ℕ, ◌+◌, ◌-◌, ◌++◌, ◌∙◌, ◌∷◌, ◌≡◌}
 use Rattle.std.proofs.lemmas.List.{take_all}
 
 lane_end : (p q : LanePosting) (texts : List (List ℕ)) → IsReady (lane_place p.lane) p.client texts (of_lane p) → q ≡ lane_posted p texts
@@ -18,6 +19,8 @@ lane_end p q texts ready is =
       count = length texts;
       posted = ap (λ (r : LanePosting). r.posted) is ∙ (λ k. ready.posted_is k ++ lines_from p.client (length (ready.posted_is k)) (all k));
       whole = λ _. sym all;
+      short = λ not. absurd (true≢false not);
+      sure = λ _. refl;
     }
 
 port_end : (p q : Posting) (texts : List (List ℕ)) (all : Bool) → IsReady (p.port.0 ∷ p.port.1 ∷ []) p.client texts (of_port p) → PostsSome p texts all q
@@ -28,14 +31,42 @@ port_end p q texts all ready some = record {
   count = some.count;
   posted = ap (λ (r : Posting). r.posted) some.after ∙ (λ k. ready.posted_is k ++ lines_from p.client (length (ready.posted_is k)) (take some.count texts));
   whole = some.whole;
+  short = some.short;
+  sure = λ lane. absurd (true≢false (sym lane));
 }
 
-pub returns-in-Lane : goal.returns-in-Lane
-returns-in-Lane g c =
-    let ready = rw c.in-Lane.is at c.requires in
-    rw c.in-Lane.is (lane_end c.in-Lane.poster c.lane_post_all.result c.args.texts.now ready c.lane_post_all.ensures)
+-- the lines of which the gate was asked
+lane_tried : (p q : LanePosting) (texts : List (List ℕ)) → IsReady (lane_place p.lane) p.client texts (of_lane p) → q ≡ lane_posted p texts
+    → lines_from p.client (length p.posted) texts ≡ lines_tried p.client texts (record { pass = Lane q; all = true })
+lane_tried p q texts ready is =
+    let none : length p.posted ≡ 0 = ap length ready.posted_is in
+    let size : length q.posted ≡ length texts = ap (λ (r : LanePosting). length r.posted) is ∙ length-append p.posted (lines_from p.client (length p.posted) texts) ∙ (let m = length-lines_from p.client (length p.posted) texts in omega (arith, none, m)) in
+    let all : take (length q.posted + 0) texts ≡ texts = take_all (length q.posted + 0) texts (omega (arith, size)) in
+    λ k. lines_from p.client (none k) (sym all k)
 
-pub returns-in-Port : goal.returns-in-Port
-returns-in-Port g c =
+port_tried : (p q : Posting) (texts : List (List ℕ)) (all : Bool) → IsReady (p.port.0 ∷ p.port.1 ∷ []) p.client texts (of_port p)
+    → lines_asked p texts all q ≡ lines_tried p.client texts (record { pass = Port q; all = all })
+port_tried p q texts all ready =
+    let none : length p.posted ≡ 0 = ap length ready.posted_is in
+    let count : length q.posted - length p.posted ≡ length q.posted = omega (arith, none) in
+    λ k. lines_from p.client (none k) (take (count k + cond all 0 1) texts)
+
+pub returns-in-Lane-clause-end : goal.returns-in-Lane-clause-end
+returns-in-Lane-clause-end g c =
+    let ready = rw c.in-Lane.is at c.requires in
+    rw c.in-Lane.is (lane_end c.in-Lane.poster c.lane_post_all.result c.args.texts.now ready c.lane_post_all.ensures.posts)
+
+pub returns-in-Port-clause-end : goal.returns-in-Port-clause-end
+returns-in-Port-clause-end g c =
     let ready = rw c.in-Port.is at c.requires in
-    rw c.in-Port.is (port_end c.in-Port.poster c.post_all-pass.result.pass c.args.texts.now c.post_all-pass.result.all ready c.post_all-pass.ensures)
+    rw c.in-Port.is (port_end c.in-Port.poster c.post_all-pass.result.pass c.args.texts.now c.post_all-pass.result.all ready c.post_all-pass.ensures.posts)
+
+pub returns-in-Lane-clause-gate : goal.returns-in-Lane-clause-gate
+returns-in-Lane-clause-gate g c =
+    let ready = rw c.in-Lane.is at c.requires in
+    rw c.in-Lane.is (c.lane_post_all.ensures.gate ∙ ap (asked_each g.G.PostGate.asked c.args.gate.now) (lane_tried c.in-Lane.poster c.lane_post_all.result c.args.texts.now ready c.lane_post_all.ensures.posts))
+
+pub returns-in-Port-clause-gate : goal.returns-in-Port-clause-gate
+returns-in-Port-clause-gate g c =
+    let ready = rw c.in-Port.is at c.requires in
+    rw c.in-Port.is (c.post_all-pass.ensures.gate ∙ ap (asked_each g.G.PostGate.asked c.args.gate.now) (port_tried c.in-Port.poster c.post_all-pass.result.pass c.args.texts.now c.post_all-pass.result.all ready))
