@@ -15,6 +15,7 @@ mod rows;
 mod sched;
 mod turns;
 
-pub use bucket::{Bucket, Steps};
+pub use bucket::Bucket;
+pub use buckets::Steps;
 pub use rows::Known;
 pub use sched::Sched;

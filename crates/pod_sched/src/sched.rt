@@ -1,10 +1,11 @@
 // The scheduler.
 ghost use Rattle.std.specs.Prelude.{◌≡◌, ◌+◌, ◌<◌, ◌≤◌, ◌==◌, Some, false, length, option_map, true, IsTrue, IsOk, IfOk, OnOk, OnErr};
 ghost use Rattle.lwp_types.specs.First.{FindsBest};
-ghost use Rattle.pod_sched.specs.Schedule.{IsOrdered, admitted, blocked, choice, empty_schedule, first_due, has_timer, is_blocked_in, is_eligible_in, knows, left, popped, prio_in, prioritized, priority_in, rescheduled, reserved, resumed, suspended, ticked, timed, unblocked, with_maxpri, yielded};
+ghost use Rattle.pod_sched.specs.Schedule.{IsOrdered, admitted, blocked, choice, empty_schedule, first_due, first_of, has_timer, is_blocked_in, is_eligible_in, knows, left, popped, prio_in, prioritized, priority_in, rescheduled, reserved, resumed, suspended, ticked, timed, unblocked, with_maxpri, yielded};
 
-use crate::bucket::Steps;
+use crate::Bucket;
 use crate::turns::Turns;
+use buckets::Steps;
 use lwp_types::{NoMemory, Tid};
 use std::alloc::Global;
 use std::marker::Model;
@@ -196,13 +197,22 @@ impl Sched {
         self.turns.current()
     }
 
-    /// What `current` answers, with its looks at buckets counted: one, however many priorities there are.
+    /// What `current` answers, with its steps counted. A step is a look at one of the four words that say of 64 priorities each
+    /// whether they have somebody, or at the bucket of one priority; so there are five at most, however many threads and
+    /// priorities there are. `current` takes the same steps.
     pub fn current_counted<L: Ledger>(&self, steps: &mut Steps<L>) -> Option<Tid>
         ensures value { result ≡ choice self.now }
-        ensures cost { steps.new ≤ steps.old + self.now.maxpri }
-        ensures one_look { steps.new ≤ steps.old + 1 }
+        ensures cost { steps.new ≤ steps.old + 5 }
     {
         self.turns.current_counted(steps)
+    }
+
+    /// The bucket of this priority.
+    pub fn bucket(&self, prio: u32) -> Bucket
+        ensures prio { result.prio ≡ prio }
+        ensures first { result.first ≡ first_of self.now prio }
+    {
+        self.turns.bucket(prio)
     }
 
     /// Whether the thread was admitted and hasn't left.

@@ -1,19 +1,18 @@
 // Who is known, and whose turn it is: the scheduler but for its clock.
 ghost use Rattle.std.specs.Prelude.{[], ◌≡◌, ◌+◌, ◌<◌, ◌≤◌, ◌==◌, Some, false, length, true, IsTrue, IsOk, IfOk, OnOk, OnErr};
 ghost use Rattle.lwp_types.specs.First.{FindsBest};
-ghost use Rattle.std.specs.List.{find};
-ghost use Rattle.pod_sched.specs.Schedule.{IsOrdered, admitted, blocked, choice, empty_schedule, is_blocked_in, is_eligible, is_eligible_in, knows, left, prio_in, prioritized, priority_in, rescheduled, reserved, resumed, suspended, thread_of, unblocked, with_maxpri, yielded};
+ghost use Rattle.pod_sched.specs.Schedule.{IsOrdered, admitted, blocked, choice, empty_schedule, first_of, is_blocked_in, is_eligible, is_eligible_in, knows, left, prio_in, prioritized, priority_in, rescheduled, reserved, resumed, suspended, thread_of, unblocked, with_maxpri, yielded};
 
 use crate::Known;
-use crate::bucket::{self, Bucket, Steps};
+use crate::bucket::{self, Bucket};
 use crate::index::{self, Index};
 use crate::rows::{LEVELS, extend_rows, free_slots, may_run, put_row, row_at};
-use buckets::Buckets;
+use buckets::{Buckets, Looks, Steps, first_of_last};
 use chains::Chains;
 use lwp_types::{NoMemory, Tid};
 use std::alloc::Global;
-use std::marker::Model;
-use std::sync::ledger::Ledger;
+use std::marker::{Brand, Model};
+use std::sync::ledger::{Blank, Ledger};
 
 /// Who is known, and who may run after whom. It is seen as a schedule in which nobody has a timer.
 pub struct Turns {
@@ -262,16 +261,41 @@ impl Turns {
         ensures first_best { FindsBest (prio_in self.now.threads) self.now.order result }
         ensures ordered { IsOrdered self.now.threads self.now.order }
     {
-        bucket::peek(&self.best())
+        self.counted_anew::<Brand>(Blank::new(1))
     }
 
-    /// What `current` answers, with its looks at buckets counted: one, however many priorities there are.
+    // The same, with its looks told in a ledger of its own.
+    fn counted_anew<L: Ledger>(&self, blank: Blank) -> Option<Tid>
+        requires name { blank.name ≡ L.name }
+        requires parts { blank.parts ≡ L.parts }
+        requires some { 0 < blank.parts }
+        ensures value { result ≡ choice self.now }
+        ensures first_best { FindsBest (prio_in self.now.threads) self.now.order result }
+        ensures ordered { IsOrdered self.now.threads self.now.order }
+    {
+        let mut steps = Steps::<L>::new(blank);
+        self.current_counted(&mut steps)
+    }
+
+    /// What `current` answers, with each of its looks counted: at the words that say which priorities have somebody, and at
+    /// the bucket of one.
     pub fn current_counted<L: Ledger>(&self, steps: &mut Steps<L>) -> Option<Tid>
         ensures value { result ≡ choice self.now }
-        ensures cost { steps.new ≤ steps.old + self.now.maxpri }
-        ensures one_look { steps.new ≤ steps.old + 1 }
+        ensures first_best { FindsBest (prio_in self.now.threads) self.now.order result }
+        ensures ordered { IsOrdered self.now.threads self.now.order }
+        ensures cost { steps.new ≤ steps.old + 5 }
     {
-        self.best().first(steps)
+        // Read for the proof alone, to which it opens what is kept: no priority is above 255.
+        let _maxpri = self.maxpri;
+        first_of_last::<L, Tid, Turns>(self, steps)
+    }
+
+    /// The bucket of this priority.
+    pub fn bucket(&self, prio: u32) -> Bucket
+        ensures prio { result.prio ≡ prio }
+        ensures first { result.first ≡ first_of self.now prio }
+    {
+        bucket::led_by(prio, self.first_of(prio))
     }
 
     /// Whether the thread was admitted and hasn't left.
@@ -320,27 +344,6 @@ impl Turns {
         self.row_of(tid).is_some_and(|row| row.blocked)
     }
 
-    // The bucket of the greatest priority that has somebody.
-    fn best(&self) -> Bucket
-        ensures value { result ≡ choice self.now }
-        ensures first_best { FindsBest (prio_in self.now.threads) self.now.order result }
-        ensures ordered { IsOrdered self.now.threads self.now.order }
-        ensures least { 1 ≤ self.now.maxpri }
-    {
-        bucket::led_by(self.first_best())
-    }
-
-    // The first of that bucket.
-    fn first_best(&self) -> Option<Tid>
-        ensures value { result ≡ choice self.now }
-        ensures first_best { FindsBest (prio_in self.now.threads) self.now.order result }
-        ensures ordered { IsOrdered self.now.threads self.now.order }
-        ensures least { 1 ≤ self.now.maxpri }
-    {
-        let slot = self.order.best()?;
-        Some(row_at(&self.rows, slot).tid)
-    }
-
     // The thread's row, if it is known.
     fn row_of(&self, tid: Tid) -> Option<Known>
         ensures { result ≡ thread_of self.now tid }
@@ -365,7 +368,7 @@ impl Turns {
 
     // The first of this priority.
     fn first_of(&self, prio: u32) -> Option<Tid>
-        ensures value { result ≡ find (λ t. priority_in self.now t == prio) self.now.order }
+        ensures value { result ≡ first_of self.now prio }
         ensures ordered { IsOrdered self.now.threads self.now.order }
     {
         let slot = self.order.first_of(prio)?;
@@ -397,5 +400,17 @@ impl Turns {
         let prio = row.prio;
         put_row(&mut self.rows, slot, row);
         self.order.put_last(slot, prio);
+    }
+}
+
+impl<L: Ledger> Looks<L, Tid> for Turns {
+    ghost firsts = { first_of };
+
+    fn word(&self, at: usize, steps: &mut Steps<L>) -> u64 {
+        Looks::<L, usize>::word(&self.order, at, steps)
+    }
+
+    fn first(&self, list: usize, steps: &mut Steps<L>) -> Option<Tid> {
+        self.bucket(list as u32).first(steps)
     }
 }

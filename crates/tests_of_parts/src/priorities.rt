@@ -1,43 +1,50 @@
-ghost use Rattle.std.specs.Prelude.{◌≡◌};
+ghost use Rattle.std.specs.Prelude.{◌≡◌, ◌<◌};
 ghost use Rattle.buckets.specs.Order.{empty_order};
 
-use buckets::Buckets;
+use buckets::{Buckets, Steps};
 use std::alloc::Global;
+use std::marker::Brand;
+use std::sync::ledger::{Blank, Ledger};
 
 // The first of the greatest priority, in each word of marks and at both ends of them.
-fn does_all(order: &mut Buckets) -> bool
+fn does_all<L: Ledger>(order: &mut Buckets, steps: &mut Steps<L>) -> bool
     requires { order.old ≡ empty_order 256 }
 {
     let Ok(()) = order.reserve(3) else {
         return false;
     };
-    let none = order.best();
+    let none = order.best(steps);
     order.put_last(256, 63);
     order.put_last(257, 63);
     order.put_last(258, 64);
-    let second_word = order.best();
+    let second_word = order.best(steps);
     order.take(258);
-    let first = order.best();
+    let first = order.best(steps);
     order.put_before(257, 256);
-    let before = order.best();
+    let before = order.best(steps);
     order.put_last(256, 191);
-    let third_word = order.best();
+    let third_word = order.best(steps);
     order.put_last(257, 192);
-    let fourth_word = order.best();
+    let fourth_word = order.best(steps);
     order.put_last(256, 255);
     (none, second_word, first, before) == (None, Some(258), Some(256), Some(257))
-        && (third_word, fourth_word, order.best()) == (Some(256), Some(257), Some(256))
+        && (third_word, fourth_word, order.best(steps)) == (Some(256), Some(257), Some(256))
         && order.first_of(192) == Some(257)
 }
 
-fn is_done(alloc: Global) -> bool {
+fn is_done<L: Ledger>(alloc: Global, blank: Blank) -> bool
+    requires name { blank.name ≡ L.name }
+    requires parts { blank.parts ≡ L.parts }
+    requires some { 0 < blank.parts }
+{
     let Ok(mut order) = Buckets::new(alloc, 256) else {
         return false;
     };
-    does_all(&mut order)
+    let mut steps = Steps::<L>::new(blank);
+    does_all(&mut order, &mut steps)
 }
 
 #[test]
 fn the_first_of_the_greatest_priority(rt: HostRuntime) {
-    assert!(rt; is_done(rt.alloc()));
+    assert!(rt; is_done::<Brand>(rt.alloc(), Blank::new(1)));
 }

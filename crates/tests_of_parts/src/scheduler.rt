@@ -157,10 +157,24 @@ fn counted<L: Ledger>(sched: &Sched, blank: Blank) -> Option<Tid>
     sched.current_counted(&mut steps)
 }
 
+// A look at the bucket of each of three priorities, of which the greatest and the least have a thread.
+fn finds_fronts<L: Ledger>(sched: &Sched, blank: Blank) -> bool
+    requires name { blank.name ≡ L.name }
+    requires parts { blank.parts ≡ L.parts }
+    requires some { 0 < blank.parts }
+{
+    let mut steps = Steps::<L>::new(blank);
+    let (least, none, greatest) = (sched.bucket(1), sched.bucket(7), sched.bucket(255));
+    (least.prio(), least.first(&mut steps)) == (1, Some(A))
+        && (none.prio(), none.first(&mut steps)) == (7, None)
+        && (greatest.prio(), greatest.first(&mut steps)) == (255, Some(B))
+}
+
 #[test]
 fn a_counted_choice_is_the_choice(rt: HostRuntime) -> Result<(), Fail> {
     let mut sched = Sched::new(rt.alloc(), 255).map_err(|_| "no memory")?;
     assert!(rt; admits(&mut sched, A, 1, false) && admits(&mut sched, B, 255, false));
     assert_eq!(rt; counted::<Brand>(&sched, Blank::new(1)), Some(B));
+    assert!(rt; finds_fronts::<Brand>(&sched, Blank::new(1)));
     Ok(())
 }

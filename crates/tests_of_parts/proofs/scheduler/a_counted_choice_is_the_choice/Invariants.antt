@@ -2,3 +2,6 @@ use Rattle.tests_of_parts.proofs.scheduler.a_counted_choice_is_the_choice.Given 
 
 abbrev pub ghosts-counted : goal.ghosts-counted
 ghosts-counted g a = record { name = a.blank.name; parts = a.blank.parts }
+
+abbrev pub ghosts-finds_fronts : goal.ghosts-finds_fronts
+ghosts-finds_fronts g a = record { name = a.blank.name; parts = a.blank.parts }

@@ -1,0 +1,8 @@
+use Rattle.pod_sched.proofs.ReadLemmas.{given_finds, given_is_choice}
+use Rattle.pod_sched.proofs.turns.Turns.current_counted.Goals as goal
+
+pub returns-clause-value : goal.returns-clause-value
+returns-clause-value g c = rw (← c.self.view_is) (given_is_choice c.self.inside.slots c.self.inside.order c.self.inside.rows.items _ _ _ c.self.inside.maxpri c.self.inside.places c.self.invariant c.first_of_last.result (rw (← c.self.view_is) at c.first_of_last.ensures.value))
+
+pub returns-clause-first_best : goal.returns-clause-first_best
+returns-clause-first_best g c = rw (← c.self.view_is) (given_finds c.self.inside.slots c.self.inside.order c.self.inside.rows.items _ _ _ c.self.inside.maxpri c.self.inside.places c.self.invariant c.first_of_last.result (rw (← c.self.view_is) at c.first_of_last.ensures.value))
