@@ -67,6 +67,7 @@ pub trait Looks<L: Ledger, K> {
 }
 
 // The last of the 64 lists of a word that has anybody.
+#[inline(always)]
 fn last_of_word<L: Ledger, K, B: Looks<L, K>>(
     lists: &B,
     at: usize,
@@ -84,23 +85,31 @@ fn last_of_word<L: Ledger, K, B: Looks<L, K>>(
     }
 }
 
+// The last of all lists that has anybody.
+#[inline(always)]
+fn last_of_all<L: Ledger, K, B: Looks<L, K>>(lists: &B, steps: &mut Steps<L>) -> Option<usize>
+    ensures last { FindsLast (B.firsts lists.now) 0 256 result }
+    ensures cost { steps.new ≤ steps.old + 4 }
+{
+    if let Some(list) = last_of_word(lists, 3, steps) {
+        return Some(list);
+    }
+    if let Some(list) = last_of_word(lists, 2, steps) {
+        return Some(list);
+    }
+    if let Some(list) = last_of_word(lists, 1, steps) {
+        return Some(list);
+    }
+    last_of_word(lists, 0, steps)
+}
+
 /// The first of the last list that has anybody: four looks at words at most, and one at a list. It is told nothing of the
 /// lists but by looks that count.
+#[inline(always)]
 pub fn first_of_last<L: Ledger, K, B: Looks<L, K>>(lists: &B, steps: &mut Steps<L>) -> Option<K>
     ensures value { GivesLast (B.firsts lists.now) result }
     ensures cost { steps.new ≤ steps.old + 5 }
 {
-    if let Some(list) = last_of_word(lists, 3, steps) {
-        return lists.first(list, steps);
-    }
-    if let Some(list) = last_of_word(lists, 2, steps) {
-        return lists.first(list, steps);
-    }
-    if let Some(list) = last_of_word(lists, 1, steps) {
-        return lists.first(list, steps);
-    }
-    match last_of_word(lists, 0, steps) {
-        Some(list) => lists.first(list, steps),
-        None => None,
-    }
+    let list = last_of_all(lists, steps)?;
+    lists.first(list, steps)
 }
