@@ -1,115 +1,126 @@
-// The letters: which one is meant, and what becomes of it.
-ghost use Rattle.std.specs.Prelude.{◌≡◌, ◌≤◌, ◌&&◌, option_map, IfOk, OnErr, OnOk, ℕ};
-ghost use Rattle.std.specs.Result.{result_err};
-ghost use Rattle.std.specs.List.{position};
-ghost use Rattle.std.specs.VecDeque.{deque_capacity};
-ghost use Rattle.lwp_types.specs.Letters.{as_received, is_from, is_letter_of, is_open, is_to, letters_of, received_from, senders_to, unreceived, without_letter};
-ghost use Rattle.rendezvous.specs.Mailbag.{first_to, marked, refusal, without_found};
+// The letters in their slots and in the directory: which one is meant, and what becomes of it.
+ghost use Rattle.std.specs.Prelude.{[], ◌∷◌, ◌++◌, ◌≡◌, ◌<◌, ◌≤◌, ◌^◌, ◌&&◌, OnOk, is_some, length, option_map, true, vec_capacity};
+ghost use Rattle.lwp_types.specs.Letters.{as_received, is_letter_of, is_open, is_to, letters_of, without_letter};
+ghost use Rattle.lwp_types.specs.State.{passes};
+ghost use Rattle.rendezvous.specs.Kept.{IsTied};
+ghost use Rattle.rendezvous.specs.Mailbag.{marked};
+ghost use Rattle.rendezvous.specs.Slots.{IsFirstIn, slot_at};
+ghost use Rattle.thread_index.specs.Living.{living};
 
-use lwp_types::{IdList, Letter, LwpErr, NoMemory, Tid};
-use std::alloc::Global;
-use std::collections::VecDeque;
+use crate::directory::Directory;
+use crate::slots;
+use lwp_types::{Letter, NoMemory, Tid};
 
-// Whether the letter is of the named sender, or nobody is named.
-fn is_from(from: Option<Tid>, letter: &Letter) -> bool
-    ensures { result ≡ is_from from letter.now }
+// Where the letter lies that the thread receives next.
+pub fn next_unread(
+    slots: &Vec<Option<Letter>>,
+    directory: &Directory,
+    to: Tid,
+    from: Option<Tid>,
+) -> Option<usize>
+    requires { IsTied slots.now.items directory.now (vec_capacity slots.now) }
+    ensures { IsFirstIn (λ letter. is_to to letter && is_open from letter) slots.now.items result }
 {
-    from.is_none_or(|sender| letter.from == sender)
-}
-
-// Where the letter stands that the thread receives next.
-fn unreceived_at(letters: &VecDeque<Letter>, to: Tid, from: Option<Tid>) -> Option<usize>
-    ensures { result ≡ position (λ letter. is_to to letter && is_open from letter) letters.now.items }
-{
-    letters.iter().position(|letter| letter.to == to && !letter.received && is_from(from, letter))
-}
-
-// Where the letter of this sender stands that the thread has received.
-fn received_at(letters: &VecDeque<Letter>, to: Tid, from: Tid) -> Option<usize>
-    ensures { result ≡ position (λ letter. is_to to letter && (letter.received && is_letter_of from letter)) letters.now.items }
-{
-    letters.iter().position(|letter| letter.to == to && letter.received && letter.from == from)
-}
-
-// Where the letter to the thread stands that was sent first.
-fn first_at(letters: &VecDeque<Letter>, to: Tid) -> Option<usize>
-    ensures { result ≡ position (is_to to) letters.now.items }
-{
-    letters.iter().position(|letter| letter.to == to)
-}
-
-// Where the sender's letter stands.
-fn sent_at(letters: &VecDeque<Letter>, from: Tid) -> Option<usize>
-    ensures { result ≡ position (is_letter_of from) letters.now.items }
-{
-    letters.iter().position(|letter| letter.from == from)
-}
-
-// The thread receives the next letter.
-pub fn receive(letters: &mut VecDeque<Letter>, to: Tid, from: Option<Tid>) -> Option<Letter>
-    requires { (x : ℕ) → letters_of letters.old.items x ≤ 1 }
-    ensures value { result ≡ option_map as_received (unreceived letters.old.items to from) }
-    ensures items { letters.new.items ≡ marked (unreceived letters.old.items to from) letters.old.items }
-    ensures capacity { deque_capacity letters.new ≡ deque_capacity letters.old }
-{
-    let at = unreceived_at(letters, to, from)?;
-    let letter = &mut letters[at];
-    letter.received = true;
-    Some(*letter)
-}
-
-// The thread replies to the sender's letter with so many bytes, and the letter goes.
-pub fn answer(letters: &mut VecDeque<Letter>, to: Tid, from: Tid, len: usize) -> Result<(), LwpErr>
-    requires { (x : ℕ) → letters_of letters.old.items x ≤ 1 }
-    ensures cause { result_err result ≡ refusal (received_from letters.old.items to from) len }
-    ensures ok { OnOk result (letters.new.items ≡ without_letter from letters.old.items) }
-    ensures err { OnErr result (letters.new.items ≡ letters.old.items) }
-    ensures capacity { deque_capacity letters.new ≡ deque_capacity letters.old }
-{
-    let Some(at) = received_at(letters, to, from) else {
-        return Err(LwpErr::NoWait);
+    let Some(sender) = from else {
+        return directory.first_unread(to);
     };
-    if len > usize::from(letters[at].room) {
-        return Err(LwpErr::InvalidArg);
+    let slot = directory.slot_of(sender)?;
+    if slots::is_unread_by(slots, slot, to) {
+        Some(slot)
+    } else {
+        None
     }
-    letters.remove(at);
+}
+
+// The letter in the slot counts as received.
+pub fn receive(
+    slots: &mut Vec<Option<Letter>>,
+    directory: &mut Directory,
+    slot: usize,
+) -> Option<Letter>
+    requires tied { IsTied slots.old.items directory.old (vec_capacity slots.old) }
+    requires there { is_some (slot_at slots.old.items slot) ≡ true }
+    ensures value { result ≡ option_map as_received (slot_at slots.old.items slot) }
+    ensures tied { IsTied slots.new.items directory.new (vec_capacity slots.new) }
+    ensures letters { living slots.new.items ≡ marked (slot_at slots.old.items slot) (living slots.old.items) }
+    ensures width { directory.new.width ≡ directory.old.width }
+{
+    directory.receive(slot);
+    slots::receive(slots, slot)
+}
+
+// The sender's letter, which lies in the slot, goes.
+pub fn remove(slots: &mut Vec<Option<Letter>>, directory: &mut Directory, slot: usize, from: Tid)
+    requires tied { IsTied slots.old.items directory.old (vec_capacity slots.old) }
+    requires its { passes (is_letter_of from) (slot_at slots.old.items slot) ≡ true }
+    ensures tied { IsTied slots.new.items directory.new (vec_capacity slots.new) }
+    ensures letters { living slots.new.items ≡ without_letter from (living slots.old.items) }
+    ensures width { directory.new.width ≡ directory.old.width }
+{
+    directory.take(slot, from);
+    slots::empty(slots, slot);
+}
+
+// The empty slots go, and the letters are filed anew.
+fn pack(slots: &mut Vec<Option<Letter>>, directory: &mut Directory)
+    requires tied { IsTied slots.old.items directory.old (vec_capacity slots.old) }
+    ensures tied { IsTied slots.new.items directory.new (vec_capacity slots.new) }
+    ensures letters { living slots.new.items ≡ living slots.old.items }
+    ensures closed { length slots.new.items ≡ length (living slots.old.items) }
+    ensures used { directory.new.used ≤ length slots.new.items }
+    ensures width { directory.new.width ≡ directory.old.width }
+{
+    slots::close_up(slots);
+    directory.clear();
+    directory.file(slots);
+}
+
+// Makes a slot for one letter more: where there is none left, the empty slots go.
+fn make_room(slots: &mut Vec<Option<Letter>>, directory: &mut Directory)
+    requires tied { IsTied slots.old.items directory.old (vec_capacity slots.old) }
+    requires few { length (living slots.old.items) < directory.old.width }
+    ensures tied { IsTied slots.new.items directory.new (vec_capacity slots.new) }
+    ensures letters { living slots.new.items ≡ living slots.old.items }
+    ensures slot { length slots.new.items < directory.new.width }
+    ensures list { directory.new.used < directory.new.width }
+    ensures width { directory.new.width ≡ directory.old.width }
+{
+    if !directory.has_room(slots.len()) {
+        pack(slots, directory);
+    }
+}
+
+// One letter more, behind the others.
+pub fn post(slots: &mut Vec<Option<Letter>>, directory: &mut Directory, letter: Letter)
+    requires tied { IsTied slots.old.items directory.old (vec_capacity slots.old) }
+    requires few { length (living slots.old.items) < directory.old.width }
+    requires new { letters_of (living slots.old.items) letter.from ≡ 0 }
+    ensures tied { IsTied slots.new.items directory.new (vec_capacity slots.new) }
+    ensures letters { living slots.new.items ≡ living slots.old.items ++ letter ∷ [] }
+    ensures width { directory.new.width ≡ directory.old.width }
+{
+    make_room(slots, directory);
+    directory.add(slots.len(), &letter);
+    slots::push(slots, letter);
+}
+
+// Slots for so many letters.
+pub fn widen(
+    slots: &mut Vec<Option<Letter>>,
+    directory: &mut Directory,
+    width: usize,
+) -> Result<(), NoMemory>
+    requires tied { IsTied slots.old.items directory.old (vec_capacity slots.old) }
+    requires more { directory.old.width ≤ width }
+    requires most { width ≤ 2 ^ 62 }
+    ensures tied { IsTied slots.new.items directory.new (vec_capacity slots.new) }
+    ensures letters { slots.new.items ≡ slots.old.items }
+    ensures more { directory.old.width ≤ directory.new.width }
+    ensures ok { OnOk result (width ≤ directory.new.width) }
+{
+    let mut wider = Directory::with_width(*slots.allocator(), width)?;
+    slots.reserve(width - slots.len())?;
+    wider.file(slots);
+    *directory = wider;
     Ok(())
-}
-
-// The letter to the thread that was sent first goes, and its sender is the answer.
-pub fn pop_to(letters: &mut VecDeque<Letter>, to: Tid) -> Option<Tid>
-    requires { (x : ℕ) → letters_of letters.old.items x ≤ 1 }
-    ensures value { result ≡ option_map (λ letter. letter.from) (first_to letters.old.items to) }
-    ensures items { letters.new.items ≡ without_found (first_to letters.old.items to) letters.old.items }
-    ensures capacity { deque_capacity letters.new ≡ deque_capacity letters.old }
-{
-    let at = first_at(letters, to)?;
-    let sender = letters[at].from;
-    letters.remove(at);
-    Some(sender)
-}
-
-// Takes out the sender's letter.
-pub fn take_out(letters: &mut VecDeque<Letter>, from: Tid)
-    requires { (x : ℕ) → letters_of letters.old.items x ≤ 1 }
-    ensures items { letters.new.items ≡ without_letter from letters.old.items }
-    ensures capacity { deque_capacity letters.new ≡ deque_capacity letters.old }
-{
-    if let Some(at) = sent_at(letters, from) {
-        letters.remove(at);
-    }
-}
-
-// Who sent the letters to the thread.
-pub fn senders_to(alloc: Global, letters: &VecDeque<Letter>, to: Tid) -> Result<IdList, NoMemory>
-    ensures { IfOk result (λ ids. ids ≡ senders_to letters.now.items to) }
-{
-    let mut ids = IdList::new(alloc);
-    for i in 0..letters.len() {
-        let letter = &letters[i];
-        if letter.to == to {
-            ids.push(letter.from.number)?;
-        }
-    }
-    Ok(ids)
 }

@@ -5,31 +5,47 @@ ghost use Rattle.lwp_types.specs.First.{FindsFirst};
 ghost use Rattle.lwp_types.specs.Letters.{as_received, is_open, is_to, received_from, senders_to, unreceived};
 ghost use Rattle.rendezvous.specs.Mailbag.{IsOnePerSender, empty_mail, first_to, forgotten, has_letter_of, popped, posted, refusal, reserved, taken};
 
-use crate::letters::{answer, pop_to, receive, senders_to, take_out};
+use crate::directory::Directory;
+use crate::letters::{next_unread, post, receive, remove, widen};
+use crate::slots::{check, sender_at, senders_to};
 use lwp_types::{IdList, Letter, LwpErr, NoMemory, Tid};
 use std::alloc::Global;
-use std::collections::VecDeque;
 use std::marker::Model;
 
 /// Letters that aren't replied to, in the order of their sending: at most one of each sender.
-#[derive(Drop)]
 pub struct Mail {
-    letters: VecDeque<Letter>,
+    slots: Vec<Option<Letter>>,
+    directory: Directory,
     // How many letters there may be with no more memory.
     places: usize,
 }
 
+// By hand, so that whoever drops one calls this.
+impl Drop for Mail {
+    fn drop(self) {
+        let Mail {
+            slots: _,
+            directory: _,
+            places: _,
+        } = self;
+    }
+}
+
 impl Model for Mail {
-    ghost use Rattle.std.specs.VecDeque.{deque_capacity};
-    ghost use Rattle.rendezvous.specs.Mailbag.{Mailbag};
+    ghost use Rattle.std.specs.Prelude.{vec_capacity};
     ghost use Rattle.rendezvous.specs.Kept.{IsKept};
+    ghost use Rattle.rendezvous.specs.Mailbag.{Mailbag};
+    ghost use Rattle.thread_index.specs.Living.{living};
 
     ghost Value = { Mailbag };
 
-    ghost view = { λ m. record { letters = m.letters.items; places = m.places } };
+    ghost view = { λ m. record { letters = living m.slots.items; places = m.places } };
 
-    ghost invariant = { λ m. IsKept (record { letters = m.letters.items; places = m.places }) (deque_capacity m.letters) };
+    ghost invariant = { λ m. IsKept m.slots.items m.directory (vec_capacity m.slots) m.places };
 }
+
+// So many places there may be.
+const MOST_PLACES: usize = 1 << 60;
 
 impl Mail {
     /// No letters, and no places.
@@ -37,7 +53,8 @@ impl Mail {
         ensures { result ≡ empty_mail }
     {
         Mail {
-            letters: VecDeque::new(alloc),
+            slots: Vec::new(alloc),
+            directory: Directory::new(alloc),
             places: 0,
         }
     }
@@ -51,7 +68,14 @@ impl Mail {
         if n <= self.places {
             return Ok(());
         }
-        self.letters.reserve(n - self.letters.len())?;
+        if n > MOST_PLACES {
+            return Err(NoMemory);
+        }
+        // Twice the places, so that the slots are closed up once in as many postings as there are places; and twice as many
+        // again, so that they are seldom made anew.
+        if 2 * n > self.directory.width {
+            widen(&mut self.slots, &mut self.directory, 4 * n)?;
+        }
         self.places = n;
         Ok(())
     }
@@ -62,7 +86,7 @@ impl Mail {
         requires room { length self.old.letters < self.old.places }
         ensures { self.new ≡ posted self.old letter }
     {
-        self.letters.push_back_reserved(letter);
+        post(&mut self.slots, &mut self.directory, letter);
     }
 
     /// The thread receives the first letter that it hasn't received yet, of the named sender or of any. The letter stays,
@@ -72,7 +96,8 @@ impl Mail {
         ensures after { self.new ≡ taken self.old to from }
         ensures first { FindsFirst (λ letter. is_to to letter && is_open from letter) self.old.letters (unreceived self.old.letters to from) }
     {
-        receive(&mut self.letters, to, from)
+        let slot = next_unread(&self.slots, &self.directory, to, from)?;
+        receive(&mut self.slots, &mut self.directory, slot)
     }
 
     /// `to` replies to the letter of `from` with so many bytes, and the letter goes. It must have received it, and the
@@ -82,14 +107,23 @@ impl Mail {
         ensures ok { OnOk result (self.new ≡ forgotten self.old from) }
         ensures err { OnErr result (self.new ≡ self.old) }
     {
-        answer(&mut self.letters, to, from, len)
+        let Some(slot) = self.directory.slot_of(from) else {
+            return Err(LwpErr::NoWait);
+        };
+        if let Err(refused) = check(&self.slots, slot, to, len) {
+            return Err(refused);
+        }
+        remove(&mut self.slots, &mut self.directory, slot, from);
+        Ok(())
     }
 
     /// The sender's letter goes, received or not. Where there is none, nothing happens.
     pub fn forget(&mut self, from: Tid)
         ensures { self.new ≡ forgotten self.old from }
     {
-        take_out(&mut self.letters, from);
+        if let Some(slot) = self.directory.slot_of(from) {
+            remove(&mut self.slots, &mut self.directory, slot, from);
+        }
     }
 
     /// The first letter to the thread goes, received or not; the answer is who sent it.
@@ -98,7 +132,10 @@ impl Mail {
         ensures after { self.new ≡ popped self.old to }
         ensures first { FindsFirst (is_to to) self.old.letters (first_to self.old.letters to) }
     {
-        pop_to(&mut self.letters, to)
+        let slot = self.directory.first_to(to)?;
+        let from = sender_at(&self.slots, slot)?;
+        remove(&mut self.slots, &mut self.directory, slot, from);
+        Some(from)
     }
 
     /// Who sent the letters to the thread, received or not, in the order of their sending.
@@ -106,6 +143,6 @@ impl Mail {
         ensures value { IfOk result (λ ids. ids ≡ senders_to self.now.letters to) }
         ensures one_each { IsOnePerSender self.now.letters }
     {
-        senders_to(*self.letters.allocator(), &self.letters, to)
+        senders_to(*self.slots.allocator(), &self.slots, to)
     }
 }

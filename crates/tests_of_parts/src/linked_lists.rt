@@ -24,7 +24,9 @@ fn does_all(chains: &mut Chains) -> bool
     chains.remove(2);
     let second = chains.first(0);
     chains.move_to_back(0, 4);
-    (first, none, second, chains.first(0)) == (Some(2), None, Some(4), Some(3))
+    let third = chains.first(0);
+    chains.clear();
+    (first, none, second, third, chains.first(0)) == (Some(2), None, Some(4), Some(3), None)
 }
 
 fn is_done(alloc: Global) -> bool {
