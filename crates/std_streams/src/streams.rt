@@ -272,4 +272,23 @@ mod tests {
         }
         Ok(())
     }
+
+    // Gathers six bytes and hands them on; answers whether the sink still takes bytes then.
+    fn is_open_behind(alloc: Global, out: &mut FailsOnce) -> io::Result<bool> {
+        let mut sink = GatheringSink::new(alloc, out, 8)?;
+        let is_gathered = sink.write(b"sixth\n").is_ok();
+        sink.hand_on();
+        Ok(is_gathered && sink.write(b"").is_ok())
+    }
+
+    #[test]
+    fn what_is_gathered_is_handed_on(rt: HostRuntime) -> Result<(), Fail> {
+        let cases = [(0, false, 0), (1, true, 6)];
+        for (before, is_open, taken) in cases {
+            let mut out = FailsOnce { before, taken: 0 };
+            assert_eq!(rt; is_open_behind(rt.alloc(), &mut out)?, is_open);
+            assert_eq!(rt; out.taken, taken);
+        }
+        Ok(())
+    }
 }

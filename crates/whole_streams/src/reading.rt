@@ -50,7 +50,8 @@ pub fn read_all<S: Source>(alloc: Global, source: &mut S) -> Result<Vec<u8>, Rea
 {
     let mut text = Vec::new(alloc);
     let mut buffer = [0u8; BUFFER];
-    for _ in 0..u64::MAX {
+    // Each read but the last gives bytes: the text grows, and ends in time.
+    while text.len() < usize::MAX {
         let count = source.read(&mut buffer)?;
         if count == 0 {
             return Ok(text);
