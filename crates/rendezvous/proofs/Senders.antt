@@ -1,51 +1,87 @@
--- Who sent the letters to a thread, slot by slot.
-use Rattle.lwp_types.specs.Letters.{is_to, senders_to}
+-- Who sent the letters to a thread, key by key.
 use Rattle.lwp_types.specs.declared.rows.Letter.{Letter}
-use Rattle.rendezvous.proofs.SlotLemmas.{as_list, living-push}
-use Rattle.rendezvous.specs.Slots.{kept_if}
-use Rattle.std.proofs.Common.{Bool, List, None, Option, Some, [], ap, append-nil, cond, get_or, length, option_map, refl, sym, take, ℕ, ◌+◌, ◌++◌, ◌<◌, ◌∙◌, ◌∷◌, ◌≡◌, true, false}
-use Rattle.std.proofs.lemmas.List.{take_more}
+use Rattle.lwp_types.specs.State.{passes}
+use Rattle.rendezvous.specs.Slots.{keys_from}
+use Rattle.std.proofs.Common.{Bool, List, None, Option, Some, [], ap, arith, cond, drop, get_or, length, map, refl, slice_get, suc, take, zero, ℕ, ◌+◌, ◌-◌, ◌++◌, ◌<◌, ◌∙◌, ◌∷◌, ◌≡◌, ◌≤◌, true, false}
+use Rattle.std.specs.List.{filter}
 use Rattle.thread_index.specs.Living.{living}
 
--- the number, where there is one
-abbrev as_ids : Option ℕ → List ℕ
-as_ids None = []
-as_ids (Some n) = n ∷ []
+-- the sender, or 0 where there is no letter
+abbrev pub from_or : Option Letter → ℕ
+from_or None = 0
+from_or (Some letter) = letter.from
 
-senders_push : (letters : List Letter) (l : Letter) (t : ℕ) → senders_to (letters ++ l ∷ []) t ≡ senders_to letters t ++ cond (is_to t l) (l.from ∷ []) []
-senders_push [] l t = by_test (is_to t l) refl
+-- the sender of the letter that a key is of
+abbrev pub sender_of : ℕ → List (Option Letter) → ℕ → ℕ
+sender_of n slots key = from_or (get_or slots (key - n) None)
+
+told_by : (f : ℕ → ℕ) (n : ℕ) (p : Letter → Bool) (slots : List (Option Letter)) → ((i : ℕ) → f (n + i) ≡ from_or (get_or slots i None)) → map f (keys_from n p slots) ≡ map (λ (l : Letter). l.from) (filter p (living slots))
+told_by f n p [] agree = refl
+told_by f n p (None ∷ slots) agree = told_by f (suc n) p slots (λ i. let next : suc n + i ≡ n + suc i = omega arith in ap f next ∙ agree (suc i))
+told_by f n p (Some l ∷ slots) agree = by_test (told_by f (suc n) p slots (λ i. let next : suc n + i ≡ n + suc i = omega arith in ap f next ∙ agree (suc i))) (p l)
   where
-    by_test : (b : Bool) → is_to t l ≡ b → senders_to (l ∷ []) t ≡ cond (is_to t l) (l.from ∷ []) []
-    by_test true e = rw e refl
-    by_test false e = rw e refl
-senders_push (x ∷ letters) l t = by_test (is_to t x) refl (senders_push letters l t)
+    here : f n ≡ l.from
+    here = let same : n ≡ n + 0 = omega arith in ap f same ∙ agree 0
+
+    by_test : map f (keys_from (suc n) p slots) ≡ map (λ (m : Letter). m.from) (filter p (living slots)) → (b : Bool) → map f (cond b (n ∷ keys_from (suc n) p slots) (keys_from (suc n) p slots)) ≡ map (λ (m : Letter). m.from) (cond b (l ∷ filter p (living slots)) (filter p (living slots)))
+    by_test rest true = rw here (ap (λ ys. l.from ∷ ys) rest)
+    by_test rest false = rest
+
+pub told : (n : ℕ) (p : Letter → Bool) (slots : List (Option Letter)) → map (sender_of n slots) (keys_from n p slots) ≡ map (λ (l : Letter). l.from) (filter p (living slots))
+told n p slots = told_by (sender_of n slots) n p slots (λ i. let same : (n + i) - n ≡ i = omega arith in ap (λ j. from_or (get_or slots j None)) same)
+
+-- what a key says
+pub record IsKey (n : ℕ) (p : Letter → Bool) (slots : List (Option Letter)) (key : ℕ) : Type 0 where
+  pub place : ℕ
+  pub is : key ≡ n + place
+  pub within : place < length slots
+  pub passed : passes p (get_or slots place None) ≡ true
+
+pub a_key : (n : ℕ) (p : Letter → Bool) (slots : List (Option Letter)) (i key : ℕ) → slice_get (keys_from n p slots) i ≡ Some key → IsKey n p slots key
+a_key n p [] i key is = absurd (cc)
+a_key n p (o ∷ slots) i key is = by_test (λ j later. a_key (suc n) p slots j key later) i (passes p o) refl is
   where
-    by_test : (b : Bool) → is_to t x ≡ b → senders_to (letters ++ l ∷ []) t ≡ senders_to letters t ++ cond (is_to t l) (l.from ∷ []) [] → senders_to (x ∷ letters ++ l ∷ []) t ≡ senders_to (x ∷ letters) t ++ cond (is_to t l) (l.from ∷ []) []
-    by_test true e rest = rw e (ap (λ ys. x.from ∷ ys) rest)
-    by_test false e rest = rw e rest
+    later_key : IsKey (suc n) p slots key → IsKey n p (o ∷ slots) key
+    later_key k = record { place = suc k.place; is = omega (arith, k.is); within = omega (arith, k.within); passed = k.passed }
 
-module _ (slots : List (Option Letter)) (i : ℕ) where
-  next : (o : Option Letter) → i < length slots → get_or slots i None ≡ o → living (take (i + 1) slots) ≡ living (take i slots) ++ as_list o
-  next o within is = ap living (take_more slots i None within) ∙ living-push (take i slots) (get_or slots i None) ∙ ap (λ p. living (take i slots) ++ as_list p) is
+    by_test : ((j : ℕ) → slice_get (keys_from (suc n) p slots) j ≡ Some key → IsKey (suc n) p slots key) → (i : ℕ) (b : Bool) → passes p o ≡ b → slice_get (cond b (n ∷ keys_from (suc n) p slots) (keys_from (suc n) p slots)) i ≡ Some key → IsKey n p (o ∷ slots) key
+    by_test rest zero true e is = let same : n ≡ key = cc in record { place = 0; is = omega (arith, same); within = omega arith; passed = e }
+    by_test rest (suc i) true e is = later_key (rest i is)
+    by_test rest i false e is = later_key (rest i is)
 
-  pub next_ids : (t : ℕ) → i < length slots → senders_to (living (take (i + 1) slots)) t ≡ senders_to (living (take i slots)) t ++ as_ids (option_map (λ l. l.from) (kept_if (is_to t) (get_or slots i None)))
-  next_ids t within = by_slot (get_or slots i None) refl
-    where
-      by_slot : (o : Option Letter) → get_or slots i None ≡ o → senders_to (living (take (i + 1) slots)) t ≡ senders_to (living (take i slots)) t ++ as_ids (option_map (λ l. l.from) (kept_if (is_to t) o))
-      by_slot None is =
-          ap (λ ls. senders_to ls t) (next None within is ∙ append-nil (living (take i slots)))
-          ∙ sym (append-nil (senders_to (living (take i slots)) t))
-      by_slot (Some l) is =
-          ap (λ ls. senders_to ls t) (next (Some l) within is) ∙ senders_push (living (take i slots)) l t
-          ∙ ap (λ ys. senders_to (living (take i slots)) t ++ ys) (by_test (is_to t l))
-        where
-          by_test : (b : Bool) → cond b (l.from ∷ []) [] ≡ as_ids (option_map (λ (m : Letter). m.from) (cond b (Some l) None))
-          by_test true = refl
-          by_test false = refl
+pub few_keys : (n : ℕ) (p : Letter → Bool) (slots : List (Option Letter)) → length (keys_from n p slots) ≤ length slots
+few_keys n p [] = omega arith
+few_keys n p (o ∷ slots) = by_test (few_keys (suc n) p slots) (passes p o)
+  where
+    by_test : length (keys_from (suc n) p slots) ≤ length slots → (b : Bool) → length (cond b (n ∷ keys_from (suc n) p slots) (keys_from (suc n) p slots)) ≤ suc (length slots)
+    by_test rest true = omega (arith, rest)
+    by_test rest false = omega (arith, rest)
 
-  -- the list goes on as it is told
-  pub next_some : (t from : ℕ) (ids : List ℕ) → i < length slots → option_map (λ l. l.from) (kept_if (is_to t) (get_or slots i None)) ≡ Some from → ids ≡ senders_to (living (take i slots)) t → ids ++ from ∷ [] ≡ senders_to (living (take (i + 1) slots)) t
-  next_some t from ids within is was = ap (λ ys. ys ++ from ∷ []) was ∙ sym (next_ids t within ∙ ap (λ o. senders_to (living (take i slots)) t ++ as_ids o) is)
+-- ---- a list of numbers, cut at one of them
 
-  pub next_none : (t : ℕ) (ids : List ℕ) → i < length slots → option_map (λ l. l.from) (kept_if (is_to t) (get_or slots i None)) ≡ None → ids ≡ senders_to (living (take i slots)) t → ids ≡ senders_to (living (take (i + 1) slots)) t
-  next_none t ids within is was = was ∙ sym (next_ids t within ∙ ap (λ o. senders_to (living (take i slots)) t ++ as_ids o) is ∙ append-nil (senders_to (living (take i slots)) t))
+pub cut : (ks : List ℕ) (i k : ℕ) → slice_get ks i ≡ Some k → ks ≡ take i ks ++ k ∷ drop (suc i) ks
+cut [] i k is = absurd (cc)
+cut (x ∷ ks) zero k is = let same : x ≡ k = cc in ap (λ y. y ∷ ks) same
+cut (x ∷ ks) (suc i) k is = ap (λ ys. x ∷ ys) (cut ks i k is)
+
+pub first_behind : (ks : List ℕ) (i : ℕ) → slice_get (drop i ks) 0 ≡ slice_get ks i
+first_behind [] zero = refl
+first_behind [] (suc i) = refl
+first_behind (x ∷ ks) zero = refl
+first_behind (x ∷ ks) (suc i) = first_behind ks i
+
+pub take_one : (f : ℕ → ℕ) (ks : List ℕ) (i k : ℕ) → slice_get ks i ≡ Some k → map f (take (suc i) ks) ≡ map f (take i ks) ++ f k ∷ []
+take_one f [] i k is = absurd (cc)
+take_one f (x ∷ ks) zero k is = let same : x ≡ k = cc in ap (λ y. f y ∷ []) same
+take_one f (x ∷ ks) (suc i) k is = ap (λ ys. f x ∷ ys) (take_one f ks i k is)
+
+pub take_whole : (ks : List ℕ) (i : ℕ) → slice_get ks i ≡ None → take i ks ≡ ks
+take_whole [] zero none = refl
+take_whole [] (suc i) none = refl
+take_whole (x ∷ ks) zero none = absurd (cc)
+take_whole (x ∷ ks) (suc i) none = ap (λ ys. x ∷ ys) (take_whole ks i none)
+
+pub none_past : (ks : List ℕ) (i : ℕ) → length ks ≤ i → slice_get ks i ≡ None
+none_past [] i past = refl
+none_past (x ∷ ks) zero past = absurd (omega (arith, past))
+none_past (x ∷ ks) (suc i) past = none_past ks i (omega (arith, past))

@@ -139,6 +139,13 @@ impl Directory {
         self.senders.place_of(from)
     }
 
+    /// The list of the letters to the thread, if there is one.
+    pub fn list_of(&self, to: Tid) -> Option<usize>
+        ensures { result ≡ place_of self.now.boxes to }
+    {
+        self.boxes.place_of(to)
+    }
+
     /// The slot of the letter to the thread that was sent first.
     pub fn first_to(&self, to: Tid) -> Option<usize>
         requires { IsSound self.now }

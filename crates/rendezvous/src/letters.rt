@@ -1,6 +1,6 @@
 // The letters in their slots and in the directory: which one is meant, and what becomes of it.
-ghost use Rattle.std.specs.Prelude.{[], ◌∷◌, ◌++◌, ◌≡◌, ◌<◌, ◌≤◌, ◌^◌, ◌&&◌, OnOk, is_some, length, option_map, true, vec_capacity};
-ghost use Rattle.lwp_types.specs.Letters.{as_received, is_letter_of, is_open, is_to, letters_of, without_letter};
+ghost use Rattle.std.specs.Prelude.{[], ◌∷◌, ◌++◌, ◌≡◌, ◌<◌, ◌≤◌, ◌^◌, ◌&&◌, IfOk, OnOk, is_some, length, option_map, true, vec_capacity};
+ghost use Rattle.lwp_types.specs.Letters.{as_received, is_letter_of, is_open, is_to, letters_of, senders_to, without_letter};
 ghost use Rattle.lwp_types.specs.State.{passes};
 ghost use Rattle.rendezvous.specs.Kept.{IsTied};
 ghost use Rattle.rendezvous.specs.Mailbag.{marked};
@@ -9,7 +9,8 @@ ghost use Rattle.thread_index.specs.Living.{living};
 
 use crate::directory::Directory;
 use crate::slots;
-use lwp_types::{Letter, NoMemory, Tid};
+use lwp_types::{IdList, Letter, NoMemory, Tid};
+use std::alloc::Global;
 
 // Where the letter lies that the thread receives next.
 pub fn next_unread(
@@ -123,4 +124,31 @@ pub fn widen(
     wider.file(slots);
     *directory = wider;
     Ok(())
+}
+
+// Who sent the letters to the thread.
+pub fn senders_to(
+    alloc: Global,
+    slots: &Vec<Option<Letter>>,
+    directory: &Directory,
+    to: Tid,
+) -> Result<IdList, NoMemory>
+    requires { IsTied slots.now.items directory.now (vec_capacity slots.now) }
+    ensures { IfOk result (λ ids. ids ≡ senders_to (living slots.now.items) to) }
+{
+    let mut ids = IdList::new(alloc);
+    let Some(list) = directory.list_of(to) else {
+        return Ok(ids);
+    };
+    let mut next = directory.held.first(list);
+    for _letter in 0..slots.len() {
+        let Some(key) = next else {
+            return Ok(ids);
+        };
+        if let Some(from) = slots::sender_at(slots, key - directory.width) {
+            ids.push(from.number)?;
+        }
+        next = directory.held.behind(list, key);
+    }
+    Ok(ids)
 }

@@ -6,8 +6,8 @@ ghost use Rattle.lwp_types.specs.Letters.{as_received, is_open, is_to, received_
 ghost use Rattle.rendezvous.specs.Mailbag.{IsOnePerSender, empty_mail, first_to, forgotten, has_letter_of, popped, posted, refusal, reserved, taken};
 
 use crate::directory::Directory;
-use crate::letters::{next_unread, post, receive, remove, widen};
-use crate::slots::{check, sender_at, senders_to};
+use crate::letters::{next_unread, post, receive, remove, senders_to, widen};
+use crate::slots::{check, sender_at};
 use lwp_types::{IdList, Letter, LwpErr, NoMemory, Tid};
 use std::alloc::Global;
 use std::marker::Model;
@@ -143,6 +143,6 @@ impl Mail {
         ensures value { IfOk result (λ ids. ids ≡ senders_to self.now.letters to) }
         ensures one_each { IsOnePerSender self.now.letters }
     {
-        senders_to(*self.slots.allocator(), &self.slots, to)
+        senders_to(*self.slots.allocator(), &self.slots, &self.directory, to)
     }
 }

@@ -1,15 +1,13 @@
 // Where letters lie, in the order of their sending. A letter that goes leaves its slot empty.
-ghost use Rattle.std.specs.Prelude.{[], ◌∷◌, ◌++◌, ◌≡◌, ◌<◌, None, Some, IfOk, is_some, length, option_map, slice_set, vec_capacity};
+ghost use Rattle.std.specs.Prelude.{[], ◌∷◌, ◌++◌, ◌≡◌, ◌<◌, None, Some, is_some, length, option_map, slice_set, vec_capacity};
 ghost use Rattle.std.specs.List.{filter};
 ghost use Rattle.std.specs.Result.{result_err};
-ghost use Rattle.lwp_types.specs.Letters.{as_received, is_to, senders_to};
+ghost use Rattle.lwp_types.specs.Letters.{as_received};
 ghost use Rattle.lwp_types.specs.State.{passes};
 ghost use Rattle.rendezvous.specs.Mailbag.{refusal};
 ghost use Rattle.rendezvous.specs.Slots.{IsEmptied, is_held_by, is_unread_by, kept_if, slot_at};
-ghost use Rattle.thread_index.specs.Living.{living};
 
-use lwp_types::{IdList, Letter, LwpErr, NoMemory, Tid};
-use std::alloc::Global;
+use lwp_types::{Letter, LwpErr, Tid};
 
 // One letter more, the last.
 pub fn push(slots: &mut Vec<Option<Letter>>, letter: Letter)
@@ -95,28 +93,4 @@ pub fn check(slots: &Vec<Option<Letter>>, slot: usize, to: Tid, len: usize) -> R
         }
         _ => Err(LwpErr::NoWait),
     }
-}
-
-// Who sent the letter there, if it is to the thread.
-fn sent_to(slots: &Vec<Option<Letter>>, slot: usize, to: Tid) -> Option<Tid>
-    requires { slot < length slots.now.items }
-    ensures { result ≡ option_map (λ letter. letter.from) (kept_if (is_to to) (slot_at slots.now.items slot)) }
-{
-    match &slots[slot] {
-        Some(letter) if letter.to == to => Some(letter.from),
-        _ => None,
-    }
-}
-
-// Who sent the letters to the thread.
-pub fn senders_to(alloc: Global, slots: &Vec<Option<Letter>>, to: Tid) -> Result<IdList, NoMemory>
-    ensures { IfOk result (λ ids. ids ≡ senders_to (living slots.now.items) to) }
-{
-    let mut ids = IdList::new(alloc);
-    for slot in 0..slots.len() {
-        if let Some(from) = sent_to(slots, slot, to) {
-            ids.push(from.number)?;
-        }
-    }
-    Ok(ids)
 }
