@@ -18,5 +18,5 @@ mod texts;
 pub use faults::{Fault, What, fault_of, key_at, op_of, slot_at};
 pub use forms::{add_form, nearest_op};
 pub use laws::faults_are_unsaid;
-pub use near::{nearest, one_apart, two_apart};
+pub use near::{one_apart, two_apart};
 pub use texts::what_text;

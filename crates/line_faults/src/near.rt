@@ -1,8 +1,6 @@
 // Words that are nearly the same.
-ghost use Rattle.std.specs.Prelude.{◌≡◌, ℕ, Bool, List, option_map};
-ghost use Rattle.line_faults.specs.Near.{behind_first, edited, edited_once, first_near, nearest, one_apart, two_apart};
-
-use lwp_types::Text;
+ghost use Rattle.std.specs.Prelude.{◌≡◌, ℕ, Bool, List};
+ghost use Rattle.line_faults.specs.Near.{behind_first, edited, edited_once, one_apart, two_apart};
 
 /// The word without its first byte.
 pub(crate) fn behind_first(word: &[u8]) -> &[u8]
@@ -48,38 +46,4 @@ pub fn two_apart(v: &[u8], w: &[u8]) -> bool
     one_apart(behind_first(v), behind_first(w))
         || one_apart(v, behind_first(w))
         || one_apart(behind_first(v), w)
-}
-
-// The first of these names that is one edit away from the word.
-fn first_one_apart<'n>(names: &'n [Text], word: &[u8]) -> Option<&'n [u8]>
-    ensures { option_map (λ w. w.now) result ≡ first_near (λ v. one_apart v word.now) names.now }
-{
-    for name in names {
-        if one_apart(name.bytes(), word) {
-            return Some(name.bytes());
-        }
-    }
-    None
-}
-
-// The first of these names that is two edits away from the word.
-fn first_two_apart<'n>(names: &'n [Text], word: &[u8]) -> Option<&'n [u8]>
-    ensures { option_map (λ w. w.now) result ≡ first_near (λ v. two_apart v word.now) names.now }
-{
-    for name in names {
-        if two_apart(name.bytes(), word) {
-            return Some(name.bytes());
-        }
-    }
-    None
-}
-
-/// The first of these names that is one edit away from the word, or else the first that is two away.
-pub fn nearest<'n>(names: &'n [Text], word: &[u8]) -> Option<&'n [u8]>
-    ensures { option_map (λ w. w.now) result ≡ nearest names.now word.now }
-{
-    match first_one_apart(names, word) {
-        Some(name) => Some(name),
-        None => first_two_apart(names, word),
-    }
 }

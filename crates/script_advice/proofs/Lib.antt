@@ -1,3 +1,4 @@
 pub mod TellLaws
 pub mod ErrorLaws
 pub mod AheadLaws
+pub mod NearLaws

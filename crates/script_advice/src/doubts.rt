@@ -9,11 +9,12 @@ ghost use Rattle.script_advice.specs.Texts.{remark_text, remarks_text};
 
 use crate::ahead::keeping;
 use crate::lines::first_line;
-use crate::remarks::{Cause, Doubt, Place, Remark, Why, some_names};
+use crate::near::nearest;
+use crate::remarks::{Cause, Doubt, Place, Remark, Why};
 use crate::sets::{Sets, condition_used, monitor_used, priority_used, thread_used};
 use crate::texts::{Format, add_remark};
 use crate::way::Way;
-use line_faults::{nearest, slot_at};
+use line_faults::slot_at;
 use lwp_types::NoMemory;
 use script_lines::{Kind, Op, Phrase, Role, phrase_at};
 use script_text::NameList;
@@ -113,7 +114,7 @@ fn doubted_words(doubt: Doubt, op: Op, line: &[u8]) -> &[u8]
 fn near_name<'n>(names: &'n NameList, word: &[u8]) -> &'n [u8]
     ensures { result.now ≡ word_or_none (nearest (some_names names.now) word.now) }
 {
-    match nearest(some_names(names.as_slice()), word) {
+    match nearest(names, word) {
         Some(name) => name,
         None => &[],
     }

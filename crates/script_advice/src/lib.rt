@@ -18,6 +18,7 @@ mod errors;
 mod known;
 mod laws;
 mod lines;
+mod near;
 mod remarks;
 mod sets;
 mod texts;

@@ -1,12 +1,11 @@
 // What is told of a line: where, what stands there, and what may.
 ghost use Rattle.std.specs.Prelude.{◌≡◌, length, option_map};
-ghost use Rattle.line_faults.specs.Near.{nearest};
 ghost use Rattle.script_lines.specs.Reading.{phrase_at};
-ghost use Rattle.script_advice.specs.Remarks.{cause_text, doubt_text, doubted_text, fault_place, form_of, is_of_text, key_or_none, likely_op, near_key, near_of, near_procedure, place_at, place_of, reason_text, remark_of, rule_text, said_place, severity_text, some_names, starts_nothing, why_text};
+ghost use Rattle.script_advice.specs.Remarks.{cause_text, doubt_text, doubted_text, fault_place, form_of, is_of_text, key_or_none, likely_op, near_key, near_of, near_procedure, place_at, place_of, reason_text, remark_of, rule_text, said_place, severity_text, starts_nothing, why_text};
 
 use crate::known::Known;
-use line_faults::{Fault, What, fault_of, key_at, nearest, nearest_op, op_of, slot_at, what_text};
-use lwp_types::Text;
+use crate::near::nearest;
+use line_faults::{Fault, What, fault_of, key_at, nearest_op, op_of, slot_at, what_text};
 use script_lines::{Kind, Op, Phrase, phrase_at};
 use script_text::Reason;
 use std::marker::Model;
@@ -260,14 +259,6 @@ fn place_of(known: &Known, reason: Reason, line: &[u8]) -> Place
 
 // ---- The word that is nearly there.
 
-/// The names that are looked at for one that is near.
-#[tactic(auto, using(std::proofs::lemmas::List::take_min))]
-pub(crate) fn some_names(names: &[Text]) -> &[Text]
-    ensures { result.now ≡ some_names names.now }
-{
-    &names[..256_usize.min(names.len())]
-}
-
 fn key_or_none(op: Option<Op>) -> &'static [u8]
     ensures { result.now ≡ key_or_none op }
 {
@@ -294,13 +285,13 @@ fn near_procedure<'k>(known: &'k Known, line: &[u8]) -> &'k [u8]
     let Some(phrase) = phrase_at(line) else {
         return &[];
     };
-    if let Some(name) = nearest(some_names(known.procs.as_slice()), phrase.procedure) {
+    if let Some(name) = nearest(&known.procs, phrase.procedure) {
         return name;
     }
     if !phrase.op.starts_any() {
         return &[];
     }
-    match nearest(some_names(known.natives.as_slice()), phrase.procedure) {
+    match nearest(&known.natives, phrase.procedure) {
         Some(name) => name,
         None => &[],
     }

@@ -24,10 +24,7 @@ use trace_text::{add_number, add_text};
 fn name_at(names: &NameList, number: u32) -> &[u8]
     ensures { result.now ≡ name_at names.now number }
 {
-    match names.as_slice().get(number as usize) {
-        Some(name) => name.bytes(),
-        None => &[],
-    }
+    names.bytes(number as usize)
 }
 
 // A line with whom a statement speaks of.

@@ -95,9 +95,3 @@ name-in script (suc i) (x ∷ places) less = name-in script i places (omega (ari
 pub name-at : (script seen : Script) (i : ℕ) → script ≡ seen → i < length (bodies_of seen) → slice_get (proc_names seen) i ≡ Some (named script (slice_index (proc_places script) i))
 name-at script seen i h less = ap (λ s. slice_get (proc_names s) i) (sym h)
     ∙ name-in script i (proc_places script) (omega (arith, less, length-bodies script, length-places script, ap (λ s. length (bodies_of s)) h))
-
--- no name stands past the last
-pub past-names : (names : List (List ℕ)) (i : ℕ) → length names ≤ i → slice_index_or names i [] ≡ []
-past-names [] i past = refl
-past-names (x ∷ names) zero past = absurd (omega (arith, past))
-past-names (x ∷ names) (suc i) past = past-names names i (omega (arith, past))

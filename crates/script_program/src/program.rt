@@ -75,10 +75,7 @@ impl<'s> Program<ThreadBody<'s>> for ScriptProgram<'s> {
 
     fn proc_name(&self, proc: u32) -> Text {
         let place = name_place(self.script, proc as usize);
-        match self.script.names.procs.as_slice().get(place) {
-            Some(name) => *name,
-            None => Text::empty(),
-        }
+        self.script.names.procs.get(place)
     }
 
     fn body_of(&self, proc: u32) -> Result<ThreadBody<'s>, NoMemory> {

@@ -1,14 +1,16 @@
 // Names and their numbers.
 ghost use Rattle.std.specs.Prelude.{◌≡◌, ◌≤◌, IfOk, OnErr};
 
-use lwp_types::{NoMemory, Sequence, Text};
+use crate::texts::Texts;
+use lwp_types::{NoMemory, Text};
 use std::alloc::Global;
 use std::marker::Model;
 use word_index::WordIndex;
 
-/// Names in the order in which they first appear, seen as their list. A name is found in the order of names, and not by a hash.
+/// Names in the order in which they first appear, seen as their list. They lie in one piece of memory, each at its own length. A
+/// name is found in the order of names, and not by a hash.
 pub struct NameList {
-    names: Sequence<Text>,
+    names: Texts,
     // The number of each.
     index: WordIndex,
 }
@@ -43,15 +45,17 @@ fn counted(place: usize) -> Result<u32, NoMemory>
 }
 
 impl NameList {
-    ghost use Rattle.std.specs.Prelude.{◌≡◌, ◌<◌, ◌≤◌, [], IfOk, OnOk, OnErr, length, false};
+    ghost use Rattle.std.specs.Prelude.{◌≡◌, ◌<◌, ◌≤◌, [], IfOk, IsTrue, OnOk, OnErr, length, false};
+    ghost use Rattle.lwp_types.specs.TextFields.{is_text};
     ghost use Rattle.script_text.specs.Meaning.{contains_name, enter, place, place_of};
+    ghost use Rattle.script_text.specs.Script.{text_at};
 
     /// No names.
     pub fn new(alloc: Global) -> NameList
         ensures { result ≡ [] }
     {
         NameList {
-            names: Sequence::new(alloc),
+            names: Texts::new(alloc),
             index: WordIndex::new(alloc),
         }
     }
@@ -63,11 +67,19 @@ impl NameList {
         self.names.len()
     }
 
-    /// All names.
-    pub fn as_slice(&self) -> &[Text]
-        ensures { result.now ≡ self.now }
+    /// The bytes of the name at place `i`, counted from 0; none behind the last.
+    pub fn bytes(&self, i: usize) -> &[u8]
+        ensures same { result.now ≡ text_at self.now i }
+        ensures is_text { IsTrue (is_text result.now) }
     {
-        self.names.as_slice()
+        self.names.bytes(i)
+    }
+
+    /// The name at place `i`, counted from 0; the empty text behind the last.
+    pub fn get(&self, i: usize) -> Text
+        ensures { result ≡ text_at self.now i }
+    {
+        self.names.get(i)
     }
 
     /// Whether the name is one of these.
@@ -89,7 +101,7 @@ impl NameList {
             return Ok(number);
         };
         self.index.put(name, number)?;
-        let Ok(()) = self.names.push(text) else {
+        let Ok(()) = self.names.push(text.bytes()) else {
             self.index.take(name);
             return Err(NoMemory);
         };

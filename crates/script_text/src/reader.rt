@@ -16,7 +16,7 @@ use crate::draft::Draft;
 use crate::names::NameList;
 use crate::reason::{ReadErr, Reason};
 use crate::stage::Stage;
-use lwp_types::{NoMemory, Sequence, Text};
+use lwp_types::{NoMemory, Sequence};
 use script_lines::{Phrase, Role, is_name, is_printable, phrase_at, reach};
 use std::alloc::Global;
 
@@ -197,17 +197,14 @@ fn may_stand_at(stage: Stage, declared: &Declared, posted: &Counts, phrase: &Phr
 }
 
 // Whether the procedure that a line mentions is declared.
-fn is_known(declared: &Declared, names: &[Text], mention: &Mention) -> bool
+fn is_known(declared: &Declared, names: &NameList, mention: &Mention) -> bool
     ensures { result ≡ has declared.now mention.now.any (name_at names.now mention.now.name) }
 {
-    match names.get(mention.name as usize) {
-        None => declared.has(mention.any, &[]),
-        Some(name) => declared.has(mention.any, name.bytes()),
-    }
+    declared.has(mention.any, names.bytes(mention.name as usize))
 }
 
 // The line of the first mention of a procedure that isn't declared.
-fn first_missing(declared: &Declared, names: &[Text], mentions: &[Mention]) -> Option<u32>
+fn first_missing(declared: &Declared, names: &NameList, mentions: &[Mention]) -> Option<u32>
     ensures { result ≡ first_missing declared.now names.now mentions.now }
 {
     for mention in mentions {
@@ -337,7 +334,7 @@ impl Reader {
         ensures some { IfSome result (λ x. answer self.now tail.now ≡ Err x) }
         ensures none { IfNone result (answer self.now tail.now ≡ whole (self.now.count + 1) (closed self.now.draft)) }
     {
-        let names = self.draft.script.names.procs.as_slice();
+        let names = &self.draft.script.names.procs;
         if let Some(missing) = first_missing(&self.declared, names, self.mentions.as_slice()) {
             return Some((missing, Reason::Statement));
         }

@@ -42,7 +42,7 @@ fn text_in(bytes: &[u8], span: Span) -> &[u8]
 }
 
 impl Texts {
-    ghost use Rattle.std.specs.Prelude.{◌≡◌, [], ◌∷◌, ◌++◌, length, IsTrue, OnOk};
+    ghost use Rattle.std.specs.Prelude.{◌≡◌, [], ◌∷◌, ◌++◌, length, IsTrue, OnErr, OnOk};
     ghost use Rattle.lwp_types.specs.TextFields.{is_text};
     ghost use Rattle.script_text.specs.Script.{text_at};
 
@@ -87,7 +87,8 @@ impl Texts {
     /// One text more, at the end.
     pub fn push(&mut self, text: &[u8]) -> Result<(), NoMemory>
         requires { IsTrue (is_text text.now) }
-        ensures { OnOk result (self.new ≡ self.old ++ text.now ∷ []) }
+        ensures ok { OnOk result (self.new ≡ self.old ++ text.now ∷ []) }
+        ensures err { OnErr result (self.new ≡ self.old) }
     {
         let start = self.bytes.len();
         if start > 0xffff_ffff {

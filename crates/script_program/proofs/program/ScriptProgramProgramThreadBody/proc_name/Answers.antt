@@ -1,6 +1,6 @@
 use Rattle.std.proofs.Common.{[], Some, ap, arith, length, slice_index_or, sym, ◌∙◌}
 use Rattle.script_program.specs.Bodies.{bodies_of}
-use Rattle.script_program.proofs.ProgramLaws.{length-bodies, length-places, name-at, past-names}
+use Rattle.script_program.proofs.ProgramLaws.{length-bodies, length-places, name-at}
 use Rattle.script_program.proofs.program.ScriptProgramProgramThreadBody.proc_name.Goals as goal
 
 -- src/program.rt:77:13
@@ -9,15 +9,7 @@ name_place-place-requires c =
     omega (arith, c.requires, ap (λ s. length (bodies_of s)) c.self.view_is, length-bodies c.self.inside.script.now, length-places c.self.inside.script.now)
 
 -- src/program.rt:76:5
-pub returns-in-Some : goal.returns-in-Some
-returns-in-Some c = name-at c.self.inside.script.now c.args.self.now c.args.proc c.self.view_is c.requires
+pub returns : goal.returns
+returns c = name-at c.self.inside.script.now c.args.self.now c.args.proc c.self.view_is c.requires
     ∙ ap (λ k. Some (slice_index_or c.self.inside.script.now.names.procs k [])) (sym c.name_place-place.ensures)
-    ∙ ap (λ xs. Some (slice_index_or xs c.name_place-place.result [])) (sym c.as_slice.ensures)
-    ∙ ap Some (sym (c.in-Some.ensures.lookup.3.1 []))
-
--- src/program.rt:76:5
-pub returns-in-None : goal.returns-in-None
-returns-in-None c = name-at c.self.inside.script.now c.args.self.now c.args.proc c.self.view_is c.requires
-    ∙ ap (λ k. Some (slice_index_or c.self.inside.script.now.names.procs k [])) (sym c.name_place-place.ensures)
-    ∙ ap (λ xs. Some (slice_index_or xs c.name_place-place.result [])) (sym c.as_slice.ensures)
-    ∙ ap Some (past-names c.as_slice.result.now _ c.in-None.ensures.lookup.3 ∙ sym c.empty.ensures)
+    ∙ ap Some (sym c.get.ensures)
