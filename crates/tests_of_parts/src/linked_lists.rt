@@ -26,7 +26,8 @@ fn does_all(chains: &mut Chains) -> bool
     chains.move_to_back(0, 4);
     let (third, last) = (chains.first(0), chains.behind(0, 3));
     chains.clear();
-    (first, none, second, third, last, chains.first(0)) == (Some(2), None, Some(4), Some(3), Some(4), None)
+    (first, none, second, third, last, chains.first(0))
+        == (Some(2), None, Some(4), Some(3), Some(4), None)
 }
 
 fn is_done(alloc: Global) -> bool {
