@@ -18,6 +18,7 @@
 #![tactic(auto)]
 
 mod bell;
+mod book;
 mod gate;
 mod gauge;
 mod gauge_rule;

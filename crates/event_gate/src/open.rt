@@ -4,9 +4,9 @@ ghost use Rattle.std.specs.Arc.{arc_value};
 ghost use Rattle.crossbeam_queue.specs.SegTies.{IsSegPassOf};
 ghost use Rattle.event_gate.specs.Port.{is_noted, starting, unnamed, with_next};
 ghost use Rattle.event_gate.specs.Gauge.{IsAtGauge};
-ghost use Rattle.event_gate.specs.Ends.{IsOpen, opened, posting};
+ghost use Rattle.event_gate.specs.Ends.{IsOpen, IsOpenGauge, opened, port_id, posting};
 
-use crate::gauge::{GaugeSeat, another_seat, open_gauge};
+use crate::gauge::{GaugeSeat, another_seat, enroll, open_gauge};
 use crate::port::{Pass, Port};
 use crate::poster::Poster;
 use crate::rule::{Name, Next, Open, Start, Zero};
@@ -72,16 +72,18 @@ fn open_poster(
     requires gauge { IsAtGauge (arc_value port.now).gauge.shared.table_id seat.old.table_id }
     requires queue { IsSegPassOf (arc_value port.now).queue pass.old }
     requires view { IsOpen seat.old.table_id pass.old.me.view.client.noted pass.old.me.view.client }
+    requires seats { IsOpenGauge pass.old.me.view.client.noted seat.old.me.0 }
     requires new { is_noted client pass.old.me.view.client.noted ≡ false }
-    ensures gauge { (seat.new.table_id ≡ seat.old.table_id) × (seat.new.me.0 ≡ seat.old.me.0) }
+    ensures gauge { seat.new.table_id ≡ seat.old.table_id }
     ensures queue { IsSegPassOf (arc_value port.now).queue pass.new × (pass.new.web ≡ pass.old.web) }
     ensures view { IfOk result (λ p. IsOpen seat.old.table_id (pass.old.me.view.client.noted ++ client ∷ []) pass.new.me.view.client) }
-    ensures poster { IfOk result (λ p. p ≡ posting pass.old.web client) }
+    ensures seats { IfOk result (λ p. IsOpenGauge (pass.old.me.view.client.noted ++ client ∷ []) seat.new.me.0) }
+    ensures poster { IfOk result (λ p. p ≡ posting (port_id pass.old.web seat.old.table_id) client) }
 {
     let port = Arc::try_clone(port)?;
     aim(&port, pass, client);
     let theirs = port.queue.another::<Open>(pass);
-    let announces = another_seat(&port.gauge, seat);
+    let announces = enroll(&port.gauge, seat, client);
     Ok(Poster::new(client, port, theirs, announces))
 }
 
@@ -96,11 +98,13 @@ fn open_posters(
     requires gauge { IsAtGauge (arc_value port.now).gauge.shared.table_id seat.old.table_id }
     requires queue { IsSegPassOf (arc_value port.now).queue pass.old }
     requires view { IsOpen seat.old.table_id [] pass.old.me.view.client }
+    requires seats { IsOpenGauge [] seat.old.me.0 }
     requires distinct { AllPairs (λ a b. a ≢ b) clients.now }
-    ensures gauge { (seat.new.table_id ≡ seat.old.table_id) × (seat.new.me.0 ≡ seat.old.me.0) }
+    ensures gauge { seat.new.table_id ≡ seat.old.table_id }
     ensures queue { IsSegPassOf (arc_value port.now).queue pass.new × (pass.new.web ≡ pass.old.web) }
     ensures view { IfOk result (λ v. IsOpen seat.old.table_id clients.now pass.new.me.view.client) }
-    ensures posters { IfOk result (λ v. v.items ≡ map (posting pass.old.web) clients.now) }
+    ensures seats { IfOk result (λ v. IsOpenGauge clients.now seat.new.me.0) }
+    ensures posters { IfOk result (λ v. v.items ≡ map (posting (port_id pass.old.web seat.old.table_id)) clients.now) }
 {
     let mut posters = Vec::new(alloc);
     for client in clients {

@@ -3,8 +3,8 @@ ghost use Rattle.std.specs.Prelude.{◌≡◌, ◌+◌, ◌<◌, true, length, [
 ghost use Rattle.std.specs.Arc.{arc_value};
 ghost use Rattle.crossbeam_queue.specs.SegTies.{IsSegPassOf};
 ghost use Rattle.event_gate.specs.Port.{poster, after_post, name_of, IsTicketed};
-ghost use Rattle.event_gate.specs.Gauge.{IsAtGauge, opening};
-ghost use Rattle.event_gate.specs.Ends.{posting, posted_more};
+ghost use Rattle.event_gate.specs.Gauge.{IsAtGauge, posting_seat};
+ghost use Rattle.event_gate.specs.Ends.{port_id, posting, posted_more};
 
 use crate::gauge::{GaugeSeat, announce, withdraw};
 use crate::port::{Pass, Port};
@@ -45,17 +45,17 @@ impl Drop for Poster {
 
 impl Model for Poster {
     ghost use Rattle.event_gate.specs.Ends.{Posting};
-    ghost use Rattle.std.specs.Prelude.{◌≡◌, true, length};
+    ghost use Rattle.std.specs.Prelude.{◌≡◌, []};
     ghost use Rattle.std.specs.Arc.{arc_value};
     ghost use Rattle.crossbeam_queue.specs.SegTies.{IsSegPassOf};
-    ghost use Rattle.event_gate.specs.Ends.{IsPostersView};
-    ghost use Rattle.event_gate.specs.Gauge.{IsAtGauge};
+    ghost use Rattle.event_gate.specs.Ends.{IsPostersView, port_id};
+    ghost use Rattle.event_gate.specs.Gauge.{IsAtGauge, at_work};
 
     ghost Value = { Posting };
 
-    ghost view = { λ s. record { port = s.pass.web; client = s.client; posted = s.pass.me.view.client.posted; announced = s.seat.me.0.announced } };
+    ghost view = { λ s. record { port = port_id s.pass.web s.seat.table_id; client = s.client; posted = s.pass.me.view.client.posted; announced = s.seat.me.0.announced } };
 
-    ghost invariant = { λ s. IsSegPassOf (arc_value s.port).queue s.pass × IsPostersView s.pass.me.view.client s.client s.count × IsAtGauge (arc_value s.port).gauge.shared.table_id s.seat.table_id × (s.seat.me.0.announced ≡ s.count) × (s.pass.me.view.client.gauge.table ≡ s.seat.table_id) };
+    ghost invariant = { λ s. IsSegPassOf (arc_value s.port).queue s.pass × IsPostersView s.pass.me.view.client s.client s.count × IsAtGauge (arc_value s.port).gauge.shared.table_id s.seat.table_id × (s.seat.me ≡ (at_work s.client s.pass.me.view.client.posted, [])) × (s.pass.me.view.client.gauge.table ≡ s.seat.table_id) };
 }
 
 impl Poster {
@@ -63,8 +63,8 @@ impl Poster {
     pub(crate) fn new(client: u8, port: Arc<Port, Global>, pass: Pass, seat: GaugeSeat) -> Poster
         requires queue { IsSegPassOf (arc_value port).queue pass }
         requires view { pass.me.view.client ≡ poster (name_of seat.table_id) client [] }
-        requires gauge { IsAtGauge (arc_value port).gauge.shared.table_id seat.table_id × (seat.me.0 ≡ opening) }
-        ensures { result ≡ posting pass.web client }
+        requires gauge { IsAtGauge (arc_value port).gauge.shared.table_id seat.table_id × (seat.me ≡ (posting_seat client, [])) }
+        ensures { result ≡ posting (port_id pass.web seat.table_id) client }
     {
         Poster {
             client,
@@ -105,10 +105,10 @@ impl Poster {
             count,
             ..
         } = self;
-        let ticket = announce(&port.gauge, seat);
+        let ticket = announce(&port.gauge, seat, &line);
         if let Err(sent) = push_announced(rt, port, pass, Sent { line, ticket }) {
             let Sent { line, ticket } = sent;
-            withdraw(&port.gauge, seat, ticket);
+            withdraw(&port.gauge, seat, ticket, &line);
             return Err(PostRefused { line });
         }
         *count += 1;
@@ -159,12 +159,13 @@ pub struct PostPass {
 
 impl Model for PostPass {
     ghost use Rattle.event_gate.specs.Ends.{Posting};
-    ghost use Rattle.std.specs.Prelude.{◌≡◌, None};
-    ghost use Rattle.event_gate.specs.Ends.{IsPostersView};
+    ghost use Rattle.std.specs.Prelude.{◌≡◌, [], None};
+    ghost use Rattle.event_gate.specs.Ends.{IsPostersView, port_id};
+    ghost use Rattle.event_gate.specs.Gauge.{at_work};
 
     ghost Value = { Posting };
 
-    ghost view = { λ s. record { port = s.pass.web; client = s.client; posted = s.pass.me.view.client.posted; announced = s.seat.me.0.announced } };
+    ghost view = { λ s. record { port = port_id s.pass.web s.seat.table_id; client = s.client; posted = s.pass.me.view.client.posted; announced = s.seat.me.0.announced } };
 
-    ghost invariant = { λ s. (s.pass.me.hand ≡ None) × (s.pass.me.spare ≡ None) × IsPostersView s.pass.me.view.client s.client s.count };
+    ghost invariant = { λ s. (s.pass.me.hand ≡ None) × (s.pass.me.spare ≡ None) × IsPostersView s.pass.me.view.client s.client s.count × (s.seat.me ≡ (at_work s.client s.pass.me.view.client.posted, [])) };
 }

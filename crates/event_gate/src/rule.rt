@@ -65,15 +65,6 @@ impl Lesson<Sent, View> for Take {
     ghost fact = { SeesSent };
 }
 
-/// A look at the queue.
-pub struct Keep;
-
-impl Lesson<Sent, View> for Keep {
-    ghost use Rattle.event_gate.specs.Port.{SeesSent};
-
-    ghost fact = { SeesSent };
-}
-
 /// The next poster is of client 0.
 pub struct Zero;
 

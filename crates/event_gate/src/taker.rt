@@ -1,15 +1,15 @@
 // The end of a port that the runner takes from.
 ghost use Rattle.std.specs.Prelude.{true, ◌≡◌, ◌↔◌, ◌%◌, ◌^◌, ◌∷◌, [], List, IfOk, IfSome, IfNone, IsTrue, IsNone};
-ghost use Rattle.event_gate.specs.Ends.{TakesLine, FindsNothing, TakesIn, IsTold, IsAllTaken, IsOpen, opened, left_of};
+ghost use Rattle.event_gate.specs.Ends.{TakesLine, FindsNothing, TakesIn, IsTold, IsAllTaken, IsOpen, IsOpenGauge, opened, left_of, port_id};
 ghost use Rattle.std.specs.Arc.{arc_value};
 ghost use Rattle.crossbeam_queue.specs.SegTies.{IsSegPassOf};
-ghost use Rattle.event_gate.specs.Gauge.{Glimpse, IsAtGauge, after_find, after_redeem, opening};
+ghost use Rattle.event_gate.specs.Gauge.{Glimpse, IsAtGauge, after_find, after_redeem};
 ghost use Rattle.event_gate.specs.Port.{Sees, Takes};
 
-use crate::gauge::{GaugeSeat, glance, redeem};
+use crate::gauge::{GaugeSeat, glance, redeem, take_in_seat};
 use crate::port::{Pass, Port};
 use crate::poster::PostPass;
-use crate::rule::{Keep, Take, TakeIn};
+use crate::rule::{Take, TakeIn};
 use crate::sent::Sent;
 use lwp_types::Line;
 use std::alloc::{AllocError, Global};
@@ -50,17 +50,17 @@ impl Drop for Taker {
 
 impl Model for Taker {
     ghost use Rattle.event_gate.specs.Ends.{Taking};
-    ghost use Rattle.std.specs.Prelude.{true, ◌≡◌, true, length};
+    ghost use Rattle.std.specs.Prelude.{◌≡◌};
     ghost use Rattle.std.specs.Arc.{arc_value};
     ghost use Rattle.crossbeam_queue.specs.SegTies.{IsSegPassOf};
-    ghost use Rattle.event_gate.specs.Ends.{IsTakersView, taking};
+    ghost use Rattle.event_gate.specs.Ends.{IsTakersBook, IsTakersView, port_id, taking};
     ghost use Rattle.event_gate.specs.Gauge.{IsAtGauge};
 
     ghost Value = { Taking };
 
-    ghost view = { λ s. taking s.pass.web s.event s.pass.me.view.client s.seat.me.0 };
+    ghost view = { λ s. taking (port_id s.pass.web s.seat.table_id) s.event s.pass.me.view.client s.seat.me.0 };
 
-    ghost invariant = { λ s. IsSegPassOf (arc_value s.port).queue s.pass × IsTakersView s.pass.me.view.client s.clients.items s.taken.items s.told.items s.posted.items s.count × IsAtGauge (arc_value s.port).gauge.shared.table_id s.seat.table_id × (s.pass.me.view.client.gauge.table ≡ s.seat.table_id) × (s.seat.me.0.tickets ≡ length s.pass.me.view.client.taken) };
+    ghost invariant = { λ s. IsSegPassOf (arc_value s.port).queue s.pass × IsTakersView s.pass.me.view.client s.clients.items s.taken.items s.told.items s.posted.items s.count × IsAtGauge (arc_value s.port).gauge.shared.table_id s.seat.table_id × (s.pass.me.view.client.gauge.table ≡ s.seat.table_id) × IsTakersBook s.pass.me.view.client s.seat.me.0 };
 }
 
 impl Taker {
@@ -82,8 +82,8 @@ impl Taker {
     ) -> Result<Taker, AllocError>
         requires queue { IsSegPassOf (arc_value port).queue pass }
         requires view { IsOpen seat.table_id clients.now pass.me.view.client }
-        requires gauge { IsAtGauge (arc_value port).gauge.shared.table_id seat.table_id × (seat.me.0 ≡ opening) }
-        ensures { IfOk result (λ t. t ≡ opened pass.web event clients.now) }
+        requires gauge { IsAtGauge (arc_value port).gauge.shared.table_id seat.table_id × IsOpenGauge clients.now seat.me.0 }
+        ensures { IfOk result (λ t. t ≡ opened (port_id pass.web seat.table_id) event clients.now) }
     {
         let clients = Vec::from_slice(alloc, clients)?;
         let taken = Vec::from_elem(alloc, 0, 256)?;
@@ -136,8 +136,8 @@ impl Taker {
         Some(line)
     }
 
-    /// Takes in what a client has posted in all.
-    pub fn take_in<R: Wait>(&mut self, rt: &R, pass: PostPass)
+    /// Takes in what a client has posted in all. It waits for nobody.
+    pub fn take_in(&mut self, pass: PostPass)
         requires port { pass.port ≡ self.old.port }
         ensures { TakesIn self.old pass self.new }
     {
@@ -145,17 +145,18 @@ impl Taker {
             client,
             count,
             pass: other,
-            seat: _,
+            seat: theirs,
         } = pass;
         let Taker {
             port,
             pass,
+            seat,
             told,
             posted,
             ..
         } = self;
         port.queue.absorb::<TakeIn>(pass, other);
-        let _ = port.queue.len_as::<Keep, R>(rt, pass);
+        take_in_seat(&port.gauge, seat, theirs);
         told[usize::from(client)] = true;
         posted[usize::from(client)] = count;
     }
@@ -185,13 +186,13 @@ fn next_line<R: Wait>(
     requires own { count ≡ seat.old.me.0.tickets % 2 ^ 64 }
     ensures queue { IsSegPassOf port.now.queue pass.new × (pass.new.web ≡ pass.old.web) }
     ensures gauge { seat.new.table_id ≡ seat.old.table_id }
-    ensures line { IfSome result (λ x. Takes pass.old.me.view.client x pass.new.me.view.client × (seat.new.me.0 ≡ after_redeem seat.old.me.0)) }
+    ensures line { IfSome result (λ x. Takes pass.old.me.view.client x pass.new.me.view.client × (seat.new.me.0 ≡ after_redeem seat.old.me.0 x)) }
     ensures nothing { IfNone result ((pass.new.me.view.client ≡ pass.old.me.view.client) × Sees pass.old.me.view.client [] × (seat.new.me.0 ≡ after_find seat.old.me.0 count) × Glimpse count seat.old.me.0) }
 {
     for _ in rt.forever() {
         if let Some(sent) = port.queue.pop_as::<Take, R>(rt, pass) {
             let Sent { line, ticket } = sent;
-            redeem(&port.gauge, seat, ticket);
+            redeem(&port.gauge, seat, ticket, &line);
             return Some(line);
         }
         if glance(&port.gauge, seat, count) {

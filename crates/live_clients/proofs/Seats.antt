@@ -1,6 +1,6 @@
 -- How inlets and seats come about.
 use Rattle.event_gate.proofs.Lines.{bool_cases, noted_more, or_other, same_or}
-use Rattle.event_gate.specs.Ends.{Posting, posting}
+use Rattle.event_gate.specs.Ends.{PortId, Posting, port_place, posting}
 use Rattle.event_gate.specs.Inlet.{Intake}
 use Rattle.event_gate.specs.Port.{is_noted}
 use Rattle.event_gate.specs.Shelves.{event_of}
@@ -78,15 +78,15 @@ seat_more texts index place done c old new seat h inside at ready = record {
 }
 
 -- how far the seats of a port's clients have come
-pub record IsSeating (texts : List (List (List ℕ))) (index : ℕ) (port : ℕ × ℕ) (clients : List ℕ) (rest : List Posting) (old new : List (Option Seat)) : Type 0 where
+pub record IsSeating (texts : List (List (List ℕ))) (index : ℕ) (port : PortId) (clients : List ℕ) (rest : List Posting) (old new : List (Option Seat)) : Type 0 where
   pub done : List ℕ
   pub todo : List ℕ
   pub split : clients ≡ done ++ todo
   pub rest_is : rest ≡ map (posting port) todo
-  pub seats : AreSeated texts index (port.0 ∷ port.1 ∷ []) done old new
+  pub seats : AreSeated texts index (port_place port) done old new
 
-pub seating_begins : (texts : List (List (List ℕ))) (index : ℕ) (port : ℕ × ℕ) (clients : List ℕ) (rest : List Posting) (old : List (Option Seat)) → rest ≡ map (posting port) clients → IsSeating texts index port clients rest old old
-seating_begins texts index port clients rest old e = record { done = []; todo = clients; split = refl; rest_is = e; seats = seat_none texts index (port.0 ∷ port.1 ∷ []) old }
+pub seating_begins : (texts : List (List (List ℕ))) (index : ℕ) (port : PortId) (clients : List ℕ) (rest : List Posting) (old : List (Option Seat)) → rest ≡ map (posting port) clients → IsSeating texts index port clients rest old old
+seating_begins texts index port clients rest old e = record { done = []; todo = clients; split = refl; rest_is = e; seats = seat_none texts index (port_place port) old }
 
 first_of : (p : Posting) (ps qs : List Posting) (q : Posting) → p ∷ ps ≡ q ∷ qs → p ≡ q
 first_of p ps qs q e = ap (λ xs. slice_index_or xs 0 p) e
@@ -94,7 +94,7 @@ first_of p ps qs q e = ap (λ xs. slice_index_or xs 0 p) e
 rest_of : (p : Posting) (ps qs : List Posting) (q : Posting) → p ∷ ps ≡ q ∷ qs → ps ≡ qs
 rest_of p ps qs q e = ap (λ xs. drop 1 xs) e
 
-pub next_inside : (texts : List (List (List ℕ))) (index : ℕ) (port : ℕ × ℕ) (clients : List ℕ) (p : Posting) (rest : List Posting) (old new : List (Option Seat))
+pub next_inside : (texts : List (List (List ℕ))) (index : ℕ) (port : PortId) (clients : List ℕ) (p : Posting) (rest : List Posting) (old new : List (Option Seat))
     → IsSeating texts index port clients (p ∷ rest) old new → All (λ c. c < length old) clients → p.client < length new
 next_inside texts index port clients p rest old new h low = by_todo h.todo h.split h.rest_is
   where
@@ -109,7 +109,7 @@ next_inside texts index port clients p rest old new h low = by_todo h.todo h.spl
         let same = h.seats.size in
         omega (arith, l, here, who, same)
 
-pub seating_goes_on : (texts : List (List (List ℕ))) (index : ℕ) (port : ℕ × ℕ) (clients : List ℕ) (p : Posting) (rest : List Posting) (old new : List (Option Seat)) (seat : Seat)
+pub seating_goes_on : (texts : List (List (List ℕ))) (index : ℕ) (port : PortId) (clients : List ℕ) (p : Posting) (rest : List Posting) (old new : List (Option Seat)) (seat : Seat)
     → IsSeating texts index port clients (p ∷ rest) old new → p.client < length new → seat.inlet ≡ index → posting_of seat.poster ≡ of_port p
     → ((c : ℕ) → length (texts_of texts c) ≤ 20000)
     → IsSeating texts index port clients rest old (set new p.client (Some seat))
@@ -121,23 +121,23 @@ seating_goes_on texts index port clients p rest old new seat h inside at end few
         let who : p ≡ posting port c = first_of p rest (map (posting port) cs) (posting port c) is in
         let client : p.client ≡ c = ap (λ (q : Posting). q.client) who in
         let ends : posting_of seat.poster ≡ of_port (posting port c) = end ∙ ap of_port who in
-        let ready : IsReady (port.0 ∷ port.1 ∷ []) c (texts_of texts c) (posting_of seat.poster) =
-        subst (IsReady (port.0 ∷ port.1 ∷ []) c (texts_of texts c)) (sym ends) (record { place_is = refl; client_is = refl; posted_is = refl; room = (let f = few c in omega (arith, f)) }) in
+        let ready : IsReady (port_place port) c (texts_of texts c) (posting_of seat.poster) =
+        subst (IsReady (port_place port) c (texts_of texts c)) (sym ends) (record { place_is = refl; client_is = refl; posted_is = refl; room = (let f = few c in omega (arith, f)) }) in
         record {
           done = h.done ++ c ∷ [];
           todo = cs;
           split = split ∙ sym (append_assoc h.done (c ∷ []) cs);
           rest_is = rest_of p rest (map (posting port) cs) (posting port c) is;
-          seats = subst (λ (i : ℕ). AreSeated texts index (port.0 ∷ port.1 ∷ []) (h.done ++ c ∷ []) old (set new i (Some seat))) (sym client)
-              (seat_more texts index (port.0 ∷ port.1 ∷ []) h.done c old new seat h.seats (omega (arith, inside, client)) at ready);
+          seats = subst (λ (i : ℕ). AreSeated texts index (port_place port) (h.done ++ c ∷ []) old (set new i (Some seat))) (sym client)
+              (seat_more texts index (port_place port) h.done c old new seat h.seats (omega (arith, inside, client)) at ready);
         }
 
-pub seating_ends : (texts : List (List (List ℕ))) (index : ℕ) (port : ℕ × ℕ) (clients : List ℕ) (rest : List Posting) (old new : List (Option Seat))
-    → IsSeating texts index port clients rest old new → length rest ≡ 0 → AreSeated texts index (port.0 ∷ port.1 ∷ []) clients old new
+pub seating_ends : (texts : List (List (List ℕ))) (index : ℕ) (port : PortId) (clients : List ℕ) (rest : List Posting) (old new : List (Option Seat))
+    → IsSeating texts index port clients rest old new → length rest ≡ 0 → AreSeated texts index (port_place port) clients old new
 seating_ends texts index port clients rest old new h none = by_todo h.todo h.split (ap length h.rest_is)
   where
-    by_todo : (todo : List ℕ) → clients ≡ h.done ++ todo → length rest ≡ length (map (posting port) todo) → AreSeated texts index (port.0 ∷ port.1 ∷ []) clients old new
-    by_todo [] split is = subst (λ (cs : List ℕ). AreSeated texts index (port.0 ∷ port.1 ∷ []) cs old new) (sym (split ∙ append-nil h.done)) h.seats
+    by_todo : (todo : List ℕ) → clients ≡ h.done ++ todo → length rest ≡ length (map (posting port) todo) → AreSeated texts index (port_place port) clients old new
+    by_todo [] split is = subst (λ (cs : List ℕ). AreSeated texts index (port_place port) cs old new) (sym (split ∙ append-nil h.done)) h.seats
     by_todo (c ∷ cs) split is = absurd (omega (arith, none, is))
 
 -- ---- all inlets

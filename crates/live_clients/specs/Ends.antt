@@ -1,5 +1,5 @@
 -- What contracts see of a client's end that is a lane's or a port's.
-use Rattle.event_gate.specs.Ends.{Posting}
+use Rattle.event_gate.specs.Ends.{Posting, port_place}
 use Rattle.event_gate.specs.Inlet.{Intake}
 use Rattle.event_gate.specs.Port.{is_noted, is_told, told_of}
 use Rattle.event_gate.specs.Texts.{lines_from}
@@ -9,7 +9,7 @@ use Rattle.live_clients.specs.declared.poster.AnyEnd.{AnyEnd}
 use Rattle.live_clients.specs.declared.poster.AnyPass.{AnyPass}
 use Rattle.live_clients.specs.declared.poster.AnyPoster.{AnyPoster}
 use Rattle.lwp_types.specs.declared.call.Line.{Line}
-use Rattle.std.specs.Prelude.{List, [], ◌∷◌, cond, eqb, false, length, take, true, ℕ, ◌+◌, ◌<◌, ◌≡◌, ◌≤◌}
+use Rattle.std.specs.Prelude.{List, [], cond, eqb, false, length, take, true, ℕ, ◌+◌, ◌<◌, ◌≡◌, ◌≤◌}
 use Rattle.live_clients.specs.declared.poster.AnyPass.TheVariants as passes
 use Rattle.live_clients.specs.declared.poster.AnyPoster.TheVariants as posters
 
@@ -26,7 +26,7 @@ of_lane p = record { place = lane_place p.lane; client = p.client; posted = p.po
 
 -- a port's client
 abbrev pub of_port : Posting → AnyPosting
-of_port p = record { place = p.port.0 ∷ p.port.1 ∷ []; client = p.client; posted = p.posted; room = 4294967295 }
+of_port p = record { place = port_place p.port; client = p.client; posted = p.posted; room = 4294967295 }
 
 -- a client's end
 abbrev pub posting_of : AnyPoster → AnyPosting

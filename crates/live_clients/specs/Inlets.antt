@@ -4,7 +4,7 @@ use Rattle.event_gate.specs.Port.{is_noted, is_told, of, told_of}
 use Rattle.lanes.specs.Ends.{lane_intake}
 use Rattle.live_clients.specs.declared.inlet.RunnerEnd.{RunnerEnd}
 use Rattle.live_clients.specs.declared.inlet.RunnerEnd.TheVariants.{Lane, Port}
-use Rattle.std.specs.Prelude.{Bool, List, [], ◌∷◌, false, length, take, true, ℕ, ◌≡◌}
+use Rattle.std.specs.Prelude.{Bool, List, [], ◌∷◌, eqb, false, length, take, true, ℕ, ◌≡◌}
 
 -- a lane's or a port's end as any runner's end
 abbrev pub intake_of : RunnerEnd → Intake
@@ -23,9 +23,7 @@ TakesNone t = (c : ℕ) → is_noted c t.noted ≡ false → of c t.taken ≡ []
 abbrev pub fresh : List ℕ → ℕ → List ℕ → Intake
 fresh place event clients = record { place = place; event = event; taken = []; finds = 0; noted = clients; known = [] }
 
--- the place is a lane's: a port's has two parts, and a lane's has more
+-- the place is a lane's: a port's begins with 1, and a lane's with 0
 abbrev pub is_lane : List ℕ → Bool
 is_lane [] = false
-is_lane (a ∷ []) = false
-is_lane (a ∷ b ∷ []) = false
-is_lane (a ∷ b ∷ c ∷ ds) = true
+is_lane (a ∷ bs) = eqb a 0

@@ -29,14 +29,14 @@ impl AnyInlet {
     ghost use Rattle.std.specs.Prelude.{true, ◌≡◌};
 
     /// Takes in what a client has posted in all.
-    pub(crate) fn take_in<R: Wait>(&mut self, rt: &R, pass: AnyPass)
+    pub(crate) fn take_in(&mut self, pass: AnyPass)
         requires place { (passed_of pass).place ≡ (any_intake self.old).place }
         requires client { is_noted (passed_of pass).client (any_intake self.old).noted ≡ true }
         ensures { IsTakenIn (any_intake self.old) (passed_of pass) (any_intake self.new) }
     {
         match (&mut self.end, pass) {
             (RunnerEnd::Lane(lane), AnyPass::Lane(pass)) => lane.take_in(pass),
-            (RunnerEnd::Port(port), AnyPass::Port(pass)) => port.take_in(rt, pass),
+            (RunnerEnd::Port(port), AnyPass::Port(pass)) => port.take_in(pass),
             (RunnerEnd::Lane(_), AnyPass::Port(_)) => unreachable!(),
             (RunnerEnd::Port(_), AnyPass::Lane(_)) => unreachable!(),
         }

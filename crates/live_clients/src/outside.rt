@@ -164,7 +164,7 @@ impl<'s> Outside<'s> {
 
     /// Joins each thread that is still out, and takes in its pass. Answers whether all clients have posted all their lines. It may
     /// be called again, after more lines were taken.
-    pub fn close<R: Threads + Wait>(&mut self, rt: &R) -> bool
+    pub fn close<R: Threads>(&mut self, rt: &R) -> bool
         requires { IsTied self.old }
         ensures tied { IsTied self.new }
         ensures same { IsSameOutside self.old self.new }
@@ -179,7 +179,7 @@ impl<'s> Outside<'s> {
     }
 
     // Takes in the pass of the client behind all that are out, when its thread has ended.
-    fn take_back<R: Threads + Wait>(&mut self, rt: &R, client: Client)
+    fn take_back<R: Threads>(&mut self, rt: &R, client: Client)
         requires { AreTied (events_of self.old) (all_texts self.old) self.old.all (self.old.out.items ++ client ∷ []) (intakes self.old) }
         ensures tied { IsTied self.new }
         ensures same { IsSameOutside self.old self.new }
@@ -188,7 +188,7 @@ impl<'s> Outside<'s> {
     {
         let Client { inlet, work } = client;
         let AnyEnd { pass, all } = work.end(rt);
-        self.inlets[inlet].take_in(rt, pass);
+        self.inlets[inlet].take_in(pass);
         self.all &= all;
     }
 }

@@ -121,7 +121,7 @@ fn take_in_all<R: Threads + Wait>(
     let mut whole = 0u32;
     for handle in handles {
         let end = handle.join(rt);
-        taker.take_in(rt, end.pass);
+        taker.take_in(end.pass);
         whole = whole.wrapping_add(u32::from(end.all));
     }
     whole
@@ -219,7 +219,7 @@ fn take_in_each<R: Wait>(
     let mut out = 0u32;
     for poster in posters {
         let end = post_all(rt, poster, &mut NoGate, texts, bell);
-        taker.take_in(rt, end.pass);
+        taker.take_in(end.pass);
         out = out.wrapping_add(u32::from(!taker.told()));
     }
     out

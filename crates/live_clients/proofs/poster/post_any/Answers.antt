@@ -1,4 +1,4 @@
-use Rattle.event_gate.specs.Ends.{Posting}
+use Rattle.event_gate.specs.Ends.{Posting, port_place}
 use Rattle.event_gate.proofs.Texts.{length-lines_from}
 use Rattle.event_gate.specs.Texts.{PostsSome, asked_each, lines_asked, lines_from}
 use Rattle.lanes.specs.Ends.{LanePosting, lane_place}
@@ -6,7 +6,7 @@ use Rattle.lanes.specs.Texts.{lane_posted}
 use Rattle.live_clients.proofs.poster.post_any.Goals as goal
 use Rattle.live_clients.specs.Ends.{IsEnd, IsReady, lines_tried, of_lane, of_port}
 use Rattle.live_clients.specs.declared.poster.AnyPass.TheVariants.{Lane, Port}
-use Rattle.std.proofs.Common.{Bool, List, [], ap, arith, cond, length, length-append, refl, sym, take, true, true≢false, ℕ, ◌+◌, ◌-◌, ◌++◌, ◌∙◌, ◌∷◌, ◌≡◌}
+use Rattle.std.proofs.Common.{Bool, List, ap, arith, cond, length, length-append, refl, sym, take, true, true≢false, ℕ, ◌+◌, ◌-◌, ◌++◌, ◌∙◌, ◌≡◌}
 use Rattle.std.proofs.lemmas.List.{take_all}
 
 lane_end : (p q : LanePosting) (texts : List (List ℕ)) → IsReady (lane_place p.lane) p.client texts (of_lane p) → q ≡ lane_posted p texts
@@ -23,10 +23,10 @@ lane_end p q texts ready is =
       sure = λ _. refl;
     }
 
-port_end : (p q : Posting) (texts : List (List ℕ)) (all : Bool) → IsReady (p.port.0 ∷ p.port.1 ∷ []) p.client texts (of_port p) → PostsSome p texts all q
-    → IsEnd (p.port.0 ∷ p.port.1 ∷ []) p.client texts (record { pass = Port q; all = all })
+port_end : (p q : Posting) (texts : List (List ℕ)) (all : Bool) → IsReady (port_place p.port) p.client texts (of_port p) → PostsSome p texts all q
+    → IsEnd (port_place p.port) p.client texts (record { pass = Port q; all = all })
 port_end p q texts all ready some = record {
-  place_is = ap (λ (r : Posting). r.port.0 ∷ r.port.1 ∷ []) some.after;
+  place_is = ap (λ (r : Posting). port_place r.port) some.after;
   client_is = ap (λ (r : Posting). r.client) some.after;
   count = some.count;
   posted = ap (λ (r : Posting). r.posted) some.after ∙ (λ k. ready.posted_is k ++ lines_from p.client (length (ready.posted_is k)) (take some.count texts));
@@ -44,7 +44,7 @@ lane_tried p q texts ready is =
     let all : take (length q.posted + 0) texts ≡ texts = take_all (length q.posted + 0) texts (omega (arith, size)) in
     λ k. lines_from p.client (none k) (sym all k)
 
-port_tried : (p q : Posting) (texts : List (List ℕ)) (all : Bool) → IsReady (p.port.0 ∷ p.port.1 ∷ []) p.client texts (of_port p)
+port_tried : (p q : Posting) (texts : List (List ℕ)) (all : Bool) → IsReady (port_place p.port) p.client texts (of_port p)
     → lines_asked p texts all q ≡ lines_tried p.client texts (record { pass = Port q; all = all })
 port_tried p q texts all ready =
     let none : length p.posted ≡ 0 = ap length ready.posted_is in

@@ -1,18 +1,18 @@
-use Rattle.std.proofs.Common.{◌≡◌, ◌∙◌, ℕ, [], All, ap, sym, subst}
+use Rattle.std.proofs.Common.{◌≡◌, ◌∙◌, [], All, ap, sym, subst}
 use Rattle.std.proofs.lemmas.List.Elements.{All-push, All-tail}
 use Rattle.std.specs.declared.thread.PromisedHandle.{PromisedHandle}
 use Rattle.event_gate.specs.declared.posts.PostEnd.{PostEnd}
 use Rattle.tests_of_inlets.specs.declared.ports.OfPort.{OfPort}
-use Rattle.event_gate.specs.Ends.{Posting}
+use Rattle.event_gate.specs.Ends.{PortId, Posting}
 use Rattle.tests_of_inlets.proofs.ports.start_all.Goals as goal
 
 abbrev Handle : Type 0
 Handle = PromisedHandle PostEnd OfPort
 
-abbrev IsNew : ℕ × ℕ → Posting → Type 0
+abbrev IsNew : PortId → Posting → Type 0
 IsNew port p = (p.port ≡ port) × (p.posted ≡ [])
 
-abbrev IsOf : ℕ × ℕ → Handle → Type 0
+abbrev IsOf : PortId → Handle → Type 0
 IsOf port h = h.promise.taker.value.port ≡ port
 
 pub loop-poster-preserved : goal.loop-poster-preserved

@@ -1,12 +1,12 @@
-use Rattle.std.proofs.Common.{◌≡◌, ◌∙◌, ℕ, All, ap, subst}
+use Rattle.std.proofs.Common.{◌≡◌, ◌∙◌, All, ap, subst}
 use Rattle.std.proofs.lemmas.List.Elements.{All-tail}
 use Rattle.std.specs.declared.thread.PromisedHandle.{PromisedHandle}
 use Rattle.event_gate.specs.declared.posts.PostEnd.{PostEnd}
 use Rattle.tests_of_inlets.specs.declared.ports.OfPort.{OfPort}
-use Rattle.event_gate.specs.Ends.{Taking}
+use Rattle.event_gate.specs.Ends.{PortId, Taking}
 use Rattle.tests_of_inlets.proofs.ports.take_in_all.Goals as goal
 
-abbrev IsOf : ℕ × ℕ → PromisedHandle PostEnd OfPort → Type 0
+abbrev IsOf : PortId → PromisedHandle PostEnd OfPort → Type 0
 IsOf port h = h.promise.taker.value.port ≡ port
 
 pub loop-handle-preserved : goal.loop-handle-preserved

@@ -1,9 +1,9 @@
-use Rattle.std.proofs.Common.{◌≡◌, ◌∙◌, ℕ, [], All, ap, subst}
+use Rattle.std.proofs.Common.{◌≡◌, ◌∙◌, [], All, ap, subst}
 use Rattle.std.proofs.lemmas.List.Elements.{All-tail}
-use Rattle.event_gate.specs.Ends.{Posting, Taking}
+use Rattle.event_gate.specs.Ends.{PortId, Posting, Taking}
 use Rattle.tests_of_inlets.proofs.ports.take_in_each.Goals as goal
 
-abbrev IsNew : ℕ × ℕ → Posting → Type 0
+abbrev IsNew : PortId → Posting → Type 0
 IsNew port p = (p.port ≡ port) × (p.posted ≡ [])
 
 pub loop-poster-preserved : goal.loop-poster-preserved
