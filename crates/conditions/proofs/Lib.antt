@@ -1,3 +1,4 @@
 pub mod Lines
 pub mod RowLaws
+pub mod GroupLaws
 pub mod Machine
