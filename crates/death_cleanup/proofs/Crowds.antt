@@ -50,7 +50,7 @@ module _ {X : Type 0} (key place : X → ℕ) where
         by_row (Some row) h = by_any (any row.block) (spot row.block) h
 
     -- as many stand in the list as wait so
-    fits : (rows : List ThreadRow) (xs : List X) → ((t : ℕ) → count_by (λ x. eqb (key x) t) xs ≤ one (passes (λ row. any row.block) (find (is_number t) rows))) → length xs ≤ count_by (λ (row : ThreadRow). any row.block) rows
+    pub fits : (rows : List ThreadRow) (xs : List X) → ((t : ℕ) → count_by (λ x. eqb (key x) t) xs ≤ one (passes (λ row. any row.block) (find (is_number t) rows))) → length xs ≤ count_by (λ (row : ThreadRow). any row.block) rows
     fits [] [] h = omega arith
     fits [] (x ∷ xs) h =
         let here : one (eqb (key x) (key x)) ≡ 1 = ap one (eq-eqb (key x) (key x) refl) in

@@ -64,6 +64,6 @@ lawful_parts = record {
     roomy = record { letters = omega arith; threads = omega arith; requests = omega arith; waits = omega arith };
     monitors = refl;
     conditions = refl;
-    noted = refl;
+    noted = record { noted = refl; room = omega arith };
   };
 }

@@ -3,7 +3,7 @@ use Rattle.death_cleanup.proofs.Notes.{noted-block}
 use Rattle.death_cleanup.proofs.Looks.{IsRanked-waked, IsRoomy-waked, IsTied-waked, waked-is}
 use Rattle.death_cleanup.specs.Comes.{CameTo}
 use Rattle.death_cleanup.specs.Moves.{waked}
-use Rattle.death_cleanup.specs.Named.{NameNote, all_noted}
+use Rattle.death_cleanup.specs.Named.{IsNoteOf, NameNote}
 use Rattle.death_cleanup.specs.Ties.{InStep}
 use Rattle.death_cleanup.specs.View.{state_of}
 use Rattle.death_cleanup.specs.declared.parts.Parts.{Parts}
@@ -29,7 +29,7 @@ module _ (parts : Parts) (step : InStep parts) where
   }
 
   -- another note, which has all that wait by name
-  pub InStep-noted : (named : NameNote) → all_noted named parts.ids.live ≡ true → InStep (record parts { named = named })
+  pub InStep-noted : (named : NameNote) → IsNoteOf named parts.ids.live → InStep (record parts { named = named })
   InStep-noted named noted = record {
     tied = record { known = step.tied.known; waits = step.tied.waits };
     ranked = record { requests = step.ranked.requests; waits = step.ranked.waits };

@@ -20,6 +20,7 @@ pub mod Locking
 pub mod Resuming
 pub mod Replying
 pub mod Crowds
+pub mod Rooms
 pub mod Asking
 pub mod Notices
 pub mod Exiting

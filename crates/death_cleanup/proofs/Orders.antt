@@ -1,45 +1,60 @@
 -- How the waits that are noted stand.
-use Rattle.death_cleanup.specs.Named.{AreOrdered, IsBefore, IsGap, is_before}
+use Rattle.death_cleanup.specs.Named.{AreOrdered, IsBefore, IsGap, is_before, is_wait, rank, run, run_of}
+use Rattle.death_cleanup.specs.declared.rows.Awaited.{Awaited}
+use Rattle.death_cleanup.specs.declared.rows.Awaited.TheVariants as awaited
 use Rattle.death_cleanup.specs.declared.rows.NamedWait.{NamedWait}
 use Rattle.std.proofs.Common.{Bool, List, [], ap, arith, cond, eqb, false, get_or, inl, inr, length, refl, suc, sym, true, zero, ℕ, ◌&&◌, ◌<◌, ◌∙◌, ◌∷◌, ◌≡◌, ◌≤◌, ◌||◌}
-use Rattle.std.proofs.lemmas.Bool.{cases_lt, eq-eqb, eqb-true, le-ltb, lt-ltb, ltb-false, ltb-true, or_right}
+use Rattle.std.proofs.lemmas.Bool.{and_from, cases_lt, eq-eqb, eqb-true, le-ltb, lt-ltb, ltb-false, ltb-true, or_right}
 use Rattle.std.specs.List.{AllByRecursion, filter, insert, list_any, remove}
 use Rattle.std.specs.List.Sorted.{IsPartitionedBy}
 use Rattle.std.specs.Prelude.{nat_lt}
 
+-- ---- the runs
+
+pub rank-le : (a : Awaited) → rank a ≤ 1
+rank-le awaited.Death = omega arith
+rank-le awaited.Letter = omega arith
+
+-- the waits of one run are for the same
+pub same-run : (a b : Awaited) (x y : ℕ) → run a x ≡ run b y → (a ≡ b) × (x ≡ y)
+same-run awaited.Death awaited.Death x y e = (refl, omega (arith, e))
+same-run awaited.Death awaited.Letter x y e = absurd (omega (arith, e))
+same-run awaited.Letter awaited.Death x y e = absurd (omega (arith, e))
+same-run awaited.Letter awaited.Letter x y e = (refl, omega (arith, e))
+
 -- ---- what stands before what
 
-pub before-holds : (w : NamedWait) (x n : ℕ) → w.of ≤ x → (w.of ≡ x → w.tid < n) → is_before x n w ≡ true
-before-holds w x n low younger = elim (cases_lt w.of x) [
-  | inl less ↦ rw (lt-ltb w.of x less) refl
+pub before-holds : (w : NamedWait) (r n : ℕ) → run_of w ≤ r → (run_of w ≡ r → w.tid < n) → is_before r n w ≡ true
+before-holds w r n low younger = elim (cases_lt (run_of w) r) [
+  | inl less ↦ rw (lt-ltb (run_of w) r less) refl
   | inr more ↦
-      let same : w.of ≡ x = omega (arith, low, more) in
-      rw (le-ltb w.of x more, eq-eqb w.of x same, lt-ltb w.tid n (younger same)) refl
+      let same : run_of w ≡ r = omega (arith, low, more) in
+      rw (le-ltb (run_of w) r more, eq-eqb (run_of w) r same, lt-ltb w.tid n (younger same)) refl
 ]
 
-pub before-says : (w : NamedWait) (x n : ℕ) → is_before x n w ≡ true → (w.of ≤ x) × (w.of ≡ x → w.tid < n)
-before-says w x n is = by_less (nat_lt w.of x) refl is
+pub before-says : (w : NamedWait) (r n : ℕ) → is_before r n w ≡ true → (run_of w ≤ r) × (run_of w ≡ r → w.tid < n)
+before-says w r n is = by_less (nat_lt (run_of w) r) refl is
   where
-    by_same : (c : Bool) → eqb w.of x ≡ c → (c && nat_lt w.tid n) ≡ true → (w.of ≤ x) × (w.of ≡ x → w.tid < n)
-    by_same true e h = (omega (arith, eqb-true w.of x e), λ same. ltb-true w.tid n h)
+    by_same : (c : Bool) → eqb (run_of w) r ≡ c → (c && nat_lt w.tid n) ≡ true → (run_of w ≤ r) × (run_of w ≡ r → w.tid < n)
+    by_same true e h = (omega (arith, eqb-true (run_of w) r e), λ same. ltb-true w.tid n h)
     by_same false e h = absurd (cc)
 
-    by_less : (c : Bool) → nat_lt w.of x ≡ c → (c || (eqb w.of x && nat_lt w.tid n)) ≡ true → (w.of ≤ x) × (w.of ≡ x → w.tid < n)
-    by_less true e h = (let less = ltb-true w.of x e in omega (arith, less), λ same. absurd (omega (arith, same, ltb-true w.of x e)))
-    by_less false e h = by_same (eqb w.of x) refl h
+    by_less : (c : Bool) → nat_lt (run_of w) r ≡ c → (c || (eqb (run_of w) r && nat_lt w.tid n)) ≡ true → (run_of w ≤ r) × (run_of w ≡ r → w.tid < n)
+    by_less true e h = (let less = ltb-true (run_of w) r e in omega (arith, less), λ same. absurd (omega (arith, same, ltb-true (run_of w) r e)))
+    by_less false e h = by_same (eqb (run_of w) r) refl h
 
-pub before-not : (w : NamedWait) (x n : ℕ) → is_before x n w ≡ false → (x ≤ w.of) × (w.of ≡ x → n ≤ w.tid)
-before-not w x n is = by_less (nat_lt w.of x) refl is
+pub before-not : (w : NamedWait) (r n : ℕ) → is_before r n w ≡ false → (r ≤ run_of w) × (run_of w ≡ r → n ≤ w.tid)
+before-not w r n is = by_less (nat_lt (run_of w) r) refl is
   where
-    by_less : (c : Bool) → nat_lt w.of x ≡ c → (c || (eqb w.of x && nat_lt w.tid n)) ≡ false → (x ≤ w.of) × (w.of ≡ x → n ≤ w.tid)
+    by_less : (c : Bool) → nat_lt (run_of w) r ≡ c → (c || (eqb (run_of w) r && nat_lt w.tid n)) ≡ false → (r ≤ run_of w) × (run_of w ≡ r → n ≤ w.tid)
     by_less true e h = absurd (cc)
-    by_less false e h = (ltb-false w.of x e, λ same. ltb-false w.tid n (rw (eq-eqb w.of x same) at h))
+    by_less false e h = (ltb-false (run_of w) r e, λ same. ltb-false w.tid n (rw (eq-eqb (run_of w) r same) at h))
 
-pub before-down : (v w : NamedWait) (x n : ℕ) → IsBefore v w → is_before x n w ≡ true → is_before x n v ≡ true
-before-down v w x n order later =
-    let says = before-says w x n later in
-    before-holds v x n (omega (arith, order.of, says.0)) (λ same.
-    let is : w.of ≡ x = omega (arith, same, order.of, says.0) in
+pub before-down : (v w : NamedWait) (r n : ℕ) → IsBefore v w → is_before r n w ≡ true → is_before r n v ≡ true
+before-down v w r n order later =
+    let says = before-says w r n later in
+    before-holds v r n (omega (arith, order.low, says.0)) (λ same.
+    let is : run_of w ≡ r = omega (arith, same, order.low, says.0) in
     omega (arith, order.tid (omega (arith, same, is)), says.1 is))
 
 -- ---- waits in order
@@ -91,20 +106,41 @@ all-from : (P : NamedWait → Type 0) (ws : List NamedWait) → ((j : ℕ) (d : 
 all-from P [] each = tt
 all-from P (w ∷ ws) each = (each 0 w (omega arith), all-from P ws (λ j d lt. each (suc j) d (omega arith)))
 
-pub AreOrdered-inserted : (ws : List NamedWait) (i : ℕ) (v : NamedWait) → AreOrdered ws → IsGap v.of v.tid ws i → AreOrdered (insert ws i v)
-AreOrdered-inserted ws zero v ordered gap = (
-  all-from (IsBefore v) ws (λ j d lt. let not = before-not (get_or ws j d) v.of v.tid (gap.above j d (omega arith) lt) in record { of = not.0; tid = λ same. not.1 (sym same) }),
-  ordered,
-)
-AreOrdered-inserted [] (suc i) v ordered gap = absurd (omega (arith, gap.within))
-AreOrdered-inserted (w ∷ ws) (suc i) v ordered gap =
-    let says = before-says w v.of v.tid (gap.below 0 w (omega arith)) in (
-      all-inserted (IsBefore w) ws i v (omega (arith, gap.within)) ordered.0 (record { of = says.0; tid = λ same. let less = says.1 same in omega (arith, less) }),
+-- where the wait stands, nobody else of its run and thread does
+pub AreOrdered-inserted : (ws : List NamedWait) (i : ℕ) (v : NamedWait) → AreOrdered ws → IsGap (run_of v) v.tid ws i → ((d : NamedWait) → i < length ws → is_wait (run_of v) v.tid (get_or ws i d) ≡ false) → AreOrdered (insert ws i v)
+AreOrdered-inserted ws zero v ordered gap away = (all-from (IsBefore v) ws later, ordered)
+  where
+    first : (d : NamedWait) → 0 < length ws → run_of v ≡ run_of (get_or ws 0 d) → v.tid < (get_or ws 0 d).tid
+    first d lt same = elim (cases_lt v.tid (get_or ws 0 d).tid) [
+      | inl less ↦ less
+      | inr more ↦
+          let not = before-not (get_or ws 0 d) (run_of v) v.tid (gap.above 0 d (omega arith) lt) in
+          let least : v.tid ≤ (get_or ws 0 d).tid = not.1 (sym same) in
+          let here : is_wait (run_of v) v.tid (get_or ws 0 d) ≡ true = and_from _ _ (eq-eqb (get_or ws 0 d).tid v.tid (omega (arith, least, more))) (eq-eqb (run_of (get_or ws 0 d)) (run_of v) (sym same)) in
+          let no : false ≡ true = sym (away d lt) ∙ here in
+          absurd (cc)
+    ]
+
+    younger : (j : ℕ) (d : NamedWait) → j < length ws → run_of v ≡ run_of (get_or ws j d) → v.tid < (get_or ws j d).tid
+    younger zero d lt same = first d lt same
+    younger (suc j) d lt same =
+        let order = ordered-at ws 0 (suc j) d ordered (omega arith) lt in
+        let low = (before-not (get_or ws 0 d) (run_of v) v.tid (gap.above 0 d (omega arith) (omega arith))).0 in
+        let own : run_of v ≡ run_of (get_or ws 0 d) = omega (arith, low, order.low, same) in
+        let less = first d (omega arith) own in
+        omega (arith, less, order.tid (omega (arith, own, same)))
+
+    later : (j : ℕ) (d : NamedWait) → j < length ws → IsBefore v (get_or ws j d)
+    later j d lt = record { low = (before-not (get_or ws j d) (run_of v) v.tid (gap.above j d (omega arith) lt)).0; tid = younger j d lt }
+AreOrdered-inserted [] (suc i) v ordered gap away = absurd (omega (arith, gap.within))
+AreOrdered-inserted (w ∷ ws) (suc i) v ordered gap away =
+    let says = before-says w (run_of v) v.tid (gap.below 0 w (omega arith)) in (
+      all-inserted (IsBefore w) ws i v (omega (arith, gap.within)) ordered.0 (record { low = says.0; tid = says.1 }),
       AreOrdered-inserted ws i v ordered.1 (record {
         within = omega (arith, gap.within);
         below = λ j d lt. gap.below (suc j) d (omega arith);
         above = λ j d ge lt. gap.above (suc j) d (omega arith) (omega arith);
-      }),
+      }) (λ d lt. away d (omega arith)),
     )
 
 -- ---- whether a wait stands there
@@ -148,8 +184,8 @@ own-inserted p [] (suc i) v within own = absurd (omega arith)
 own-inserted p (w ∷ ws) (suc i) v within own = or_right (p w) _ (own-inserted p ws i v (omega arith) own)
 
 -- what `partition_point` asks
-pub parted : (ws : List NamedWait) (x n : ℕ) → AreOrdered ws → IsPartitionedBy (is_before x n) ws
-parted ws x n ordered i j d le within passes = elim (cases_lt i j) [
-  | inl less ↦ before-down (get_or ws i d) (get_or ws j d) x n (ordered-at ws i j d ordered less within) passes
-  | inr more ↦ ap (λ k. is_before x n (get_or ws k d)) (let e : i ≡ j = omega (arith, le, more) in e) ∙ passes
+pub parted : (ws : List NamedWait) (r n : ℕ) → AreOrdered ws → IsPartitionedBy (is_before r n) ws
+parted ws r n ordered i j d le within passes = elim (cases_lt i j) [
+  | inl less ↦ before-down (get_or ws i d) (get_or ws j d) r n (ordered-at ws i j d ordered less within) passes
+  | inr more ↦ ap (λ k. is_before r n (get_or ws k d)) (let e : i ≡ j = omega (arith, le, more) in e) ∙ passes
 ]

@@ -1,7 +1,7 @@
 -- Whoever waits for a thread or an agent that ends goes on.
 use Rattle.death_cleanup.proofs.Draining.{Draining, done, fewer, first_room, goes_on}
 use Rattle.death_cleanup.proofs.Keeping.{InStep-noted}
-use Rattle.death_cleanup.specs.Named.{NameNote, all_noted}
+use Rattle.death_cleanup.specs.Named.{IsNoteOf, NameNote}
 use Rattle.death_cleanup.proofs.Fronts.{Front, waiting_first, waiting_none}
 use Rattle.death_cleanup.specs.Comes.{CameTo}
 use Rattle.death_cleanup.specs.Ties.{HasLawfulThreads}
@@ -65,7 +65,7 @@ module _ (what : Awaited) (t : ℕ) where
 
   module _ (start : Parts) (before : List Effect) (parts : Parts) (after : List Effect) (h : Draining HasLawfulThreads list change 0 start before parts after) where
     -- another note, which has all that wait by name
-    pub noted-on : (named : NameNote) → all_noted named parts.ids.live ≡ true → Draining HasLawfulThreads list change 0 start before (record parts { named = named }) after
+    pub noted-on : (named : NameNote) → IsNoteOf named parts.ids.live → Draining HasLawfulThreads list change 0 start before (record parts { named = named }) after
     noted-on named noted = record { keeps = h.keeps; step = InStep-noted parts h.step named noted; dying = h.dying; state = h.state; effects = h.effects; room = h.room }
 
     module _ (u : ℕ) (found : first_waiting what t parts.ids.live ≡ Some u) where

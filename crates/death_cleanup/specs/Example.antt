@@ -1,6 +1,7 @@
 -- A pod in which much hangs on its first thread, for the test of a death.
 use Rattle.death_cleanup.specs.Named.{NameNote}
 use Rattle.death_cleanup.specs.declared.parts.Parts.{Parts}
+use Rattle.death_cleanup.specs.declared.rows.Awaited.TheVariants as awaited
 use Rattle.death_cleanup.specs.declared.rows.Kind.{Kind}
 use Rattle.death_cleanup.specs.declared.rows.Kind.TheVariants as kind
 use Rattle.lwp_types.specs.Agents.{deliver}
@@ -130,7 +131,7 @@ abbrev pub agents : Roster
 agents = record { agents = record { number = 8; event = 3; owner = 0; holding = true } ∷ []; places = 1 }
 
 abbrev pub named : NameNote
-named = record { waits = record { tid = 3; of = 0 } ∷ record { tid = 4; of = 0 } ∷ record { tid = 5; of = 0 } ∷ []; crowded = false }
+named = record { waits = record { what = awaited.Death; of = 0; tid = 4 } ∷ record { what = awaited.Death; of = 0; tid = 5 } ∷ record { what = awaited.Letter; of = 0; tid = 3 } ∷ []; places = 16 }
 
 abbrev pub parts : Parts
 parts = record {

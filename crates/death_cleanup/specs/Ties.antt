@@ -1,12 +1,12 @@
 -- What ties the parts together, and which parts are lawful.
-use Rattle.death_cleanup.specs.Named.{all_noted}
+use Rattle.death_cleanup.specs.Named.{IsNoteOf}
 use Rattle.death_cleanup.specs.View.{state_of}
 use Rattle.death_cleanup.specs.declared.parts.Parts.{Parts}
 use Rattle.lwp_types.specs.Lawful.{NineParts, is_same_option}
 use Rattle.lwp_types.specs.State.{State, is_blocked_in, is_thread, priority_in}
 use Rattle.pod_sched.specs.Schedule as sched
 use Rattle.std.specs.List.{AllByRecursion}
-use Rattle.std.specs.Prelude.{IsTrue, Option, length, not, ℕ, ◌&&◌, ◌+◌, ◌≡◌, ◌≤◌}
+use Rattle.std.specs.Prelude.{Option, length, not, ℕ, ◌&&◌, ◌+◌, ◌≡◌, ◌≤◌}
 
 -- the scheduler knows the threads but the dying one, and agrees who waits
 pub record IsTied (parts : Parts) : Type 0 where
@@ -32,7 +32,7 @@ pub record InStep (parts : Parts) : Type 0 where
   pub roomy : IsRoomy parts
   pub monitors : parts.mons.limit ≡ parts.ids.limit
   pub conditions : parts.conds.limit ≡ parts.ids.limit
-  pub noted : IsTrue (all_noted parts.named parts.ids.live)
+  pub noted : IsNoteOf parts.named parts.ids.live
 
 -- lawful parts: they keep step, and are a lawful state
 pub record LawfulParts (parts : Parts) : Type 0 where

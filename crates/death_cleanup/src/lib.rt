@@ -15,7 +15,7 @@
 //! | `wake_done`, `wake_lettered`, `wake_replied` | `unblock`, with the answer of that kind |
 //!
 //! Whoever waits for another by name is noted in `Named`, in the order of those that are waited for, and a death goes over
-//! those alone that wait for it. Room for that is made with each thread.
+//! those alone that wait for it. Room for that is made with each thread, and there is always enough.
 //!
 //! But for `Named::new` and `Named::reserve` nothing here takes memory or is refused by want of it. A dying thread has left the scheduler: `Parts` keep who that is,
 //! and the priority that it had. It stands on the crates of the single parts, and on `pod_laws`.

@@ -1,12 +1,11 @@
 // The note of those that wait by name, so that a death goes over those alone that wait for it.
-ghost use Rattle.std.specs.Prelude.{◌≡◌, ◌<◌, map, length, vec_capacity, IfNone, IfOk, IfSome, IsTrue, Option, Some, ℕ};
+ghost use Rattle.std.specs.Prelude.{◌≡◌, ◌==◌, ◌<◌, ◌≤◌, ◌*◌, false, map, length, nat_lt, vec_capacity, IfNone, IfOk, IfSome, IsFalse, IsOk, IsTrue, OnErr, OnOk, Option, ℕ};
 ghost use Rattle.death_cleanup.specs.Moves.{block_set};
-ghost use Rattle.std.specs.List.{list_any};
-ghost use Rattle.death_cleanup.specs.Named.{AreOrdered, HasNoWaiter, HasWaiter, IsGap, all_noted, covers, few_waits, is_before, is_on, is_wait, no_names, waits_at};
+ghost use Rattle.std.specs.List.{list_any, slice_index_or};
+ghost use Rattle.death_cleanup.specs.Named.{AreOrdered, HasNoWaiter, HasWaiter, IsGap, IsNoteOf, all_noted, is_before, is_on, is_wait, no_names, reserved, run_of};
 ghost use Rattle.death_cleanup.specs.Waits.{first_waiting};
 
-use crate::rows::{Awaited, Kind, NamedWait, name_of};
-use crate::waiters::first_of_all;
+use crate::rows::{Awaited, Kind, NamedWait, wait_of};
 use lwp_types::{Block, NoMemory, Tid};
 use stale_ids::Registry;
 use std::alloc::Global;
@@ -15,15 +14,14 @@ use std::marker::Model;
 // How many waits there is room for at first.
 const FIRST_PLACES: usize = 16;
 
-/// Whoever waits by name is noted here, and maybe some that wait no longer. Without room for one more the note is crowded, and
-/// says nothing.
+/// Whoever waits by name is noted here, and maybe some that wait no longer. There is always room for one more: each birth makes
+/// room for two waits, and who waits no longer goes once all of it is taken.
 #[derive(Drop)]
 pub struct Named {
-    // By those that are waited for, and by those that wait: the oldest first.
+    // By those that are waited for, by what of them is, and by those that wait: the oldest first.
     waits: Vec<NamedWait>,
     // For how many waits there is memory.
     places: usize,
-    crowded: bool,
 }
 
 impl Model for Named {
@@ -32,9 +30,9 @@ impl Model for Named {
 
     ghost Value = { NameNote };
 
-    ghost view = { λ n. record { waits = n.waits.items; crowded = n.crowded } };
+    ghost view = { λ n. record { waits = n.waits.items; places = n.places } };
 
-    ghost invariant = { λ n. AreOrdered n.waits.items × (n.places ≤ vec_capacity n.waits) };
+    ghost invariant = { λ n. AreOrdered n.waits.items × (n.places ≤ vec_capacity n.waits) × (1 ≤ n.places) };
 }
 
 // Whether the wait goes on.
@@ -42,58 +40,65 @@ fn goes_on(ids: &Registry<Kind>, wait: &NamedWait) -> bool
     ensures { result ≡ is_on ids.now.live wait.now }
 {
     match ids.get(wait.tid.number) {
-        Some(kind) => kind.names(wait.of),
+        Some(kind) => kind.waits_for(wait.what, wait.of),
         None => false,
     }
 }
 
-// Whether the thread waits for this of the thread or agent.
-fn is_waiting(ids: &Registry<Kind>, what: Awaited, tid: Tid, waiter: Tid) -> bool
-    ensures { result ≡ waits_at what tid ids.now.live waiter }
+// Whether both are waits for the same.
+fn are_alike(wait: &NamedWait, other: &NamedWait) -> bool
+    ensures { result ≡ (run_of wait.now == run_of other.now) }
 {
-    match ids.get(waiter.number) {
-        Some(kind) => kind.waits_for(what, tid),
-        None => false,
-    }
+    wait.of == other.of && wait.what.rank() == other.what.rank()
 }
 
-// Whether the wait stands before that of this thread for this one.
-fn is_before(wait: &NamedWait, of: Tid, tid: Tid) -> bool
-    ensures { result ≡ is_before of tid wait.now }
+// Whether the one is a wait for somebody older, or for what comes first of the same one.
+fn is_earlier(wait: &NamedWait, other: &NamedWait) -> bool
+    ensures { result ≡ nat_lt (run_of wait.now) (run_of other.now) }
 {
-    wait.of.number < of.number || (wait.of == of && wait.tid.number < tid.number)
+    wait.of.number < other.of.number
+        || (wait.of == other.of && wait.what.rank() < other.what.rank())
 }
 
-// Where the wait of this thread for this one stands, or would.
-fn gap_of(waits: &[NamedWait], of: Tid, tid: Tid) -> usize
+// Whether the one stands before the other.
+fn is_before(wait: &NamedWait, other: &NamedWait) -> bool
+    ensures { result ≡ is_before (run_of other.now) other.now.tid wait.now }
+{
+    is_earlier(wait, other) || (are_alike(wait, other) && wait.tid.number < other.tid.number)
+}
+
+// Where the wait stands, or would.
+fn gap_of(waits: &[NamedWait], wait: &NamedWait) -> usize
     requires { AreOrdered waits.now }
-    ensures { IsGap of tid waits.now result }
+    ensures { IsGap (run_of wait.now) wait.now.tid waits.now result }
 {
-    waits.partition_point(|wait| is_before(wait, of, tid))
+    waits.partition_point(|other| is_before(other, wait))
 }
 
 // Whether the wait stands there.
-fn is_at(waits: &Vec<NamedWait>, at: usize, of: Tid, tid: Tid) -> bool
-    ensures { IsTrue result → IsTrue (list_any (is_wait tid of) waits.now.items) }
+fn is_at(waits: &Vec<NamedWait>, at: usize, wait: &NamedWait) -> bool
+    ensures there { IsTrue result → IsTrue (list_any (is_wait (run_of wait.now) wait.now.tid) waits.now.items) }
+    ensures away { IsFalse result → (d : _) → at < length waits.now.items → is_wait (run_of wait.now) wait.now.tid (slice_index_or waits.now.items at d) ≡ false }
 {
     match waits.get(at) {
-        Some(wait) => wait.tid == tid && wait.of == of,
+        Some(other) => other.tid == wait.tid && are_alike(other, wait),
         None => false,
     }
 }
 
-// The thread that waits for this one by the wait there.
-fn waiter_at(waits: &Vec<NamedWait>, at: usize, of: Tid) -> Option<NamedWait>
-    ensures some { IfSome result (λ wait. HasWaiter of wait waits.now.items at) }
-    ensures none { IfNone result (HasNoWaiter of waits.now.items at) }
+// The wait there, if it is for the same.
+fn waiter_at(waits: &Vec<NamedWait>, at: usize, alike: &NamedWait) -> Option<NamedWait>
+    ensures some { IfSome result (λ wait. HasWaiter (run_of alike.now) wait waits.now.items at) }
+    ensures none { IfNone result (HasNoWaiter (run_of alike.now) waits.now.items at) }
 {
     match waits.get(at) {
-        Some(wait) if wait.of == of => Some(*wait),
+        Some(wait) if are_alike(wait, alike) => Some(*wait),
         _ => None,
     }
 }
 
-// The oldest of the living that waits for this of the thread or agent. Waits that are met and go on no longer go.
+// The oldest of the living that waits for this of the thread or agent. Waits that are met and go on no longer go, so that each look
+// finds it, or leaves one wait less.
 fn first_in(
     waits: &mut Vec<NamedWait>,
     ids: &Registry<Kind>,
@@ -101,50 +106,57 @@ fn first_in(
     tid: Tid,
 ) -> Option<Tid>
     requires ordered { AreOrdered waits.old.items }
-    requires noted { IsTrue (all_noted (few_waits waits.old.items) ids.now.live) }
+    requires noted { IsTrue (all_noted waits.old.items ids.now.live) }
     ensures value { result ≡ first_waiting what tid ids.now.live }
     ensures ordered { AreOrdered waits.new.items }
-    ensures noted { IsTrue (all_noted (few_waits waits.new.items) ids.now.live) }
+    ensures noted { IsTrue (all_noted waits.new.items ids.now.live) }
     ensures capacity { vec_capacity waits.new ≡ vec_capacity waits.old }
 {
     // The check learns here that the living stand in birth order.
     let _living = ids.len();
-    let mut at = gap_of(waits, tid, Tid { number: 0 });
-    while let Some(wait) = waiter_at(waits, at, tid) {
-        if is_waiting(ids, what, tid, wait.tid) {
+    let first = NamedWait {
+        what,
+        of: tid,
+        tid: Tid { number: 0 },
+    };
+    let at = gap_of(waits, &first);
+    while let Some(wait) = waiter_at(waits, at, &first) {
+        if goes_on(ids, &wait) {
             return Some(wait.tid);
         }
-        if goes_on(ids, &wait) {
-            at += 1;
-        } else {
-            waits.remove(at);
-        }
+        waits.remove(at);
     }
     None
 }
 
-// One wait more, where it belongs.
-fn put_in(waits: &mut Vec<NamedWait>, wait: NamedWait)
+// One wait more, where it belongs, unless it stands there.
+fn put_in(waits: &mut Vec<NamedWait>, wait: &NamedWait)
     requires ordered { AreOrdered waits.old.items }
     requires room { length waits.old.items < vec_capacity waits.old }
     ensures ordered { AreOrdered waits.new.items }
-    ensures kept { (n x : ℕ) → IsTrue (list_any (is_wait n x) waits.old.items) → IsTrue (list_any (is_wait n x) waits.new.items) }
-    ensures noted { IsTrue (list_any (is_wait wait.tid wait.of) waits.new.items) }
+    ensures kept { (r n : ℕ) → IsTrue (list_any (is_wait r n) waits.old.items) → IsTrue (list_any (is_wait r n) waits.new.items) }
+    ensures noted { IsTrue (list_any (is_wait (run_of wait.now) wait.now.tid) waits.new.items) }
     ensures capacity { vec_capacity waits.new ≡ vec_capacity waits.old }
 {
-    let at = gap_of(waits, wait.of, wait.tid);
+    let at = gap_of(waits, wait);
+    if is_at(waits, at, wait) {
+        return;
+    }
     // There is room, so no memory is asked for.
-    let _ = waits.insert(at, wait);
+    let _ = waits.insert(at, *wait);
 }
 
-// Those that wait no longer go.
-fn prune(named: &mut Named, ids: &Registry<Kind>)
-    requires { IsTrue (all_noted named.old ids.now.live) }
-    ensures { IsTrue (all_noted named.new ids.now.live) }
+// Where all room is taken, those that wait no longer go. No more are left than threads live, which is half of the room at most.
+fn make_room(named: &mut Named, ids: &Registry<Kind>)
+    requires { IsNoteOf named.old ids.now.live }
+    ensures noted { IsNoteOf named.new ids.now.live }
+    ensures room { length named.new.waits < named.new.places }
 {
     // The check learns here that the living stand in birth order.
     let _living = ids.len();
-    named.waits.retain(|wait| goes_on(ids, wait));
+    if named.waits.len() >= named.places {
+        named.waits.retain(|wait| goes_on(ids, wait));
+    }
 }
 
 impl Named {
@@ -155,16 +167,20 @@ impl Named {
         Ok(Named {
             waits: Vec::with_capacity(alloc, FIRST_PLACES)?,
             places: FIRST_PLACES,
-            crowded: false,
         })
     }
 
     /// Makes room for the waits of so many threads, and for as many that go on no longer.
     pub fn reserve(&mut self, threads: usize) -> Result<(), NoMemory>
-        ensures { self.new ≡ self.old }
+        ensures ok { OnOk result (self.new ≡ reserved self.old threads) }
+        ensures err { OnErr result (self.new ≡ self.old) }
+        ensures has_room { 2 * threads ≤ self.old.places → IsOk result }
     {
-        let places = threads.saturating_mul(2);
-        if places <= self.places {
+        let before = self.places;
+        let Some(places) = threads.checked_mul(2) else {
+            return Err(NoMemory);
+        };
+        if places <= before {
             return Ok(());
         }
         let more = places.saturating_sub(self.waits.len());
@@ -173,53 +189,34 @@ impl Named {
         Ok(())
     }
 
-    // A thread waits for another one, or an agent.
-    fn add(&mut self, tid: Tid, of: Tid)
-        ensures kept { (n : ℕ) (o : Option ℕ) → IsTrue (covers self.old n o) → IsTrue (covers self.new n o) }
-        ensures noted { IsTrue (covers self.new tid (Some of)) }
+    // A thread waits for something of another one, or of an agent.
+    fn add(&mut self, wait: &NamedWait)
+        requires { length self.old.waits < self.old.places }
+        ensures kept { (r n : ℕ) → IsTrue (list_any (is_wait r n) self.old.waits) → IsTrue (list_any (is_wait r n) self.new.waits) }
+        ensures noted { IsTrue (list_any (is_wait (run_of wait.now) wait.now.tid) self.new.waits) }
+        ensures places { self.new.places ≡ self.old.places }
     {
-        if self.waits.len() < self.places {
-            put_in(&mut self.waits, NamedWait { tid, of });
-        } else {
-            self.crowded = true;
-        }
+        put_in(&mut self.waits, wait);
     }
 
-    // Whether this wait is noted.
-    fn has(&self, tid: Tid, of: Tid) -> bool
-        ensures { IsTrue result → IsTrue (list_any (is_wait tid of) self.now.waits) }
-    {
-        let at = gap_of(&self.waits, of, tid);
-        is_at(&self.waits, at, of, tid)
-    }
-
-    /// The oldest of the living that waits for this of the thread or agent. It is found among those that wait for that one;
-    /// where the note is crowded, by going over all the living.
+    /// The oldest of the living that waits for this of the thread or agent. It is found among those that wait for just that.
     pub fn first(&mut self, ids: &Registry<Kind>, what: Awaited, tid: Tid) -> Option<Tid>
-        requires { IsTrue (all_noted self.old ids.now.live) }
+        requires { IsNoteOf self.old ids.now.live }
         ensures value { result ≡ first_waiting what tid ids.now.live }
-        ensures noted { IsTrue (all_noted self.new ids.now.live) }
+        ensures noted { IsNoteOf self.new ids.now.live }
     {
-        if self.crowded {
-            return first_of_all(ids, what, tid);
-        }
         first_in(&mut self.waits, ids, what, tid)
     }
 }
 
 /// A thread is about to wait so: the note then has it, if that is by name.
 pub fn note(named: &mut Named, ids: &Registry<Kind>, tid: Tid, why: &Block)
-    requires { IsTrue (all_noted named.old ids.now.live) }
-    ensures { IsTrue (all_noted named.new (map (block_set tid why.now) ids.now.live)) }
+    requires { IsNoteOf named.old ids.now.live }
+    ensures { IsNoteOf named.new (map (block_set tid why.now) ids.now.live) }
 {
-    let Some(of) = name_of(why) else {
+    let Some(wait) = wait_of(tid, why) else {
         return;
     };
-    if named.has(tid, of) {
-        return;
-    }
-    if named.waits.len() >= named.places {
-        prune(named, ids);
-    }
-    named.add(tid, of);
+    make_room(named, ids);
+    named.add(&wait);
 }

@@ -4,7 +4,7 @@ ghost use Rattle.death_cleanup.specs.Moves.{kind_marked, kind_marks};
 ghost use Rattle.exc_stack.specs.Stack.{UnwindsAll, UnwindsTo, unwound_all, unwound_to};
 ghost use Rattle.lwp_types.specs.Case.{answer_by};
 ghost use Rattle.lwp_types.specs.Marks.{frames};
-ghost use Rattle.death_cleanup.specs.Named.{block_name, is_named, kind_name};
+ghost use Rattle.death_cleanup.specs.Named.{block_name, named_wait, rank};
 ghost use Rattle.death_cleanup.specs.Waits.{last_answer, waits_for};
 
 use exc_stack::ExcStack;
@@ -35,20 +35,24 @@ pub enum Awaited {
 /// A thread that waits for the death or a letter of another one, or of an agent.
 #[derive(Clone, Copy)]
 pub struct NamedWait {
-    pub tid: Tid,
+    pub what: Awaited,
     pub of: Tid,
+    pub tid: Tid,
 }
 
-/// Of whom a thread waits by name.
-pub fn name_of(block: &Block) -> Option<Tid>
-    ensures { result ≡ block_name block.now }
+/// The wait of a thread, if it waits for this by name.
+pub fn wait_of(tid: Tid, block: &Block) -> Option<NamedWait>
+    ensures { result ≡ named_wait tid (block_name block.now) }
 {
-    match *block {
-        Block::Joining(of) => Some(of),
-        Block::Receiving(from) => from,
-        Block::Not | Block::Sending | Block::Entering(_) | Block::Waiting(_) | Block::Sleeping =>
-            None,
-    }
+    let (what, of) = match *block {
+        Block::Joining(of) => (Awaited::Death, of),
+        Block::Receiving(Some(from)) => (Awaited::Letter, from),
+        Block::Receiving(None) => return None,
+        Block::Not | Block::Sending | Block::Entering(_) | Block::Waiting(_) | Block::Sleeping => {
+            return None;
+        }
+    };
+    Some(NamedWait { what, of, tid })
 }
 
 impl Awaited {
@@ -59,6 +63,16 @@ impl Awaited {
         match self {
             Awaited::Death => Ok(0),
             Awaited::Letter => Err(LwpErr::NonExist),
+        }
+    }
+
+    /// Where those who wait for it stand in the note, among those who wait for the same thread or agent.
+    pub fn rank(self) -> u8
+        ensures { result ≡ rank self }
+    {
+        match self {
+            Awaited::Death => 0,
+            Awaited::Letter => 1,
         }
     }
 }
@@ -75,26 +89,6 @@ impl Kind {
             (Awaited::Death, Block::Joining(other)) => other == tid,
             (Awaited::Letter, Block::Receiving(Some(from))) => from == tid,
             _ => false,
-        }
-    }
-
-    /// Of whom a thread waits by name; an agent doesn't wait.
-    pub fn name(&self) -> Option<Tid>
-        ensures { result ≡ kind_name self.now }
-    {
-        match self {
-            Kind::Thread(rec) => name_of(&rec.block),
-            Kind::Agent => None,
-        }
-    }
-
-    /// Whether it is a thread that waits for this one by name.
-    pub fn names(&self, of: Tid) -> bool
-        ensures { result ≡ is_named of (kind_name self.now) }
-    {
-        match self.name() {
-            Some(other) => other == of,
-            None => false,
         }
     }
 

@@ -8,7 +8,7 @@ ghost use Rattle.death_cleanup.specs.Comes.{CameTo, HasRoom};
 ghost use Rattle.death_cleanup.specs.Moves.{agent_over};
 ghost use Rattle.death_cleanup.specs.Ties.{HasLawfulThreads, InStep, LawfulParts};
 ghost use Rattle.death_cleanup.specs.View.{state_of};
-ghost use Rattle.death_cleanup.specs.Waits.{dismissed, first_waiting};
+ghost use Rattle.death_cleanup.specs.Waits.{dismissed};
 ghost use Rattle.pod_laws.proofs.DeathLoops.{Lonely, Unowning};
 
 use crate::locks::release;
@@ -25,19 +25,6 @@ pub fn nth_of(ids: &Registry<Kind>, i: usize) -> (Tid, &Kind)
     let number = ids.nth(i);
     let kind = ids.get(number).unwrap();
     (Tid { number }, kind)
-}
-
-/// The oldest of the living that waits for this of the thread or agent, found by going over all of them.
-pub fn first_of_all(ids: &Registry<Kind>, what: Awaited, tid: Tid) -> Option<Tid>
-    ensures { result ≡ first_waiting what tid ids.now.live }
-{
-    for i in 0..ids.len() {
-        let (other, kind) = nth_of(ids, i);
-        if kind.waits_for(what, tid) {
-            return Some(other);
-        }
-    }
-    None
 }
 
 /// Whoever waits for this of the thread or agent goes on, in the order of birth.
