@@ -1,6 +1,6 @@
 -- Keys in order. No public clause cites this module.
-use Rattle.std.specs.List.{AllByRecursion}
-use Rattle.std.specs.Prelude.{Bool, List, [], false, if◌then◌else◌, length, nat_lt, slice_index_or, suc, true, ℕ, ◌&&◌, ◌<◌, ◌==◌, ◌∷◌, ◌≡◌, ◌≤◌}
+use Rattle.std.specs.List.{AllByRecursion, remove}
+use Rattle.std.specs.Prelude.{Bool, Err, List, Ok, Result, [], false, if◌then◌else◌, length, nat_lt, slice_index_or, suc, true, ℕ, ◌&&◌, ◌<◌, ◌==◌, ◌∷◌, ◌≡◌, ◌≤◌}
 use Rattle.waiting_list.specs.declared.keys.Key.{Key}
 
 -- it is key k
@@ -59,3 +59,19 @@ pub record GoesForward (k : Key) (ks : List Key) (i : ℕ) : Type 0 where
 pub record GoesBack (k : Key) (ks : List Key) (i : ℕ) : Type 0 where
   pub some : suc i < length ks
   pub before : (d : Key) → is_before (slice_index_or ks (suc i) d) k ≡ true
+
+-- k may stand there, between its neighbours
+pub record IsFit (k : Key) (ks : List Key) (i : ℕ) : Type 0 where
+  pub behind : IsBehind k ks i
+  pub ahead : IsAhead k ks i
+
+-- the place to which a walk came, whether it ended there or not
+abbrev pub place_in : Result ℕ ℕ → ℕ
+place_in (Ok i) = i
+place_in (Err i) = i
+
+-- a place went from here to there, and all others are as before
+pub record Walked (old : List Key) (from : ℕ) (new : List Key) (to : ℕ) : Type 0 where
+  pub within : to < length new
+  pub rest : remove new to ≡ remove old from
+  pub len : length new ≡ length old

@@ -1,10 +1,11 @@
 // Keys by which those that wait are found, in order.
-ghost use Rattle.std.specs.Prelude.{◌≡◌, ◌+◌, ◌<◌, ◌≤◌, IsTrue, count_by, false, length, true};
+ghost use Rattle.std.specs.Prelude.{◌≡◌, ◌+◌, ◌<◌, ◌≤◌, IfOk, IfSome, IsTrue, count_by, false, length, true};
 ghost use Rattle.lwp_types.specs.CountLaws.{one};
 ghost use Rattle.std.specs.List.{find, insert, remove};
 ghost use Rattle.std.specs.VecDeque.{deque_capacity};
-ghost use Rattle.waiting_list.specs.Keys.{GoesBack, GoesForward, IsAhead, IsBehind, IsEnd, IsPlace, IsSorted, IsStart, is_before, is_key, is_of};
+ghost use Rattle.waiting_list.specs.Keys.{GoesBack, GoesForward, IsAhead, IsBehind, IsEnd, IsFit, IsPlace, IsSorted, IsStart, Walked, is_before, is_key, is_of, place_in};
 
+use crate::pieces;
 use std::collections::VecDeque;
 
 /// What one waits for or who it is, the priority with which it waits, and when it came.
@@ -16,11 +17,11 @@ pub struct Key {
 }
 
 // How many others make room one by one for a key that goes elsewhere.
-const STEPS: usize = 16;
+pub const STEPS: usize = 16;
 
 // Keys of the same thing stand together, those of a greater priority first, and among these whoever came first.
 #[inline(always)]
-fn is_before(key: Key, other: Key) -> bool
+pub fn is_before(key: Key, other: Key) -> bool
     ensures { result ≡ is_before key other }
 {
     if key.what != other.what {
@@ -32,12 +33,24 @@ fn is_before(key: Key, other: Key) -> bool
     key.arrival < other.arrival
 }
 
-// Where the key stands, or belongs, by halving.
+// All keys, where they lie in one piece.
+#[inline(always)]
+fn in_piece(keys: &VecDeque<Key>) -> Option<&[Key]>
+    ensures { IfSome result (λ piece. piece.now ≡ keys.now.items) }
+{
+    let (first, rest) = keys.as_slices();
+    if rest.is_empty() { Some(first) } else { None }
+}
+
+// Where the key stands, or belongs, by halving: in one piece with no look at where the ring ends.
 fn place_by_halves(keys: &VecDeque<Key>, key: Key) -> usize
     requires { IsSorted keys.now.items }
     ensures { IsPlace key keys.now.items result }
 {
-    keys.partition_point(|other| is_before(*other, key))
+    match in_piece(keys) {
+        Some(piece) => piece.partition_point(|other| is_before(*other, key)),
+        None => keys.partition_point(|other| is_before(*other, key)),
+    }
 }
 
 // Whether the key belongs behind all others.
@@ -238,6 +251,51 @@ fn go_back(keys: &mut VecDeque<Key>, from: usize, key: Key)
     replace(keys, at, key);
 }
 
+// A place for another key in place of the one there, or the place to which it came, among keys that lie in one piece.
+fn walk(keys: &mut VecDeque<Key>, from: usize, key: Key) -> Result<usize, usize>
+    requires within { from < length keys.old.items }
+    requires sorted { IsSorted keys.old.items }
+    ensures ok { IfOk result (λ at. IsFit key keys.new.items at) }
+    ensures walked { Walked keys.old.items from keys.new.items (place_in result) }
+    ensures capacity { deque_capacity keys.new ≡ deque_capacity keys.old }
+{
+    pieces::walk(keys.make_contiguous(), from, key)
+}
+
+// The key there becomes another, which goes where it belongs, where all lie in one piece.
+fn change_in_piece(keys: &mut VecDeque<Key>, at: usize, after: Key)
+    requires within { at < length keys.old.items }
+    requires sorted { IsSorted keys.old.items }
+    requires room { length keys.old.items ≤ deque_capacity keys.old }
+    ensures sorted { IsSorted keys.new.items }
+    ensures counts { (k : Key) → count_by (is_key k) keys.new.items ≡ count_by (is_key k) (remove keys.old.items at) + one (is_key k after) }
+    ensures len { length keys.new.items ≡ length keys.old.items }
+    ensures capacity { deque_capacity keys.old ≤ deque_capacity keys.new }
+{
+    match walk(keys, at, after) {
+        Ok(place) => keys[place] = after,
+        Err(place) => replace(keys, place, after),
+    }
+}
+
+// The same wherever they lie.
+#[inline(never)]
+fn change_in_ring(keys: &mut VecDeque<Key>, at: usize, after: Key)
+    requires within { at < length keys.old.items }
+    requires sorted { IsSorted keys.old.items }
+    requires room { length keys.old.items ≤ deque_capacity keys.old }
+    ensures sorted { IsSorted keys.new.items }
+    ensures counts { (k : Key) → count_by (is_key k) keys.new.items ≡ count_by (is_key k) (remove keys.old.items at) + one (is_key k after) }
+    ensures len { length keys.new.items ≡ length keys.old.items }
+    ensures capacity { deque_capacity keys.old ≤ deque_capacity keys.new }
+{
+    if is_ahead(keys, at, after) {
+        go_forward(keys, at, after);
+    } else {
+        go_back(keys, at, after);
+    }
+}
+
 // One key becomes another, which goes from its place to where it belongs.
 #[inline(never)]
 pub fn change(keys: &mut VecDeque<Key>, key: Key, after: Key)
@@ -250,10 +308,10 @@ pub fn change(keys: &mut VecDeque<Key>, key: Key, after: Key)
     ensures capacity { deque_capacity keys.old ≤ deque_capacity keys.new }
 {
     let at = place_by_halves(keys, key);
-    if is_ahead(keys, at, after) {
-        go_forward(keys, at, after);
+    if in_piece(keys).is_some() {
+        change_in_piece(keys, at, after);
     } else {
-        go_back(keys, at, after);
+        change_in_ring(keys, at, after);
     }
 }
 

@@ -8,6 +8,7 @@
 mod filing;
 mod keys;
 mod line;
+mod pieces;
 mod rows;
 
 pub use line::WaitingList;
