@@ -1,7 +1,8 @@
 pub mod KeptLemmas
 pub mod LiveLaws
-pub mod LockLaws
-pub mod HeldLaws
+pub mod FiledLaws
+pub mod PlaceLaws
+pub mod SlotLaws
 pub mod Room
 pub mod Machine
 pub mod Lines
