@@ -4,7 +4,7 @@ use Rattle.conditions.specs.Kept.{AreGrouped, AreRising, IsAt, IsEnd, IsGrouped,
 use Rattle.lwp_types.proofs.Ranks.{All-filter}
 use Rattle.lwp_types.specs.CountLaws.{count-filter, count-filter-le, length-failed, one}
 use Rattle.lwp_types.specs.Locks.{is_of_monitor, without_conditions_of}
-use Rattle.lwp_types.specs.OnlyLaws.{count_at, filter_none, remove_only}
+use Rattle.lwp_types.specs.OnlyLaws.{filter_none, remove_only}
 use Rattle.lwp_types.specs.Waits.{is_condition, without_condition}
 use Rattle.lwp_types.specs.declared.rows.CondRow.{CondRow}
 use Rattle.std.proofs.Common.{Bool, List, Some, [], ap, arith, cond, count_by, drop, false, get_or, inl, inr, leb, length, ltb, not, refl, suc, sym, take, true, zero, ℕ, ◌&&◌, ◌++◌, ◌+◌, ◌-◌, ◌<◌, ◌∙◌, ◌∷◌, ◌≡◌, ◌≤◌, ◌||◌}
@@ -71,6 +71,13 @@ module _ (m : ℕ) (rows : List CondRow) (last : CondRow) (grouped : AreGrouped 
     before = λ j d lt. omega (arith, up_to_last j d lt, less);
     after = λ j d ge lt. absurd (omega (arith, ge, lt));
   }
+
+pub placed_last : (m c : ℕ) (rows : List CondRow) (last : CondRow) → slice_get rows (length rows - 1) ≡ Some last → last.mon ≡ m → last.number ≡ c → IsPlaced m c rows (length rows - 1)
+placed_last m c rows last is of_monitor here = record {
+  within = slice_get_within rows (length rows - 1) last is;
+  of_monitor = λ d. ap (λ (row : CondRow). row.mon) (get_or_from_slice_get rows (length rows - 1) last d is) ∙ of_monitor;
+  here = λ d. ap (λ (row : CondRow). row.number) (get_or_from_slice_get rows (length rows - 1) last d is) ∙ here;
+}
 
 -- the conditions of a monitor are one run
 

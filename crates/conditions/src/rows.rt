@@ -121,7 +121,8 @@ pub fn add(
 }
 
 // Where the condition of the monitor stands, by rising monitors.
-fn place_in(grouped: &[CondRow], mon: Mid, cond: Cid) -> Option<usize>
+#[inline(never)]
+fn place_in_run(grouped: &[CondRow], mon: Mid, cond: Cid) -> Option<usize>
     requires grouped { AreGrouped grouped.now }
     requires rising { AreRising (filter (is_of_monitor mon) grouped.now) }
     ensures none { IfNone result (count_by (is_condition cond) (filter (is_of_monitor mon) grouped.now) ≡ 0) }
@@ -131,6 +132,20 @@ fn place_in(grouped: &[CondRow], mon: Mid, cond: Cid) -> Option<usize>
     let end = end_of(grouped, mon);
     let at = place_of(&grouped[start..end], cond)?;
     Some(start + at)
+}
+
+// The same. Whoever asks mostly asks for the last of the last monitor.
+#[inline(always)]
+fn place_in(grouped: &[CondRow], mon: Mid, cond: Cid) -> Option<usize>
+    requires grouped { AreGrouped grouped.now }
+    requires rising { AreRising (filter (is_of_monitor mon) grouped.now) }
+    ensures none { IfNone result (count_by (is_condition cond) (filter (is_of_monitor mon) grouped.now) ≡ 0) }
+    ensures some { IfSome result (IsPlaced mon cond grouped.now) }
+{
+    match grouped.last() {
+        Some(last) if last.number == cond && last.mon == mon => Some(grouped.len() - 1),
+        _ => place_in_run(grouped, mon, cond),
+    }
 }
 
 // Takes the condition of the monitor out, by rising monitors.

@@ -1,7 +1,7 @@
 use Rattle.conditions.proofs.GroupLaws.{end_from, end_last, monitors_rise}
 use Rattle.conditions.proofs.rows.end_of.Goals as goal
 use Rattle.lwp_types.specs.declared.rows.CondRow.{CondRow}
-use Rattle.std.proofs.Common.{arith, rules, sym}
+use Rattle.std.proofs.Common.{rules, sym}
 use Rattle.std.proofs.lemmas.List.Sorted.{IsPartitionPoint-from_clause, IsPartitionedBy-leb}
 use Rattle.std.specs.Prelude.{nat_le}
 

@@ -1,7 +1,7 @@
 use Rattle.conditions.proofs.GroupLaws.{monitors_rise, start_from, start_last}
 use Rattle.conditions.proofs.rows.start_of.Goals as goal
 use Rattle.lwp_types.specs.declared.rows.CondRow.{CondRow}
-use Rattle.std.proofs.Common.{arith, rules, sym}
+use Rattle.std.proofs.Common.{rules, sym}
 use Rattle.std.proofs.lemmas.List.Sorted.{IsPartitionPoint-from_clause, IsPartitionedBy-ltb}
 use Rattle.std.specs.Prelude.{nat_lt}
 
