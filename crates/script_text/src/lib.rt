@@ -12,6 +12,7 @@
 mod counts;
 mod draft;
 mod laws;
+mod lines;
 mod names;
 mod pieces;
 mod reader;

@@ -175,9 +175,6 @@ impl Declared {
 fn keeps_rule(declared: &Declared, posted: &Counts, role: Role, phrase: &Phrase<'_>) -> bool
     ensures { result ≡ keeps_rule declared.now posted.now role phrase.now }
 {
-    if matches!(role, Role::Statement | Role::Skip | Role::Again) {
-        return true;
-    }
     match role {
         Role::Header => phrase.number == 1,
         Role::Pod => 1 <= phrase.number && phrase.number <= 255,

@@ -1,6 +1,6 @@
 use Rattle.std.proofs.Common.{refl}
 use Rattle.script_text.proofs.CutLaws.{line_none, line_some}
-use Rattle.script_text.proofs.pieces.first_line.Goals as goal
+use Rattle.script_text.proofs.lines.first_line.Goals as goal
 
 pub returns-in-None-clause-none : goal.returns-in-None-clause-none
 returns-in-None-clause-none c = line_none c.args.text.now c.in-None.ensures

@@ -1,7 +1,7 @@
 use Rattle.std.proofs.Common.{◌-◌, min, length, refl, ap, rules, ◌∙◌}
 use Rattle.std.proofs.lemmas.List.{take_rest}
 use Rattle.script_text.proofs.KeptLaws.{kept_parts}
-use Rattle.script_text.proofs.pieces.keep.Goals as goal
+use Rattle.script_text.proofs.lines.keep.Goals as goal
 
 pub returns-in_ok-push : goal.returns-in_ok-push
 returns-in_ok-push c =

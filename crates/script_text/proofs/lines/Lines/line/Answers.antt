@@ -1,7 +1,7 @@
 use Rattle.std.proofs.Common.{◌++◌, ap, ◌∙◌}
 use Rattle.script_text.specs.Track.{step}
 use Rattle.script_text.proofs.KeptLaws.{kept_step}
-use Rattle.script_text.proofs.pieces.ScriptReader.line.Goals as goal
+use Rattle.script_text.proofs.lines.Lines.line.Goals as goal
 
 pub returns-clause-reader : goal.returns-clause-reader
 returns-clause-reader c =
