@@ -1,4 +1,3 @@
 pub mod Lines
 pub mod RowLaws
-pub mod GroupLaws
 pub mod Machine

@@ -1,5 +1,5 @@
 -- Conditions whose numbers rise: where one stands, and that they go on rising.
-use Rattle.conditions.specs.Kept.{AreRising, IsAt, IsGrouped, IsKept}
+use Rattle.conditions.specs.Kept.{AreRising, IsAt, IsKept}
 use Rattle.lwp_types.specs.CountLaws.{count-cons, one}
 use Rattle.lwp_types.specs.Locks.{is_of_monitor, without_conditions_of}
 use Rattle.lwp_types.specs.OnlyLaws.{filter_none, remove_only}
@@ -34,7 +34,7 @@ above_none : (n c : ℕ) (rows : List CondRow) → AllByRecursion (λ row. n < r
 above_none n c [] all low = refl
 above_none n c (row ∷ rows) all low = omega (arith, count-cons (is_condition c) row rows, ap one (ne_eqb row.number c (λ e. absurd (omega (arith, e, all.0, low)))), above_none n c rows all.1 low)
 
-pub at_most_once : (rows : List CondRow) (c : ℕ) → AreRising rows → count_by (is_condition c) rows ≤ 1
+at_most_once : (rows : List CondRow) (c : ℕ) → AreRising rows → count_by (is_condition c) rows ≤ 1
 at_most_once [] c rising = omega arith
 at_most_once (row ∷ rows) c rising = elim (cases_eq row.number c) [
   | inl same ↦ omega (arith, count-cons (is_condition c) row rows, ap one (eq-eqb row.number c same), above_none row.number c rows rising.0 (omega (arith, same)))
@@ -65,7 +65,7 @@ module _ (p : CondRow → Bool) where
       by_test true rest = (all.0, rest)
       by_test false rest = rest
 
-  pub AreRising-filter : (rows : List CondRow) → AreRising rows → AreRising (filter p rows)
+  AreRising-filter : (rows : List CondRow) → AreRising rows → AreRising (filter p rows)
   AreRising-filter [] rising = tt
   AreRising-filter (row ∷ rows) rising = by_test (p row) (AreRising-filter rows rising.1)
     where
@@ -73,14 +73,14 @@ module _ (p : CondRow → Bool) where
       by_test true rest = (All-filter (λ later. row.number < later.number) rows rising.0, rest)
       by_test false rest = rest
 
-  IsKept-filter : (rows grouped after : List CondRow) (births : ℕ) → IsKept rows grouped births → IsGrouped (filter p rows) after → IsKept (filter p rows) after births
-  IsKept-filter rows grouped after births was same = record { rising = AreRising-filter rows was.rising; born = All-filter (λ row. row.number < births) rows was.born; by_monitor = same }
+  IsKept-filter : (rows : List CondRow) (births : ℕ) → IsKept rows births → IsKept (filter p rows) births
+  IsKept-filter rows births was = record { rising = AreRising-filter rows was.rising; born = All-filter (λ row. row.number < births) rows was.born }
 
-pub IsKept-without : (c : ℕ) (rows grouped after : List CondRow) (births : ℕ) → IsKept rows grouped births → IsGrouped (without_condition c rows) after → IsKept (without_condition c rows) after births
-IsKept-without c rows grouped after births was same = IsKept-filter (λ row. not (is_condition c row)) rows grouped after births was same
+pub IsKept-without : (c : ℕ) (rows : List CondRow) (births : ℕ) → IsKept rows births → IsKept (without_condition c rows) births
+IsKept-without c rows births was = IsKept-filter (λ row. not (is_condition c row)) rows births was
 
-pub IsKept-without_of : (m : ℕ) (rows grouped after : List CondRow) (births : ℕ) → IsKept rows grouped births → IsGrouped (without_conditions_of m rows) after → IsKept (without_conditions_of m rows) after births
-IsKept-without_of m rows grouped after births was same = IsKept-filter (λ row. not (is_of_monitor m row)) rows grouped after births was same
+pub IsKept-without_of : (m : ℕ) (rows : List CondRow) (births : ℕ) → IsKept rows births → IsKept (without_conditions_of m rows) births
+IsKept-without_of m rows births was = IsKept-filter (λ row. not (is_of_monitor m row)) rows births was
 
 All-push : (P : CondRow → Type 0) (rows : List CondRow) (new : CondRow) → AllByRecursion P rows → P new → AllByRecursion P (rows ++ new ∷ [])
 All-push P [] new all here = (here, tt)
@@ -94,10 +94,8 @@ AreRising-push : (rows : List CondRow) (new : CondRow) → AreRising rows → Al
 AreRising-push [] new rising born = (tt, tt)
 AreRising-push (row ∷ rows) new rising born = (All-push (λ later. row.number < later.number) rows new rising.0 born.0, AreRising-push rows new rising.1 born.1)
 
-pub IsKept-created : (mon : ℕ) (rows grouped after : List CondRow) (births next : ℕ) → IsKept rows grouped births → births < next → IsGrouped (rows ++ record { number = births; mon = mon } ∷ []) after
-    → IsKept (rows ++ record { number = births; mon = mon } ∷ []) after next
-IsKept-created mon rows grouped after births next was later same = record {
+pub IsKept-created : (mon : ℕ) (rows : List CondRow) (births after : ℕ) → IsKept rows births → births < after → IsKept (rows ++ record { number = births; mon = mon } ∷ []) after
+IsKept-created mon rows births after was later = record {
   rising = AreRising-push rows (record { number = births; mon = mon }) was.rising was.born;
-  born = All-push (λ row. row.number < next) rows (record { number = births; mon = mon }) (All-later births next rows was.born (omega (arith, later))) later;
-  by_monitor = same;
+  born = All-push (λ row. row.number < after) rows (record { number = births; mon = mon }) (All-later births after rows was.born (omega (arith, later))) later;
 }

@@ -5,8 +5,8 @@ ghost use Rattle.lwp_types.specs.Waits.{condition_numbers};
 ghost use Rattle.conditions.specs.ConditionTable.{created, destroyed, destroyed_of, empty_table, first_wait, forgotten, has_waits, is_live, is_waited_in, is_waiting, monitor_of, newborn, next_notified, requeued, reserved, wait_of, waited, waits_on, woken};
 
 use crate::WaitRec;
-use crate::rows::{add, list, row_of, run_of, take_out, take_out_of};
-use crate::waits::{is_any_waited, is_waited, rec_of};
+use crate::rows::{list, row_of, take_out, take_out_of};
+use crate::waits::{is_waited, rec_of};
 use lwp_types::{Cid, CondRow, IdList, Mid, NoMemory, Tid};
 use std::alloc::Global;
 use std::marker::Model;
@@ -19,7 +19,6 @@ const MOST_LIVE: usize = 256;
 pub struct Conds {
     alloc: Global,
     rows: Vec<CondRow>,
-    grouped: Vec<CondRow>,
     births: u64,
     limit: u64,
     waits: WaitingList,
@@ -31,7 +30,6 @@ impl Drop for Conds {
         let Conds {
             alloc: _,
             rows: _,
-            grouped: _,
             births: _,
             limit: _,
             waits: _,
@@ -49,7 +47,7 @@ impl Model for Conds {
 
     ghost view = { λ s. record { conditions = s.rows.items; births = s.births; limit = s.limit; waits = map wait_in s.waits.waiting; places = s.waits.places } };
 
-    ghost invariant = { λ s. IsKept s.rows.items s.grouped.items s.births };
+    ghost invariant = { λ s. IsKept s.rows.items s.births };
 }
 
 impl Conds {
@@ -60,7 +58,6 @@ impl Conds {
         Conds {
             alloc,
             rows: Vec::new(alloc),
-            grouped: Vec::new(alloc),
             births: 0,
             limit: births,
             waits: WaitingList::new(alloc),
@@ -87,7 +84,7 @@ impl Conds {
             return Ok(None);
         }
         let number = Cid { number: births };
-        add(&mut self.rows, &mut self.grouped, &CondRow { number, mon })?;
+        self.rows.push(CondRow { number, mon })?;
         self.births = births + 1;
         Ok(Some(number))
     }
@@ -110,7 +107,10 @@ impl Conds {
     pub fn waited_of(&self, mon: Mid) -> bool
         ensures { result ≡ has_waits self.now mon }
     {
-        is_any_waited(&self.waits, run_of(&self.grouped, mon))
+        let waits = &self.waits;
+        self.rows
+            .iter()
+            .any(|row| row.mon == mon && is_waited(waits, row.number))
     }
 
     /// Ends a condition that nobody waits on.
@@ -118,7 +118,7 @@ impl Conds {
         requires { is_waited_in self.old.waits cond ≡ false }
         ensures { self.new ≡ destroyed self.old cond }
     {
-        take_out(&mut self.rows, &mut self.grouped, cond);
+        take_out(&mut self.rows, cond);
     }
 
     /// Ends all conditions of a monitor; nobody waits on any of them.
@@ -126,7 +126,7 @@ impl Conds {
         requires { has_waits self.old mon ≡ false }
         ensures { self.new ≡ destroyed_of self.old mon }
     {
-        take_out_of(&mut self.rows, &mut self.grouped, mon);
+        take_out_of(&mut self.rows, mon);
     }
 
     /// A thread waits, behind all others, on a live condition.

@@ -1,10 +1,9 @@
 // The waits.
 ghost use Rattle.std.specs.Prelude.{◌≡◌, map};
-ghost use Rattle.std.specs.List.{list_any};
 ghost use Rattle.conditions.specs.ConditionTable.{is_waited_in};
 ghost use Rattle.conditions.specs.Waits.{wait_in};
 
-use lwp_types::{Cid, CondRow, Tid};
+use lwp_types::{Cid, Tid};
 use waiting_list::{Waiting, WaitingList};
 
 /// A thread that waits on a condition: the priority that it was last given, and the depth at which it left the monitor.
@@ -21,13 +20,6 @@ pub fn is_waited(waits: &WaitingList, cond: Cid) -> bool
     ensures { result ≡ is_waited_in (map wait_in waits.now.waiting) cond }
 {
     waits.has(cond.number)
-}
-
-// Whether somebody waits on one of them.
-pub fn is_any_waited(waits: &WaitingList, rows: &[CondRow]) -> bool
-    ensures { result ≡ list_any (λ row. is_waited_in (map wait_in waits.now.waiting) row.number) rows.now }
-{
-    rows.iter().any(|row| is_waited(waits, row.number))
 }
 
 // The wait that stands so in a line.

@@ -9,6 +9,4 @@ pub returns-clause-ok : goal.returns-clause-ok
 returns-clause-ok c = search rules
 
 pub invariant_of-self-2 : goal.invariant_of-self-2
-invariant_of-self-2 c =
-    let s = c.self.inside in
-    rw c.in_ok-add.ensures.ok (IsKept-created c.args.mon s.rows.items s.grouped.items c.add.new.grouped.items s.births (s.births + 1) c.self.invariant (omega arith) (rw c.in_ok-add.ensures.ok at c.add.ensures.grouped))
+invariant_of-self-2 c = rw c.in_ok-push.ensures.items (IsKept-created c.args.mon c.self.inside.rows.items c.self.inside.births (c.self.inside.births + 1) c.self.invariant (omega arith))
