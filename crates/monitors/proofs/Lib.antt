@@ -1,8 +1,7 @@
 pub mod KeptLemmas
 pub mod LiveLaws
-pub mod FiledLaws
-pub mod PlaceLaws
-pub mod SlotLaws
+pub mod LockLaws
+pub mod HeldLaws
 pub mod Room
 pub mod Machine
 pub mod Lines

@@ -1,29 +1,28 @@
--- How the locks are kept so that they are found by their monitors and their owners. No public clause cites this module.
+-- Locks by rising monitors, beside the same locks in the order of their acquisition. No public clause cites this module.
+use Rattle.lwp_types.specs.Release.{lock_of}
 use Rattle.lwp_types.specs.declared.rows.Lock.{Lock}
 use Rattle.monitors.specs.Kept.{IsKept}
 use Rattle.monitors.specs.MonitorTable.{MonitorTable}
-use Rattle.monitors.specs.Places.{AreOrdered, slots_from, slots_of}
-use Rattle.monitors.specs.declared.locks.Locks.{Locks}
-use Rattle.monitors.specs.declared.places.Place.{Place}
-use Rattle.std.specs.Prelude.{List, Option, length, vec_capacity, ℕ, ◌+◌, ◌==◌, ◌≡◌, ◌≤◌}
-use Rattle.thread_index.specs.Living.{living}
+use Rattle.std.specs.List.{AllByRecursion}
+use Rattle.std.specs.Prelude.{List, [], length, slice_index_or, ℕ, ◌<◌, ◌∷◌, ◌≡◌, ◌≤◌}
 
--- the slots of the locks of each number are found, in their order
-pub record IsFiled (number : Lock → ℕ) (slots : List (Option Lock)) (places : List Place) : Type 0 where
-  pub ordered : AreOrdered places
-  pub same : (n : ℕ) → slots_of n places ≡ slots_from 0 (λ lock. number lock == n) slots
-  pub counted : length places ≡ length (living slots)
+-- each is of a monitor of a greater number than those before it
+abbrev pub AreOrdered : List Lock → Type 0
+AreOrdered [] = Unit {0}
+AreOrdered (lock ∷ locks) = AllByRecursion (λ later. lock.mon < later.mon) locks × AreOrdered locks
 
--- the locks are found by their monitors and by their owners, and there are slots and places for so many
-pub record IsTied (l : Locks) : Type 0 where
-  pub by_monitor : IsFiled (λ lock. lock.mon) l.slots.items l.held.items
-  pub by_owner : IsFiled (λ lock. lock.owner) l.slots.items l.owned.items
-  pub within : length l.slots.items ≤ l.room + l.room
-  pub slots_fit : l.room + l.room ≤ vec_capacity l.slots
-  pub held_fit : l.room ≤ vec_capacity l.held
-  pub owned_fit : l.room ≤ vec_capacity l.owned
+-- the lock of monitor m stands there
+pub record IsLockAt (m : ℕ) (locks : List Lock) (i : ℕ) : Type 0 where
+  pub within : i < length locks
+  pub here : (d : Lock) → (slice_index_or locks i d).mon ≡ m
 
--- what is kept of the table, and of the locks
-pub record IsSound (s : MonitorTable) (l : Locks) : Type 0 where
-  pub kept : IsKept s l.room
-  pub tied : IsTied l
+-- both lists have the same lock of each monitor, and there is room for that of each live one
+pub record IsHeld (s : MonitorTable) (held : List Lock) (room : ℕ) : Type 0 where
+  pub ordered : AreOrdered held
+  pub same : (m : ℕ) → lock_of held m ≡ lock_of s.locks m
+  pub fits : length s.monitors ≤ room
+
+-- what is kept of the table, and of the locks by rising monitors
+pub record IsSound (s : MonitorTable) (held : List Lock) (lock_room held_room : ℕ) : Type 0 where
+  pub kept : IsKept s lock_room
+  pub by_monitor : IsHeld s held held_room

@@ -1,6 +1,5 @@
 pub mod MonitorTable
 pub mod Kept
-pub mod Places
 pub mod Held
 pub mod Machine
 pub mod Requests

@@ -1,195 +1,205 @@
-// The locks of the held monitors. They lie in the order in which they were acquired, and are found by their monitors and their
-// owners, so that nobody goes over the locks of others.
-ghost use Rattle.std.specs.Prelude.{[], ◌∷◌, ◌++◌, ◌≡◌, ◌+◌, ◌<◌, ◌≤◌, ℕ, OnOk, length, vec_capacity};
+// The locks of the held monitors: in the order in which they were acquired, and the same by rising monitors.
+ghost use Rattle.std.specs.Prelude.{[], ◌∷◌, ◌++◌, ◌≡◌, ◌<◌, ◌≤◌, if◌then◌else◌, ◌==◌, ℕ, IfNone, IfSome, Some, length, vec_capacity};
+ghost use Rattle.std.specs.List.{insert, remove};
 ghost use Rattle.lwp_types.specs.Locks.{depth_in, with_depth};
 ghost use Rattle.lwp_types.specs.Release.{last_lock, lock_of, locks_on, without_lock};
-ghost use Rattle.monitors.specs.Held.{IsFiled, IsTied};
-ghost use Rattle.thread_index.specs.Living.{living};
+ghost use Rattle.monitors.specs.Held.{AreOrdered, IsLockAt};
 
-use crate::places::{Place, add, last_of, take};
-use crate::slots::{close_up, deepen, empty, lock_at};
-use lwp_types::{Lock, Mid, NoMemory, Tid};
-use std::alloc::Global;
+use lwp_types::{Lock, Mid, Tid};
 
-/// The locks.
-pub struct Locks {
-    // In the order of acquisition. Some slots are empty.
-    pub slots: Vec<Option<Lock>>,
-    // Their slots by rising monitors.
-    pub held: Vec<Place>,
-    // The same by rising owners, and those of one owner in the order of acquisition.
-    pub owned: Vec<Place>,
-    // So many locks have room, and there may be twice as many slots.
-    pub room: usize,
-}
-
-// By hand, so that whoever drops one calls this.
-impl Drop for Locks {
-    fn drop(self) {
-        let Locks {
-            slots: _,
-            held: _,
-            owned: _,
-            room: _,
-        } = self;
-    }
-}
-
-// Finds the locks in these slots, where none is found yet.
-fn file(slots: &[Option<Lock>], held: &mut Vec<Place>, owned: &mut Vec<Place>)
-    requires held_bare { held.old.items ≡ [] }
-    requires owned_bare { owned.old.items ≡ [] }
-    requires held_room { length slots.now ≤ vec_capacity held.old }
-    requires owned_room { length slots.now ≤ vec_capacity owned.old }
-    ensures by_monitor { IsFiled (λ lock. lock.mon) slots.now held.new.items }
-    ensures by_owner { IsFiled (λ lock. lock.owner) slots.now owned.new.items }
-    ensures held_capacity { vec_capacity held.new ≡ vec_capacity held.old }
-    ensures owned_capacity { vec_capacity owned.new ≡ vec_capacity owned.old }
+// Where the lock of the monitor stands, by rising monitors.
+#[inline(never)]
+fn place_by_halves(held: &[Lock], mon: Mid) -> Option<usize>
+    requires { AreOrdered held.now }
+    ensures none { IfNone result (locks_on held.now mon ≡ 0) }
+    ensures some { IfSome result (IsLockAt mon held.now) }
 {
-    for slot in 0..slots.len() {
-        if let Some(lock) = lock_at(slots, slot) {
-            add(held, lock.mon.number, slot);
-            add(owned, lock.owner.number, slot);
-        }
+    let at = held.partition_point(|lock| lock.mon.number < mon.number);
+    match held.get(at) {
+        Some(lock) if lock.mon == mon => Some(at),
+        _ => None,
     }
 }
 
-impl Locks {
-    /// No lock, and room for none.
-    pub fn new(alloc: Global) -> Locks
-        ensures tied { IsTied result }
-        ensures locks { result.slots.items ≡ [] }
-        ensures room { result.room ≡ 0 }
-    {
-        Locks {
-            slots: Vec::new(alloc),
-            held: Vec::new(alloc),
-            owned: Vec::new(alloc),
-            room: 0,
+// The same. Whoever asks mostly asks for the last.
+#[inline(always)]
+fn place_of(held: &[Lock], mon: Mid) -> Option<usize>
+    requires { AreOrdered held.now }
+    ensures none { IfNone result (locks_on held.now mon ≡ 0) }
+    ensures some { IfSome result (IsLockAt mon held.now) }
+{
+    match held.last() {
+        Some(last) if last.mon == mon => Some(held.len() - 1),
+        _ => place_by_halves(held, mon),
+    }
+}
+
+// The lock of the monitor, if it is held.
+pub fn lock_of(held: &[Lock], mon: Mid) -> Option<Lock>
+    requires { AreOrdered held.now }
+    ensures { result ≡ lock_of held.now mon }
+{
+    let at = place_of(held, mon)?;
+    Some(held[at])
+}
+
+// How often the monitor's owner has entered it, and 0 where it is free.
+pub fn depth_of(held: &[Lock], mon: Mid) -> u32
+    requires { AreOrdered held.now }
+    ensures { result ≡ depth_in held.now mon }
+{
+    lock_of(held, mon).map_or(0, |lock| lock.depth)
+}
+
+// Of the thread's locks the one that it acquired last.
+pub fn last_lock(locks: &[Lock], tid: Tid) -> Option<Lock>
+    ensures { result ≡ last_lock locks.now tid }
+{
+    locks.iter().rev().copied().find(|lock| lock.owner == tid)
+}
+
+// Where the lock of the monitor stands in the order of acquisition. Whoever holds several mostly leaves the last first.
+fn last_place(locks: &[Lock], mon: Mid) -> Option<usize>
+    ensures none { IfNone result (locks_on locks.now mon ≡ 0) }
+    ensures some { IfSome result (IsLockAt mon locks.now) }
+{
+    let mut behind = locks.len();
+    while behind > 0 {
+        behind -= 1;
+        if locks[behind].mon == mon {
+            return Some(behind);
         }
     }
+    None
+}
 
-    /// Makes room for so many locks.
-    pub fn reserve(&mut self, room: usize) -> Result<(), NoMemory>
-        requires tied { IsTied self.old }
-        requires few { length (living self.old.slots.items) ≤ self.old.room }
-        requires most { room ≤ 256 }
-        ensures tied { IsTied self.new }
-        ensures locks { self.new.slots.items ≡ self.old.slots.items }
-        ensures more { self.old.room ≤ self.new.room }
-        ensures ok { OnOk result (room ≤ self.new.room) }
-    {
-        if room <= self.room {
-            return Ok(());
-        }
-        self.slots.reserve(room + room - self.slots.len())?;
-        self.held.reserve(room - self.held.len())?;
-        self.owned.reserve(room - self.owned.len())?;
-        self.room = room;
-        Ok(())
+// Takes out the lock that stands there; the last is no move of others.
+#[inline(always)]
+#[tactic(auto, using(crate::proofs::LockLaws::remove_last))]
+fn take_at(locks: &mut Vec<Lock>, at: usize)
+    requires { at < length locks.old.items }
+    ensures items { locks.new.items ≡ remove locks.old.items at }
+    ensures capacity { vec_capacity locks.new ≡ vec_capacity locks.old }
+{
+    if at + 1 == locks.len() {
+        locks.pop();
+    } else {
+        locks.remove(at);
     }
+}
 
-    /// The lock of the monitor, if it is held.
-    pub fn lock_of(&self, mon: Mid) -> Option<Lock>
-        requires tied { IsTied self.now }
-        requires once { (m : ℕ) → locks_on (living self.now.slots.items) m ≤ 1 }
-        ensures { result ≡ lock_of (living self.now.slots.items) mon }
-    {
-        let slot = last_of(&self.held, mon.number)?;
-        lock_at(&self.slots, slot)
+// Puts in a lock there, where there is room.
+#[inline(always)]
+#[tactic(auto, using(crate::proofs::LockLaws::insert_last))]
+fn put_at(locks: &mut Vec<Lock>, at: usize, lock: Lock)
+    requires place { at ≤ length locks.old.items }
+    requires room { length locks.old.items < vec_capacity locks.old }
+    ensures items { locks.new.items ≡ insert locks.old.items at lock }
+    ensures capacity { vec_capacity locks.new ≡ vec_capacity locks.old }
+{
+    if at == locks.len() {
+        locks.push_reserved(lock);
+    } else {
+        // There is room, so no memory is asked for.
+        let _ = locks.insert(at, lock);
     }
+}
 
-    /// How often the monitor's owner has entered it, and 0 where it is free.
-    pub fn depth_of(&self, mon: Mid) -> u32
-        requires tied { IsTied self.now }
-        requires once { (m : ℕ) → locks_on (living self.now.slots.items) m ≤ 1 }
-        ensures { result ≡ depth_in (living self.now.slots.items) mon }
-    {
-        self.lock_of(mon).map_or(0, |lock| lock.depth)
-    }
+// One lock more, by rising monitors.
+fn hold(held: &mut Vec<Lock>, lock: Lock)
+    requires ordered { AreOrdered held.old.items }
+    requires free { locks_on held.old.items lock.mon ≡ 0 }
+    requires room { length held.old.items < vec_capacity held.old }
+    ensures ordered { AreOrdered held.new.items }
+    ensures locks { (m : ℕ) → lock_of held.new.items m ≡ (if lock.mon == m then Some lock else lock_of held.old.items m) }
+    ensures capacity { vec_capacity held.new ≡ vec_capacity held.old }
+{
+    let at = held.partition_point(|other| other.mon.number < lock.mon.number);
+    put_at(held, at, lock);
+}
 
-    /// Of the thread's locks the one that it acquired last.
-    pub fn last_lock(&self, tid: Tid) -> Option<Lock>
-        requires { IsTied self.now }
-        ensures { result ≡ last_lock (living self.now.slots.items) tid }
-    {
-        let slot = last_of(&self.owned, tid.number)?;
-        lock_at(&self.slots, slot)
-    }
+// A free monitor is held.
+pub fn acquire(locks: &mut Vec<Lock>, held: &mut Vec<Lock>, lock: &Lock)
+    requires ordered { AreOrdered held.old.items }
+    requires free { locks_on held.old.items lock.now.mon ≡ 0 }
+    requires room { length locks.old.items < vec_capacity locks.old }
+    requires held_room { length held.old.items < vec_capacity held.old }
+    ensures items { locks.new.items ≡ locks.old.items ++ lock.now ∷ [] }
+    ensures capacity { vec_capacity locks.new ≡ vec_capacity locks.old }
+    ensures ordered { AreOrdered held.new.items }
+    ensures held { (m : ℕ) → lock_of held.new.items m ≡ (if lock.now.mon == m then Some lock.now else lock_of held.old.items m) }
+    ensures held_capacity { vec_capacity held.new ≡ vec_capacity held.old }
+{
+    hold(held, *lock);
+    locks.push_reserved(*lock);
+}
 
-    // The empty slots go, and the locks are found in their new ones.
-    fn pack(&mut self)
-        requires tied { IsTied self.old }
-        requires few { length (living self.old.slots.items) ≤ self.old.room }
-        ensures tied { IsTied self.new }
-        ensures locks { living self.new.slots.items ≡ living self.old.slots.items }
-        ensures closed { length self.new.slots.items ≡ length (living self.old.slots.items) }
-        ensures room { self.new.room ≡ self.old.room }
-    {
-        close_up(&mut self.slots);
-        self.held.clear();
-        self.owned.clear();
-        file(&self.slots, &mut self.held, &mut self.owned);
+// The monitor is held at this depth, in the order of acquisition.
+fn deepen_last(locks: &mut Vec<Lock>, mon: Mid, depth: u32)
+    requires { (m : ℕ) → locks_on locks.old.items m ≤ 1 }
+    ensures items { locks.new.items ≡ with_depth mon depth locks.old.items }
+    ensures capacity { vec_capacity locks.new ≡ vec_capacity locks.old }
+{
+    if let Some(at) = last_place(locks, mon) {
+        locks[at].depth = depth;
     }
+}
 
-    // Makes a slot for one lock more: where there is none left, the empty slots go.
-    fn make_slot(&mut self)
-        requires tied { IsTied self.old }
-        requires few { length (living self.old.slots.items) < self.old.room }
-        ensures tied { IsTied self.new }
-        ensures locks { living self.new.slots.items ≡ living self.old.slots.items }
-        ensures slot { length self.new.slots.items < self.new.room + self.new.room }
-        ensures room { self.new.room ≡ self.old.room }
-    {
-        if self.slots.len() / 2 >= self.room {
-            self.pack();
-        }
+// The same by rising monitors.
+fn deepen_held(held: &mut Vec<Lock>, mon: Mid, depth: u32)
+    requires { AreOrdered held.old.items }
+    ensures items { held.new.items ≡ with_depth mon depth held.old.items }
+    ensures capacity { vec_capacity held.new ≡ vec_capacity held.old }
+{
+    if let Some(at) = place_of(held, mon) {
+        held[at].depth = depth;
     }
+}
 
-    /// A free monitor is held.
-    pub fn acquire(&mut self, lock: &Lock)
-        requires tied { IsTied self.old }
-        requires few { length (living self.old.slots.items) < self.old.room }
-        ensures tied { IsTied self.new }
-        ensures locks { living self.new.slots.items ≡ living self.old.slots.items ++ lock.now ∷ [] }
-        ensures room { self.new.room ≡ self.old.room }
-    {
-        self.make_slot();
-        let slot = self.slots.len();
-        add(&mut self.held, lock.mon.number, slot);
-        add(&mut self.owned, lock.owner.number, slot);
-        self.slots.push_reserved(Some(*lock));
+// Nobody holds the monitor, in the order of acquisition.
+fn take_last(locks: &mut Vec<Lock>, mon: Mid)
+    requires { (m : ℕ) → locks_on locks.old.items m ≤ 1 }
+    ensures items { locks.new.items ≡ without_lock mon locks.old.items }
+    ensures capacity { vec_capacity locks.new ≡ vec_capacity locks.old }
+{
+    if let Some(at) = last_place(locks, mon) {
+        take_at(locks, at);
     }
+}
 
-    /// The monitor is held at this depth.
-    pub fn set_depth(&mut self, mon: Mid, depth: u32)
-        requires tied { IsTied self.old }
-        requires once { (m : ℕ) → locks_on (living self.old.slots.items) m ≤ 1 }
-        ensures tied { IsTied self.new }
-        ensures locks { living self.new.slots.items ≡ with_depth mon depth (living self.old.slots.items) }
-        ensures room { self.new.room ≡ self.old.room }
-    {
-        if let Some(slot) = last_of(&self.held, mon.number) {
-            deepen(&mut self.slots, slot, depth);
-        }
+// The same by rising monitors.
+fn take_held(held: &mut Vec<Lock>, mon: Mid)
+    requires { AreOrdered held.old.items }
+    ensures items { held.new.items ≡ without_lock mon held.old.items }
+    ensures capacity { vec_capacity held.new ≡ vec_capacity held.old }
+{
+    if let Some(at) = place_of(held, mon) {
+        take_at(held, at);
     }
+}
 
-    /// Nobody holds the monitor.
-    pub fn free(&mut self, mon: Mid)
-        requires tied { IsTied self.old }
-        requires once { (m : ℕ) → locks_on (living self.old.slots.items) m ≤ 1 }
-        ensures tied { IsTied self.new }
-        ensures locks { living self.new.slots.items ≡ without_lock mon (living self.old.slots.items) }
-        ensures room { self.new.room ≡ self.old.room }
-    {
-        let Some(slot) = last_of(&self.held, mon.number) else {
-            return;
-        };
-        let Some(lock) = lock_at(&self.slots, slot) else {
-            return;
-        };
-        take(&mut self.held, mon.number, slot);
-        take(&mut self.owned, lock.owner.number, slot);
-        empty(&mut self.slots, slot);
-    }
+// The monitor is held at this depth.
+pub fn set_depth(locks: &mut Vec<Lock>, held: &mut Vec<Lock>, mon: Mid, depth: u32)
+    requires once { (m : ℕ) → locks_on locks.old.items m ≤ 1 }
+    requires ordered { AreOrdered held.old.items }
+    ensures items { locks.new.items ≡ with_depth mon depth locks.old.items }
+    ensures capacity { vec_capacity locks.new ≡ vec_capacity locks.old }
+    ensures held { held.new.items ≡ with_depth mon depth held.old.items }
+    ensures held_capacity { vec_capacity held.new ≡ vec_capacity held.old }
+{
+    deepen_last(locks, mon, depth);
+    deepen_held(held, mon, depth);
+}
+
+// Nobody holds the monitor.
+pub fn free(locks: &mut Vec<Lock>, held: &mut Vec<Lock>, mon: Mid)
+    requires once { (m : ℕ) → locks_on locks.old.items m ≤ 1 }
+    requires ordered { AreOrdered held.old.items }
+    ensures items { locks.new.items ≡ without_lock mon locks.old.items }
+    ensures capacity { vec_capacity locks.new ≡ vec_capacity locks.old }
+    ensures held { held.new.items ≡ without_lock mon held.old.items }
+    ensures held_capacity { vec_capacity held.new ≡ vec_capacity held.old }
+{
+    take_last(locks, mon);
+    take_held(held, mon);
 }

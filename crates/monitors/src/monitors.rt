@@ -6,7 +6,7 @@ ghost use Rattle.lwp_types.specs.Release.{last_lock, lock_of, locks_on};
 ghost use Rattle.monitors.specs.MonitorTable.{created, destroyed, empty_table, entered, exited, forgotten, freed, granted, has_request, is_free, is_live, is_unwanted, last_release, last_released, may_enter, newborn, next_owner, next_request, owner_after, owner_of, released, requested, requests_of, requeued, reserved};
 
 use crate::live::{has, list, take_out};
-use crate::locks::Locks;
+use crate::locks::{acquire, depth_of, free, last_lock, lock_of, set_depth};
 use lwp_types::{IdList, Lock, Mid, NoMemory, Tid};
 use std::alloc::Global;
 use std::marker::Model;
@@ -21,7 +21,10 @@ pub struct Monitors {
     live: Vec<Mid>,
     births: u64,
     limit: u64,
-    locks: Locks,
+    // In the order of acquisition.
+    locks: Vec<Lock>,
+    // The same by rising monitors, so that whether one is held is found at once.
+    held: Vec<Lock>,
     requests: WaitingList,
 }
 
@@ -34,23 +37,23 @@ impl Drop for Monitors {
             births: _,
             limit: _,
             locks: _,
+            held: _,
             requests: _,
         } = self;
     }
 }
 
 impl Model for Monitors {
-    ghost use Rattle.std.specs.Prelude.{map};
+    ghost use Rattle.std.specs.Prelude.{map, vec_capacity};
     ghost use Rattle.monitors.specs.MonitorTable.{MonitorTable};
     ghost use Rattle.monitors.specs.Held.{IsSound};
     ghost use Rattle.monitors.specs.Requests.{request_of};
-    ghost use Rattle.thread_index.specs.Living.{living};
 
     ghost Value = { MonitorTable };
 
-    ghost view = { λ s. record { monitors = s.live.items; births = s.births; limit = s.limit; locks = living s.locks.slots.items; requests = map request_of s.requests.waiting; places = s.requests.places } };
+    ghost view = { λ s. record { monitors = s.live.items; births = s.births; limit = s.limit; locks = s.locks.items; requests = map request_of s.requests.waiting; places = s.requests.places } };
 
-    ghost invariant = { λ s. IsSound (record { monitors = s.live.items; births = s.births; limit = s.limit; locks = living s.locks.slots.items; requests = map request_of s.requests.waiting; places = s.requests.places }) s.locks };
+    ghost invariant = { λ s. IsSound (record { monitors = s.live.items; births = s.births; limit = s.limit; locks = s.locks.items; requests = map request_of s.requests.waiting; places = s.requests.places }) s.held.items (vec_capacity s.locks) (vec_capacity s.held) };
 }
 
 impl Monitors {
@@ -63,7 +66,8 @@ impl Monitors {
             live: Vec::new(alloc),
             births: 0,
             limit: births,
-            locks: Locks::new(alloc),
+            locks: Vec::new(alloc),
+            held: Vec::new(alloc),
             requests: WaitingList::new(alloc),
         }
     }
@@ -88,7 +92,8 @@ impl Monitors {
             return Ok(None);
         }
         let mon = Mid { number: births };
-        self.locks.reserve(self.live.len() + 1)?;
+        self.locks.reserve(self.live.len() + 1 - self.locks.len())?;
+        self.held.reserve(self.live.len() + 1 - self.held.len())?;
         self.live.push(mon)?;
         self.births = births + 1;
         Ok(Some(mon))
@@ -116,7 +121,7 @@ impl Monitors {
         requires { IsTrue (is_live self.now mon) }
         ensures { result ≡ owner_of self.now mon }
     {
-        self.locks.lock_of(mon).map(|lock| lock.owner)
+        lock_of(&self.held, mon).map(|lock| lock.owner)
     }
 
     /// How often the owner has entered the monitor, and 0 where it is free.
@@ -124,7 +129,7 @@ impl Monitors {
         requires { IsTrue (is_live self.now mon) }
         ensures { result ≡ depth_in self.now.locks mon }
     {
-        self.locks.depth_of(mon)
+        depth_of(&self.held, mon)
     }
 
     /// The thread enters a free monitor, or its own once more. The answer is how often it had entered it before.
@@ -134,18 +139,18 @@ impl Monitors {
         ensures value { result ≡ depth_in self.old.locks mon }
         ensures after { self.new ≡ entered self.old tid mon }
     {
-        match self.locks.lock_of(mon) {
+        match lock_of(&self.held, mon) {
             None => {
                 let lock = Lock {
                     mon,
                     owner: tid,
                     depth: 1,
                 };
-                self.locks.acquire(&lock);
+                acquire(&mut self.locks, &mut self.held, &lock);
                 0
             }
             Some(lock) => {
-                self.locks.set_depth(mon, lock.depth + 1);
+                set_depth(&mut self.locks, &mut self.held, mon, lock.depth + 1);
                 lock.depth
             }
         }
@@ -174,11 +179,11 @@ impl Monitors {
         ensures value { result ≡ owner_after self.old mon }
         ensures after { self.new ≡ exited self.old mon }
     {
-        let depth = self.locks.depth_of(mon);
+        let depth = depth_of(&self.held, mon);
         if depth <= 1 {
             return self.break_lock(mon);
         }
-        self.locks.set_depth(mon, depth - 1);
+        set_depth(&mut self.locks, &mut self.held, mon, depth - 1);
         None
     }
 
@@ -188,7 +193,7 @@ impl Monitors {
         ensures value { result ≡ next_owner self.old mon }
         ensures after { self.new ≡ released self.old mon }
     {
-        self.locks.free(mon);
+        free(&mut self.locks, &mut self.held, mon);
         self.grant(mon)
     }
 
@@ -198,8 +203,8 @@ impl Monitors {
         ensures value { result ≡ depth_in self.old.locks mon }
         ensures after { self.new ≡ freed self.old mon }
     {
-        let before = self.locks.depth_of(mon);
-        self.locks.free(mon);
+        let before = depth_of(&self.held, mon);
+        free(&mut self.locks, &mut self.held, mon);
         before
     }
 
@@ -218,7 +223,7 @@ impl Monitors {
             owner: next.tid,
             depth: next.depth,
         };
-        self.locks.acquire(&lock);
+        acquire(&mut self.locks, &mut self.held, &lock);
         Some(next.tid)
     }
 
@@ -227,7 +232,7 @@ impl Monitors {
         ensures value { result ≡ option_map (λ lock. lock.mon) (last_lock self.now.locks tid) }
         ensures held_once { (m : ℕ) → locks_on self.now.locks m ≤ 1 }
     {
-        self.locks.last_lock(tid).map(|lock| lock.mon)
+        last_lock(&self.locks, tid).map(|lock| lock.mon)
     }
 
     /// Gives the thread's request, if it has one, a priority. The request keeps its place.
@@ -249,7 +254,7 @@ impl Monitors {
         ensures value { result ≡ last_release self.old tid }
         ensures after { self.new ≡ last_released self.old tid }
     {
-        let lock = self.locks.last_lock(tid)?;
+        let lock = last_lock(&self.locks, tid)?;
         let next = self.break_lock(lock.mon);
         Some((lock.mon, next))
     }

@@ -1,3 +1,4 @@
+use Rattle.monitors.proofs.HeldLaws.{IsHeld-destroyed}
 use Rattle.monitors.proofs.KeptLemmas.{IsKept-destroyed}
 use Rattle.monitors.proofs.monitors.Monitors.destroy.Goals as goal
 
@@ -6,5 +7,5 @@ invariant_of-self c =
     rw c.take_out.ensures
     (record {
       kept = IsKept-destroyed c.self.invariant.kept c.args.mon (rw (← c.self.view_is) at c.requires.free);
-      tied = c.self.invariant.tied;
+      by_monitor = IsHeld-destroyed c.self.invariant c.args.mon;
     })
