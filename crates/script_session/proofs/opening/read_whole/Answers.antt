@@ -14,6 +14,9 @@ returns-in-Ok-finish-clause-read g c =
       posted = is_posted k.0 c.in-Ok-finish.script (c.in-Ok-finish.ensures.spelt k.0 k.2);
     }
 
+pub returns-in-Ok-finish-clause-within : goal.returns-in-Ok-finish-clause-within
+returns-in-Ok-finish-clause-within g c = let k = c.in-Ok.ensures.read in c.in-Ok-finish.ensures.within k.0 k.2
+
 pub returns-in-Err-Bad-clause-not_read : goal.returns-in-Err-Bad-clause-not_read
 returns-in-Err-Bad-clause-not_read g c =
     let k = c.in-Ok.ensures.read in

@@ -1,7 +1,26 @@
-use Rattle.std.proofs.Common.{◌≤◌, ◌<◌, ◌+◌, arith, rules, take}
+use Rattle.std.proofs.Common.{◌≤◌, ◌<◌, ◌+◌, ◌++◌, ◌∙◌, List, arith, drop, length-append, rules, subst, take, ℕ}
+use Rattle.std.proofs.lemmas.List.{length-take-le, take-append-le}
+use Rattle.script_text.specs.Pieces.{HasRead as IsFed}
+use Rattle.whole_streams.proofs.ReadLaws.{so_far-more}
 use Rattle.script_session.proofs.SourceLemmas.{part-read, read-end, read-full, up-end, up-full}
 use Rattle.script_session.proofs.RunLaws.{on_err}
 use Rattle.script_session.proofs.source.read_all.Goals as goal
+
+pub loop-total-preserved : goal.loop-total-preserved
+loop-total-preserved g c =
+    let k = c.loop-total.invariant.read in
+    let got = take c.in_ok-count.count c.read.new.buf in
+    let sum : c.loop-total.total + c.in_ok-count.count ≤ 16777217 = search rules in
+    record {
+      read = (
+        k.0 ++ got,
+        so_far-more (g.S.Source.left c.args.source.now) (g.S.Source.left c.loop-total.source) (g.S.Source.left c.read.new.self) k.0 got c.in_ok-count.count k.1 c.in_ok-count.ensures.ok,
+        subst (λ (xs : List ℕ). IsFed c.feed.new.self (k.0 ++ xs)) (take-append-le c.in_ok-count.count c.read.new.buf (drop c.min-room.result c.loop-total.buffer) c.in_ok-count.ensures.bound) (c.in_ok-feed.ensures.ok k.0 k.2),
+        omega (arith, k.3, length-append k.0 got, length-take-le c.in_ok-count.count c.read.new.buf c.in_ok-count.ensures.bound),
+      );
+      same = c.in_ok-count.ensures.cause.same ∙ c.loop-total.invariant.same;
+      within = sum;
+    }
 
 pub returns-after-loop-total-clause-read : goal.returns-after-loop-total-clause-read
 returns-after-loop-total-clause-read g c =
