@@ -149,8 +149,8 @@ apart : (xs : List Intake) → EventsRise xs → (k i : ℕ) (d : Intake) → k 
 apart xs rise k i d low within other same = by (cases_lt k i) (cases_lt i k)
   where
     by : (k < i) ⊎ (i ≤ k) → (i < k) ⊎ (k ≤ i) → ⊥
-    by (inl below) later = let r = rise.1 k i d below within in absurd (omega (arith, r, same))
-    by (inr above) (inl below) = let r = rise.1 i k d below low in absurd (omega (arith, r, same))
+    by (inl below) later = let r = rise k i d below within in absurd (omega (arith, r, same))
+    by (inr above) (inl below) = let r = rise i k d below low in absurd (omega (arith, r, same))
     by (inr above) (inr under) = other (omega (arith, above, under))
 
 module _ {B P : Type 0} (next : Next B) (bodies : P → List B) (procs : P → List (List ℕ)) where
@@ -484,18 +484,13 @@ module _ {B P : Type 0} (next : Next B) (bodies : P → List B) (procs : P → L
   -- ---- one inlet more
 
   rise-on : (takes : List Took) (a b : List Intake) → EachInlet (Gives takes) a b → EventsRise a → EventsRise b
-  rise-on takes a b p rise = (
-    λ k d low. let within = low_of k low in
-        let e = gives-event takes (slice_index_or a k d) (slice_index_or b k d) (p.1 k d within) in
-        let r = rise.0 k d within in
-        omega (arith, e, r),
-    λ i j d less low. let within = low_of j low in
-        let under : i < length a = omega (arith, less, within) in
-        let e = gives-event takes (slice_index_or a i d) (slice_index_or b i d) (p.1 i d under) in
-        let f = gives-event takes (slice_index_or a j d) (slice_index_or b j d) (p.1 j d within) in
-        let r = rise.1 i j d less within in
-        omega (arith, e, f, r),
-  )
+  rise-on takes a b p rise i j d less low =
+      let within = low_of j low in
+      let under : i < length a = omega (arith, less, within) in
+      let e = gives-event takes (slice_index_or a i d) (slice_index_or b i d) (p.1 i d under) in
+      let f = gives-event takes (slice_index_or a j d) (slice_index_or b j d) (p.1 j d within) in
+      let r = rise i j d less within in
+      omega (arith, e, f, r)
     where
       low_of : (k : ℕ) → k < length b → k < length a
       low_of k low = let n = p.0 in omega (arith, n, low)

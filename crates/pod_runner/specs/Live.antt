@@ -30,9 +30,9 @@ pub record Extends {B P : Type 0} (next : Next B) (bodies : P → List B) (old n
 
 -- ---- what inlets gave
 
--- the events rise, up to 31
+-- the events rise, so that each has one inlet at most
 abbrev pub EventsRise : List Intake → Type 0
-EventsRise inlets = All (λ t. t.event ≤ 31) inlets × AllPairs (λ t u. t.event < u.event) inlets
+EventsRise inlets = AllPairs (λ t u. t.event < u.event) inlets
 
 -- so it is of each inlet, before and after, in its place
 abbrev pub EachInlet : (Intake → Intake → Type 0) → List Intake → List Intake → Type 0
