@@ -58,7 +58,7 @@ module _ (parts : Parts) (e t : ℕ) where
           };
           monitors = step.monitors;
           conditions = step.conditions;
-          noted = noted-born parts.named parts.ids.births kind.Agent refl parts.ids.live step.noted;
+          noted = noted-born parts.named parts.ids.births kind.Agent refl parts.ids.live step.noted (omega (arith, step.noted.room));
         };
         dying = refl;
       }

@@ -1,5 +1,5 @@
 -- Whoever is born: a thread, or an agent.
-use Rattle.death_cleanup.proofs.Notes.{noted-born}
+use Rattle.death_cleanup.proofs.Notes.{noted-born, threads-rows}
 use Rattle.conditions.specs.ConditionTable as cv
 use Rattle.conditions.specs.declared.waits.WaitRec.{WaitRec}
 use Rattle.death_cleanup.proofs.Looks.{waits}
@@ -177,7 +177,7 @@ module _ (parts : Parts) (lawful : LawfulParts parts) (alone : parts.dying ≡ N
           roomy = record { letters = omega (arith, longer, places.letters); threads = omega (arith, longer, places.threads); requests = omega (arith, longer, places.requests); waits = omega (arith, longer, places.waits) };
           monitors = lawful.step.monitors;
           conditions = lawful.step.conditions;
-          noted = noted-born parts.named n (kind.Thread rec) refl parts.ids.live lawful.step.noted;
+          noted = noted-born parts.named n (kind.Thread rec) refl parts.ids.live lawful.step.noted (omega (arith, places.names, threads-rows parts.last_prio parts.sched.threads parts.ids.live));
         }
 
         pub came_begun : CameTo parts begun [] [] (still (created (state_of parts) prio flags))

@@ -1,4 +1,5 @@
 -- More places than before.
+use Rattle.death_cleanup.proofs.Notes.{noted-roomier}
 use Rattle.death_cleanup.specs.Comes.{CameTo}
 use Rattle.death_cleanup.specs.Ties.{InStep, LawfulParts}
 use Rattle.death_cleanup.specs.View.{state_of}
@@ -16,27 +17,28 @@ pub nine : (parts : Parts) → LawfulParts parts → parts.dying ≡ None → Ni
 nine parts lawful alone = subst (λ (d : Option ℕ). NineParts (state_of parts) d) alone lawful.nine
 
 -- the parts with so many places
-abbrev pub grown : Parts → ℕ → ℕ → ℕ → ℕ → ℕ → Parts
-grown parts i s m q w = record parts {
+abbrev pub grown : Parts → ℕ → ℕ → ℕ → ℕ → ℕ → ℕ → Parts
+grown parts i s m q w n = record parts {
   ids = record parts.ids { places = i };
   sched = record parts.sched { places = s };
   mail = record parts.mail { places = m };
   mons = record parts.mons { places = q };
   conds = record parts.conds { places = w };
+  named = record parts.named { places = n };
 }
 
-pub InStep-grown : (parts : Parts) → InStep parts → (i s m q w : ℕ) → parts.sched.places ≤ s → parts.mail.places ≤ m → parts.mons.places ≤ q → parts.conds.places ≤ w → InStep (grown parts i s m q w)
-InStep-grown parts step i s m q w more-s more-m more-q more-w = record {
+pub InStep-grown : (parts : Parts) → InStep parts → (i s m q w n : ℕ) → parts.sched.places ≤ s → parts.mail.places ≤ m → parts.mons.places ≤ q → parts.conds.places ≤ w → parts.named.places ≤ n → InStep (grown parts i s m q w n)
+InStep-grown parts step i s m q w n more-s more-m more-q more-w more-n = record {
   tied = record { known = step.tied.known; waits = step.tied.waits };
   ranked = record { requests = step.ranked.requests; waits = step.ranked.waits };
   roomy = record { letters = omega (arith, more-m, step.roomy.letters); threads = omega (arith, more-s, step.roomy.threads); requests = omega (arith, more-q, step.roomy.requests); waits = omega (arith, more-w, step.roomy.waits) };
   monitors = step.monitors;
   conditions = step.conditions;
-  noted = step.noted;
+  noted = noted-roomier parts.named n parts.ids.live more-n step.noted;
 }
 
-pub came_grown : (parts : Parts) → InStep parts → (i s m q w : ℕ) → parts.sched.places ≤ s → parts.mail.places ≤ m → parts.mons.places ≤ q → parts.conds.places ≤ w → CameTo parts (grown parts i s m q w) [] [] (still (state_of parts))
-came_grown parts step i s m q w more-s more-m more-q more-w = record { state = refl; effects = refl; step = InStep-grown parts step i s m q w more-s more-m more-q more-w; dying = refl }
+pub came_grown : (parts : Parts) → InStep parts → (i s m q w n : ℕ) → parts.sched.places ≤ s → parts.mail.places ≤ m → parts.mons.places ≤ q → parts.conds.places ≤ w → parts.named.places ≤ n → CameTo parts (grown parts i s m q w n) [] [] (still (state_of parts))
+came_grown parts step i s m q w n more-s more-m more-q more-w more-n = record { state = refl; effects = refl; step = InStep-grown parts step i s m q w n more-s more-m more-q more-w more-n; dying = refl }
 
 -- whoever lives was born, so that no more live than were born
 born_from : (low births : ℕ) (living : List (ℕ × Kind)) → low ≤ births → AllByRecursion (λ (p : ℕ × Kind). low ≤ p.0) living → AreRising living → AreBorn births living → length living + low ≤ births

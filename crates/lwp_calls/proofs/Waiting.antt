@@ -1,7 +1,7 @@
 -- A thread begins to wait.
 use Rattle.death_cleanup.proofs.Looks.{rows-block, waits}
 use Rattle.death_cleanup.specs.Moves.{block_set}
-use Rattle.death_cleanup.specs.Named.{NameNote, all_noted}
+use Rattle.death_cleanup.specs.Named.{IsNoteOf, NameNote}
 use Rattle.death_cleanup.specs.Ties.{InStep}
 use Rattle.death_cleanup.specs.View.{state_of}
 use Rattle.death_cleanup.specs.declared.parts.Parts.{Parts}
@@ -87,7 +87,7 @@ module _ (parts : Parts) (t : ℕ) (why : Block) where
     priority-kept u = ap (λ rs. change.priority_of parts t f h (λ c k. refl) (λ c row. refl) (find (is_number u) rs)) same ∙ change.priority-changed parts t f h (λ c k. refl) (λ c row. refl) (λ c row. refl) u
 
     -- whoever waits by name then is in this note
-    pub InStep-waiting : (named : NameNote) → all_noted named (map (block_set t why) parts.ids.live) ≡ true → InStep (record (waiting parts t why) { named = named })
+    pub InStep-waiting : (named : NameNote) → IsNoteOf named (map (block_set t why) parts.ids.live) → InStep (record (waiting parts t why) { named = named })
     InStep-waiting named noted =
         let count : length (state_of (waiting parts t why)).threads ≡ length rows = ap length same ∙ as_many t why rows in
         record {

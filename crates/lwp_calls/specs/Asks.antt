@@ -6,7 +6,7 @@ use Rattle.death_cleanup.specs.declared.rows.Kind.TheVariants as kind
 use Rattle.lwp_types.specs.Case.{Check}
 use Rattle.lwp_types.specs.declared.call.LwpErr.{LwpErr}
 pub use Rattle.pod_events.specs.Machine.{asks_memory}
-use Rattle.std.specs.Prelude.{Bool, List, None, Option, Some, [], if◌then◌else◌, length, true, ◌+◌, ◌∷◌, ◌≤◌}
+use Rattle.std.specs.Prelude.{Bool, List, None, Option, Some, [], if◌then◌else◌, length, true, ◌*◌, ◌+◌, ◌∷◌, ◌≤◌}
 
 -- the error of the first check that strikes
 abbrev pub first_refusal : List Check → Option LwpErr
@@ -21,6 +21,7 @@ pub record HasPlaces (parts : Parts) : Type 0 where
   pub known : length parts.sched.threads + 1 ≤ parts.sched.places
   pub requests : length (state_of parts).threads + 1 ≤ parts.mons.places
   pub waits : length (state_of parts).threads + 1 ≤ parts.conds.places
+  pub names : 2 * (length (state_of parts).threads + 1) ≤ parts.named.places
 
 -- the same of an agent, and its letter
 pub record HasAgentPlaces (parts : Parts) : Type 0 where

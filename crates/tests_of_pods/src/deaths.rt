@@ -1,7 +1,7 @@
-ghost use Rattle.std.specs.Prelude.{◌≡◌, ◌<◌, ◌∷◌, [], IfOk, IsTrue, OnOk, length};
+ghost use Rattle.std.specs.Prelude.{◌≡◌, ◌<◌, ◌∷◌, [], IfOk, OnOk, length};
 ghost use Rattle.death_cleanup.specs.Example as example;
 ghost use Rattle.death_cleanup.specs.Example.{thread};
-ghost use Rattle.death_cleanup.specs.Named.{all_noted};
+ghost use Rattle.death_cleanup.specs.Named.{IsNoteOf};
 ghost use Rattle.death_cleanup.specs.Ties.{LawfulParts};
 ghost use Rattle.tests_of_pods.specs.Living.{register_as};
 ghost use Rattle.exc_stack.specs.Stack.{one_frame};
@@ -233,7 +233,7 @@ fn armed(alloc: Global) -> Result<Agents, NoMemory>
 
 // One after another waits by name: a thread receives from the dying one, and two join it.
 fn noted(alloc: Global) -> Result<Named, NoMemory>
-    ensures { IfOk result (λ n. IsTrue (all_noted n example.ids.live)) }
+    ensures { IfOk result (λ n. IsNoteOf n example.ids.live) }
 {
     let mut named = Named::new(alloc)?;
     let ids = living(alloc, Block::Not, Block::Not, Block::Not)?;

@@ -23,5 +23,5 @@ returns-clause-step c =
       roomy = record { letters = omega arith; threads = omega arith; requests = omega arith; waits = omega arith };
       monitors = refl;
       conditions = refl;
-      noted = refl;
+      noted = record { noted = refl; room = omega arith };
     })
