@@ -128,6 +128,7 @@ tied_back events texts all out before client t u e h at end taken =
     let same : EachInlet IsSame before after = each_set IsSame before k u same_here mine.inside (λ d. subst (λ v. IsSame v u) (sym (at d)) (taken_in_same t u (passed_of e.pass) taken)) in
     record {
       are_for = for_kept events before after same h.are_for;
+      small = h.small;
       as_many = h.as_many;
       few = h.few;
       out_of = omega (arith, size, few);

@@ -326,11 +326,12 @@ out_more events texts inlets n m out now client size more is before last = λ c 
     (same_or c n)
 
 pub all_out : (events : List ℕ) (texts : List (List (List ℕ))) (inlets : List Intake) (out : List Client)
-    → AreFor events inlets → length texts ≡ length events → All (λ ts. length ts ≤ 20000) texts → length out ≡ length events
+    → AreFor events inlets → length events ≤ 16 → length texts ≡ length events → All (λ ts. length ts ≤ 20000) texts → length out ≡ length events
     → ((c : ℕ) (d : Client) → c < length out → IsOut events texts inlets c (slice_index_or out c d))
     → AreTied events texts true out inlets
-all_out events texts inlets out are_for as_many few size work = record {
+all_out events texts inlets out are_for small as_many few size work = record {
   are_for = are_for;
+  small = small;
   as_many = as_many;
   few = few;
   out_of = omega (arith, size);

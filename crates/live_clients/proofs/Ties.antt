@@ -83,6 +83,7 @@ draws_keep_ties events texts all out before after h gave =
     let same = gave_same before after gave in
     record {
       are_for = for_kept events before after same h.are_for;
+      small = h.small;
       as_many = h.as_many;
       few = h.few;
       out_of = h.out_of;

@@ -6,7 +6,7 @@ use Rattle.event_gate.specs.Texts.{lines_from}
 use Rattle.live_clients.specs.Inlets.{is_lane}
 use Rattle.lwp_types.specs.declared.call.Line.{Line}
 use Rattle.std.specs.List.{All, AllPairs, HoldsAt, SomeIndex, filter, range_with_len, slice_index_or}
-use Rattle.std.specs.Prelude.{Bool, List, [], ◌++◌, eqb, false, length, take, true, ℕ, ◌<◌, ◌≡◌, ◌≤◌, ◌+◌}
+use Rattle.std.specs.Prelude.{Bool, List, [], ◌++◌, eqb, false, length, sum_by, take, true, ℕ, ◌<◌, ◌≡◌, ◌≤◌, ◌+◌}
 
 -- the clients that post to an event, in order
 abbrev pub clients_of : List ℕ → ℕ → List ℕ
@@ -15,6 +15,10 @@ clients_of events e = filter (λ c. eqb (event_of events c) e) (range_with_len 0
 -- the texts of a client
 abbrev pub texts_of : List (List (List ℕ)) → ℕ → List (List ℕ)
 texts_of texts c = slice_index_or texts c []
+
+-- how many texts all clients have
+abbrev pub lines_in_all : List (List (List ℕ)) → ℕ
+lines_in_all texts = sum_by length texts
 
 -- the events rise, up to 31
 abbrev pub EventsRise : List Intake → Type 0

@@ -52,6 +52,7 @@ pub record IsKnown (texts : List (List (List ℕ))) (all : Bool) (c : ℕ) (t : 
 -- the first clients are out, each with its inlet, and what the others have posted is known to theirs; where `all` is false, one of these others has not posted all its lines
 pub record AreTied (events : List ℕ) (texts : List (List (List ℕ))) (all : Bool) (out : List Client) (inlets : List Intake) : Type 0 where
   pub are_for : AreFor events inlets
+  pub small : length events ≤ 16
   pub as_many : length texts ≡ length events
   pub few : All (λ ts. length ts ≤ 20000) texts
   pub out_of : length out ≤ length events

@@ -15,4 +15,4 @@ mod poster;
 
 pub use inlet::AnyInlet;
 pub use laws::{closed_are_served, draws_keep_ties};
-pub use outside::Outside;
+pub use outside::{AllPosted, Outside};

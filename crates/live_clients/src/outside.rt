@@ -1,7 +1,8 @@
 // The inlets of a pod and the threads that post to them.
 ghost use Rattle.live_clients.specs.Ends.{IsEnd, IsReady, posting_of};
+ghost use Rattle.live_clients.specs.Served.{lines_in_all};
 ghost use Rattle.live_clients.specs.Ties.{IsWork};
-ghost use Rattle.std.specs.Prelude.{◌≡◌};
+ghost use Rattle.std.specs.Prelude.{All, length, map, ◌≡◌, ◌≤◌};
 
 use crate::inlet::AnyInlet;
 use crate::opening::{Opened, Seat, open_all};
@@ -9,6 +10,7 @@ use crate::poster::{AnyEnd, AnyPoster, post_any};
 use event_gate::{Bell, PostGate};
 use lwp_types::{NoMemory, Text};
 use std::alloc::Global;
+use std::marker::Model;
 use std::snapshot::Snapshot;
 use std::sync::Wait;
 use std::thread::{Promise, PromisedHandle, Scope, Threads};
@@ -88,6 +90,43 @@ fn start_client<'s, E, G: PostGate + 's, R: Threads + Wait + Sync>(
     Client { inlet, work }
 }
 
+/// That all clients have posted all their lines, and how many these are. Contracts see the number. Nobody but `Outside::close` makes
+/// one, so whoever has one has been told so.
+#[derive(Drop)]
+pub struct AllPosted {
+    lines: u32,
+}
+
+impl Model for AllPosted {
+    ghost use Rattle.std.specs.Prelude.{ℕ};
+
+    ghost Value = { ℕ };
+
+    ghost view = { λ p. p.lines };
+}
+
+impl AllPosted {
+    /// How many lines were posted.
+    pub fn lines(&self) -> u32
+        ensures { result ≡ self.now }
+    {
+        self.lines
+    }
+}
+
+// How many texts all clients have.
+fn lines_in_all(texts: &[Vec<Text>]) -> u32
+    requires clients { length (map (λ v. v.items) texts.now) ≤ 16 }
+    requires few { All (λ ts. length ts ≤ 20000) (map (λ v. v.items) texts.now) }
+    ensures { result ≡ lines_in_all (map (λ v. v.items) texts.now) }
+{
+    let mut lines = 0;
+    for of_client in texts {
+        lines += of_client.len() as u32;
+    }
+    lines
+}
+
 /// The inlets of a pod, and the threads that post to them.
 pub struct Outside<'s> {
     /// One of each event that has a client, by rising event.
@@ -117,9 +156,9 @@ impl<'s> Drop for Outside<'s> {
 impl<'s> Outside<'s> {
     ghost use Rattle.event_gate.specs.Shelves.{event_of};
     ghost use Rattle.live_clients.specs.Inlets.{fresh};
-    ghost use Rattle.live_clients.specs.Served.{AreServed, EachInlet, Hears};
+    ghost use Rattle.live_clients.specs.Served.{AreServed, EachInlet, Hears, lines_in_all};
     ghost use Rattle.live_clients.specs.Ties.{AreTied, IsClosed, IsSameOutside, IsTied, all_texts, events_of, intakes};
-    ghost use Rattle.std.specs.Prelude.{All, IfOk, [], length, map, ◌++◌, ◌∷◌, ◌≤◌};
+    ghost use Rattle.std.specs.Prelude.{All, IfOk, IfSome, [], is_some, length, map, ◌++◌, ◌∷◌, ◌≤◌};
 
     /// Opens an inlet for each event that has a client, and starts a thread for each client, which posts its texts. The rings and
     /// the leaving of each are heard at the bell. Client c has gate c.
@@ -162,20 +201,38 @@ impl<'s> Outside<'s> {
         })
     }
 
-    /// Joins each thread that is still out, and takes in its pass. Answers whether all clients have posted all their lines. It may
-    /// be called again, after more lines were taken.
-    pub fn close<R: Threads>(&mut self, rt: &R) -> bool
+    /// Joins each thread that is still out, and takes in its pass. Answers that all clients have posted all their lines, exactly
+    /// where they have. It may be called again, after more lines were taken.
+    pub fn close<R: Threads>(&mut self, rt: &R) -> Option<AllPosted>
         requires { IsTied self.old }
         ensures tied { IsTied self.new }
         ensures same { IsSameOutside self.old self.new }
         ensures inlets { EachInlet Hears (intakes self.old) (intakes self.new) }
         ensures closed { IsClosed self.new }
-        ensures served { AreServed (events_of self.new) (all_texts self.new) result (intakes self.new) }
+        ensures served { AreServed (events_of self.new) (all_texts self.new) (is_some result) (intakes self.new) }
+        ensures lines { IfSome result (λ lines. lines ≡ lines_in_all (all_texts self.new)) }
+    {
+        self.join_all(rt);
+        if !self.all {
+            return None;
+        }
+        Some(AllPosted {
+            lines: lines_in_all(self.texts),
+        })
+    }
+
+    // Joins each thread that is still out, and takes in its pass.
+    fn join_all<R: Threads>(&mut self, rt: &R)
+        requires { IsTied self.old }
+        ensures tied { IsTied self.new }
+        ensures same { IsSameOutside self.old self.new }
+        ensures inlets { EachInlet Hears (intakes self.old) (intakes self.new) }
+        ensures closed { IsClosed self.new }
+        ensures served { AreServed (events_of self.new) (all_texts self.new) self.new.all (intakes self.new) }
     {
         while let Some(client) = self.out.pop() {
             self.take_back(rt, client);
         }
-        self.all
     }
 
     // Takes in the pass of the client behind all that are out, when its thread has ended.

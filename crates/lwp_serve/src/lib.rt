@@ -20,5 +20,5 @@ pub use script_batch::batch_main;
 pub use script_checked::replay_main;
 pub use script_plan::{make_main, plan_main};
 pub use script_program::{ScriptProgram, ThreadBody};
-pub use script_run::{no_gates, run_main};
+pub use script_run::{LiveSession, no_gates, run_main};
 pub use script_session::{SCRIPT_MAX, Session, SessionEnd, Taken, TakenLines, fault_text};

@@ -1,11 +1,11 @@
 -- From a run beside its threads to what a session of `run` says.
-use Rattle.event_gate.proofs.Lines.{cond_other}
+use Rattle.event_gate.proofs.Lines.{cond_other, cond_same, same_or}
 use Rattle.event_gate.specs.Inlet.{Intake, IsInletTaken}
 use Rattle.event_gate.specs.Port.{of}
 use Rattle.event_gate.specs.Shelves.{event_of, stocked}
 use Rattle.event_gate.specs.Texts.{lines_from}
 use Rattle.live_clients.specs.Inlets.{fresh}
-use Rattle.live_clients.specs.Served.{HasLines, IsServed, texts_of}
+use Rattle.live_clients.specs.Served.{HasLines, IsServed, lines_in_all, texts_of}
 use Rattle.script_run.proofs.BesideLaws.{fed-fresh}
 use Rattle.script_run.proofs.ClientLaws.{items_of}
 use Rattle.script_run.proofs.LeftLaws.{ArePosts, IsAway, IsGiven, counts-are, counts_by, history-of, left-past, left_lines, lines-for, none-left-of, over-with, wants-none}
@@ -16,7 +16,8 @@ use Rattle.script_run.specs.Beside.{AreBack, GoesBeside, IsFed, KnowAll}
 use Rattle.script_program.specs.Bodies.{bodies_of, body_next}
 use Rattle.script_run.specs.Clients.{count_taken, counts_of, texts_for, texts_from}
 use Rattle.script_session.specs.History.{counts_from}
-use Rattle.script_run.specs.Live.{EndsSo, IsLiveBroken, IsLiveStopped, IsLived, IsSoFar, LiveSays, bytes_to_end}
+use Rattle.script_run.specs.Live.{EndsSo, IsAllPosted, IsLiveBroken, IsLiveStopped, IsLived, IsSoFar, LiveSays, PostsSay, bytes_to_end}
+use Rattle.script_session.specs.Outcome.{end_of}
 use Rattle.script_session.specs.SoFar.{AreDue, lines_after, lines_before, opening_run, session_at}
 use Rattle.whole_streams.specs.Streams.{Stream}
 use Rattle.whole_streams.specs.Writing.{AppendsPart}
@@ -44,11 +45,12 @@ use Rattle.trace_text.specs.Lines.{end_text}
 use Rattle.trace_text.specs.declared.ends.Halt.{Halt}
 use Rattle.trace_text.specs.declared.ends.Halt.TheVariants as halts
 use Rattle.std.specs.List.{All, AllByRecursion}
-use Rattle.std.specs.Prelude.{Ok, Option, Result, ◌⊎◌}
-use Rattle.std.proofs.Common.{Global, List, Vec, [], ap, append-nil, append_assoc, arith, false, inl, inr, length, length-append, map, refl, slice_index_or, subst, suc, sym, take, true, zero, ℕ, ◌++◌, ◌+◌, ◌-◌, ◌<◌, ◌∙◌, ◌∷◌, ◌≡◌, ◌≤◌}
+use Rattle.std.specs.Prelude.{Ok, Option, Result, sum_by, ◌⊎◌}
+use Rattle.std.proofs.Common.{Global, List, Vec, [], ap, append-nil, append_assoc, arith, false, inl, inr, length, length-append, map, refl, slice_index_or, subst, suc, sym, take, true, zero, ℕ, ⊎_elim, ◌++◌, ◌+◌, ◌-◌, ◌<◌, ◌∙◌, ◌∷◌, ◌≡◌, ◌≢◌, ◌≤◌}
 use Rattle.std.proofs.Math.Seq.{take-append-add}
 use Rattle.std.proofs.lemmas.Bool.{cases_lt}
 use Rattle.std.proofs.lemmas.List.{length-map}
+use Rattle.std.proofs.lemmas.List.Sums.{sum_by-cons}
 use Rattle.std.proofs.lemmas.List.Elements.{recursion_from_All}
 
 -- ---- what the inlets gave is what was posted
@@ -133,6 +135,48 @@ texts-few script vs is posted = λ k d low.
     = texts-in vs k d low ∙ ap (λ ts. slice_index_or ts k []) is ∙ texts-at k 0 script.clients (lines_posted script) (omega (arith, low, many)) ∙ ap (λ n. texts_for n (lines_posted script)) (let e : 0 + k ≡ k = omega arith in e) in
     omega (arith, ap length at, length-map (of k (lines_posted script)) (λ (line : Line). line.text), posted.each k)
 
+-- of clients behind that of a line, none has one text more by it
+none-more : (a : ℕ) (clients : List ℕ) (l : Line) (ls : List Line) → l.client < a → sum_by length (texts_from a clients (l ∷ ls)) ≡ sum_by length (texts_from a clients ls)
+none-more a [] l ls low = refl
+none-more a (e ∷ es) l ls low =
+    let rest = none-more (a + 1) es l ls (omega (arith, low)) in
+    let same : texts_for a (l ∷ ls) ≡ texts_for a ls = ap (map (λ (line : Line). line.text)) (cond_other l.client a (l ∷ of a ls) (of a ls) (λ is. omega (arith, low, is))) in
+    sum_by-cons length (texts_for a (l ∷ ls)) (texts_from (a + 1) es (l ∷ ls)) ∙ (λ k. length (same k) + rest k) ∙ sym (sum_by-cons length (texts_for a ls) (texts_from (a + 1) es ls))
+
+-- of those among which its client is, one has
+one-more : (a : ℕ) (clients : List ℕ) (l : Line) (ls : List Line) → a ≤ l.client → l.client < a + length clients → sum_by length (texts_from a clients (l ∷ ls)) ≡ suc (sum_by length (texts_from a clients ls))
+one-more a [] l ls from to = absurd (omega (arith, from, to))
+one-more a (e ∷ es) l ls from to = ⊎_elim
+    (λ (is : l.client ≡ a).
+    let rest = none-more (a + 1) es l ls (omega (arith, is)) in
+    let more : length (texts_for a (l ∷ ls)) ≡ suc (length (texts_for a ls)) = ap (λ (xs : List Line). length (map (λ (line : Line). line.text) xs)) (cond_same l.client a (l ∷ of a ls) (of a ls) is) in
+    let now = sum_by-cons length (texts_for a (l ∷ ls)) (texts_from (a + 1) es (l ∷ ls)) in
+    let was = sum_by-cons length (texts_for a ls) (texts_from (a + 1) es ls) in
+    omega (arith, rest, more, now, was))
+    (λ (other : l.client ≢ a).
+    let rest = one-more (a + 1) es l ls (omega (arith, from, other)) (omega (arith, to)) in
+    let same : length (texts_for a (l ∷ ls)) ≡ length (texts_for a ls) = ap (λ (xs : List Line). length (map (λ (line : Line). line.text) xs)) (cond_other l.client a (l ∷ of a ls) (of a ls) other) in
+    let now = sum_by-cons length (texts_for a (l ∷ ls)) (texts_from (a + 1) es (l ∷ ls)) in
+    let was = sum_by-cons length (texts_for a ls) (texts_from (a + 1) es ls) in
+    omega (arith, rest, same, now, was))
+    (same_or l.client a)
+
+no-lines : (a : ℕ) (clients : List ℕ) → sum_by length (texts_from a clients []) ≡ 0
+no-lines a [] = refl
+no-lines a (e ∷ es) =
+    let now = sum_by-cons length (texts_for a []) (texts_from (a + 1) es []) in
+    let none : length (texts_for a []) ≡ 0 = refl in
+    let rest = no-lines (a + 1) es in
+    omega (arith, now, none, rest)
+
+each-line : (clients : List ℕ) (ls : List Line) → AllByRecursion (λ (line : Line). line.client < length clients) ls → sum_by length (texts_from 0 clients ls) ≡ length ls
+each-line clients [] h = no-lines 0 clients
+each-line clients (l ∷ ls) h = one-more 0 clients l ls (omega arith) (omega (arith, h.0)) ∙ ap suc (each-line clients ls h.1)
+
+-- the texts of all clients are as many as the lines of the script
+pub lines-are : (script : Script) (texts : List (List (List ℕ))) → texts ≡ texts_from 0 script.clients (lines_posted script) → IsPosted script → lines_in_all texts ≡ length (lines_posted script)
+lines-are script texts is posted = ap lines_in_all is ∙ each-line script.clients (lines_posted script) (recursion_from_All (λ (line : Line). line.client < length script.clients) (lines_posted script) posted.clients)
+
 -- each client has an event
 pub events-are : (script : Script) → IsPosted script → All (λ e. e ≤ 31) script.clients
 events-are script posted = posted.events
@@ -197,11 +241,11 @@ pub record Over (script : Script) (turns : ℕ) (r : Played Script) (inlets : Li
   pub none_lost : (c : ℕ) → c < length script.clients → is_takeable (run.session_of body_next bodies_of r).live.pod (event_of script.clients c) ≡ true → NoneComes body_next bodies_of r inlets
       → of c (lines_taken (event_of script.clients c) r.takes) ≡ of c (lines_posted script)
 
-pub over-of : (script : Script) (turns : ℕ) (s : Stream) (o r : Played Script) (before after : List Intake) (texts : List (List (List ℕ))) (halt : Halt) → GoesBeside s o r before after (Ok halt)
+pub over-of : {T : Type 0} (script : Script) (turns : ℕ) (s : Stream) (o r : Played Script) (before after : List Intake) (texts : List (List (List ℕ))) (x : T) (halt : Halt) → GoesBeside s o r before after (Ok x)
     → o ≡ opening_run script turns → All (λ t. t ≡ fresh t.place t.event t.noted) before → texts ≡ texts_from 0 script.clients (lines_posted script) → IsPosted script → AreBack script.clients texts after
     → Halts body_next bodies_of r after halt → KnowAll script.clients texts after → Over script turns r after halt
-over-of script turns s o r before after texts halt h opening new is posted back halts know = record {
-  ran = ran-of script turns s o r before after texts (Ok halt) h opening new is posted back;
+over-of script turns s o r before after texts x halt h opening new is posted back halts know = record {
+  ran = ran-of script turns s o r before after texts (Ok x) h opening new is posted back;
   halted = halts;
   none_lost = λ c low wanted none.
       let clients = script.clients in
@@ -286,6 +330,12 @@ live-cut script turns r inlets halt old mid new last posted h g e p =
     }
 
 -- ---- what the end says
+
+-- where all lines were posted, each end that a run comes to says so
+pub posts-of : (script : Script) (posted : Option ℕ) (halt : Halt) → IsAllPosted script posted → PostsSay script posted (end_of halt)
+posts-of script posted (halts.Ended status) h = h
+posts-of script posted halts.Stuck h = h
+posts-of script posted halts.Spent h = h
 
 -- a run ends so only where a script was read
 pub live-ran : (turns : ℕ) (script : Script) (sink : Stream) (session : Session) (e : SessionEnd) → LiveSays turns script sink session e → IsRanEnd e

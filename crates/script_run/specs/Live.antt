@@ -13,11 +13,13 @@ use Rattle.lwp_types.specs.declared.call.Line.{Line}
 use Rattle.pod_runner.specs.Over.{is_wanted, over}
 use Rattle.pod_runner.specs.Run.{AppendsCut}
 use Rattle.pod_runner.specs.declared.session.Took.{Took}
+use Rattle.script_run.specs.declared.live.LiveSession.{LiveSession}
+use Rattle.script_text.specs.Script.{lines_posted}
 use Rattle.script_text.specs.declared.script.Script.{Script}
 use Rattle.trace_text.specs.Lines.{end_text}
 use Rattle.trace_text.specs.declared.ends.Halt.{Halt}
 use Rattle.trace_text.specs.declared.ends.Halt.TheVariants as halts
-use Rattle.std.specs.Prelude.{List, Option, Some, false, ℕ, ◌++◌, ◌≡◌, ◌≤◌, ◌⊎◌}
+use Rattle.std.specs.Prelude.{List, Option, Some, false, length, ℕ, ◌++◌, ◌≡◌, ◌≤◌, ◌⊎◌}
 
 -- ---- a session so far
 
@@ -103,3 +105,20 @@ pub record IsLivePlayed (turns : ℕ) (script : Script) (sink : Stream) (session
 -- what a session of `run` says, with so many turns allowed: the same as one of `plan`, but of a session with some takes, which it tells
 abbrev pub IsLive : ℕ → Stream → Stream → Session → Type 0
 IsLive turns source sink session = IsOf (λ script. LiveSays turns script sink session) source sink session
+
+-- ---- what was posted
+
+-- all lines of the script were posted, and so many they are
+abbrev pub IsAllPosted : Script → Option ℕ → Type 0
+IsAllPosted script posted = posted ≡ Some (length (lines_posted script))
+
+-- a session of this script that comes to its own end has all lines posted
+abbrev pub PostsSay : Script → Option ℕ → SessionEnd → Type 0
+PostsSay script posted (end.Ended status) = IsAllPosted script posted
+PostsSay script posted end.Stuck = IsAllPosted script posted
+PostsSay script posted end.Spent = IsAllPosted script posted
+PostsSay script posted _ = Unit {0}
+
+-- what a session of `run` says, and what is said of the posts of the same script
+abbrev pub LivePosts : ℕ → Stream → Stream → LiveSession → Type 0
+LivePosts turns source sink live = IsOf (λ script e. LiveSays turns script sink live.session e × PostsSay script live.posted e) source sink live.session

@@ -1,20 +1,27 @@
 // A run goes on beside the threads that post to it.
-ghost use Rattle.live_clients.specs.Served.{EachInlet, Gave};
+ghost use Rattle.live_clients.specs.Served.{EachInlet, Gave, lines_in_all};
 ghost use Rattle.live_clients.specs.Ties.{IsClosed, IsSameOutside, IsTied, all_texts, events_of, intakes};
 ghost use Rattle.script_run.specs.Beside.{AreBack, GoesBeside, KnowAll};
 ghost use Rattle.script_program.specs.Bodies.{bodies_of, body_next};
 ghost use Rattle.pod_runner.specs.Live.{Answers, Halts};
-ghost use Rattle.std.specs.Prelude.{IfOk, OnOk, false, ◌≡◌};
+ghost use Rattle.std.specs.Prelude.{IfOk, OnOk, Some, false, ◌≡◌};
 ghost use Rattle.whole_streams.specs.Streams.{sides};
 
 use event_gate::Bell;
-use live_clients::{Outside, closed_are_served, draws_keep_ties};
+use live_clients::{AllPosted, Outside, closed_are_served, draws_keep_ties};
 use lwp_types::Sink;
 use pod_runner::{Live, Run, RunErr, run_live};
 use script_program::{ScriptProgram, ThreadBody};
 use std::sync::Wait;
 use std::thread::Threads;
 use trace_text::Halt;
+
+/// A run to its end: how it has ended, and that all lines were posted.
+#[derive(Drop)]
+pub struct WholeRun {
+    pub halt: Halt,
+    pub posted: Option<AllPosted>,
+}
 
 // The run goes on until it is over or quiet.
 fn go_live<'p, 's, K: Sink, R: Wait>(
@@ -101,19 +108,21 @@ pub fn go_to_end<'p, 's, K: Sink, R: Threads + Wait>(
     bell: &Bell,
     clients: u32,
     sink: &mut K,
-) -> Result<Halt, RunErr>
+) -> Result<WholeRun, RunErr>
     requires sound { played.old.failed ≡ false }
     requires tied { IsTied outside.old }
     ensures goes { GoesBeside (sides K.written K.faults sink.old sink.new) played.old played.new (intakes outside.old) (intakes outside.new) result }
     ensures back { AreBack (events_of outside.old) (all_texts outside.old) (intakes outside.new) }
     ensures all { OnOk result (KnowAll (events_of outside.old) (all_texts outside.old) (intakes outside.new)) }
-    ensures halts { IfOk result (Halts body_next bodies_of played.new (intakes outside.new)) }
+    ensures halts { IfOk result (λ run. Halts body_next bodies_of played.new (intakes outside.new) run.halt) }
+    ensures posted { IfOk result (λ run. run.posted ≡ Some (lines_in_all (all_texts outside.old))) }
 {
     let beside = go_beside(rt, played, outside, bell, clients, sink);
-    let all = outside.close(rt);
+    let posted = outside.close(rt);
     beside?;
-    if !all {
+    if posted.is_none() {
         return Err(RunErr::NoMemory);
     }
-    go_behind(rt, played, outside, sink)
+    let halt = go_behind(rt, played, outside, sink)?;
+    Ok(WholeRun { halt, posted })
 }

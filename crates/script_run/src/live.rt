@@ -2,20 +2,20 @@
 ghost use Rattle.live_clients.specs.Inlets.{fresh};
 ghost use Rattle.live_clients.specs.Ties.{IsTied, all_texts, events_of, intakes};
 ghost use Rattle.script_run.specs.Clients.{texts_from};
-ghost use Rattle.script_run.specs.Live.{IsLive, IsLiveBroken, IsLivePlayed, IsLiveStopped, IsLived};
+ghost use Rattle.script_run.specs.Live.{IsAllPosted, IsLive, IsLiveBroken, LivePosts, IsLivePlayed, IsLiveStopped, IsLived, PostsSay};
 ghost use Rattle.script_session.specs.SoFar.{opening_run};
 ghost use Rattle.script_gate.specs.Posted.{IsPosted};
 ghost use Rattle.lwp_types.specs.Streams.{Rose};
 ghost use Rattle.script_text.specs.Limits.{IsWithinLimits};
 ghost use Rattle.script_text.specs.Script.{lines_posted};
-ghost use Rattle.std.specs.Prelude.{All, IfOk, IsErrOf, OnOk, length, map, ◌≡◌, ◌≤◌};
+ghost use Rattle.std.specs.Prelude.{All, IfOk, IsErrOf, None, OnOk, length, map, ◌≡◌, ◌≤◌};
 ghost use denote.Param.Send.{IsSync};
 ghost use Rattle.whole_streams.specs.Streams.{sides};
 
-use crate::beside::go_to_end;
+use crate::beside::{WholeRun, go_to_end};
 use crate::clients::{client_texts, counts_behind};
 use event_gate::{Bell, PostGate};
-use live_clients::Outside;
+use live_clients::{AllPosted, Outside};
 use lwp_types::{Sink, Source, Text};
 use pod_runner::{Run, RunErr};
 use script_program::{ScriptProgram, ThreadBody};
@@ -24,8 +24,28 @@ use script_text::Script;
 use std::alloc::Global;
 use std::sync::Wait;
 use std::thread::{self, Scope, Threads};
-use trace_text::{Halt, end_lines};
+use trace_text::end_lines;
 use whole_streams::write_all;
+
+/// A session of a script whose lines are posted by threads, and behind its own end, be it ended, stuck or spent, that these have posted
+/// all of them.
+#[derive(Drop)]
+pub struct LiveSession {
+    pub session: Session,
+    pub posted: Option<AllPosted>,
+}
+
+impl LiveSession {
+    // A session that hasn't come to its own end.
+    fn cut_off(session: Session) -> LiveSession
+        ensures { result ≡ record { session = session; posted = None } }
+    {
+        LiveSession {
+            session,
+            posted: None,
+        }
+    }
+}
 
 // A run goes on to its end while threads post, and then what stands behind its lines is written. No thread is out behind it.
 fn run_out<'p, 's, K: Sink, R: Threads + Wait>(
@@ -38,7 +58,7 @@ fn run_out<'p, 's, K: Sink, R: Threads + Wait>(
     outside: &mut Outside<'s>,
     bell: &Bell,
     sink: &mut K,
-) -> Result<Halt, RunErr>
+) -> Result<WholeRun, RunErr>
     requires posted { IsPosted script.now }
     requires opening { played.old ≡ opening_run script.now turns }
     requires tied { IsTied outside.old }
@@ -46,7 +66,8 @@ fn run_out<'p, 's, K: Sink, R: Threads + Wait>(
     requires texts { map (λ v. v.items) texts.now ≡ texts_from 0 script.now.clients (lines_posted script.now) }
     requires all_texts { all_texts outside.old ≡ map (λ v. v.items) texts.now }
     requires new { All (λ t. t ≡ fresh t.place t.event t.noted) (intakes outside.old) }
-    ensures whole { IfOk result (λ halt. IsLived turns script.now (K.written sink.old) (K.written sink.new) played.new.takes played.new.calls halt) }
+    ensures whole { IfOk result (λ run. IsLived turns script.now (K.written sink.old) (K.written sink.new) played.new.takes played.new.calls run.halt) }
+    ensures posted { IfOk result (λ run. IsAllPosted script.now run.posted) }
     ensures stopped { IsErrOf result RunErr.NoMemory → IsLiveStopped turns script.now (K.written sink.old) (K.written sink.new) played.new.takes played.new.calls }
     ensures broken { IsErrOf result RunErr.WriteFault → IsLiveBroken turns script.now (K.written sink.old) (K.written sink.new) played.new.takes played.new.calls }
     ensures faults { OnOk result (K.faults sink.new ≡ K.faults sink.old) }
@@ -54,11 +75,11 @@ fn run_out<'p, 's, K: Sink, R: Threads + Wait>(
     ensures memory { IsErrOf result RunErr.NoMemory → K.faults sink.new ≡ K.faults sink.old }
 {
     let clients = script.clients.len() as u32;
-    let halt = go_to_end(rt, played, outside, bell, clients, sink)?;
+    let whole = go_to_end(rt, played, outside, bell, clients, sink)?;
     let left = counts_behind(alloc, texts, played)?;
-    let tail = end_lines(alloc, &halt, turns, &left)?;
+    let tail = end_lines(alloc, &whole.halt, turns, &left)?;
     match write_all(sink, &tail) {
-        Ok(()) => Ok(halt),
+        Ok(()) => Ok(whole),
         Err(_) => Err(RunErr::WriteFault),
     }
 }
@@ -75,16 +96,17 @@ fn play_beside<'p, 's, E, K: Sink, G: PostGate + 's, R: Threads + Wait + Sync>(
     gates: Vec<G>,
     bell: &'s Bell,
     sink: &mut K,
-) -> Session
+) -> LiveSession
     requires posted { IsPosted script.now }
     requires opening { played ≡ opening_run script.now turns }
     requires texts { map (λ v. v.items) texts.now ≡ texts_from 0 script.now.clients (lines_posted script.now) }
     requires gates { 16 ≤ length gates.items }
-    ensures { IsLivePlayed turns script.now (sides K.written K.faults sink.old sink.new) result }
+    ensures played { IsLivePlayed turns script.now (sides K.written K.faults sink.old sink.new) result.session }
+    ensures posted { PostsSay script.now result.posted result.session.end }
 {
     let clients = script.clients.as_slice();
     let Ok(mut outside) = Outside::start(scope, rt, alloc, clients, texts, gates, bell) else {
-        return Session::unread(alloc, SessionEnd::NoMemory);
+        return LiveSession::cut_off(Session::unread(alloc, SessionEnd::NoMemory));
     };
     match run_out(
         rt,
@@ -97,9 +119,14 @@ fn play_beside<'p, 's, E, K: Sink, G: PostGate + 's, R: Threads + Wait + Sync>(
         bell,
         sink,
     ) {
-        Ok(halt) => session_of(end_of(halt), played),
-        Err(RunErr::WriteFault) => session_of(SessionEnd::WriteFault, played),
-        Err(RunErr::NoMemory) => session_of(SessionEnd::NoMemory, played),
+        Ok(WholeRun { halt, posted }) => LiveSession {
+            session: session_of(end_of(halt), played),
+            posted,
+        },
+        Err(RunErr::WriteFault) => {
+            LiveSession::cut_off(session_of(SessionEnd::WriteFault, played))
+        }
+        Err(RunErr::NoMemory) => LiveSession::cut_off(session_of(SessionEnd::NoMemory, played)),
     }
 }
 
@@ -115,12 +142,13 @@ fn play_within<'p, 's, 'k, E, K: Sink, G: PostGate + 's, R: Threads + Wait + Syn
     gates: Vec<G>,
     bell: &'s Bell,
     sink: &'k mut K,
-) -> (Session, &'k mut K)
+) -> (LiveSession, &'k mut K)
     requires posted { IsPosted script.now }
     requires opening { played ≡ opening_run script.now turns }
     requires texts { map (λ v. v.items) texts.now ≡ texts_from 0 script.now.clients (lines_posted script.now) }
     requires gates { 16 ≤ length gates.items }
-    ensures played { IsLivePlayed turns script.now (sides K.written K.faults sink.entry.now result.1.now) result.0 }
+    ensures played { IsLivePlayed turns script.now (sides K.written K.faults sink.entry.now result.1.now) result.0.session }
+    ensures posted { PostsSay script.now result.0.posted result.0.session.end }
     ensures handed { result.1.ghost_name ≡ sink.entry.ghost_name }
 {
     let session = play_beside(
@@ -137,27 +165,29 @@ fn play_live<K: Sink, G: PostGate, R: Threads + Wait + Sync>(
     script: &Script,
     gates: Vec<G>,
     sink: &mut K,
-) -> Session
+) -> LiveSession
     requires within { IsWithinLimits script.now }
     requires posted { IsPosted script.now }
     requires gates { 16 ≤ length gates.items }
-    ensures { IsLivePlayed turns script.now (sides K.written K.faults sink.old sink.new) result }
+    ensures played { IsLivePlayed turns script.now (sides K.written K.faults sink.old sink.new) result.session }
+    ensures posted { PostsSay script.now result.posted result.session.end }
 {
     let (Ok(played), Ok(texts)) = (start(alloc, script, turns), client_texts(alloc, script)) else {
-        return Session::unread(alloc, SessionEnd::NoMemory);
+        return LiveSession::cut_off(Session::unread(alloc, SessionEnd::NoMemory));
     };
     let bell = Bell::new();
     let (texts, bell) = (texts.as_slice(), &bell);
     let (session, _sink) = thread::scope(
         thread::scope_env(),
         rt,
-        move |scope| -> (Session, &mut K)
+        move |scope| -> (LiveSession, &mut K)
             requires sync { IsSync R.row }
             requires posted { IsPosted script.now }
             requires opening { played ≡ opening_run script.now turns }
             requires texts { map (λ v. v.items) texts.now ≡ texts_from 0 script.now.clients (lines_posted script.now) }
             requires gates { 16 ≤ length gates.items }
-            ensures played { IsLivePlayed turns script.entry.now (sides K.written K.faults sink.entry.now result.1.now) result.0 }
+            ensures played { IsLivePlayed turns script.entry.now (sides K.written K.faults sink.entry.now result.1.now) result.0.session }
+            ensures posted { PostsSay script.entry.now result.0.posted result.0.session.end }
             ensures handed { result.1.ghost_name ≡ sink.entry.ghost_name }
         {
             play_within(
@@ -169,7 +199,8 @@ fn play_live<K: Sink, G: PostGate, R: Threads + Wait + Sync>(
 }
 
 /// Reads a script to its end and runs it, with so many turns allowed, while a thread for each client posts that client's lines.
-/// Client c asks gate c before each of its posts. All threads have ended when it returns.
+/// Client c asks gate c before each of its posts. All threads have ended when it returns. A post that was refused is want of memory,
+/// so where the session has come to its own end, all lines of the script were posted.
 pub fn run_main<S: Source, K: Sink, G: PostGate, R: Threads + Wait + Sync>(
     rt: &R,
     alloc: Global,
@@ -177,15 +208,17 @@ pub fn run_main<S: Source, K: Sink, G: PostGate, R: Threads + Wait + Sync>(
     source: &mut S,
     sink: &mut K,
     gates: Vec<G>,
-) -> Session
+) -> LiveSession
     requires least { 1 ≤ turns }
     requires most { turns ≤ 1000000 }
     requires gates { 16 ≤ length gates.items }
-    ensures { IsLive turns (sides S.left S.faults source.old source.new)
+    ensures session { IsLive turns (sides S.left S.faults source.old source.new)
+        (sides K.written K.faults sink.old sink.new) result.session }
+    ensures posted { LivePosts turns (sides S.left S.faults source.old source.new)
         (sides K.written K.faults sink.old sink.new) result }
 {
     match read_whole(alloc, source) {
         Ok(script) => play_live(rt, alloc, turns, &script, gates, sink),
-        Err(end) => Session::unread(alloc, end),
+        Err(end) => LiveSession::cut_off(Session::unread(alloc, end)),
     }
 }

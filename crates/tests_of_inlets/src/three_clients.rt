@@ -5,7 +5,7 @@ ghost use denote.Param.Send.{IsSync};
 
 use crossbeam_utils::atomic::AtomicCell;
 use event_gate::{Bell, Inlet, PostGate};
-use live_clients::{AnyInlet, Outside, draws_keep_ties};
+use live_clients::{AllPosted, AnyInlet, Outside, draws_keep_ties};
 use lwp_types::{NoMemory, Text};
 use std::alloc::Global;
 use std::sync::Wait;
@@ -109,11 +109,20 @@ fn are_empty(inlets: &[AnyInlet]) -> bool {
     inlets.len() == 2 && last_word(&inlets[0]) == (0, 0) && last_word(&inlets[1]) == (7, 0)
 }
 
-// What came of it, whether all was posted, and whether nothing was left.
+// How many lines were posted, where all were.
+fn count_posted(posted: Option<AllPosted>) -> u32 {
+    match posted {
+        Some(posted) => posted.lines(),
+        None => 0,
+    }
+}
+
+// What came of it, how many lines were posted, as it was told before the last lines were taken and behind them, and whether nothing
+// was left.
 #[derive(Drop)]
 struct Harvest {
     tally: Tally,
-    all: bool,
+    posted: [u32; 2],
     empty: bool,
 }
 
@@ -132,11 +141,15 @@ fn take_beside<'s, R: Threads + Wait>(rt: &R, outside: &mut Outside<'s>, bell: &
         }
         bell.park(rt);
     }
-    let first = outside.close(rt);
+    let before = count_posted(outside.close(rt));
     drain(rt, outside, &mut tally);
-    let all = outside.close(rt) && first;
+    let posted = [before, count_posted(outside.close(rt))];
     let empty = are_empty(&outside.inlets);
-    Harvest { tally, all, empty }
+    Harvest {
+        tally,
+        posted,
+        empty,
+    }
 }
 
 fn start_and_take<'s, E, R: Threads + Wait + Sync>(
@@ -198,7 +211,7 @@ fn three_texts(alloc: Global) -> Result<Vec<Vec<Text>>, NoMemory>
 fn is_whole(harvest: &Harvest) -> bool {
     harvest.tally.counts == [300, 200, 100]
         && harvest.tally.in_order
-        && harvest.all
+        && harvest.posted == [600, 600]
         && harvest.empty
 }
 

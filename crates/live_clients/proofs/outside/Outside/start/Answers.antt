@@ -82,6 +82,7 @@ returns-clause-tied g c =
     let rest = c.loop-seat.seat-iterator.rest.ok.0 in
     let none = c.in-None.ensures.steps.0 in
     all_out events texts inlets c.loop-seat.out.items (open_for events texts inlets c.in_ok-inlets.field-0.seats.items c.in_ok-inlets.ensures c.requires.events)
+    c.requires.clients
     (length-map c.args.texts.now (λ v. v.items) ∙ c.requires.texts)
     (All-map (λ ts. length ts ≤ 20000) (λ v. v.items) c.args.texts.now c.requires.few)
     (omega (arith, h3, size, rest, none))

@@ -1,6 +1,6 @@
 use Rattle.live_clients.proofs.Back.{hears_nothing, hears_on}
 use Rattle.live_clients.proofs.Served.{closed_are_served}
-use Rattle.live_clients.proofs.outside.Outside.close.Goals as goal
+use Rattle.live_clients.proofs.outside.Outside.join_all.Goals as goal
 use Rattle.live_clients.specs.Ties.{AreTied, all_texts, events_of, intakes}
 use Rattle.live_clients.specs.declared.outside.Client.{Client}
 use Rattle.std.proofs.Common.{List, [], ap, arith, length, refl, subst, ◌++◌, ◌∙◌, ◌≡◌}

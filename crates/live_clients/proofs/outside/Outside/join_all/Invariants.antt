@@ -1,4 +1,4 @@
-use Rattle.live_clients.proofs.outside.Outside.close.Given as goal
+use Rattle.live_clients.proofs.outside.Outside.join_all.Given as goal
 use Rattle.live_clients.specs.Served.{EachInlet, Hears}
 use Rattle.live_clients.specs.Ties.{IsSameOutside, IsTied, intakes}
 use Rattle.std.proofs.Common.{length}
