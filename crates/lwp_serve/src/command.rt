@@ -199,7 +199,10 @@ pub fn top<S: Source, K: Sink, G: PostGate, R: Threads + Wait + Sync>(
         (sides K.written K.faults sink.old sink.new) result }
 {
     match command_of(words) {
-        Some(Command::Run(turns)) => run_main(rt, alloc, turns, source, sink, gates).session,
+        Some(Command::Run(turns)) => {
+            let live = run_main(rt, alloc, turns, source, sink, gates);
+            live.session
+        }
         Some(Command::Plan(turns)) => plan_main(alloc, turns, source, sink),
         Some(Command::Replay(turns)) => replay_main(alloc, turns, source, sink),
         Some(Command::Make(order)) => {

@@ -110,7 +110,8 @@ fn beside<'f, R: Threads + Wait + Sync>(
 {
     let gates = vec![in alloc; gate; 16]?;
     let mut source = MemSource::new(script.to_vec(alloc)?, Vec::new(alloc));
-    let session = run_main(rt, alloc, turns, &mut source, sink, gates).session;
+    let live = run_main(rt, alloc, turns, &mut source, sink, gates);
+    let session = &live.session;
     Ok((session.status, session.taken.len(), session.turns))
 }
 

@@ -166,7 +166,8 @@ fn run_paused<R: Threads + Wait + Sync>(
     };
     let gates = vec![in alloc; gate; 16]?;
     let mut source = MemSource::new(script.to_vec(alloc)?, Vec::new(alloc));
-    Ok(run_main(rt, alloc, turns, &mut source, sink, gates).session)
+    let live = run_main(rt, alloc, turns, &mut source, sink, gates);
+    Ok(live.session)
 }
 
 // Whether a run of a script tells what its takes alone tell, and then this.
