@@ -35,7 +35,7 @@ fn main(rt: HostRuntime) -> ExitCode {
 }
 
 // The session before its first call.
-fn opened(alloc: Global) -> Result<Run<Actor, Market>, NoMemory>
+fn opened<'s>(alloc: Global) -> Result<Run<'s, Actor<'s>, Market>, NoMemory>
     ensures sound { IfOk result (λ played. played.failed ≡ false) }
 {
     let params = PodParams {
@@ -48,7 +48,11 @@ fn opened(alloc: Global) -> Result<Run<Actor, Market>, NoMemory>
 }
 
 // The session is played to its end. No line comes from the outside.
-fn play(alloc: Global, played: &mut Run<Actor, Market>, sink: &mut MemSink) -> Result<(), RunErr>
+fn play<'s>(
+    alloc: Global,
+    played: &mut Run<'s, Actor<'s>, Market>,
+    sink: &mut MemSink,
+) -> Result<(), RunErr>
     requires sound { played.old.failed ≡ false }
 {
     let mut gate = ListGate::new(alloc, &[], &[])?;

@@ -1,23 +1,32 @@
 // What a thread of the example is.
 use crate::buffer::Buffer;
 use crate::clients::{Consumer, Producer};
-use lwp_types::{Answer, Body, Call, Env, NoMemory};
+use lwp_types::{Answer, Body, Call, Env, NoMemory, Polled};
 
 /// A thread's body.
 #[derive(Drop)]
-pub enum Actor {
-    Buffering(Buffer),
-    Producing(Producer),
+pub enum Actor<'s> {
+    Buffering(Buffer<'s>),
+    Producing(Producer<'s>),
     Consuming(Consumer),
 }
 
-impl Body for Actor {
-    ghost use Rattle.buffer_bodies.specs.Actors.{actor_next, actor_next-keeps_lengths};
+impl<'s> Body for Actor<'s> {
+    ghost use Rattle.buffer_bodies.specs.Actors.{actor_next};
 
     ghost next = { actor_next };
+}
+
+impl<'s> Polled<'s> for Actor<'s> {
+    ghost use Rattle.buffer_bodies.specs.Actors.{actor_next-keeps_lengths};
 
     #[tactic(auto, unfolding(crate::specs::Actors::actor_next))]
-    fn poll(&mut self, _env: &mut Env, got: &Answer, call: &mut Call) -> Result<(), NoMemory> {
+    fn poll(
+        &mut self,
+        _env: &mut Env,
+        got: &Answer<'s>,
+        call: &mut Call<'s>,
+    ) -> Result<(), NoMemory> {
         match self {
             Actor::Buffering(buffer) => buffer.next(got, call)?,
             Actor::Producing(producer) => producer.next(call),

@@ -8,18 +8,18 @@ use std::collections::VecDeque;
 use std::marker::Model;
 
 /// Keeps items in the order in which they came, at most so many. Who comes at the wrong time is replied to later.
-pub struct Buffer {
+pub struct Buffer<'s> {
     crew: u32,
     created: u32,
     room: usize,
-    items: VecDeque<Text>,
-    waiting: VecDeque<(Tid, Text)>,
+    items: VecDeque<Text<'s>>,
+    waiting: VecDeque<(Tid, Text<'s>)>,
     asking: VecDeque<Tid>,
-    replies: VecDeque<(Tid, Text)>,
+    replies: VecDeque<(Tid, Text<'s>)>,
     left: u32,
 }
 
-impl Drop for Buffer {
+impl<'s> Drop for Buffer<'s> {
     fn drop(self) {
         let Buffer {
             crew: _,
@@ -34,7 +34,7 @@ impl Drop for Buffer {
     }
 }
 
-impl Model for Buffer {
+impl<'s> Model for Buffer<'s> {
     ghost use Rattle.buffer_bodies.specs.Buffer.{Buffer};
 
     ghost Value = { Buffer };
@@ -42,9 +42,9 @@ impl Model for Buffer {
     ghost view = { λ b. record { crew = b.crew; created = b.created; room = b.room; items = b.items.items; waiting = b.waiting.items; asking = b.asking.items; replies = b.replies.items; left = b.left } };
 }
 
-impl Buffer {
+impl<'s> Buffer<'s> {
     /// A buffer that is to create `crew` threads, holds at most `room` items, and hands out `left` in all.
-    pub fn new(alloc: Global, crew: u32, room: usize, left: u32) -> Buffer
+    pub fn new(alloc: Global, crew: u32, room: usize, left: u32) -> Buffer<'s>
         ensures { result ≡ opening crew room left }
     {
         Buffer {
@@ -59,8 +59,8 @@ impl Buffer {
         }
     }
 
-    fn reply(&mut self, to: Tid, text: Text) -> Result<(), NoMemory>
-        ensures { OnOk result (self.new ≡ replied to text self.old) }
+    fn reply(&mut self, to: Tid, text: Text<'s>) -> Result<(), NoMemory>
+        ensures { OnOk result (self.new ≡ replied to text.entry self.old) }
     {
         self.replies.push_back((to, text))?;
         Ok(())
@@ -72,22 +72,22 @@ impl Buffer {
         self.reply(producer, Text::empty())
     }
 
-    fn hand(&mut self, consumer: Tid, item: Text) -> Result<(), NoMemory>
-        ensures { OnOk result (self.new ≡ handed consumer item self.old) }
+    fn hand(&mut self, consumer: Tid, item: Text<'s>) -> Result<(), NoMemory>
+        ensures { OnOk result (self.new ≡ handed consumer item.entry self.old) }
     {
         self.left = self.left.saturating_sub(1);
         self.reply(consumer, item)
     }
 
-    fn store(&mut self, item: Text) -> Result<(), NoMemory>
-        ensures { OnOk result (self.new ≡ stored item self.old) }
+    fn store(&mut self, item: Text<'s>) -> Result<(), NoMemory>
+        ensures { OnOk result (self.new ≡ stored item.entry self.old) }
     {
         self.items.push_back(item)?;
         Ok(())
     }
 
-    fn keep(&mut self, producer: Tid, item: Text) -> Result<(), NoMemory>
-        ensures { OnOk result (self.new ≡ kept producer item self.old) }
+    fn keep(&mut self, producer: Tid, item: Text<'s>) -> Result<(), NoMemory>
+        ensures { OnOk result (self.new ≡ kept producer item.entry self.old) }
     {
         if self.items.len() < self.room {
             self.store(item)?;
@@ -97,8 +97,8 @@ impl Buffer {
         Ok(())
     }
 
-    fn put(&mut self, producer: Tid, item: Text) -> Result<(), NoMemory>
-        ensures { OnOk result (self.new ≡ put producer item self.old) }
+    fn put(&mut self, producer: Tid, item: Text<'s>) -> Result<(), NoMemory>
+        ensures { OnOk result (self.new ≡ put producer item.entry self.old) }
     {
         match self.asking.pop_front() {
             Some(consumer) => {
@@ -136,21 +136,21 @@ impl Buffer {
         }
     }
 
-    fn take_letter(&mut self, from: Tid, text: Text) -> Result<(), NoMemory>
-        ensures { OnOk result (self.new ≡ lettered from text self.old) }
+    fn take_letter(&mut self, from: Tid, text: Text<'s>) -> Result<(), NoMemory>
+        ensures { OnOk result (self.new ≡ lettered from text.entry self.old) }
     {
-        if text.bytes().is_empty() {
+        if text.len() == 0 {
             self.get(from)
         } else {
             self.put(from, text)
         }
     }
 
-    fn hear(&mut self, got: &Answer) -> Result<(), NoMemory>
+    fn hear(&mut self, got: &Answer<'s>) -> Result<(), NoMemory>
         ensures { OnOk result (self.new ≡ told got.now self.old) }
     {
         match got {
-            Answer::Letter { from, text, .. } => self.take_letter(*from, *text),
+            Answer::Letter { from, text, .. } => self.take_letter(*from, text.again()),
             _ => Ok(()),
         }
     }
@@ -168,7 +168,7 @@ impl Buffer {
         }
     }
 
-    fn speak(&mut self, call: &mut Call)
+    fn speak(&mut self, call: &mut Call<'s>)
         ensures { (call.new, self.new) ≡ speaks self.old self.old.replies }
     {
         match self.replies.pop_front() {
@@ -177,7 +177,7 @@ impl Buffer {
         }
     }
 
-    fn go_on(&mut self, call: &mut Call)
+    fn go_on(&mut self, call: &mut Call<'s>)
         ensures { (call.new, self.new) ≡ calls self.old }
     {
         if self.created >= self.crew {
@@ -197,7 +197,7 @@ impl Buffer {
     }
 
     /// Sets the next call, by the answer to the last one.
-    pub fn next(&mut self, got: &Answer, call: &mut Call) -> Result<(), NoMemory>
+    pub fn next(&mut self, got: &Answer<'s>, call: &mut Call<'s>) -> Result<(), NoMemory>
         ensures { OnOk result ((call.new, self.new) ≡ buffer_next self.old got.now) }
     {
         self.hear(got)?;

@@ -11,8 +11,8 @@ const WHOLE: u8 = 240;
 
 /// Brings the same item so many times.
 #[derive(Drop)]
-pub struct Producer {
-    pub item: Text,
+pub struct Producer<'s> {
+    pub item: Text<'s>,
     pub left: u32,
 }
 
@@ -22,9 +22,9 @@ pub struct Consumer {
     pub left: u32,
 }
 
-impl Producer {
+impl<'s> Producer<'s> {
     /// Sets the next call.
-    pub fn next(&mut self, call: &mut Call)
+    pub fn next(&mut self, call: &mut Call<'s>)
         ensures { (call.new, self.new) ≡ produces self.old }
     {
         if self.left == 0 {
@@ -35,7 +35,7 @@ impl Producer {
         *call = Call::Send {
             to: BUFFER,
             room: WHOLE,
-            text: self.item,
+            text: self.item.again(),
         };
     }
 }
@@ -57,11 +57,11 @@ impl Consumer {
     }
 
     /// Sets the next call, by the answer to the last one.
-    pub fn next(&mut self, got: &Answer, call: &mut Call)
+    pub fn next<'s>(&mut self, got: &Answer<'s>, call: &mut Call<'s>)
         ensures { (call.new, self.new) ≡ consumes self.old got.now }
     {
         match got {
-            Answer::Reply(item) => *call = Call::Say { text: *item },
+            Answer::Reply(item) => *call = Call::Say { text: item.again() },
             _ => self.ask(call),
         }
     }

@@ -1,20 +1,9 @@
 // The procedures that the threads run.
-ghost use Rattle.lwp_types.specs.TextFields.{is_text};
-ghost use Rattle.std.specs.Prelude.{◌≡◌, IsTrue};
-
 use crate::actor::Actor;
 use crate::buffer::Buffer;
 use crate::clients::{Consumer, Producer};
 use lwp_types::{NoMemory, Program, Text};
 use std::alloc::Global;
-
-// The text of these bytes.
-fn text_of(bytes: &[u8]) -> Text
-    requires { IsTrue (is_text bytes.now) }
-    ensures { result ≡ bytes.now }
-{
-    Text::new(bytes).unwrap()
-}
 
 /// A buffer with room for one item, two producers and a consumer.
 #[derive(Drop)]
@@ -29,7 +18,7 @@ impl Market {
     }
 }
 
-impl Program<Actor> for Market {
+impl<'s> Program<Actor<'s>> for Market {
     ghost use Rattle.buffer_bodies.specs.Actors.{cast, cast_names};
     ghost use Rattle.std.specs.Prelude.{refl};
 
@@ -41,24 +30,24 @@ impl Program<Actor> for Market {
         4
     }
 
-    fn proc_name(&self, proc: u32) -> Text {
+    fn proc_name(&self, proc: u32) -> &[u8] {
         match proc {
-            0 => text_of(b"buffer"),
-            1 => text_of(b"apples"),
-            2 => text_of(b"pears"),
-            _ => text_of(b"eater"),
+            0 => b"buffer",
+            1 => b"apples",
+            2 => b"pears",
+            _ => b"eater",
         }
     }
 
-    fn body_of(&self, proc: u32) -> Result<Actor, NoMemory> {
+    fn body_of(&self, proc: u32) -> Result<Actor<'s>, NoMemory> {
         let actor = match proc {
             0 => Actor::Buffering(Buffer::new(self.alloc, 3, 1, 4)),
             1 => Actor::Producing(Producer {
-                item: text_of(b"apple"),
+                item: Text::lent(b"apple"),
                 left: 2,
             }),
             2 => Actor::Producing(Producer {
-                item: text_of(b"pear"),
+                item: Text::lent(b"pear"),
                 left: 2,
             }),
             _ => Actor::Consuming(Consumer { left: 4 }),

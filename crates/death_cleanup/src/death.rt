@@ -31,8 +31,7 @@ fn withdraw(parts: &mut Parts, tid: Tid)
     parts.mail.forget(tid);
 }
 
-// A death is told. It stands apart, so that nobody else makes room for this effect.
-#[inline(never)]
+// A death is told.
 fn tell_death(tid: Tid, effects: &mut Effects)
     requires { length effects.old < 2048 }
     ensures { effects.new ≡ effects.old ++ Effect.Died tid ∷ [] }
@@ -41,7 +40,7 @@ fn tell_death(tid: Tid, effects: &mut Effects)
 }
 
 // The dying thread is gone.
-fn bury(parts: &mut Parts, tid: Tid, effects: &mut Effects)
+fn bury<'s>(parts: &mut Parts<'s>, tid: Tid, effects: &mut Effects<'s>)
     requires forgotten { Forgotten (state_of parts.old) tid }
     requires step { InStep parts.old }
     requires dying { parts.old.dying ≡ Some tid }
@@ -57,7 +56,7 @@ fn bury(parts: &mut Parts, tid: Tid, effects: &mut Effects)
 }
 
 /// A thread dies. Its exit procedures run, its monitors go to whoever is next, its agents end, and whoever waits for it goes on.
-pub fn die(parts: &mut Parts, tid: Tid, effects: &mut Effects)
+pub fn die<'s>(parts: &mut Parts<'s>, tid: Tid, effects: &mut Effects<'s>)
     requires lawful { LawfulParts parts.old }
     requires alone { parts.old.dying ≡ None }
     requires lives { IsTrue (is_thread (state_of parts.old) tid) }

@@ -42,12 +42,12 @@ pub fn resume(parts: &mut Parts, tid: Tid) -> Result<i64, LwpErr>
 
 /// The letter that the thread has received from the other is done with. A thread that sent it goes on with the text; an agent
 /// can take the next event.
-pub fn reply(
-    parts: &mut Parts,
+pub fn reply<'s>(
+    parts: &mut Parts<'s>,
     tid: Tid,
     to: Tid,
-    text: &Text,
-    effects: &mut Effects,
+    text: &Text<'s>,
+    effects: &mut Effects<'s>,
 ) -> Result<i64, LwpErr>
     requires lawful { LawfulParts parts.old }
     requires room { length effects.old < 2048 }
@@ -56,7 +56,7 @@ pub fn reply(
     if !is_id(parts, to) {
         return Err(LwpErr::NonExist);
     }
-    let len = text.bytes().len();
+    let len = text.len();
     if let Err(err) = parts.mail.reply(tid, to, len) {
         return Err(err);
     }
@@ -69,11 +69,11 @@ pub fn reply(
 }
 
 // The call of an exit procedure is made.
-fn perform(
-    parts: &mut Parts,
+fn perform<'s>(
+    parts: &mut Parts<'s>,
     tid: Tid,
-    call: &ExitCall,
-    effects: &mut Effects,
+    call: &ExitCall<'s>,
+    effects: &mut Effects<'s>,
 ) -> Result<i64, LwpErr>
     requires lawful { LawfulParts parts.old }
     requires room { length effects.old < 2048 }
@@ -91,22 +91,31 @@ fn perform(
     }
 }
 
-// The result of an exit procedure is told. It stands apart, so that nobody else makes room for this effect.
-#[inline(never)]
-fn tell_exit(tid: Tid, mark: &ExitMark, done: Result<i64, LwpErr>, effects: &mut Effects)
+// The result of an exit procedure is told.
+fn tell_exit<'s>(
+    tid: Tid,
+    mark: &ExitMark<'s>,
+    done: Result<i64, LwpErr>,
+    effects: &mut Effects<'s>,
+)
     requires { length effects.old < 2048 }
     ensures { effects.new ≡ effects.old ++ Effect.Exited tid mark.now.reg mark.now.call (answer_by done) ∷ [] }
 {
     effects.push(Effect::Exited {
         tid,
         reg: mark.reg,
-        call: mark.call,
+        call: mark.call.again(),
         answer: Answer::of(done),
     });
 }
 
 /// An exit procedure of the thread is carried out, and its result told behind what it did to others.
-pub fn exit_call(parts: &mut Parts, tid: Tid, mark: &ExitMark, effects: &mut Effects)
+pub fn exit_call<'s>(
+    parts: &mut Parts<'s>,
+    tid: Tid,
+    mark: &ExitMark<'s>,
+    effects: &mut Effects<'s>,
+)
     requires lawful { LawfulParts parts.old }
     requires room { length effects.old + 2 ≤ 2048 }
     ensures came { CameTo parts.old parts.new effects.old effects.new (run_exit tid mark.now (state_of parts.old)) }

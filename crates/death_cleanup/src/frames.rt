@@ -18,7 +18,7 @@ use lwp_types::{Effects, ExitMark, Tid};
 use stale_ids::Registry;
 
 // The next exit procedure that a dying thread has to run, the last set first; its mark and those above it are gone.
-fn next_exit(ids: &mut Registry<Kind>, tid: Tid) -> Option<ExitMark>
+fn next_exit<'s>(ids: &mut Registry<Kind<'s>>, tid: Tid) -> Option<ExitMark<'s>>
     ensures left { ids.new ≡ record ids.old { live = map (stack_set tid (unwound_all (stack_of tid ids.old.live)).left) ids.old.live } }
     ensures next { UnwindsAll (stack_of tid ids.old.live) (unwound_all (stack_of tid ids.old.live)).left result }
     ensures rising { AreRising ids.old.live }
@@ -30,7 +30,7 @@ fn next_exit(ids: &mut Registry<Kind>, tid: Tid) -> Option<ExitMark>
 }
 
 // The same of a thread that keeps so many frames.
-fn next_exit_above(parts: &mut Parts, tid: Tid, depth: u32) -> Option<ExitMark>
+fn next_exit_above<'s>(parts: &mut Parts<'s>, tid: Tid, depth: u32) -> Option<ExitMark<'s>>
     requires least { 1 ≤ depth }
     requires most { depth ≤ frames (marks_in (state_of parts.old) tid) }
     ensures left { parts.new ≡ stacked parts.old tid (unwound_to depth (marks_in (state_of parts.old) tid)).left }
@@ -42,10 +42,8 @@ fn next_exit_above(parts: &mut Parts, tid: Tid, depth: u32) -> Option<ExitMark>
     kind.unwind_to(depth)
 }
 
-/// All marks of the dying thread go, and its exit procedures run, the last set first. It stands apart, so that a death makes no
-/// room for a mark.
-#[inline(never)]
-pub fn run_all_exits(parts: &mut Parts, tid: Tid, effects: &mut Effects)
+/// All marks of the dying thread go, and its exit procedures run, the last set first.
+pub fn run_all_exits<'s>(parts: &mut Parts<'s>, tid: Tid, effects: &mut Effects<'s>)
     requires lawful { LawfulParts parts.old }
     requires dying { parts.old.dying ≡ Some tid }
     requires room { HasRoom effects.old (run_all_exits tid (state_of parts.old)) 1 }
@@ -57,8 +55,7 @@ pub fn run_all_exits(parts: &mut Parts, tid: Tid, effects: &mut Effects)
 }
 
 /// Of the thread's frames only the first `depth` stay. The exit procedures of the others run, the last set first.
-#[inline(never)]
-pub fn leave_frames(parts: &mut Parts, tid: Tid, depth: u32, effects: &mut Effects)
+pub fn leave_frames<'s>(parts: &mut Parts<'s>, tid: Tid, depth: u32, effects: &mut Effects<'s>)
     requires lawful { LawfulParts parts.old }
     requires least { 1 ≤ depth }
     requires most { depth ≤ frames (marks_in (state_of parts.old) tid) }

@@ -26,7 +26,7 @@ fn holds(mons: &Monitors, tid: Tid, mon: Mid) -> bool
 }
 
 // Whoever holds a monitor from now on goes on.
-fn go_on(parts: &mut Parts, next: Option<Tid>, effects: &mut Effects)
+fn go_on<'s>(parts: &mut Parts<'s>, next: Option<Tid>, effects: &mut Effects<'s>)
     requires step { InStep parts.old }
     requires waits { IfSome next (λ u. IsTrue (is_blocked_in (state_of parts.old) u)) }
     requires room { length effects.old < 2048 }
@@ -39,7 +39,7 @@ fn go_on(parts: &mut Parts, next: Option<Tid>, effects: &mut Effects)
 }
 
 /// The monitor loses its owner, and whoever enters next goes on.
-pub fn release(parts: &mut Parts, mon: Mid, effects: &mut Effects)
+pub fn release<'s>(parts: &mut Parts<'s>, mon: Mid, effects: &mut Effects<'s>)
     requires lawful { LawfulParts parts.old }
     requires held { is_none (lock_of parts.old.mons.locks mon) ≡ false }
     requires room { length effects.old < 2048 }
@@ -50,11 +50,11 @@ pub fn release(parts: &mut Parts, mon: Mid, effects: &mut Effects)
 }
 
 /// The thread leaves the monitor once, and the last time gives it up.
-pub fn monitor_exit(
-    parts: &mut Parts,
+pub fn monitor_exit<'s>(
+    parts: &mut Parts<'s>,
     tid: Tid,
     mon: Mid,
-    effects: &mut Effects,
+    effects: &mut Effects<'s>,
 ) -> Result<i64, LwpErr>
     requires lawful { LawfulParts parts.old }
     requires room { length effects.old < 2048 }
@@ -72,7 +72,11 @@ pub fn monitor_exit(
 }
 
 /// The monitor loses its owner, whoever that is and however deep.
-pub fn monitor_break(parts: &mut Parts, mon: Mid, effects: &mut Effects) -> Result<i64, LwpErr>
+pub fn monitor_break<'s>(
+    parts: &mut Parts<'s>,
+    mon: Mid,
+    effects: &mut Effects<'s>,
+) -> Result<i64, LwpErr>
     requires lawful { LawfulParts parts.old }
     requires room { length effects.old < 2048 }
     ensures answers { Answers parts.old parts.new effects.old effects.new (monitor_break (state_of parts.old) mon) (answer_by result) }

@@ -22,10 +22,10 @@ use rendezvous::Mail;
 use stale_ids::Registry;
 
 /// All that a pod holds.
-pub struct Parts {
-    pub ids: Registry<Kind>,
+pub struct Parts<'s> {
+    pub ids: Registry<Kind<'s>>,
     pub sched: Sched,
-    pub mail: Mail,
+    pub mail: Mail<'s>,
     pub mons: Monitors,
     pub conds: Conds,
     pub agents: Agents,
@@ -47,7 +47,7 @@ pub struct Parts {
 }
 
 // By hand, so that whoever drops them calls this.
-impl Drop for Parts {
+impl<'s> Drop for Parts<'s> {
     fn drop(self) {
         let Parts {
             ids: _,
@@ -117,7 +117,12 @@ fn unblock(parts: &mut Parts, tid: Tid)
 }
 
 /// A thread that waits goes on. Its call was carried out, with a number, or is refused.
-pub fn wake_done(parts: &mut Parts, tid: Tid, done: Result<i64, LwpErr>, effects: &mut Effects)
+pub fn wake_done<'s>(
+    parts: &mut Parts<'s>,
+    tid: Tid,
+    done: Result<i64, LwpErr>,
+    effects: &mut Effects<'s>,
+)
     requires step { InStep parts.old }
     requires waits { IsTrue (is_blocked_in (state_of parts.old) tid) }
     requires room { length effects.old < 2048 }
@@ -128,7 +133,12 @@ pub fn wake_done(parts: &mut Parts, tid: Tid, done: Result<i64, LwpErr>, effects
 }
 
 /// The same of a thread that waits for a letter, and gets this one.
-pub fn wake_lettered(parts: &mut Parts, tid: Tid, letter: &Letter, effects: &mut Effects)
+pub fn wake_lettered<'s>(
+    parts: &mut Parts<'s>,
+    tid: Tid,
+    letter: &Letter<'s>,
+    effects: &mut Effects<'s>,
+)
     requires step { InStep parts.old }
     requires waits { IsTrue (is_blocked_in (state_of parts.old) tid) }
     requires room { length effects.old < 2048 }
@@ -139,7 +149,7 @@ pub fn wake_lettered(parts: &mut Parts, tid: Tid, letter: &Letter, effects: &mut
 }
 
 /// The same of a thread that waits for the reply to its letter.
-pub fn wake_replied(parts: &mut Parts, tid: Tid, text: &Text, effects: &mut Effects)
+pub fn wake_replied<'s>(parts: &mut Parts<'s>, tid: Tid, text: &Text<'s>, effects: &mut Effects<'s>)
     requires step { InStep parts.old }
     requires waits { IsTrue (is_blocked_in (state_of parts.old) tid) }
     requires room { length effects.old < 2048 }

@@ -12,16 +12,16 @@ use lwp_types::{Block, ExitMark, Flags, LwpErr, Tid};
 
 /// What is kept of a thread, but for what the scheduler keeps.
 #[derive(Drop)]
-pub struct ThreadRec {
+pub struct ThreadRec<'s> {
     pub flags: Flags,
     pub block: Block,
-    pub stack: ExcStack,
+    pub stack: ExcStack<'s>,
 }
 
 /// Who lives under a number: a thread, or an agent.
 #[derive(Drop)]
-pub enum Kind {
-    Thread(ThreadRec),
+pub enum Kind<'s> {
+    Thread(ThreadRec<'s>),
     Agent,
 }
 
@@ -77,7 +77,7 @@ impl Awaited {
     }
 }
 
-impl Kind {
+impl<'s> Kind<'s> {
     /// Whether it is a thread that waits for this of that very thread or agent.
     pub fn waits_for(&self, what: Awaited, tid: Tid) -> bool
         ensures { result ≡ waits_for what tid self.now }
@@ -93,7 +93,7 @@ impl Kind {
     }
 
     /// Takes marks from the top of a thread's stack until one of them was an exit procedure, which is given.
-    pub fn unwind_all(&mut self) -> Option<ExitMark>
+    pub fn unwind_all(&mut self) -> Option<ExitMark<'s>>
         ensures left { self.new ≡ kind_marked (unwound_all (kind_marks (Some self.old))).left self.old }
         ensures next { UnwindsAll (kind_marks (Some self.old)) (unwound_all (kind_marks (Some self.old))).left result }
     {
@@ -104,7 +104,7 @@ impl Kind {
     }
 
     /// The same, but the first `depth` frames stay.
-    pub fn unwind_to(&mut self, depth: u32) -> Option<ExitMark>
+    pub fn unwind_to(&mut self, depth: u32) -> Option<ExitMark<'s>>
         requires least { 1 ≤ depth }
         requires most { depth ≤ frames (kind_marks (Some self.old)) }
         ensures left { self.new ≡ kind_marked (unwound_to depth (kind_marks (Some self.old))).left self.old }

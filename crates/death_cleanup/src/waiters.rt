@@ -18,7 +18,7 @@ use lwp_types::{Effects, LwpErr, Tid};
 use stale_ids::Registry;
 
 /// The `i`-th of the living, counted from the oldest.
-pub fn nth_of(ids: &Registry<Kind>, i: usize) -> (Tid, &Kind)
+pub fn nth_of<'r, 's>(ids: &'r Registry<Kind<'s>>, i: usize) -> (Tid, &'r Kind<'s>)
     requires { i < length ids.now.live }
     ensures { slice_get ids.now.live i ≡ Some (result.0, result.1.now) }
 {
@@ -28,7 +28,7 @@ pub fn nth_of(ids: &Registry<Kind>, i: usize) -> (Tid, &Kind)
 }
 
 /// Whoever waits for this of the thread or agent goes on, in the order of birth.
-pub fn dismiss(parts: &mut Parts, what: Awaited, tid: Tid, effects: &mut Effects)
+pub fn dismiss<'s>(parts: &mut Parts<'s>, what: Awaited, tid: Tid, effects: &mut Effects<'s>)
     requires threads { HasLawfulThreads (state_of parts.old) }
     requires step { InStep parts.old }
     requires room { HasRoom effects.old (dismissed what tid (state_of parts.old)) 0 }
@@ -40,7 +40,7 @@ pub fn dismiss(parts: &mut Parts, what: Awaited, tid: Tid, effects: &mut Effects
 }
 
 /// The thread leaves all its monitors, the last acquired first, and whoever enters one of them next goes on.
-pub fn release_all(parts: &mut Parts, tid: Tid, effects: &mut Effects)
+pub fn release_all<'s>(parts: &mut Parts<'s>, tid: Tid, effects: &mut Effects<'s>)
     requires lawful { LawfulParts parts.old }
     requires dying { parts.old.dying ≡ Some tid }
     requires room { HasRoom effects.old (release_all tid (state_of parts.old)) 1 }
@@ -52,7 +52,7 @@ pub fn release_all(parts: &mut Parts, tid: Tid, effects: &mut Effects)
 }
 
 /// Whoever sent a letter to the thread has it back and goes on, in the order of sending.
-pub fn refuse_senders(parts: &mut Parts, tid: Tid, effects: &mut Effects)
+pub fn refuse_senders<'s>(parts: &mut Parts<'s>, tid: Tid, effects: &mut Effects<'s>)
     requires lonely { Lonely tid (state_of parts.old) }
     requires step { InStep parts.old }
     requires room { HasRoom effects.old (refuse_senders tid (state_of parts.old)) 0 }
@@ -64,7 +64,7 @@ pub fn refuse_senders(parts: &mut Parts, tid: Tid, effects: &mut Effects)
 }
 
 // An agent that is listed no more: whoever waits for it by name goes on, and its letter and its number go.
-fn clear_agent(parts: &mut Parts, agent: Tid, effects: &mut Effects)
+fn clear_agent<'s>(parts: &mut Parts<'s>, agent: Tid, effects: &mut Effects<'s>)
     requires threads { HasLawfulThreads (state_of parts.old) }
     requires step { InStep parts.old }
     requires no_thread { is_thread (state_of parts.old) agent ≡ false }
@@ -77,7 +77,7 @@ fn clear_agent(parts: &mut Parts, agent: Tid, effects: &mut Effects)
 }
 
 /// An agent ends: whoever waits for it by name goes on, and its letter goes, received or not.
-pub fn end_agent(parts: &mut Parts, agent: Tid, effects: &mut Effects)
+pub fn end_agent<'s>(parts: &mut Parts<'s>, agent: Tid, effects: &mut Effects<'s>)
     requires lawful { LawfulParts parts.old }
     requires lives { IsTrue (is_agent (state_of parts.old) agent) }
     requires room { HasRoom effects.old (end_agent agent (state_of parts.old)) 0 }
@@ -88,7 +88,7 @@ pub fn end_agent(parts: &mut Parts, agent: Tid, effects: &mut Effects)
 }
 
 /// The agents of the thread end, in the order of birth.
-pub fn end_agents(parts: &mut Parts, tid: Tid, effects: &mut Effects)
+pub fn end_agents<'s>(parts: &mut Parts<'s>, tid: Tid, effects: &mut Effects<'s>)
     requires unowning { Unowning tid (state_of parts.old) }
     requires step { InStep parts.old }
     requires room { HasRoom effects.old (end_agents tid (state_of parts.old)) 0 }

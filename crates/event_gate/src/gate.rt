@@ -6,11 +6,11 @@ ghost use Rattle.event_gate.specs.Shelves.{Shelves, first_left, has_left, left_o
 use lwp_types::Line;
 
 /// Lines by event, seen as those taken and those left of each, in order.
-pub trait Gate {
+pub trait Gate<'s> {
     ghost stock: { Self → Shelves };
 
     /// The first line left of the event, which is then taken.
-    fn take(&mut self, event: u8) -> Option<Line>
+    fn take(&mut self, event: u8) -> Option<Line<'s>>
         ensures line { result ≡ first_left (stock self.old) event }
         ensures after { stock self.new ≡ taken_from (stock self.old) event };
 

@@ -17,6 +17,7 @@
 //! kit's `crossbeam_queue` for the queue and on its `atomic_table` for the gauge.
 #![tactic(auto)]
 
+mod again;
 mod bell;
 mod book;
 mod gate;
@@ -37,6 +38,7 @@ mod shelf;
 mod taker;
 mod view;
 
+pub use again::Again;
 pub use bell::Bell;
 pub use gate::Gate;
 pub use inlet::Inlet;

@@ -4,6 +4,7 @@ ghost use Rattle.event_gate.specs.Shelves.{added_to, bare_rack, first_left, left
 
 use crate::gate::Gate;
 use crate::rack::Rack;
+use crate::taker::client_of;
 use lwp_types::{Line, NoMemory};
 use std::alloc::Global;
 use std::marker::Model;
@@ -13,13 +14,13 @@ const CLIENTS: usize = 256;
 
 /// Lines that are all there from the start, seen as those taken and those left of each event.
 #[derive(Drop)]
-pub struct ListGate {
-    rack: Rack<Line>,
+pub struct ListGate<'s> {
+    rack: Rack<Line<'s>>,
     // By the number of the client, how many of its lines are left.
     left: Vec<u32>,
 }
 
-impl Model for ListGate {
+impl<'s> Model for ListGate<'s> {
     ghost use Rattle.event_gate.specs.Shelves.{Shelves, left_of_client};
     ghost use Rattle.std.specs.Prelude.{ℕ, length, slice_index, ◌≡◌};
 
@@ -30,8 +31,8 @@ impl Model for ListGate {
     ghost invariant = { λ s. (length s.rack ≡ 256) × (length s.left.items ≡ 256) × ((c : ℕ) → slice_index s.left.items c ≡ left_of_client c s.rack) };
 }
 
-impl ListGate {
-    fn empty(alloc: Global) -> Result<ListGate, NoMemory>
+impl<'s> ListGate<'s> {
+    fn empty(alloc: Global) -> Result<ListGate<'s>, NoMemory>
         ensures { IfOk result (λ g. g ≡ bare_rack) }
     {
         let rack = Rack::new(alloc)?;
@@ -40,38 +41,37 @@ impl ListGate {
     }
 
     // One line more, at the end of its event's.
-    fn with_line(self, event: u8, line: Line) -> Result<ListGate, NoMemory>
+    fn with_line(self, event: u8, line: Line<'s>) -> Result<ListGate<'s>, NoMemory>
         requires { left_in_all self < 4294967295 }
-        ensures { IfOk result (λ g. g ≡ added_to self event line) }
+        ensures { IfOk result (λ g. g ≡ added_to self.entry event line.entry) }
     {
         let ListGate { mut rack, mut left } = self;
-        let client = usize::from(line.client);
+        let client = usize::from(client_of(&line));
         rack.add(event, line)?;
         left[client] += 1;
         Ok(ListGate { rack, left })
     }
 
     /// The lines in the order of `posts`; those of client `c` are for event `events[c]`.
-    pub fn new(alloc: Global, events: &[u8], posts: &[Line]) -> Result<ListGate, NoMemory>
+    pub fn new(alloc: Global, events: &[u8], posts: &[Line<'s>]) -> Result<ListGate<'s>, NoMemory>
         requires clients { All (λ l. l.client < length events.now) posts.now }
         requires few { length posts.now < 4294967296 }
         ensures { IfOk result (λ g. g ≡ stocked events.now posts.now) }
     {
         let mut gate = ListGate::empty(alloc)?;
         for line in posts {
-            gate = gate.with_line(events[usize::from(line.client)], *line)?;
+            gate = gate.with_line(events[usize::from(client_of(line))], line.again())?;
         }
         Ok(gate)
     }
 }
 
-impl Gate for ListGate {
+impl<'s> Gate<'s> for ListGate<'s> {
     ghost stock = { λ g. g };
 
-    fn take(&mut self, event: u8) -> Option<Line> {
-        let ListGate { rack, left } = self;
-        let line = rack.next(event)?;
-        left[usize::from(line.client)] -= 1;
+    fn take(&mut self, event: u8) -> Option<Line<'s>> {
+        let line = self.rack.next(event)?;
+        self.left[usize::from(client_of(&line))] -= 1;
         Some(line)
     }
 

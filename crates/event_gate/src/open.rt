@@ -18,7 +18,7 @@ use std::alloc::{AllocError, Global};
 use std::sync::{Arc, Wait};
 
 // A view is made of views alone, so the number of the next client is counted up in the taker's.
-fn aim(port: &Port, pass: &mut Pass, client: u8)
+fn aim<'s>(port: &Port<'s>, pass: &mut Pass<'s>, client: u8)
     requires queue { IsSegPassOf port.now.queue pass.old }
     requires view { pass.old.me.view.client.takes ≡ true }
     ensures queue { IsSegPassOf port.now.queue pass.new × (pass.new.web ≡ pass.old.web) }
@@ -31,11 +31,11 @@ fn aim(port: &Port, pass: &mut Pass, client: u8)
 }
 
 // Lets the port know its gauge, by a seat that goes through the queue. Nobody else has a pass yet, so it comes back.
-fn name_port<R: Wait>(
+fn name_port<'s, R: Wait>(
     rt: &R,
-    port: &Port,
-    pass: &mut Pass,
-    seat: &mut GaugeSeat,
+    port: &Port<'s>,
+    pass: &mut Pass<'s>,
+    seat: &mut GaugeSeat<'s>,
 ) -> Result<(), NoMemory>
     requires gauge { IsAtGauge port.now.gauge.shared.table_id seat.old.table_id }
     requires queue { IsSegPassOf port.now.queue pass.old }
@@ -63,12 +63,12 @@ fn name_port<R: Wait>(
 }
 
 // A poster of one more client.
-fn open_poster(
-    port: &Arc<Port, Global>,
-    pass: &mut Pass,
-    seat: &mut GaugeSeat,
+fn open_poster<'s>(
+    port: &Arc<Port<'s>, Global>,
+    pass: &mut Pass<'s>,
+    seat: &mut GaugeSeat<'s>,
     client: u8,
-) -> Result<Poster, AllocError>
+) -> Result<Poster<'s>, AllocError>
     requires gauge { IsAtGauge (arc_value port.now).gauge.shared.table_id seat.old.table_id }
     requires queue { IsSegPassOf (arc_value port.now).queue pass.old }
     requires view { IsOpen seat.old.table_id pass.old.me.view.client.noted pass.old.me.view.client }
@@ -88,13 +88,13 @@ fn open_poster(
 }
 
 // A poster of each client, in order.
-fn open_posters(
+fn open_posters<'s>(
     alloc: Global,
-    port: &Arc<Port, Global>,
-    pass: &mut Pass,
-    seat: &mut GaugeSeat,
+    port: &Arc<Port<'s>, Global>,
+    pass: &mut Pass<'s>,
+    seat: &mut GaugeSeat<'s>,
     clients: &[u8],
-) -> Result<Vec<Poster>, AllocError>
+) -> Result<Vec<Poster<'s>>, AllocError>
     requires gauge { IsAtGauge (arc_value port.now).gauge.shared.table_id seat.old.table_id }
     requires queue { IsSegPassOf (arc_value port.now).queue pass.old }
     requires view { IsOpen seat.old.table_id [] pass.old.me.view.client }
@@ -116,12 +116,12 @@ fn open_posters(
 }
 
 /// A port for this event, and a poster for each client, in order. All memory that the taker ever needs is taken here.
-pub fn open_port<R: Wait>(
+pub fn open_port<'s, R: Wait>(
     rt: &R,
     alloc: Global,
     event: u8,
     clients: &[u8],
-) -> Result<(Taker, Vec<Poster>), NoMemory>
+) -> Result<(Taker<'s>, Vec<Poster<'s>>), NoMemory>
     requires { AllPairs (λ a b. a ≢ b) clients.now }
     ensures taker { IfOk result (λ r. r.0 ≡ opened r.0.port event clients.now) }
     ensures posters { IfOk result (λ r. r.1.items ≡ map (posting r.0.port) clients.now) }

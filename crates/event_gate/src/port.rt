@@ -6,16 +6,16 @@ use crate::view::View;
 use crossbeam_queue::{RuledSegQueue, SegPass};
 
 /// What a thread may do with a port's queue. It has no bytes.
-pub(crate) type Pass = SegPass<Sent, View>;
+pub(crate) type Pass<'s> = SegPass<Sent<'s>, View<'s>>;
 
 /// The queue of a port, which its ends share.
-pub(crate) struct Port {
-    pub(crate) queue: RuledSegQueue<Sent, View, InPort>,
+pub(crate) struct Port<'s> {
+    pub(crate) queue: RuledSegQueue<Sent<'s>, View<'s>, InPort>,
     // How many tickets there are: one for each post that was announced and not refused.
-    pub(crate) gauge: Gauge,
+    pub(crate) gauge: Gauge<'s>,
 }
 
-impl Drop for Port {
+impl<'s> Drop for Port<'s> {
     fn drop(self) {
         let Port { queue, gauge: _ } = self;
         queue.destroy();

@@ -17,21 +17,21 @@ use std::sync::{Arc, Wait};
 
 /// A line that was not posted, for want of memory.
 #[derive(Drop)]
-pub struct PostRefused {
-    pub line: Line,
+pub struct PostRefused<'s> {
+    pub line: Line<'s>,
 }
 
 /// The end of a port that one client posts to. Contracts see the client, the lines that it has posted, and how many posts it
 /// has announced and not taken back.
-pub struct Poster {
+pub struct Poster<'s> {
     client: u8,
     count: u32,
-    port: Arc<Port, Global>,
-    pass: Pass,
-    seat: GaugeSeat,
+    port: Arc<Port<'s>, Global>,
+    pass: Pass<'s>,
+    seat: GaugeSeat<'s>,
 }
 
-impl Drop for Poster {
+impl<'s> Drop for Poster<'s> {
     fn drop(self) {
         let Poster {
             client: _,
@@ -43,7 +43,7 @@ impl Drop for Poster {
     }
 }
 
-impl Model for Poster {
+impl<'s> Model for Poster<'s> {
     ghost use Rattle.event_gate.specs.Ends.{Posting};
     ghost use Rattle.std.specs.Prelude.{◌≡◌, []};
     ghost use Rattle.std.specs.Arc.{arc_value};
@@ -58,13 +58,18 @@ impl Model for Poster {
     ghost invariant = { λ s. IsSegPassOf (arc_value s.port).queue s.pass × IsPostersView s.pass.me.view.client s.client s.count × IsAtGauge (arc_value s.port).gauge.shared.table_id s.seat.table_id × (s.seat.me ≡ (at_work s.client s.pass.me.view.client.posted, [])) × (s.pass.me.view.client.gauge.table ≡ s.seat.table_id) };
 }
 
-impl Poster {
+impl<'s> Poster<'s> {
     /// The end of a client that has posted nothing.
-    pub(crate) fn new(client: u8, port: Arc<Port, Global>, pass: Pass, seat: GaugeSeat) -> Poster
+    pub(crate) fn new(
+        client: u8,
+        port: Arc<Port<'s>, Global>,
+        pass: Pass<'s>,
+        seat: GaugeSeat<'s>,
+    ) -> Poster<'s>
         requires queue { IsSegPassOf (arc_value port).queue pass }
         requires view { pass.me.view.client ≡ poster (name_of seat.table_id) client [] }
         requires gauge { IsAtGauge (arc_value port).gauge.shared.table_id seat.table_id × (seat.me ≡ (posting_seat client, [])) }
-        ensures { result ≡ posting (port_id pass.web seat.table_id) client }
+        ensures { result ≡ posting (port_id pass.entry.web seat.entry.table_id) client }
     {
         Poster {
             client,
@@ -91,33 +96,26 @@ impl Poster {
 
     /// Announces the client's next post, and then posts its line. A line that was refused is not posted, and its announcement
     /// is taken back.
-    pub fn post<R: Wait>(&mut self, rt: &R, line: Line) -> Result<(), PostRefused>
+    pub fn post<R: Wait>(&mut self, rt: &R, line: Line<'s>) -> Result<(), PostRefused<'s>>
         requires client { line.client ≡ self.old.client }
         requires next { line.seq ≡ length self.old.posted }
         requires room { length self.old.posted < 4294967295 }
-        ensures posted { OnOk result (self.new ≡ posted_more self.old line) }
-        ensures refused { IfErr result (λ e. (e.line ≡ line) × (self.new ≡ self.old)) }
+        ensures posted { OnOk result (self.new ≡ posted_more self.old line.entry) }
+        ensures refused { IfErr result (λ e. (e.line ≡ line.entry) × (self.new ≡ self.old)) }
     {
-        let Poster {
-            port,
-            pass,
-            seat,
-            count,
-            ..
-        } = self;
-        let ticket = announce(&port.gauge, seat, &line);
-        if let Err(sent) = push_announced(rt, port, pass, Sent { line, ticket }) {
+        let ticket = announce(&self.port.gauge, &mut self.seat, &line);
+        if let Err(sent) = push_announced(rt, &self.port, &mut self.pass, Sent { line, ticket }) {
             let Sent { line, ticket } = sent;
-            withdraw(&port.gauge, seat, ticket, &line);
+            withdraw(&self.port.gauge, &mut self.seat, ticket, &line);
             return Err(PostRefused { line });
         }
-        *count += 1;
+        self.count += 1;
         Ok(())
     }
 
     /// What the client has posted, for good.
-    pub fn finish(self) -> PostPass
-        ensures { result ≡ self }
+    pub fn finish(self) -> PostPass<'s>
+        ensures { result ≡ self.entry }
     {
         let Poster {
             client,
@@ -136,28 +134,33 @@ impl Poster {
 }
 
 // The one push of a line. It brings the ticket of its announcement, which was made before.
-fn push_announced<R: Wait>(rt: &R, port: &Port, pass: &mut Pass, sent: Sent) -> Result<(), Sent>
+fn push_announced<'s, R: Wait>(
+    rt: &R,
+    port: &Port<'s>,
+    pass: &mut Pass<'s>,
+    sent: Sent<'s>,
+) -> Result<(), Sent<'s>>
     requires queue { IsSegPassOf port.now.queue pass.old }
     requires ticket { IsTicketed pass.old.me.view.client.gauge.table sent }
     requires view { pass.old.me.view.client.posts ≡ true }
     requires line { (sent.line.client ≡ pass.old.me.view.client.client) × (sent.line.seq ≡ length pass.old.me.view.client.posted) × (sent.line.seq < 4294967295) }
     ensures queue { IsSegPassOf port.now.queue pass.new × (pass.new.web ≡ pass.old.web) }
-    ensures posted { OnOk result (pass.new.me.view.client ≡ after_post pass.old.me.view.client sent.line) }
-    ensures refused { IfErr result (λ x. (x ≡ sent) × (pass.new.me.view.client ≡ pass.old.me.view.client)) }
+    ensures posted { OnOk result (pass.new.me.view.client ≡ after_post pass.old.me.view.client sent.entry.line) }
+    ensures refused { IfErr result (λ x. (x ≡ sent.entry) × (pass.new.me.view.client ≡ pass.old.me.view.client)) }
 {
     port.queue.push_as::<Post, R>(rt, pass, sent)
 }
 
 /// What a client has posted, for good. Contracts see it as its poster.
 #[derive(Drop)]
-pub struct PostPass {
+pub struct PostPass<'s> {
     pub(crate) client: u8,
     pub(crate) count: u32,
-    pub(crate) pass: Pass,
-    pub(crate) seat: GaugeSeat,
+    pub(crate) pass: Pass<'s>,
+    pub(crate) seat: GaugeSeat<'s>,
 }
 
-impl Model for PostPass {
+impl<'s> Model for PostPass<'s> {
     ghost use Rattle.event_gate.specs.Ends.{Posting};
     ghost use Rattle.std.specs.Prelude.{◌≡◌, [], None};
     ghost use Rattle.event_gate.specs.Ends.{IsPostersView, port_id};

@@ -8,7 +8,7 @@ use lwp_types::{Line, Text};
 use std::sync::Wait;
 
 /// What is done before each post.
-pub trait PostGate: Send + Drop {
+pub trait PostGate: Drop {
     /// What the gate is once it was asked of this client's line of this number.
     ghost asked: { Self → ℕ → ℕ → Self };
 
@@ -29,17 +29,17 @@ impl PostGate for NoGate {
 
 /// What a client has posted, and whether that is all of its lines.
 #[derive(Drop)]
-pub struct PostEnd {
-    pub pass: PostPass,
+pub struct PostEnd<'s> {
+    pub pass: PostPass<'s>,
     pub all: bool,
 }
 
 // Posts the texts in order, and says whether it posted all.
-fn post_texts<G: PostGate, R: Wait>(
+fn post_texts<'s, G: PostGate, R: Wait>(
     rt: &R,
-    poster: &mut Poster,
+    poster: &mut Poster<'s>,
     gate: &mut G,
-    texts: &[Text],
+    texts: &[Text<'s>],
     bell: &Bell,
 ) -> bool
     requires { length poster.old.posted + length texts.now ≤ 4294967295 }
@@ -52,7 +52,7 @@ fn post_texts<G: PostGate, R: Wait>(
         let line = Line {
             client,
             seq,
-            text: *text,
+            text: text.again(),
         };
         gate.before(client, seq);
         let Ok(()) = poster.post(rt, line) else {
@@ -65,16 +65,16 @@ fn post_texts<G: PostGate, R: Wait>(
 
 /// Posts the texts in order, with a ring of the bell after each, until a post is refused. Then the poster leaves. The gate was asked
 /// of exactly the lines posted, in order, and then of the one refused, if one was.
-pub fn post_all<G: PostGate, R: Wait>(
+pub fn post_all<'s, G: PostGate, R: Wait>(
     rt: &R,
-    mut poster: Poster,
+    mut poster: Poster<'s>,
     gate: &mut G,
-    texts: &[Text],
+    texts: &[Text<'s>],
     bell: &Bell,
-) -> PostEnd
+) -> PostEnd<'s>
     requires { length poster.posted + length texts.now ≤ 4294967295 }
-    ensures posts { PostsSome poster texts.now result.all result.pass }
-    ensures gate { gate.new ≡ asked_each G.asked gate.old (lines_asked poster texts.now result.all result.pass) }
+    ensures posts { PostsSome poster.entry texts.now result.all result.pass }
+    ensures gate { gate.new ≡ asked_each G.asked gate.old (lines_asked poster.entry texts.now result.all result.pass) }
 {
     let all = post_texts(rt, &mut poster, gate, texts, bell);
     bell.leave(rt);

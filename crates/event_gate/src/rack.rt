@@ -3,6 +3,7 @@ ghost use Rattle.std.specs.Prelude.{◌≡◌, ◌<◌, IfNone, IfOk, IfSome, On
 ghost use Rattle.std.specs.Slice.Scan.{HoldsNowhere, IsFirstPlace};
 ghost use Rattle.event_gate.specs.Shelves.{added_to, bare_rack, first_left, has_left, taken_from};
 
+use crate::again::Again;
 use crate::shelf::Shelf;
 use event_marks::{first_marked, no_marks, with_mark};
 use lwp_types::NoMemory;
@@ -65,7 +66,7 @@ impl<T> Rack<T> {
     /// The first item left of the event, which is then taken.
     pub fn next(&mut self, event: u8) -> Option<T>
     where
-        T: Copy,
+        T: Again,
         ensures item { result ≡ first_left self.old event }
         ensures after { self.new ≡ taken_from self.old event }
     {

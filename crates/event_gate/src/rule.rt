@@ -6,7 +6,7 @@ use crossbeam_queue::protocol::{Join, Lesson, Outcome, Protocol, Split};
 /// The rule of a port.
 pub struct InPort;
 
-impl Protocol<Sent, View> for InPort {
+impl<'s> Protocol<Sent<'s>, View<'s>> for InPort {
     ghost use Rattle.event_gate.specs.Port.{IsRuled, unnamed};
 
     ghost holds = { IsRuled };
@@ -17,7 +17,7 @@ impl Protocol<Sent, View> for InPort {
 /// A push of a seat, which says which gauge the port has.
 pub struct Name;
 
-impl Outcome<Sent, View> for Name {
+impl<'s> Outcome<Sent<'s>, View<'s>> for Name {
     ghost use Rattle.std.specs.Prelude.{◌≡◌};
     ghost use Rattle.event_gate.specs.Port.{named};
 
@@ -27,14 +27,14 @@ impl Outcome<Sent, View> for Name {
 /// The pop of that seat. Then the port is open.
 pub struct Start;
 
-impl Outcome<Sent, View> for Start {
+impl<'s> Outcome<Sent<'s>, View<'s>> for Start {
     ghost use Rattle.std.specs.Prelude.{◌≡◌};
     ghost use Rattle.event_gate.specs.Port.{starting};
 
     ghost then = { λ v x w. w ≡ starting v.gauge.table };
 }
 
-impl Lesson<Sent, View> for Start {
+impl<'s> Lesson<Sent<'s>, View<'s>> for Start {
     ghost use Rattle.std.specs.Prelude.{⊤};
 
     ghost fact = { λ v items. ⊤ };
@@ -43,7 +43,7 @@ impl Lesson<Sent, View> for Start {
 /// A push of a line.
 pub struct Post;
 
-impl Outcome<Sent, View> for Post {
+impl<'s> Outcome<Sent<'s>, View<'s>> for Post {
     ghost use Rattle.std.specs.Prelude.{◌≡◌};
     ghost use Rattle.event_gate.specs.Port.{after_post};
 
@@ -53,13 +53,13 @@ impl Outcome<Sent, View> for Post {
 /// A pop that gives a line, or that finds the queue empty.
 pub struct Take;
 
-impl Outcome<Sent, View> for Take {
+impl<'s> Outcome<Sent<'s>, View<'s>> for Take {
     ghost use Rattle.event_gate.specs.Port.{TakesSent};
 
     ghost then = { TakesSent };
 }
 
-impl Lesson<Sent, View> for Take {
+impl<'s> Lesson<Sent<'s>, View<'s>> for Take {
     ghost use Rattle.event_gate.specs.Port.{SeesSent};
 
     ghost fact = { SeesSent };
@@ -68,7 +68,7 @@ impl Lesson<Sent, View> for Take {
 /// The next poster is of client 0.
 pub struct Zero;
 
-impl Split<View> for Zero {
+impl<'s> Split<View<'s>> for Zero {
     ghost use Rattle.event_gate.specs.Port.{with_next, nobody};
 
     ghost left = { λ v. with_next v 0 };
@@ -79,7 +79,7 @@ impl Split<View> for Zero {
 /// The next poster is of the client after.
 pub struct Next;
 
-impl Split<View> for Next {
+impl<'s> Split<View<'s>> for Next {
     ghost use Rattle.std.specs.Prelude.{◌+◌};
     ghost use Rattle.event_gate.specs.Port.{with_next, nobody};
 
@@ -91,7 +91,7 @@ impl Split<View> for Next {
 /// The making of a poster for a new client.
 pub struct Open;
 
-impl Split<View> for Open {
+impl<'s> Split<View<'s>> for Open {
     ghost use Rattle.std.specs.Prelude.{[]};
     ghost use Rattle.event_gate.specs.Port.{after_open, poster};
 
@@ -103,7 +103,7 @@ impl Split<View> for Open {
 /// The taking in of a pass.
 pub struct TakeIn;
 
-impl Join<View> for TakeIn {
+impl<'s> Join<View<'s>> for TakeIn {
     ghost use Rattle.event_gate.specs.Port.{after_take_in, nobody};
 
     ghost both = { after_take_in };

@@ -4,7 +4,7 @@ use lwp_types::Line;
 
 /// A line, and the ticket of its announcement.
 #[derive(Drop)]
-pub struct Sent {
-    pub line: Line,
-    pub ticket: GaugeSeat,
+pub struct Sent<'s> {
+    pub line: Line<'s>,
+    pub ticket: GaugeSeat<'s>,
 }

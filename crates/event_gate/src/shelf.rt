@@ -3,6 +3,7 @@ ghost use Rattle.std.specs.Prelude.{◌≡◌, OnErr, OnOk, is_some};
 ghost use Rattle.std.specs.List.{slice_get};
 ghost use Rattle.event_gate.specs.Shelves.{bare, moved, with_one_more};
 
+use crate::again::Again;
 use lwp_types::NoMemory;
 use std::alloc::Global;
 use std::marker::Model;
@@ -58,11 +59,11 @@ impl<T> Shelf<T> {
     /// The first item left, which is then taken.
     pub fn next(&mut self) -> Option<T>
     where
-        T: Copy,
+        T: Again,
         ensures item { result ≡ slice_get self.old.left 0 }
         ensures after { self.new ≡ moved self.old }
     {
-        let item = self.items.get(self.taken).copied()?;
+        let item = self.items.get(self.taken)?.again();
         self.taken += 1;
         Some(item)
     }

@@ -18,11 +18,11 @@ use std::sync::{Arc, Wait};
 use std::thread;
 
 /// The end of a port that the runner takes from.
-pub struct Taker {
+pub struct Taker<'s> {
     event: u8,
-    port: Arc<Port, Global>,
-    pass: Pass,
-    seat: GaugeSeat,
+    port: Arc<Port<'s>, Global>,
+    pass: Pass<'s>,
+    seat: GaugeSeat<'s>,
     // How many lines were taken, modulo 2^64.
     count: u64,
     clients: Vec<u8>,
@@ -32,7 +32,7 @@ pub struct Taker {
     posted: Vec<u32>,
 }
 
-impl Drop for Taker {
+impl<'s> Drop for Taker<'s> {
     fn drop(self) {
         let Taker {
             event: _,
@@ -48,7 +48,7 @@ impl Drop for Taker {
     }
 }
 
-impl Model for Taker {
+impl<'s> Model for Taker<'s> {
     ghost use Rattle.event_gate.specs.Ends.{Taking};
     ghost use Rattle.std.specs.Prelude.{◌≡◌};
     ghost use Rattle.std.specs.Arc.{arc_value};
@@ -63,7 +63,7 @@ impl Model for Taker {
     ghost invariant = { λ s. IsSegPassOf (arc_value s.port).queue s.pass × IsTakersView s.pass.me.view.client s.clients.items s.taken.items s.told.items s.posted.items s.count × IsAtGauge (arc_value s.port).gauge.shared.table_id s.seat.table_id × (s.pass.me.view.client.gauge.table ≡ s.seat.table_id) × IsTakersBook s.pass.me.view.client s.seat.me.0 };
 }
 
-impl Taker {
+impl<'s> Taker<'s> {
     /// The event that the port is for.
     pub fn event(&self) -> u8
         ensures { result ≡ self.now.event }
@@ -75,15 +75,15 @@ impl Taker {
     pub(crate) fn new(
         alloc: Global,
         event: u8,
-        port: Arc<Port, Global>,
-        pass: Pass,
-        seat: GaugeSeat,
+        port: Arc<Port<'s>, Global>,
+        pass: Pass<'s>,
+        seat: GaugeSeat<'s>,
         clients: &[u8],
-    ) -> Result<Taker, AllocError>
+    ) -> Result<Taker<'s>, AllocError>
         requires queue { IsSegPassOf (arc_value port).queue pass }
         requires view { IsOpen seat.table_id clients.now pass.me.view.client }
         requires gauge { IsAtGauge (arc_value port).gauge.shared.table_id seat.table_id × IsOpenGauge clients.now seat.me.0 }
-        ensures { IfOk result (λ t. t ≡ opened (port_id pass.web seat.table_id) event clients.now) }
+        ensures { IfOk result (λ t. t ≡ opened (port_id pass.entry.web seat.entry.table_id) event clients.now) }
     {
         let clients = Vec::from_slice(alloc, clients)?;
         let taken = Vec::from_elem(alloc, 0, 256)?;
@@ -117,29 +117,22 @@ impl Taker {
     /// Takes the next line. `None` exactly where a step of this call found that all tickets were taken in. A post draws one
     /// before its push, which its line brings along or which goes back where the post is refused. So at that step no post
     /// was under way, and each that was announced before and not refused was among the lines taken (`every_find`).
-    pub fn take<R: Wait>(&mut self, rt: &R) -> Option<Line>
+    pub fn take<R: Wait>(&mut self, rt: &R) -> Option<Line<'s>>
         ensures line { IfSome result (TakesLine self.old self.new) }
         ensures nothing { IfNone result (FindsNothing self.old self.new) }
         ensures told { IsTold self.old → IsNone result ↔ IsAllTaken self.old }
     {
-        let Taker {
-            port,
-            pass,
-            seat,
-            count,
-            taken,
-            ..
-        } = self;
-        let line = next_line(rt, port, pass, seat, *count)?;
-        *count = count.wrapping_add(1);
-        taken[usize::from(line.client)] = line.seq + 1;
+        let line = next_line(rt, &self.port, &mut self.pass, &mut self.seat, self.count)?;
+        self.count = self.count.wrapping_add(1);
+        let client = client_of(&line);
+        self.taken[usize::from(client)] = line.seq + 1;
         Some(line)
     }
 
     /// Takes in what a client has posted in all. It waits for nobody.
-    pub fn take_in(&mut self, pass: PostPass)
+    pub fn take_in(&mut self, pass: PostPass<'s>)
         requires port { pass.port ≡ self.old.port }
-        ensures { TakesIn self.old pass self.new }
+        ensures { TakesIn self.old pass.entry self.new }
     {
         let PostPass {
             client,
@@ -147,18 +140,10 @@ impl Taker {
             pass: other,
             seat: theirs,
         } = pass;
-        let Taker {
-            port,
-            pass,
-            seat,
-            told,
-            posted,
-            ..
-        } = self;
-        port.queue.absorb::<TakeIn>(pass, other);
-        take_in_seat(&port.gauge, seat, theirs);
-        told[usize::from(client)] = true;
-        posted[usize::from(client)] = count;
+        self.port.queue.absorb::<TakeIn>(&mut self.pass, other);
+        take_in_seat(&self.port.gauge, &mut self.seat, theirs);
+        self.told[usize::from(client)] = true;
+        self.posted[usize::from(client)] = count;
     }
 
     /// How many lines of the client are left, where its pass came back.
@@ -170,15 +155,22 @@ impl Taker {
     }
 }
 
+// Whose line it is. A result has the range of its type, which a field of a value with a lifetime doesn't bring along.
+pub(crate) fn client_of(line: &Line) -> u8
+    ensures { result ≡ line.now.client }
+{
+    line.client
+}
+
 // The next line, whose ticket is then taken in, or the empty find. Where the queue is empty and somebody else has a ticket,
 // a post is under way or has just ended, so it looks again.
-fn next_line<R: Wait>(
+fn next_line<'s, R: Wait>(
     rt: &R,
-    port: &Port,
-    pass: &mut Pass,
-    seat: &mut GaugeSeat,
+    port: &Port<'s>,
+    pass: &mut Pass<'s>,
+    seat: &mut GaugeSeat<'s>,
     count: u64,
-) -> Option<Line>
+) -> Option<Line<'s>>
     requires queue { IsSegPassOf port.now.queue pass.old }
     requires gauge { IsAtGauge port.now.gauge.shared.table_id seat.old.table_id }
     requires view { pass.old.me.view.client.takes ≡ true }

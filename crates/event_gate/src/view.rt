@@ -16,24 +16,24 @@ impl Model for GaugeName {
 }
 
 /// What a client has posted in all.
-pub struct Told {
+pub struct Told<'s> {
     pub client: u8,
-    pub posted: LinkedList<Line>,
+    pub posted: LinkedList<Line<'s>>,
 }
 
 /// What a pass may do and what it knows.
-pub struct View {
+pub struct View<'s> {
     /// It is a client's poster.
     pub posts: bool,
     pub client: u8,
-    pub posted: LinkedList<Line>,
+    pub posted: LinkedList<Line<'s>>,
     /// It is the taker.
     pub takes: bool,
-    pub taken: LinkedList<Line>,
+    pub taken: LinkedList<Line<'s>>,
     /// The clients of which a poster was made.
     pub noted: LinkedList<u8>,
     /// What the clients whose passes came back have posted in all.
-    pub known: LinkedList<Told>,
+    pub known: LinkedList<Told<'s>>,
     /// The client of the next poster.
     pub next: u8,
     /// The port isn't open yet.

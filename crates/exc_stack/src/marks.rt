@@ -3,7 +3,7 @@ ghost use Rattle.std.specs.Prelude.{◌≡◌, ◌++◌, ◌≤◌, ◌<◌, len
 ghost use Rattle.lwp_types.specs.Marks.{exit_of, first_frames, first_handlers, found_in, frames, is_frame, matches};
 ghost use Rattle.exc_stack.specs.Stack.{TakesTop, below_last_exit, is_handler, last_exit};
 
-use lwp_types::{ExitCall, ExitMark, Found, Mark, Pattern};
+use lwp_types::{ExitMark, Found, Mark, Pattern};
 
 // Whether a procedure begins here.
 pub fn is_frame(mark: &Mark) -> bool
@@ -20,10 +20,10 @@ fn is_handler(mark: &Mark) -> bool
 }
 
 // The exit procedure, if the mark is one.
-fn exit_of(mark: &Mark) -> Option<ExitMark>
-    ensures { result ≡ exit_of mark.now }
+fn exit_of<'s>(mark: Mark<'s>) -> Option<ExitMark<'s>>
+    ensures { result ≡ exit_of mark.entry }
 {
-    match *mark {
+    match mark {
         Mark::Exit { reg, call } => Some(ExitMark { reg, call }),
         _ => None,
     }
@@ -71,18 +71,18 @@ pub fn found_in(marks: &[Mark], exception: u32) -> Option<Found>
     let mut handlers = 0;
     let mut found = None;
     for mark in marks {
-        match *mark {
+        match mark {
             Mark::Frame => {
                 frames += 1;
                 handlers = 0;
             }
             Mark::Handler { pattern, func, arg } => {
-                if matches(exception, pattern) {
+                if matches(exception, *pattern) {
                     found = Some(Found {
                         depth: frames,
                         mark: handlers,
-                        func,
-                        arg,
+                        func: *func,
+                        arg: *arg,
                     });
                 }
                 handlers += 1;
@@ -94,17 +94,15 @@ pub fn found_in(marks: &[Mark], exception: u32) -> Option<Found>
 }
 
 // Takes the topmost mark, and gives it where it is an exit procedure.
-fn take_top(marks: &mut Vec<Mark>) -> Option<ExitMark>
+fn take_top<'s>(marks: &mut Vec<Mark<'s>>) -> Option<ExitMark<'s>>
     requires { 0 < length marks.old.items }
     ensures { TakesTop marks.old.items marks.new.items result }
 {
-    // Names a type inside a mark, without which the check makes no proof of the call.
-    let _inside: Option<ExitCall> = None;
-    exit_of(&marks.pop()?)
+    exit_of(marks.pop()?)
 }
 
 // Takes marks from the top until one of them was an exit procedure, but none of the first `base`.
-pub fn unwind(marks: &mut Vec<Mark>, base: usize) -> Option<ExitMark>
+pub fn unwind<'s>(marks: &mut Vec<Mark<'s>>, base: usize) -> Option<ExitMark<'s>>
     requires { base ≤ length marks.old.items }
     ensures exit { result ≡ last_exit (drop base marks.old.items) }
     ensures left { marks.new.items ≡ take base marks.old.items ++ below_last_exit (drop base marks.old.items) }
@@ -126,7 +124,7 @@ pub fn settle(marks: &mut Vec<Mark>, base: usize, number: u32)
     let mut kept = base;
     let mut left = number;
     for place in base..marks.len() {
-        let mark = marks[place];
+        let mark = marks[place].again();
         if is_handler(&mark) {
             if left == 0 {
                 continue;

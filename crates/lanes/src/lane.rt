@@ -7,25 +7,25 @@ use crate::rule::{InLane, Learn, Look, Open, Publish, Reserve, TakeIn};
 use crate::view::LaneView;
 use atomic_table::{Seat, Table};
 use lwp_types::{Line, NoMemory};
-use std::alloc::Global;
+use std::alloc::{AllocError, Global};
 use std::marker::Model;
 use std::sync::Arc;
 
 /// The table of a lane.
-pub type Lane = Table<Option<Line>, LaneView, u8, InLane, Global>;
+pub type Lane<'s> = Table<Option<Line<'s>>, LaneView<'s>, u8, InLane, Global>;
 
 /// What one end may do with it. It has no bytes.
-pub type LaneEnd = Seat<Option<Line>, LaneView>;
+pub type LaneEnd<'s> = Seat<Option<Line<'s>>, LaneView<'s>>;
 
 /// The end of a lane that its client posts to.
-pub struct LanePoster {
+pub struct LanePoster<'s> {
     client: u8,
     count: u32,
-    table: Arc<Lane, Global>,
-    seat: LaneEnd,
+    table: Arc<Lane<'s>, Global>,
+    seat: LaneEnd<'s>,
 }
 
-impl Drop for LanePoster {
+impl<'s> Drop for LanePoster<'s> {
     fn drop(self) {
         let LanePoster {
             client: _,
@@ -36,7 +36,7 @@ impl Drop for LanePoster {
     }
 }
 
-impl Model for LanePoster {
+impl<'s> Model for LanePoster<'s> {
     ghost use Rattle.lanes.specs.Ends.{LanePosting, IsAtLane, IsLanePoster};
     ghost use Rattle.std.specs.Prelude.{◌≡◌, []};
     ghost use Rattle.std.specs.Arc.{arc_value};
@@ -48,7 +48,7 @@ impl Model for LanePoster {
     ghost invariant = { λ s. IsAtLane (arc_value s.table).shared.table_id s.seat.table_id × (s.seat.me.1 ≡ []) × IsLanePoster s.seat.me.0 s.client s.count };
 }
 
-impl LanePoster {
+impl<'s> LanePoster<'s> {
     /// Whose end it is.
     pub fn client(&self) -> u8
         ensures { result ≡ self.now.client }
@@ -64,11 +64,11 @@ impl LanePoster {
     }
 
     /// Posts the client's next line.
-    pub fn post(&mut self, line: Line)
+    pub fn post(&mut self, line: Line<'s>)
         requires client { line.client ≡ self.old.client }
         requires next { line.seq ≡ length self.old.posted }
         requires room { length self.old.posted < self.old.lines }
-        ensures { self.new ≡ line_more self.old line }
+        ensures { self.new ≡ line_more self.old line.entry }
     {
         let client = self.client;
         let slot = self.count as usize;
@@ -77,8 +77,8 @@ impl LanePoster {
     }
 
     /// What the client has posted, for good.
-    pub fn finish(self) -> LanePass
-        ensures { result ≡ self }
+    pub fn finish(self) -> LanePass<'s>
+        ensures { result ≡ self.entry }
     {
         let LanePoster {
             client,
@@ -95,13 +95,13 @@ impl LanePoster {
 }
 
 // The poster's two steps: it takes the empty slot of the next line, fills it, and counts the line.
-fn post_in(lane: &Lane, seat: &mut LaneEnd, client: u8, slot: usize, line: Line)
+fn post_in<'s>(lane: &Lane<'s>, seat: &mut LaneEnd<'s>, client: u8, slot: usize, line: Line<'s>)
     requires seat { IsAtLane lane.now.shared.table_id seat.old.table_id × (seat.old.me.1 ≡ []) }
     requires view { IsLanePoster seat.old.me.0 client slot }
     requires line { (line.client ≡ client) × (line.seq ≡ slot) }
     requires room { slot < seat.old.table_id.slots }
     ensures seat { (seat.new.table_id ≡ seat.old.table_id) × (seat.new.me.1 ≡ []) }
-    ensures view { seat.new.me.0 ≡ after_post seat.old.me.0 line }
+    ensures view { seat.new.me.0 ≡ after_post seat.old.me.0 line.entry }
 {
     lane.shared.load::<Reserve>(seat, 0);
     *seat.slot_mut(&lane.shared, slot) = Some(line);
@@ -110,13 +110,13 @@ fn post_in(lane: &Lane, seat: &mut LaneEnd, client: u8, slot: usize, line: Line)
 
 /// What a client has posted, for good. Contracts see it as its poster.
 #[derive(Drop)]
-pub struct LanePass {
+pub struct LanePass<'s> {
     client: u8,
     count: u32,
-    seat: LaneEnd,
+    seat: LaneEnd<'s>,
 }
 
-impl Model for LanePass {
+impl<'s> Model for LanePass<'s> {
     ghost use Rattle.lanes.specs.Ends.{LanePosting, IsLanePoster};
     ghost use Rattle.std.specs.Prelude.{◌≡◌, []};
 
@@ -128,18 +128,18 @@ impl Model for LanePass {
 }
 
 /// The end of a lane that the runner takes from.
-pub struct LaneTaker {
+pub struct LaneTaker<'s> {
     event: u8,
     client: u8,
     count: u32,
     // Whether the pass came back, and then how many lines were posted.
     told: bool,
     posted: u32,
-    table: Arc<Lane, Global>,
-    seat: LaneEnd,
+    table: Arc<Lane<'s>, Global>,
+    seat: LaneEnd<'s>,
 }
 
-impl Drop for LaneTaker {
+impl<'s> Drop for LaneTaker<'s> {
     fn drop(self) {
         let LaneTaker {
             event: _,
@@ -153,7 +153,7 @@ impl Drop for LaneTaker {
     }
 }
 
-impl Model for LaneTaker {
+impl<'s> Model for LaneTaker<'s> {
     ghost use Rattle.lanes.specs.Ends.{LaneTaking, IsAtLane, IsLaneTaker, lane_taking};
     ghost use Rattle.std.specs.Arc.{arc_value};
 
@@ -164,7 +164,7 @@ impl Model for LaneTaker {
     ghost invariant = { λ s. IsAtLane (arc_value s.table).shared.table_id s.seat.table_id × IsLaneTaker s.seat.me.0 s.client s.count s.told s.posted };
 }
 
-impl LaneTaker {
+impl<'s> LaneTaker<'s> {
     /// The event that the lane is for.
     pub fn event(&self) -> u8
         ensures { result ≡ self.now.event }
@@ -173,7 +173,7 @@ impl LaneTaker {
     }
 
     /// Takes the next line. `None` exactly where a load of this call found that each line posted so far was taken.
-    pub fn take(&mut self) -> Option<Line>
+    pub fn take(&mut self) -> Option<Line<'s>>
         ensures line { IfSome result (LaneTakes self.old self.new) }
         ensures nothing { IfNone result (LaneFindsNothing self.old self.new) }
         ensures told { IsLaneTold self.old → IsNone result ↔ IsLaneTaken self.old }
@@ -184,9 +184,9 @@ impl LaneTaker {
     }
 
     /// Takes in what the client has posted in all.
-    pub fn take_in(&mut self, pass: LanePass)
+    pub fn take_in(&mut self, pass: LanePass<'s>)
         requires lane { pass.lane ≡ self.old.lane }
-        ensures { LaneTakesIn self.old pass self.new }
+        ensures { LaneTakesIn self.old pass.entry self.new }
     {
         let LanePass {
             client: _,
@@ -225,7 +225,7 @@ impl LaneTaker {
 }
 
 // The taker's step, and its reading of the slot that it took.
-fn take_in_lane(lane: &Lane, seat: &mut LaneEnd, known: u32) -> Option<Line>
+fn take_in_lane<'s>(lane: &Lane<'s>, seat: &mut LaneEnd<'s>, known: u32) -> Option<Line<'s>>
     requires seat { IsAtLane lane.now.shared.table_id seat.old.table_id }
     requires view { seat.old.me.0.takes ≡ true }
     requires known { length seat.old.me.0.known ≡ known }
@@ -237,28 +237,35 @@ fn take_in_lane(lane: &Lane, seat: &mut LaneEnd, known: u32) -> Option<Line>
     if u64::from(known) >= posted {
         return None;
     }
-    *seat.slot_mut(&lane.shared, known as usize)
+    seat.slot_mut(&lane.shared, known as usize).take()
 }
 
 // The taking in of the poster's seat, and a load that tells the taker how the lines it knows began those posted.
-fn take_in_seat(lane: &Lane, seat: &mut LaneEnd, theirs: LaneEnd)
+fn take_in_seat<'s>(lane: &Lane<'s>, seat: &mut LaneEnd<'s>, theirs: LaneEnd<'s>)
     requires seat { IsAtLane lane.now.shared.table_id seat.old.table_id }
     requires view { seat.old.me.0.takes ≡ true }
     requires theirs { (theirs.table_id ≡ seat.old.table_id) × (theirs.me.1 ≡ []) × (theirs.me.0.posts ≡ true) × (theirs.me.0.holds ≡ false) }
     ensures seat { seat.new.table_id ≡ seat.old.table_id }
-    ensures view { TakesInSeat seat.old.me.0 theirs.me.0 seat.new.me.0 }
+    ensures view { TakesInSeat seat.old.me.0 theirs.entry.me.0 seat.new.me.0 }
 {
     lane.shared.join_seat::<TakeIn>(seat, theirs);
     lane.shared.load::<Learn>(seat, 0);
 }
 
+// The same lane once more. It stands apart, since a lane that is lent to this function outlives what its slots are lent for.
+fn same_lane<'s>(lane: &Arc<Lane<'s>, Global>) -> Result<Arc<Lane<'s>, Global>, AllocError>
+    ensures { IfOk result (λ l. arc_value l ≡ arc_value lane.now) }
+{
+    Arc::try_clone(lane)
+}
+
 /// A lane for this event and client, with room for so many lines.
-pub fn open_lane(
+pub fn open_lane<'s>(
     alloc: Global,
     event: u8,
     client: u8,
     lines: u32,
-) -> Result<(LaneTaker, LanePoster), NoMemory>
+) -> Result<(LaneTaker<'s>, LanePoster<'s>), NoMemory>
     requires { lines ≤ 20000 }
     ensures taker { IfOk result (λ r. r.0 ≡ lane_opened r.0.lane event client) }
     ensures poster { IfOk result (λ r. r.1 ≡ lane_posting r.0.lane client lines) }
@@ -266,7 +273,7 @@ pub fn open_lane(
     let (table, mut seat) = Table::vacant(alloc, &[0], lines as usize, &client)?;
     let theirs = table.shared.split_seat::<Open>(&mut seat);
     let table = Arc::new(alloc, table)?;
-    let other = Arc::try_clone(&table)?;
+    let other = same_lane(&table)?;
     let taker = LaneTaker {
         event,
         client,

@@ -10,16 +10,16 @@ use std::sync::Wait;
 
 /// Posts the texts in order, with a ring of the bell after each. Then the poster leaves. The gate was asked of exactly these lines,
 /// in order.
-pub fn lane_post_all<G: PostGate, R: Wait>(
+pub fn lane_post_all<'s, G: PostGate, R: Wait>(
     rt: &R,
-    mut poster: LanePoster,
+    mut poster: LanePoster<'s>,
     gate: &mut G,
-    texts: &[Text],
+    texts: &[Text<'s>],
     bell: &Bell,
-) -> LanePass
+) -> LanePass<'s>
     requires { length poster.posted + length texts.now ≤ poster.lines }
-    ensures posts { result ≡ lane_posted poster texts.now }
-    ensures gate { gate.new ≡ asked_each G.asked gate.old (lines_from poster.client (length poster.posted) texts.now) }
+    ensures posts { result ≡ lane_posted poster.entry texts.now }
+    ensures gate { gate.new ≡ asked_each G.asked gate.old (lines_from poster.entry.client (length poster.entry.posted) texts.now) }
 {
     let client = poster.client();
     for text in texts {
@@ -27,7 +27,7 @@ pub fn lane_post_all<G: PostGate, R: Wait>(
         let line = Line {
             client,
             seq,
-            text: *text,
+            text: text.again(),
         };
         gate.before(client, seq);
         poster.post(line);

@@ -1,21 +1,17 @@
-// The calls that sessions and stores make, each set where another lay. To set a whole call takes room for a text, so these stand
-// apart from what calls them.
+// The calls that sessions and stores make, each set where another lay.
 ghost use Rattle.lwp_types.specs.TextFields.{is_text};
 ghost use Rattle.lwp_types.specs.declared.call.Call.TheVariants as call_kind;
 ghost use Rattle.lwp_types.specs.declared.call.Mode.TheVariants as mode_kind;
 ghost use Rattle.std.specs.Prelude.{◌≡◌, IsTrue};
 
-use crate::words::text_of;
 use lwp_types::{Call, Mode, Text, Tid};
 
-#[inline(never)]
 pub fn set_return(call: &mut Call)
     ensures { call.new ≡ call_kind.Return }
 {
     *call = Call::Return;
 }
 
-#[inline(never)]
 pub fn set_agent(call: &mut Call, event: u8)
     ensures { call.new ≡ call_kind.Agent event }
 {
@@ -25,7 +21,6 @@ pub fn set_agent(call: &mut Call, event: u8)
 }
 
 /// A receive that waits.
-#[inline(never)]
 pub fn set_recv(call: &mut Call, from: Option<Tid>)
     ensures { call.new ≡ call_kind.Recv from mode_kind.Block }
 {
@@ -36,32 +31,32 @@ pub fn set_recv(call: &mut Call, from: Option<Tid>)
 }
 
 /// A letter that any reply fits.
-#[inline(never)]
-pub fn set_send(call: &mut Call, to: Tid, text: &Text)
+pub fn set_send<'s>(call: &mut Call<'s>, to: Tid, text: &Text<'s>)
     ensures { call.new ≡ call_kind.Send to 240 text.now }
 {
     *call = Call::Send {
         to,
         room: 240,
-        text: *text,
+        text: text.again(),
     };
 }
 
-#[inline(never)]
-pub fn set_reply(call: &mut Call, to: Tid, text: &Text)
+pub fn set_reply<'s>(call: &mut Call<'s>, to: Tid, text: &Text<'s>)
     ensures { call.new ≡ call_kind.Reply to text.now }
 {
-    *call = Call::Reply { to, text: *text };
+    *call = Call::Reply {
+        to,
+        text: text.again(),
+    };
 }
 
 /// A reply of these bytes.
-#[inline(never)]
-pub fn set_word(call: &mut Call, to: Tid, word: &[u8])
+pub fn set_word(call: &mut Call, to: Tid, word: &'static [u8])
     requires { IsTrue (is_text word.now) }
     ensures { call.new ≡ call_kind.Reply to word.now }
 {
     *call = Call::Reply {
         to,
-        text: text_of(word),
+        text: Text::lent(word),
     };
 }

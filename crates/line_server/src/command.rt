@@ -2,7 +2,10 @@
 ghost use Rattle.line_server.specs.Commands.{Command, Put, Get, Del, is_key_byte, key_len, put_of, alone, asked_by, asked_of, command_of};
 ghost use Rattle.line_server.specs.Read.{read};
 ghost use Rattle.std.specs.Option.{option_map};
-ghost use Rattle.std.specs.Prelude.{◌≡◌, ◌≤◌, length};
+ghost use Rattle.lwp_types.specs.TextFields.{is_text};
+ghost use Rattle.std.specs.Prelude.{◌≡◌, ◌≤◌, IsTrue, length};
+
+use lwp_types::Text;
 
 /// A command; its key and its value lie in the text.
 #[derive(Clone, Copy)]
@@ -18,7 +21,7 @@ fn is_key_byte(byte: u8) -> bool
     byte.is_ascii_lowercase() || byte.is_ascii_digit() || byte == b'_'
 }
 
-// The length of the key that a text begins with.
+// The length of the key that bytes begin with.
 fn key_len(text: &[u8]) -> usize
     ensures len { result ≡ key_len text.now }
     ensures within { result ≤ length text.now }
@@ -52,9 +55,9 @@ fn asked_by<'t>(word: &[u8], key: &'t [u8], behind: &'t [u8]) -> Option<Asked<'t
     }
 }
 
-/// What a text asks for, if it is a command.
+// What bytes ask for, if they are a command.
 #[inline(always)]
-pub fn command_of(text: &[u8]) -> Option<Asked<'_>>
+fn command_in(text: &[u8]) -> Option<Asked<'_>>
     ensures { option_map read result ≡ command_of text.now }
 {
     if text.len() < 4 {
@@ -67,4 +70,16 @@ pub fn command_of(text: &[u8]) -> Option<Asked<'_>>
     }
     let (key, behind) = rest.split_at(len);
     asked_by(word, key, behind)
+}
+
+/// What a text asks for, if it is a command. One that lies in parts is none.
+#[inline(always)]
+pub fn command_of<'t>(text: &Text<'t>) -> Option<Asked<'t>>
+    ensures value { option_map read result ≡ command_of text.now }
+    ensures is_text { IsTrue (is_text text.now) }
+{
+    match text.plain() {
+        Some(bytes) => command_in(bytes),
+        None => None,
+    }
 }

@@ -1,37 +1,47 @@
 // What a table keeps for a key.
-ghost use Rattle.std.specs.Prelude.{◌≡◌, IfOk};
+ghost use Rattle.line_server.specs.Tables.{shown};
+ghost use Rattle.lwp_types.specs.TextFields.{is_printable};
+ghost use Rattle.std.specs.Prelude.{◌≡◌, ◌≤◌, length, IsTrue};
 
-use lwp_types::{NoMemory, Text};
-use std::alloc::Global;
+use lwp_types::Text;
 use std::marker::Model;
 
-/// A text in memory of its own, seen as the text; so an entry of a table is small, and a table with few keys too.
+/// A value, where the line has it that put it, seen as what a get of it is told.
 #[derive(Drop)]
-pub struct Kept {
-    text: Box<Text>,
+pub struct Kept<'s> {
+    value: &'s [u8],
 }
 
-impl Model for Kept {
-    ghost use Rattle.std.specs.Prelude.{ℕ, List};
+impl<'s> Model for Kept<'s> {
+    ghost use Rattle.std.specs.Prelude.{ℕ, List, IsTrue};
+    ghost use Rattle.line_server.specs.Tables.{shown};
+    ghost use Rattle.lwp_types.specs.TextFields.{is_text};
 
     ghost Value = { List ℕ };
 
-    ghost view = { λ k. k.text.value };
+    ghost view = { λ k. shown k.value.now };
+
+    ghost invariant = { λ k. IsTrue (is_text (shown k.value.now)) };
 }
 
-impl Kept {
-    /// Keeps this text.
-    pub fn new(alloc: Global, text: Text) -> Result<Kept, NoMemory>
-        ensures { IfOk result (λ k. k ≡ text) }
+impl<'s> Kept<'s> {
+    /// Keeps this value.
+    pub fn new(value: &'s [u8]) -> Kept<'s>
+        requires short { length value.now ≤ 237 }
+        requires printable { IsTrue (is_printable value.now) }
+        ensures { result ≡ shown value.now }
     {
-        let text = Box::new(alloc, text)?;
-        Ok(Kept { text })
+        Kept { value }
     }
 
-    /// The text.
-    pub fn text(&self) -> &Text
-        ensures { result.now ≡ self.now }
+    /// What a get is told.
+    pub fn text(&self) -> Text<'s>
+        ensures { result ≡ self.now }
     {
-        &self.text
+        if self.value.is_empty() {
+            Text::lent(b"is")
+        } else {
+            Text::is(self.value)
+        }
     }
 }

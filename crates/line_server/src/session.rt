@@ -1,5 +1,6 @@
 // A thread that serves the client of one event.
 ghost use Rattle.line_server.specs.Sessions.{session_receives, session_returns, session_replies, session_next, session_next-keeps_lengths, session_opening, session_received, session_reads, session_told, session_opened, session_at, session_by};
+ghost use Rattle.line_server.specs.Tables.{is_quit};
 ghost use Rattle.line_server.specs.Turns.{is_replied};
 ghost use Rattle.lwp_types.specs.TextFields.{is_text};
 ghost use Rattle.std.specs.Prelude.{◌≡◌, IsTrue};
@@ -7,7 +8,7 @@ ghost use Rattle.std.specs.Prelude.{◌≡◌, IsTrue};
 use crate::calls::{set_agent, set_recv, set_reply, set_return, set_send, set_word};
 use crate::command::command_of;
 use crate::words::was_replied;
-use lwp_types::{Answer, Body, Call, Env, NULL_TID, NoMemory, Text, Tid};
+use lwp_types::{Answer, Body, Call, Env, NULL_TID, NoMemory, Polled, Text, Tid};
 use std::marker::Model;
 
 /// What a session's last call was.
@@ -49,6 +50,13 @@ impl Model for SessionBody {
     ghost view = { λ b. record { event = b.event; store = b.store; agent = b.agent; place = b.place } };
 }
 
+// Whether a client says that it ends.
+fn is_quit(text: &Text) -> bool
+    ensures { result ≡ is_quit text.now }
+{
+    text.equals(b"quit")
+}
+
 impl SessionBody {
     /// A session at its start, for the client of an event. Its store is the thread whose name has the number `store`.
     pub fn new(event: u8, store: u32) -> SessionBody
@@ -76,14 +84,14 @@ impl SessionBody {
         set_return(call);
     }
 
-    fn reply(&mut self, text: &Text, call: &mut Call)
+    fn reply<'s>(&mut self, text: &Text<'s>, call: &mut Call<'s>)
         ensures { (call.new, self.new) ≡ session_replies self.old text.now }
     {
         self.place = SessionPlace::Reply;
         set_reply(call, self.agent, text);
     }
 
-    fn reply_word(&mut self, word: &[u8], call: &mut Call)
+    fn reply_word(&mut self, word: &'static [u8], call: &mut Call)
         requires { IsTrue (is_text word.now) }
         ensures { (call.new, self.new) ≡ session_replies self.old word.now }
     {
@@ -92,13 +100,13 @@ impl SessionBody {
     }
 
     // A line was received.
-    fn read(&mut self, env: &Env, text: &Text, call: &mut Call)
+    fn read<'s>(&mut self, env: &Env, text: &Text<'s>, call: &mut Call<'s>)
         ensures { (call.new, self.new) ≡ session_reads self.old env.now text.now }
     {
-        if text.bytes() == b"quit".as_slice() {
+        if is_quit(text) {
             self.place = SessionPlace::Bye;
             set_word(call, self.agent, b"bye");
-        } else if command_of(text.bytes()).is_none() {
+        } else if command_of(text).is_none() {
             self.reply_word(b"bad", call);
         } else {
             self.place = SessionPlace::Send;
@@ -119,7 +127,7 @@ impl SessionBody {
         }
     }
 
-    fn take_line(&mut self, env: &Env, got: &Answer, call: &mut Call)
+    fn take_line<'s>(&mut self, env: &Env, got: &Answer<'s>, call: &mut Call<'s>)
         ensures { (call.new, self.new) ≡ session_received self.old env.now got.now }
     {
         match got {
@@ -129,7 +137,7 @@ impl SessionBody {
         }
     }
 
-    fn take_reply(&mut self, got: &Answer, call: &mut Call)
+    fn take_reply<'s>(&mut self, got: &Answer<'s>, call: &mut Call<'s>)
         ensures { (call.new, self.new) ≡ session_told self.old got.now }
     {
         match got {
@@ -140,7 +148,7 @@ impl SessionBody {
     }
 
     // The next call, by the last one.
-    fn go_on(&mut self, env: &Env, got: &Answer, call: &mut Call)
+    fn go_on<'s>(&mut self, env: &Env, got: &Answer<'s>, call: &mut Call<'s>)
         ensures { (call.new, self.new) ≡ session_by self.old env.now got.now self.old.place }
     {
         match self.place {
@@ -160,9 +168,16 @@ impl SessionBody {
 
 impl Body for SessionBody {
     ghost next = { session_next };
+}
 
+impl<'s> Polled<'s> for SessionBody {
     #[tactic(auto, unfolding(crate::specs::Sessions::session_next))]
-    fn poll(&mut self, env: &mut Env, got: &Answer, call: &mut Call) -> Result<(), NoMemory> {
+    fn poll(
+        &mut self,
+        env: &mut Env,
+        got: &Answer<'s>,
+        call: &mut Call<'s>,
+    ) -> Result<(), NoMemory> {
         self.go_on(env, got, call);
         Ok(())
     }

@@ -1,11 +1,11 @@
 // A thread that keeps tables for those that send to it.
 ghost use Rattle.line_server.specs.Stores.{is_invalid, store_by, store_next, store_next-keeps_lengths, store_opening, store_receives, store_received, store_replied, store_tells, told_sender, tables_after};
-ghost use Rattle.std.specs.Prelude.{◌≡◌, OnOk};
+ghost use Rattle.std.specs.Prelude.{◌≡◌, IfOk, OnOk};
 
 use crate::calls::{set_recv, set_reply, set_return, set_word};
 use crate::table::Table;
 use crate::words::was_replied;
-use lwp_types::{Answer, Body, Call, Env, LwpErr, NULL_TID, NoMemory, Text, Tid};
+use lwp_types::{Answer, Body, Call, Env, LwpErr, NULL_TID, NoMemory, Polled, Text, Tid};
 use std::alloc::Global;
 use std::collections::BTreeMap;
 use std::marker::Model;
@@ -22,14 +22,14 @@ pub enum StorePlace {
 /// A thread that keeps a table for each thread that sends to it, for its whole life. It takes memory only for a new sender
 /// and for a put, and finds a table by its sender's number and a key in it by its bytes, each in an ordered map, so that no hash
 /// can be made to collide.
-pub struct StoreBody {
+pub struct StoreBody<'s> {
     alloc: Global,
-    tables: BTreeMap<u64, Table>,
+    tables: BTreeMap<u64, Table<'s>>,
     client: Tid,
     place: StorePlace,
 }
 
-impl Drop for StoreBody {
+impl<'s> Drop for StoreBody<'s> {
     fn drop(self) {
         let StoreBody {
             alloc: _,
@@ -40,7 +40,7 @@ impl Drop for StoreBody {
     }
 }
 
-impl Model for StoreBody {
+impl<'s> Model for StoreBody<'s> {
     ghost use Rattle.line_server.specs.Stores.{StoreBody};
 
     ghost Value = { StoreBody };
@@ -48,29 +48,28 @@ impl Model for StoreBody {
     ghost view = { λ b. record { tables = b.tables.entries; client = b.client; place = b.place } };
 }
 
-// Sets what a sender's text is told, by its own table.
-fn tell(
+// What a sender's text is told, by its own table.
+fn tell<'s>(
     alloc: Global,
-    tables: &mut BTreeMap<u64, Table>,
+    tables: &mut BTreeMap<u64, Table<'s>>,
     from: u64,
-    text: &Text,
-    reply: &mut Text,
-) -> Result<(), NoMemory>
-    ensures reply { OnOk result (reply.new ≡ (told_sender from text.now tables.old.entries).reply) }
+    text: &Text<'s>,
+) -> Result<Text<'s>, NoMemory>
+    ensures reply { IfOk result (λ reply. reply ≡ (told_sender from text.now tables.old.entries).reply) }
     ensures after { OnOk result (tables.new.entries ≡ tables_after from text.now tables.old.entries) }
 {
     if let Some(table) = tables.get_mut(&from) {
-        return table.tell(text, reply);
+        return table.tell(text);
     }
     let mut table = Table::new(alloc);
-    table.tell(text, reply)?;
+    let reply = table.tell(text)?;
     tables.insert(from, table)?;
-    Ok(())
+    Ok(reply)
 }
 
-impl StoreBody {
+impl<'s> StoreBody<'s> {
     /// A store at its start, without tables.
-    pub fn new(alloc: Global) -> StoreBody
+    pub fn new(alloc: Global) -> StoreBody<'s>
         ensures { result ≡ store_opening }
     {
         StoreBody {
@@ -88,20 +87,18 @@ impl StoreBody {
         set_recv(call, None);
     }
 
-    // The call becomes a reply first, with the letter's own text; then its text is set to what the sender is told.
-    fn tell(&mut self, from: Tid, text: &Text, call: &mut Call) -> Result<(), NoMemory>
+    // The call becomes a reply of what the sender is told.
+    fn tell(&mut self, from: Tid, text: &Text<'s>, call: &mut Call<'s>) -> Result<(), NoMemory>
         ensures { OnOk result ((call.new, self.new) ≡ store_tells self.old from text.now) }
     {
         self.client = from;
         self.place = StorePlace::Reply;
-        set_reply(call, from, text);
-        if let Call::Reply { text: reply, .. } = call {
-            tell(self.alloc, &mut self.tables, from.number, text, reply)?;
-        }
+        let reply = tell(self.alloc, &mut self.tables, from.number, text)?;
+        set_reply(call, from, &reply);
         Ok(())
     }
 
-    fn take_letter(&mut self, got: &Answer, call: &mut Call) -> Result<(), NoMemory>
+    fn take_letter(&mut self, got: &Answer<'s>, call: &mut Call<'s>) -> Result<(), NoMemory>
         ensures { OnOk result ((call.new, self.new) ≡ store_received self.old got.now) }
     {
         match got {
@@ -127,7 +124,7 @@ impl StoreBody {
     }
 
     // The next call, by the last one.
-    fn go_on(&mut self, got: &Answer, call: &mut Call) -> Result<(), NoMemory>
+    fn go_on(&mut self, got: &Answer<'s>, call: &mut Call<'s>) -> Result<(), NoMemory>
         ensures { OnOk result ((call.new, self.new) ≡ store_by self.old got.now self.old.place) }
     {
         match self.place {
@@ -141,11 +138,18 @@ impl StoreBody {
     }
 }
 
-impl Body for StoreBody {
+impl<'s> Body for StoreBody<'s> {
     ghost next = { store_next };
+}
 
+impl<'s> Polled<'s> for StoreBody<'s> {
     #[tactic(auto, unfolding(crate::specs::Stores::store_next))]
-    fn poll(&mut self, env: &mut Env, got: &Answer, call: &mut Call) -> Result<(), NoMemory> {
+    fn poll(
+        &mut self,
+        env: &mut Env,
+        got: &Answer<'s>,
+        call: &mut Call<'s>,
+    ) -> Result<(), NoMemory> {
         self.go_on(got, call)
     }
 

@@ -1,14 +1,13 @@
 // What one client has put into a store.
 ghost use Rattle.line_server.specs.Commands.{command_of};
-ghost use Rattle.line_server.specs.Tables.{at_key, shown, told, told_put, told_del, told_value};
+ghost use Rattle.line_server.specs.Tables.{at_key, told, told_put, told_del, told_value};
 ghost use Rattle.lwp_types.specs.TextFields.{is_printable, is_text};
-ghost use Rattle.std.specs.Prelude.{◌≡◌, ◌≤◌, [], length, IsTrue, OnOk};
+ghost use Rattle.std.specs.Prelude.{◌≡◌, ◌≤◌, [], length, IfOk, IsTrue, OnOk};
 
 use crate::command::{Asked, command_of};
 use crate::kept::Kept;
 use crate::key::Key;
-use crate::words::{set_text, text_of};
-use lwp_types::{NoMemory, TEXT_MAX, Text};
+use lwp_types::{NoMemory, Text};
 use std::alloc::Global;
 use std::collections::BTreeMap;
 use std::marker::Model;
@@ -16,14 +15,13 @@ use std::marker::Model;
 /// How many keys a table may have.
 pub const KEYS_MAX: usize = 100;
 
-/// The keys of one client in their order, and what a get of each is told, so that a get makes no text.
+/// The keys of one client in their order, and the value of each.
 #[derive(Drop)]
-pub struct Table {
-    alloc: Global,
-    entries: BTreeMap<Key, Kept>,
+pub struct Table<'s> {
+    entries: BTreeMap<Key, Kept<'s>>,
 }
 
-impl Model for Table {
+impl<'s> Model for Table<'s> {
     ghost use Rattle.line_server.specs.Tables.{Table};
 
     ghost Value = { Table };
@@ -31,85 +29,63 @@ impl Model for Table {
     ghost view = { λ t. t.entries.entries };
 }
 
-// What a get is told of a value.
-fn shown(value: &[u8]) -> Text
-    requires short { length value.now ≤ 237 }
-    requires printable { IsTrue (is_printable value.now) }
-    ensures { result ≡ shown value.now }
-{
-    if value.is_empty() {
-        return text_of(b"is");
-    }
-    let len = 3 + value.len();
-    let mut bytes = [0u8; TEXT_MAX];
-    bytes[..3].copy_from_slice(b"is ");
-    bytes[3..len].copy_from_slice(value);
-    text_of(&bytes[..len])
-}
-
-impl Table {
+impl<'s> Table<'s> {
     /// A table without keys.
-    pub fn new(alloc: Global) -> Table
+    pub fn new(alloc: Global) -> Table<'s>
         ensures { result ≡ [] }
     {
         Table {
-            alloc,
             entries: BTreeMap::new(alloc),
         }
     }
 
-    fn put(&mut self, key: &[u8], value: &[u8], reply: &mut Text) -> Result<(), NoMemory>
+    fn put(&mut self, key: &[u8], value: &'s [u8]) -> Result<Text<'s>, NoMemory>
         requires key { length key.now ≤ 16 }
         requires short { length value.now ≤ 237 }
         requires printable { IsTrue (is_printable value.now) }
-        ensures reply { OnOk result (reply.new ≡ (told_put key.now value.now self.old).reply) }
+        ensures reply { IfOk result (λ reply. reply ≡ (told_put key.now value.now self.old).reply) }
         ensures after { OnOk result (self.new ≡ (told_put key.now value.now self.old).table) }
     {
         let key = Key::new(key);
         if KEYS_MAX <= self.entries.len() && !self.entries.contains_key(&key) {
-            set_text(reply, b"full");
-            return Ok(());
+            return Ok(Text::lent(b"full"));
         }
-        let kept = Kept::new(self.alloc, shown(value))?;
-        self.entries.insert(key, kept)?;
-        set_text(reply, b"ok");
-        Ok(())
+        self.entries.insert(key, Kept::new(value))?;
+        Ok(Text::lent(b"ok"))
     }
 
-    fn get(&self, key: &[u8], reply: &mut Text)
+    fn get(&self, key: &[u8]) -> Text<'s>
         requires { length key.now ≤ 16 }
-        ensures { reply.new ≡ told_value (at_key key.now self.now) }
+        ensures { result ≡ told_value (at_key key.now self.now) }
     {
         let Some(kept) = self.entries.get(&Key::new(key)) else {
-            set_text(reply, b"none");
-            return;
+            return Text::lent(b"none");
         };
-        *reply = *kept.text();
+        kept.text()
     }
 
-    fn del(&mut self, key: &[u8], reply: &mut Text)
+    fn del(&mut self, key: &[u8]) -> Text<'s>
         requires { length key.now ≤ 16 }
-        ensures reply { reply.new ≡ (told_del key.now self.old).reply }
+        ensures reply { result ≡ (told_del key.now self.old).reply }
         ensures after { self.new ≡ (told_del key.now self.old).table }
     {
         match self.entries.remove(&Key::new(key)) {
-            Some(_) => set_text(reply, b"ok"),
-            None => set_text(reply, b"none"),
+            Some(_) => Text::lent(b"ok"),
+            None => Text::lent(b"none"),
         }
     }
 
-    /// Sets what a text is replied to. After `NoMemory` the table and the reply may be anything.
+    /// What a text is replied to. After `NoMemory` the table may be anything.
     #[inline(always)]
-    pub fn tell(&mut self, text: &Text, reply: &mut Text) -> Result<(), NoMemory>
-        ensures reply { OnOk result (reply.new ≡ (told text.now self.old).reply) }
+    pub fn tell(&mut self, text: &Text<'s>) -> Result<Text<'s>, NoMemory>
+        ensures reply { IfOk result (λ reply. reply ≡ (told text.now self.old).reply) }
         ensures after { OnOk result (self.new ≡ (told text.now self.old).table) }
     {
-        match command_of(text.bytes()) {
-            Some(Asked::Put { key, value }) => self.put(key, value, reply)?,
-            Some(Asked::Get { key }) => self.get(key, reply),
-            Some(Asked::Del { key }) => self.del(key, reply),
-            None => set_text(reply, b"bad"),
+        match command_of(text) {
+            Some(Asked::Put { key, value }) => self.put(key, value),
+            Some(Asked::Get { key }) => Ok(self.get(key)),
+            Some(Asked::Del { key }) => Ok(self.del(key)),
+            None => Ok(Text::lent(b"bad")),
         }
-        Ok(())
     }
 }

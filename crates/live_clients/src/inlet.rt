@@ -9,30 +9,30 @@ use std::sync::Wait;
 
 /// Which of the two it is.
 #[derive(Drop)]
-pub(crate) enum RunnerEnd {
-    Lane(LaneTaker),
-    Port(Taker),
+pub(crate) enum RunnerEnd<'s> {
+    Lane(LaneTaker<'s>),
+    Port(Taker<'s>),
 }
 
 /// The runner's end of a lane or of a port.
 #[derive(Drop)]
-pub struct AnyInlet {
-    pub(crate) end: RunnerEnd,
+pub struct AnyInlet<'s> {
+    pub(crate) end: RunnerEnd<'s>,
     ghost first: { TakesFirst (intake_of end) },
     ghost none: { TakesNone (intake_of end) },
 }
 
-impl AnyInlet {
+impl<'s> AnyInlet<'s> {
     ghost use Rattle.event_gate.specs.Port.{is_noted};
     ghost use Rattle.live_clients.specs.Ends.{IsTakenIn, passed_of};
     ghost use Rattle.live_clients.specs.Ties.{any_intake};
     ghost use Rattle.std.specs.Prelude.{true, ◌≡◌};
 
     /// Takes in what a client has posted in all.
-    pub(crate) fn take_in(&mut self, pass: AnyPass)
+    pub(crate) fn take_in(&mut self, pass: AnyPass<'s>)
         requires place { (passed_of pass).place ≡ (any_intake self.old).place }
         requires client { is_noted (passed_of pass).client (any_intake self.old).noted ≡ true }
-        ensures { IsTakenIn (any_intake self.old) (passed_of pass) (any_intake self.new) }
+        ensures { IsTakenIn (any_intake self.old) (passed_of pass.entry) (any_intake self.new) }
     {
         match (&mut self.end, pass) {
             (RunnerEnd::Lane(lane), AnyPass::Lane(pass)) => lane.take_in(pass),
@@ -43,7 +43,7 @@ impl AnyInlet {
     }
 }
 
-impl Inlet for AnyInlet {
+impl<'s> Inlet<'s> for AnyInlet<'s> {
     ghost use Rattle.live_clients.specs.Ties.{any_intake};
 
     ghost intake = { any_intake };
@@ -55,7 +55,7 @@ impl Inlet for AnyInlet {
         }
     }
 
-    fn take<R: Wait>(&mut self, rt: &R) -> Option<Line> {
+    fn take<R: Wait>(&mut self, rt: &R) -> Option<Line<'s>> {
         match &mut self.end {
             RunnerEnd::Lane(lane) => Inlet::take(lane, rt),
             RunnerEnd::Port(port) => Inlet::take(port, rt),

@@ -19,16 +19,16 @@ const EVENTS: u8 = 32;
 
 /// A client's end, and the place of its inlet.
 #[derive(Drop)]
-pub(crate) struct Seat {
+pub(crate) struct Seat<'s> {
     pub(crate) inlet: usize,
-    pub(crate) poster: AnyPoster,
+    pub(crate) poster: AnyPoster<'s>,
 }
 
 /// All inlets, and of each client its seat.
 #[derive(Drop)]
-pub(crate) struct Opened {
-    pub(crate) inlets: Vec<AnyInlet>,
-    pub(crate) seats: Vec<Option<Seat>>,
+pub(crate) struct Opened<'s> {
+    pub(crate) inlets: Vec<AnyInlet<'s>>,
+    pub(crate) seats: Vec<Option<Seat<'s>>>,
 }
 
 // The clients that post to an event, in order.
@@ -45,22 +45,22 @@ fn clients_of(alloc: Global, events: &[u8], event: u8) -> Result<Vec<u8>, NoMemo
     Ok(clients)
 }
 
-fn put_seat(seats: &mut Vec<Option<Seat>>, client: u8, seat: Seat)
+fn put_seat<'s>(seats: &mut Vec<Option<Seat<'s>>>, client: u8, seat: Seat<'s>)
     requires { client < vec_len seats.old }
-    ensures { seats.new.items ≡ set seats.old.items client (Some seat) }
+    ensures { seats.new.items ≡ set seats.old.items client (Some seat.entry) }
 {
     seats[usize::from(client)] = Some(seat);
 }
 
 // A lane for the one client of an event.
-fn open_for_one(
+fn open_for_one<'s>(
     alloc: Global,
     event: u8,
     client: u8,
-    texts: &[Vec<Text>],
+    texts: &[Vec<Text<'s>>],
     index: usize,
-    seats: &mut Vec<Option<Seat>>,
-) -> Result<AnyInlet, NoMemory>
+    seats: &mut Vec<Option<Seat<'s>>>,
+) -> Result<AnyInlet<'s>, NoMemory>
     requires texts { client < length texts.now }
     requires few { All (λ ts. length ts.items ≤ 20000) texts.now }
     requires seats { client < vec_len seats.old }
@@ -82,15 +82,15 @@ fn open_for_one(
 }
 
 // A port for the clients of an event.
-fn open_for_many<R: Wait>(
+fn open_for_many<'s, R: Wait>(
     rt: &R,
     alloc: Global,
     event: u8,
     clients: &[u8],
-    texts: &[Vec<Text>],
+    texts: &[Vec<Text<'s>>],
     index: usize,
-    seats: &mut Vec<Option<Seat>>,
-) -> Result<AnyInlet, NoMemory>
+    seats: &mut Vec<Option<Seat<'s>>>,
+) -> Result<AnyInlet<'s>, NoMemory>
     requires distinct { AllPairs (λ a b. a ≢ b) clients.now }
     requires few { All (λ ts. length ts.items ≤ 20000) texts.now }
     requires seats { All (λ c. c < vec_len seats.old) clients.now }
@@ -124,15 +124,15 @@ fn sole_client(clients: &[u8]) -> Option<u8>
 }
 
 // The inlet of an event that has these clients, and their seats.
-fn open_inlet<R: Wait>(
+fn open_inlet<'s, R: Wait>(
     rt: &R,
     alloc: Global,
     event: u8,
     clients: &[u8],
-    texts: &[Vec<Text>],
+    texts: &[Vec<Text<'s>>],
     index: usize,
-    seats: &mut Vec<Option<Seat>>,
-) -> Result<AnyInlet, NoMemory>
+    seats: &mut Vec<Option<Seat<'s>>>,
+) -> Result<AnyInlet<'s>, NoMemory>
     requires distinct { AllPairs (λ a b. a ≢ b) clients.now }
     requires texts { All (λ c. c < length texts.now) clients.now }
     requires few { All (λ ts. length ts.items ≤ 20000) texts.now }
@@ -149,7 +149,7 @@ fn open_inlet<R: Wait>(
 }
 
 // As many seats as there are clients, all vacant.
-fn vacant_seats(alloc: Global, clients: usize) -> Result<Vec<Option<Seat>>, NoMemory>
+fn vacant_seats<'s>(alloc: Global, clients: usize) -> Result<Vec<Option<Seat<'s>>>, NoMemory>
     ensures { IfOk result (λ v. vec_len v ≡ clients) }
 {
     let mut seats = Vec::new(alloc);
@@ -160,14 +160,14 @@ fn vacant_seats(alloc: Global, clients: usize) -> Result<Vec<Option<Seat>>, NoMe
 }
 
 // The inlet of an event and the seats of its clients, if it has clients.
-fn open_event<R: Wait>(
+fn open_event<'s, R: Wait>(
     rt: &R,
     alloc: Global,
     event: u8,
     events: &[u8],
-    texts: &[Vec<Text>],
-    inlets: &mut Vec<AnyInlet>,
-    seats: &mut Vec<Option<Seat>>,
+    texts: &[Vec<Text<'s>>],
+    inlets: &mut Vec<AnyInlet<'s>>,
+    seats: &mut Vec<Option<Seat<'s>>>,
 ) -> Result<(), NoMemory>
     requires event { event < 32 }
     requires clients { length events.now ≤ 16 }
@@ -186,12 +186,12 @@ fn open_event<R: Wait>(
 }
 
 /// An inlet for each event that has a client, and a seat for each client.
-pub(crate) fn open_all<R: Wait>(
+pub(crate) fn open_all<'s, R: Wait>(
     rt: &R,
     alloc: Global,
     events: &[u8],
-    texts: &[Vec<Text>],
-) -> Result<Opened, NoMemory>
+    texts: &[Vec<Text<'s>>],
+) -> Result<Opened<'s>, NoMemory>
     requires clients { length events.now ≤ 16 }
     requires events { All (λ e. e ≤ 31) events.now }
     requires texts { length texts.now ≡ length events.now }

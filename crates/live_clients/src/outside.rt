@@ -5,6 +5,7 @@ ghost use Rattle.live_clients.specs.Ties.{IsWork};
 ghost use Rattle.std.specs.Prelude.{All, length, map, ◌≡◌, ◌≤◌};
 
 use crate::inlet::AnyInlet;
+use crate::job::{Job, join, start};
 use crate::opening::{Opened, Seat, open_all};
 use crate::poster::{AnyEnd, AnyPoster, post_any};
 use event_gate::{Bell, PostGate};
@@ -15,33 +16,62 @@ use std::snapshot::Snapshot;
 use std::sync::Wait;
 use std::thread::{Promise, PromisedHandle, Scope, Threads};
 
-/// What a client's thread will bring back.
+/// What a client's thread does: it posts the client's texts.
 #[derive(Drop)]
-pub(crate) struct Owes {
-    pub(crate) poster: Snapshot<AnyPoster>,
-    pub(crate) texts: Snapshot<Vec<Text>>,
+pub(crate) struct Posts<'s, G, R> {
+    rt: &'s R,
+    poster: AnyPoster<'s>,
+    gate: G,
+    texts: &'s Vec<Text<'s>>,
+    bell: &'s Bell,
 }
 
-impl Promise<AnyEnd> for Owes {
+impl<'s, G: PostGate + Send, R: Wait + Sync> Job for Posts<'s, G, R> {
+    type End = AnyEnd<'s>;
+
+    ghost ready = { λ j. IsReady (posting_of j.poster).place (posting_of j.poster).client j.texts.now.items (posting_of j.poster) };
+
+    ghost ends = { λ j e. IsEnd (posting_of j.poster).place (posting_of j.poster).client j.texts.now.items e };
+
+    fn run(self) -> AnyEnd<'s> {
+        let Posts {
+            rt,
+            poster,
+            mut gate,
+            texts,
+            bell,
+        } = self;
+        post_any(rt, poster, &mut gate, texts.as_slice(), bell)
+    }
+}
+
+/// What a client's thread will bring back.
+#[derive(Drop)]
+pub(crate) struct Owes<'s> {
+    pub(crate) poster: Snapshot<AnyPoster<'s>>,
+    pub(crate) texts: Snapshot<Vec<Text<'s>>>,
+}
+
+impl<'s> Promise<AnyEnd<'s>> for Owes<'s> {
     ghost kept_by = { λ p e. IsEnd (posting_of p.poster.value).place (posting_of p.poster.value).client p.texts.value.items e };
 }
 
 /// What a client's thread does there, or did here, where none could be started.
 #[derive(Drop)]
-pub(crate) enum Work {
-    There(PromisedHandle<AnyEnd, Owes>),
-    Here(AnyEnd),
+pub(crate) enum Work<'s> {
+    There(PromisedHandle<AnyEnd<'s>, Owes<'s>>),
+    Here(AnyEnd<'s>),
 }
 
-impl Work {
+impl<'s> Work<'s> {
     ghost use Rattle.std.specs.Prelude.{List, ℕ};
 
     // What came of it, once its thread has ended.
-    fn end<R: Threads>(self, rt: &R) -> AnyEnd
-        ensures { (place : List ℕ) (client : ℕ) (texts : List (List ℕ)) → IsWork place client texts self → IsEnd place client texts result }
+    fn end<R: Threads>(self, rt: &R) -> AnyEnd<'s>
+        ensures { (place : List ℕ) (client : ℕ) (texts : List (List ℕ)) → IsWork place client texts self.entry → IsEnd place client texts result }
     {
         match self {
-            Work::There(handle) => handle.join(rt),
+            Work::There(handle) => join(rt, handle),
             Work::Here(end) => end,
         }
     }
@@ -49,43 +79,40 @@ impl Work {
 
 /// A client whose pass is still out.
 #[derive(Drop)]
-pub(crate) struct Client {
+pub(crate) struct Client<'s> {
     /// The place of its inlet.
     pub(crate) inlet: usize,
-    pub(crate) work: Work,
+    pub(crate) work: Work<'s>,
 }
 
 // Starts the thread of a client. Where none can be started, the client's lines are posted here and now.
-fn start_client<'s, E, G: PostGate + 's, R: Threads + Wait + Sync>(
+fn start_client<'s, E, G: PostGate + Send + 's, R: Threads + Wait + Sync>(
     scope: &Scope<'s, E>,
     rt: &'s R,
-    seat: Seat,
+    seat: Seat<'s>,
     gate: G,
-    texts: &'s Vec<Text>,
+    texts: &'s Vec<Text<'s>>,
     bell: &'s Bell,
-) -> Client
+) -> Client<'s>
     requires { IsReady (posting_of seat.poster).place (posting_of seat.poster).client texts.now.items (posting_of seat.poster) }
-    ensures inlet { result.inlet ≡ seat.inlet }
-    ensures work { IsWork (posting_of seat.poster).place (posting_of seat.poster).client texts.now.items result.work }
+    ensures inlet { result.inlet ≡ seat.entry.inlet }
+    ensures work { IsWork (posting_of seat.entry.poster).place (posting_of seat.entry.poster).client texts.now.items result.work }
 {
     let Seat { inlet, poster } = seat;
     let promise = Owes {
         poster: Snapshot::of(&poster),
         texts: Snapshot::of(texts),
     };
-    let started = scope.spawn_with(
-        promise,
-        move || -> AnyEnd
-            requires { IsReady (posting_of poster).place (posting_of poster).client texts.now.items (posting_of poster) }
-            ensures { IsEnd (posting_of poster).place (posting_of poster).client texts.entry.now.items result }
-        {
-            let mut gate = gate;
-            post_any(rt, poster, &mut gate, texts.as_slice(), bell)
-        },
-    );
-    let work = match started {
+    let posts = Posts {
+        rt,
+        poster,
+        gate,
+        texts,
+        bell,
+    };
+    let work = match start(scope, rt, promise, posts) {
         Ok(handle) => Work::There(handle),
-        Err(refused) => Work::Here((refused.value)()),
+        Err(end) => Work::Here(end),
     };
     Client { inlet, work }
 }
@@ -130,12 +157,12 @@ fn lines_in_all(texts: &[Vec<Text>]) -> u32
 /// The inlets of a pod, and the threads that post to them.
 pub struct Outside<'s> {
     /// One of each event that has a client, by rising event.
-    pub inlets: Vec<AnyInlet>,
+    pub inlets: Vec<AnyInlet<'s>>,
     // The event and the texts of each client.
     pub(crate) events: &'s [u8],
-    pub(crate) texts: &'s [Vec<Text>],
+    pub(crate) texts: &'s [Vec<Text<'s>>],
     // The first clients. The passes of the others have been taken in.
-    pub(crate) out: Vec<Client>,
+    pub(crate) out: Vec<Client<'s>>,
     // Whether those have posted all their lines.
     pub(crate) all: bool,
 }
@@ -162,12 +189,12 @@ impl<'s> Outside<'s> {
 
     /// Opens an inlet for each event that has a client, and starts a thread for each client, which posts its texts. The rings and
     /// the leaving of each are heard at the bell. Client c has gate c.
-    pub fn start<E, G: PostGate + 's, R: Threads + Wait + Sync>(
+    pub fn start<E, G: PostGate + Send + 's, R: Threads + Wait + Sync>(
         scope: &Scope<'s, E>,
         rt: &'s R,
         alloc: Global,
         events: &'s [u8],
-        texts: &'s [Vec<Text>],
+        texts: &'s [Vec<Text<'s>>],
         gates: Vec<G>,
         bell: &'s Bell,
     ) -> Result<Outside<'s>, NoMemory>
@@ -236,7 +263,7 @@ impl<'s> Outside<'s> {
     }
 
     // Takes in the pass of the client behind all that are out, when its thread has ended.
-    fn take_back<R: Threads>(&mut self, rt: &R, client: Client)
+    fn take_back<R: Threads>(&mut self, rt: &R, client: Client<'s>)
         requires { AreTied (events_of self.old) (all_texts self.old) self.old.all (self.old.out.items ++ client ∷ []) (intakes self.old) }
         ensures tied { IsTied self.new }
         ensures same { IsSameOutside self.old self.new }

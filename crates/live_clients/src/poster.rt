@@ -10,37 +10,37 @@ use std::sync::Wait;
 
 /// A client's end of a lane or of a port.
 #[derive(Drop)]
-pub(crate) enum AnyPoster {
-    Lane(LanePoster),
-    Port(Poster),
+pub(crate) enum AnyPoster<'s> {
+    Lane(LanePoster<'s>),
+    Port(Poster<'s>),
 }
 
 /// What a client has posted, for good.
 #[derive(Drop)]
-pub(crate) enum AnyPass {
-    Lane(LanePass),
-    Port(PostPass),
+pub(crate) enum AnyPass<'s> {
+    Lane(LanePass<'s>),
+    Port(PostPass<'s>),
 }
 
 /// What a client has posted, and whether that is all of its lines.
 #[derive(Drop)]
-pub(crate) struct AnyEnd {
-    pub(crate) pass: AnyPass,
+pub(crate) struct AnyEnd<'s> {
+    pub(crate) pass: AnyPass<'s>,
     pub(crate) all: bool,
 }
 
 /// Posts the texts in order, until a post is refused, which can't be on a lane. Then the poster leaves. The gate was asked of exactly
 /// the lines posted, in order, and then of the one refused, if one was.
-pub(crate) fn post_any<G: PostGate, R: Wait>(
+pub(crate) fn post_any<'s, G: PostGate, R: Wait>(
     rt: &R,
-    poster: AnyPoster,
+    poster: AnyPoster<'s>,
     gate: &mut G,
-    texts: &[Text],
+    texts: &[Text<'s>],
     bell: &Bell,
-) -> AnyEnd
+) -> AnyEnd<'s>
     requires { IsReady (posting_of poster).place (posting_of poster).client texts.now (posting_of poster) }
-    ensures end { IsEnd (posting_of poster).place (posting_of poster).client texts.now result }
-    ensures gate { gate.new ≡ asked_each G.asked gate.old (lines_tried (posting_of poster).client texts.now result) }
+    ensures end { IsEnd (posting_of poster.entry).place (posting_of poster.entry).client texts.now result }
+    ensures gate { gate.new ≡ asked_each G.asked gate.old (lines_tried (posting_of poster.entry).client texts.now result) }
 {
     match poster {
         AnyPoster::Lane(poster) => AnyEnd {

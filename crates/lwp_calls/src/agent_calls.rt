@@ -25,11 +25,11 @@ const MOST_AGENTS: usize = 256;
 
 /// A call of this family.
 #[inline(never)]
-pub fn carry_out(
-    parts: &mut Parts,
+pub fn carry_out<'s>(
+    parts: &mut Parts<'s>,
     tid: Tid,
     call: AgentCall,
-    effects: &mut Effects,
+    effects: &mut Effects<'s>,
 ) -> Result<(), NoMemory>
     requires lawful { LawfulParts parts.old }
     requires alone { parts.old.dying ≡ None }
@@ -51,7 +51,12 @@ pub fn carry_out(
 
 // An agent of the caller. What a delivery needs later is reserved now.
 #[inline(never)]
-fn create(parts: &mut Parts, caller: Tid, event: u32, effects: &mut Effects) -> Result<(), NoMemory>
+fn create<'s>(
+    parts: &mut Parts<'s>,
+    caller: Tid,
+    event: u32,
+    effects: &mut Effects<'s>,
+) -> Result<(), NoMemory>
     requires lawful { LawfulParts parts.old }
     requires alone { parts.old.dying ≡ None }
     requires room { effects.old ≡ [] }
@@ -111,7 +116,7 @@ fn make_places(parts: &mut Parts) -> Result<(), NoMemory>
 }
 
 // A Trap is for whoever keeps the pod's own events, and never asked of the machine.
-fn refuse_trap(parts: &Parts, tid: Tid, effects: &mut Effects)
+fn refuse_trap<'s>(parts: &Parts<'s>, tid: Tid, effects: &mut Effects<'s>)
     requires step { InStep parts.now }
     requires room { effects.old ≡ [] }
     ensures told { Told parts.now parts.now effects.old effects.new tid (refused (state_of parts.now) error.InvalidArg) }
@@ -121,7 +126,7 @@ fn refuse_trap(parts: &Parts, tid: Tid, effects: &mut Effects)
 }
 
 // The live agents.
-fn list(parts: &Parts, tid: Tid, effects: &mut Effects) -> Result<(), NoMemory>
+fn list<'s>(parts: &Parts<'s>, tid: Tid, effects: &mut Effects<'s>) -> Result<(), NoMemory>
     requires step { InStep parts.now }
     requires room { effects.old ≡ [] }
     ensures ok { OnOk result (Told parts.now parts.now effects.old effects.new tid (listed (state_of parts.now) kind.Thread (agent_numbers (state_of parts.now).agents))) }

@@ -19,8 +19,7 @@ use lwp_types::{Answer, Block, Effects, Flags, IdKind, IdList, NoMemory, Tid};
 use stale_ids::Registry;
 use std::alloc::Global;
 
-/// Tells a caller a list. It stands apart, since an answer has room for a text.
-#[inline(never)]
+/// Tells a caller a list.
 pub fn tell_ids(tid: Tid, kind: IdKind, list: IdList, effects: &mut Effects)
     requires { length effects.old < 2048 }
     ensures { effects.new ≡ effects.old ++ effect.Answered tid (answer.Ids kind list) ∷ [] }

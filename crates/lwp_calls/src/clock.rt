@@ -43,7 +43,7 @@ fn is_asleep(parts: &Parts, tid: Tid) -> bool
 }
 
 // A thread's timer falls due. Who sleeps goes on, and who waits for a letter learns that none has come in time.
-fn time_out(parts: &mut Parts, tid: Tid, effects: &mut Effects)
+fn time_out<'s>(parts: &mut Parts<'s>, tid: Tid, effects: &mut Effects<'s>)
     requires step { InStep parts.old }
     requires waits { IsTrue (is_blocked_in (state_of parts.old) tid) }
     requires room { length effects.old < 2048 }
@@ -57,8 +57,7 @@ fn time_out(parts: &mut Parts, tid: Tid, effects: &mut Effects)
     wake_done(parts, tid, done, effects);
 }
 
-// A tick is told. It stands apart, so that nobody else makes room for this effect.
-#[inline(never)]
+// A tick is told.
 fn tell_tick(now: u64, effects: &mut Effects)
     requires { length effects.old < 2048 }
     ensures { effects.new ≡ effects.old ++ Effect.Ticked now ∷ [] }
@@ -67,7 +66,7 @@ fn tell_tick(now: u64, effects: &mut Effects)
 }
 
 /// The clock ticks, and whoever's timer is due then goes on, in the order in which the timers were set.
-pub fn tick(parts: &mut Parts, effects: &mut Effects)
+pub fn tick<'s>(parts: &mut Parts<'s>, effects: &mut Effects<'s>)
     requires lawful { LawfulParts parts.old }
     requires alone { parts.old.dying ≡ None }
     requires may_tick { IsTrue (may_tick (state_of parts.old)) }

@@ -21,12 +21,12 @@ use std::alloc::Global;
 
 /// A call of this family.
 #[inline(never)]
-pub fn carry_out(
-    parts: &mut Parts,
+pub fn carry_out<'s>(
+    parts: &mut Parts<'s>,
     alloc: Global,
     tid: Tid,
-    call: &LetterCall<'_>,
-    effects: &mut Effects,
+    call: &LetterCall<'_, 's>,
+    effects: &mut Effects<'s>,
 ) -> Result<(), NoMemory>
     requires lawful { LawfulParts parts.old }
     requires alone { parts.old.dying ≡ None }
@@ -51,15 +51,14 @@ pub fn carry_out(
     Ok(())
 }
 
-// The caller waits for the reply to its letter. It stands apart, so that a reply makes no room for a letter; so does the receive.
-#[inline(never)]
-fn send(
-    parts: &mut Parts,
+// The caller waits for the reply to its letter.
+fn send<'s>(
+    parts: &mut Parts<'s>,
     caller: Tid,
     to: Tid,
     room: u8,
-    text: &Text,
-    effects: &mut Effects,
+    text: &Text<'s>,
+    effects: &mut Effects<'s>,
 ) -> Option<Result<i64, LwpErr>>
     requires lawful { LawfulParts parts.old }
     requires alone { parts.old.dying ≡ None }
@@ -78,7 +77,7 @@ fn send(
     let letter = Letter {
         from: caller,
         to,
-        text: *text,
+        text: text.again(),
         room,
         received: false,
     };
@@ -113,7 +112,7 @@ fn block_takes(why: Block, sender: Tid) -> bool
 }
 
 /// A letter more, which nobody has received. Who waits for such a letter has it at once, and goes on.
-pub fn post(parts: &mut Parts, letter: &Letter, effects: &mut Effects)
+pub fn post<'s>(parts: &mut Parts<'s>, letter: &Letter<'s>, effects: &mut Effects<'s>)
     requires step { InStep parts.old }
     requires alone { parts.old.dying ≡ None }
     requires unread { letter.now.received ≡ false }
@@ -124,8 +123,11 @@ pub fn post(parts: &mut Parts, letter: &Letter, effects: &mut Effects)
 {
     let received = takes_from(parts, letter.to, letter.from);
     parts.mail.post_letter(Letter {
+        from: letter.from,
+        to: letter.to,
+        text: letter.text.again(),
+        room: letter.room,
         received,
-        ..*letter
     });
     if received {
         wake_lettered(parts, letter.to, letter, effects);
@@ -149,8 +151,13 @@ fn source_refusal(parts: &Parts, caller: Tid, from: &Option<Tid>) -> Option<LwpE
 }
 
 // The caller has the first letter of whom it names, or of anybody. With none it waits, or is refused.
-#[inline(never)]
-fn receive(parts: &mut Parts, caller: Tid, from: &Option<Tid>, mode: Mode, effects: &mut Effects)
+fn receive<'s>(
+    parts: &mut Parts<'s>,
+    caller: Tid,
+    from: &Option<Tid>,
+    mode: Mode,
+    effects: &mut Effects<'s>,
+)
     requires lawful { LawfulParts parts.old }
     requires alone { parts.old.dying ≡ None }
     requires may_run { IsTrue (is_eligible_in (state_of parts.old) caller) }
@@ -175,7 +182,11 @@ fn receive(parts: &mut Parts, caller: Tid, from: &Option<Tid>, mode: Mode, effec
 }
 
 // Who sent the letters to the caller, received or not.
-fn list_senders(parts: &Parts, caller: Tid, effects: &mut Effects) -> Result<(), NoMemory>
+fn list_senders<'s>(
+    parts: &Parts<'s>,
+    caller: Tid,
+    effects: &mut Effects<'s>,
+) -> Result<(), NoMemory>
     requires step { InStep parts.now }
     requires room { effects.old ≡ [] }
     ensures ok { OnOk result (Told parts.now parts.now effects.old effects.new caller (listed (state_of parts.now) kind.Thread (senders_to (state_of parts.now).letters caller))) }
@@ -187,11 +198,11 @@ fn list_senders(parts: &Parts, caller: Tid, effects: &mut Effects) -> Result<(),
 }
 
 // Who waits for a letter of the caller by name.
-fn list_receivers(
-    parts: &Parts,
+fn list_receivers<'s>(
+    parts: &Parts<'s>,
     alloc: Global,
     caller: Tid,
-    effects: &mut Effects,
+    effects: &mut Effects<'s>,
 ) -> Result<(), NoMemory>
     requires step { InStep parts.now }
     requires room { effects.old ≡ [] }

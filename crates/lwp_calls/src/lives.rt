@@ -26,12 +26,12 @@ const MOST_THREADS: usize = 1024;
 
 /// A call of this family.
 #[inline(never)]
-pub fn carry_out(
-    parts: &mut Parts,
+pub fn carry_out<'s>(
+    parts: &mut Parts<'s>,
     alloc: Global,
     tid: Tid,
     call: LifeCall,
-    effects: &mut Effects,
+    effects: &mut Effects<'s>,
 ) -> Result<(), NoMemory>
     requires lawful { LawfulParts parts.old }
     requires alone { parts.old.dying ≡ None }
@@ -56,17 +56,15 @@ pub fn carry_out(
     Ok(())
 }
 
-// A thread more, which begins in a procedure. It stands apart, so that the calls that are answered a number make no room for its
-// answer.
-#[inline(never)]
-fn create(
-    parts: &mut Parts,
+// A thread more, which begins in a procedure.
+fn create<'s>(
+    parts: &mut Parts<'s>,
     alloc: Global,
     caller: Tid,
     number: u32,
     prio: u32,
     flags: Flags,
-    effects: &mut Effects,
+    effects: &mut Effects<'s>,
 ) -> Result<(), NoMemory>
     requires lawful { LawfulParts parts.old }
     requires alone { parts.old.dying ≡ None }
@@ -129,7 +127,7 @@ fn make_places(parts: &mut Parts) -> Result<(), NoMemory>
 }
 
 // A thread begins, with one frame. There are places for it.
-fn begin(parts: &mut Parts, prio: u32, flags: Flags, stack: ExcStack) -> Tid
+fn begin<'s>(parts: &mut Parts<'s>, prio: u32, flags: Flags, stack: ExcStack<'s>) -> Tid
     requires lawful { LawfulParts parts.old }
     requires alone { parts.old.dying ≡ None }
     requires places { HasPlaces parts.old }
@@ -152,11 +150,11 @@ fn begin(parts: &mut Parts, prio: u32, flags: Flags, stack: ExcStack) -> Tid
 }
 
 // An agent ends, or a thread dies.
-fn destroy(
-    parts: &mut Parts,
+fn destroy<'s>(
+    parts: &mut Parts<'s>,
     caller: Tid,
     tid: Tid,
-    effects: &mut Effects,
+    effects: &mut Effects<'s>,
 ) -> Option<Result<i64, LwpErr>>
     requires lawful { LawfulParts parts.old }
     requires alone { parts.old.dying ≡ None }
@@ -219,7 +217,12 @@ fn sleep(parts: &mut Parts, caller: Tid, ticks: u32) -> Option<Result<i64, LwpEr
 }
 
 // The live threads.
-fn list(parts: &Parts, alloc: Global, tid: Tid, effects: &mut Effects) -> Result<(), NoMemory>
+fn list<'s>(
+    parts: &Parts<'s>,
+    alloc: Global,
+    tid: Tid,
+    effects: &mut Effects<'s>,
+) -> Result<(), NoMemory>
     requires step { InStep parts.now }
     requires room { effects.old ≡ [] }
     ensures ok { OnOk result (Told parts.now parts.now effects.old effects.new tid (listed (state_of parts.now) kind.Thread (numbers (state_of parts.now).threads))) }

@@ -22,11 +22,11 @@ const MOST_DEPTH: u32 = 65_535;
 
 /// A call of this family.
 #[inline(never)]
-pub fn carry_out(
-    parts: &mut Parts,
+pub fn carry_out<'s>(
+    parts: &mut Parts<'s>,
     tid: Tid,
     call: LockCall,
-    effects: &mut Effects,
+    effects: &mut Effects<'s>,
 ) -> Result<(), NoMemory>
     requires lawful { LawfulParts parts.old }
     requires alone { parts.old.dying ≡ None }
@@ -51,9 +51,8 @@ pub fn carry_out(
     Ok(())
 }
 
-// A monitor that nobody holds. It stands apart, so that the calls that are answered a number make no room for its answer.
-#[inline(never)]
-fn create(parts: &mut Parts, tid: Tid, effects: &mut Effects) -> Result<(), NoMemory>
+// A monitor that nobody holds.
+fn create<'s>(parts: &mut Parts<'s>, tid: Tid, effects: &mut Effects<'s>) -> Result<(), NoMemory>
     requires step { InStep parts.old }
     requires alone { parts.old.dying ≡ None }
     requires room { effects.old ≡ [] }
@@ -149,7 +148,7 @@ fn cond_enter(parts: &mut Parts, caller: Tid, mon: Mid) -> Result<i64, LwpErr>
 }
 
 // The live monitors.
-fn list(parts: &Parts, tid: Tid, effects: &mut Effects) -> Result<(), NoMemory>
+fn list<'s>(parts: &Parts<'s>, tid: Tid, effects: &mut Effects<'s>) -> Result<(), NoMemory>
     requires step { InStep parts.now }
     requires room { effects.old ≡ [] }
     ensures ok { OnOk result (Told parts.now parts.now effects.old effects.new tid (listed (state_of parts.now) kind.Monitor (state_of parts.now).monitors)) }
@@ -161,7 +160,12 @@ fn list(parts: &Parts, tid: Tid, effects: &mut Effects) -> Result<(), NoMemory>
 }
 
 // Who waits to enter the monitor.
-fn waiters(parts: &Parts, tid: Tid, mon: Mid, effects: &mut Effects) -> Result<(), NoMemory>
+fn waiters<'s>(
+    parts: &Parts<'s>,
+    tid: Tid,
+    mon: Mid,
+    effects: &mut Effects<'s>,
+) -> Result<(), NoMemory>
     requires step { InStep parts.now }
     requires room { effects.old ≡ [] }
     ensures ok { OnOk result (Told parts.now parts.now effects.old effects.new tid (monitor_waiters (state_of parts.now) mon)) }

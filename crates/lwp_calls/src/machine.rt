@@ -1,9 +1,9 @@
 // A pod as a machine, around which events of the pod's own may lie.
 use crate::Pod;
 use lwp_types::{Call, Effects, Flags, NoMemory, PodEnd, Text, Tid};
-use pod_events::Machine;
+use pod_events::{Driven, Machine};
 
-impl Machine for Pod {
+impl<'s> Machine for Pod<'s> {
     ghost use Rattle.lwp_types.specs.State.{State};
 
     ghost state = { λ (s : State). s };
@@ -39,14 +39,16 @@ impl Machine for Pod {
     fn threads(&self) -> usize {
         Pod::threads(self)
     }
+}
 
+impl<'s> Driven<'s> for Pod<'s> {
     #[inline(always)]
-    fn call(&mut self, call: &Call, effects: &mut Effects) -> Result<(), NoMemory> {
+    fn call(&mut self, call: &Call<'s>, effects: &mut Effects<'s>) -> Result<(), NoMemory> {
         Pod::call(self, call, effects)
     }
 
     #[inline(always)]
-    fn deliver(&mut self, event: u8, text: Text, effects: &mut Effects) {
+    fn deliver(&mut self, event: u8, text: Text<'s>, effects: &mut Effects<'s>) {
         Pod::deliver(self, event, text, effects)
     }
 }

@@ -29,11 +29,11 @@ const MOST_REGISTRATIONS: u64 = 4_294_967_295;
 
 /// A call of this family.
 #[inline(never)]
-pub fn carry_out(
-    parts: &mut Parts,
+pub fn carry_out<'s>(
+    parts: &mut Parts<'s>,
     tid: Tid,
-    call: &MarkCall<'_>,
-    effects: &mut Effects,
+    call: &MarkCall<'_, 's>,
+    effects: &mut Effects<'s>,
 ) -> Result<(), NoMemory>
     requires lawful { LawfulParts parts.old }
     requires alone { parts.old.dying ≡ None }
@@ -114,17 +114,15 @@ fn set_handler(kind: &mut Kind, pattern: Pattern, func: Func, arg: u32) -> Resul
     }
 }
 
-// An exit procedure more on a stack. The answer is false where there is no room for it. It stands apart, so that nobody else makes
-// room for its text.
-#[inline(never)]
-fn set_exit(kind: &mut Kind, reg: u64, exit: &ExitCall) -> Result<bool, NoMemory>
+// An exit procedure more on a stack. The answer is false where there is no room for it.
+fn set_exit<'s>(kind: &mut Kind<'s>, reg: u64, exit: &ExitCall<'s>) -> Result<bool, NoMemory>
     requires { 0 < length (kind_marks (Some kind.old)) }
     ensures room { IfOk result (λ set. set ≡ not (is_full (kind_marks (Some kind.old)))) }
     ensures ok { OnOk result (kind.new ≡ kind_marked (with_mark (Mark.Exit reg exit.now) (kind_marks (Some kind.old))) kind.old) }
     ensures err { OnErr result (kind.new ≡ kind.old) }
 {
     match kind {
-        Kind::Thread(rec) => rec.stack.on_exit(reg, *exit),
+        Kind::Thread(rec) => rec.stack.on_exit(reg, exit.again()),
         Kind::Agent => Ok(false),
     }
 }
@@ -235,7 +233,11 @@ fn unhandle(parts: &mut Parts, tid: Tid) -> Result<i64, LwpErr>
 }
 
 // An exit procedure more, in the present frame; the answer is its number.
-fn on_exit(parts: &mut Parts, tid: Tid, exit: &ExitCall) -> Result<Result<i64, LwpErr>, NoMemory>
+fn on_exit<'s>(
+    parts: &mut Parts<'s>,
+    tid: Tid,
+    exit: &ExitCall<'s>,
+) -> Result<Result<i64, LwpErr>, NoMemory>
     requires lawful { LawfulParts parts.old }
     requires alone { parts.old.dying ≡ None }
     requires may_run { IsTrue (is_eligible_in (state_of parts.old) tid) }
@@ -273,10 +275,8 @@ fn found(parts: &Parts, tid: Tid, pattern: u32) -> Option<Found>
     found_on(kind, pattern)
 }
 
-// What the handler was set with. It stands apart, so that the calls that are answered a number make no room for its answer; so does
-// a catch.
-#[inline(never)]
-fn bound(parts: &Parts, tid: Tid, pattern: u32, effects: &mut Effects)
+// What the handler was set with.
+fn bound<'s>(parts: &Parts<'s>, tid: Tid, pattern: u32, effects: &mut Effects<'s>)
     requires lawful { LawfulParts parts.now }
     requires alone { parts.now.dying ≡ None }
     requires may_run { IsTrue (is_eligible_in (state_of parts.now) tid) }
@@ -338,7 +338,11 @@ fn frames(parts: &Parts, tid: Tid) -> u32
 }
 
 // The topmost frame goes, or the caller dies.
-fn return_from(parts: &mut Parts, tid: Tid, effects: &mut Effects) -> Option<Result<i64, LwpErr>>
+fn return_from<'s>(
+    parts: &mut Parts<'s>,
+    tid: Tid,
+    effects: &mut Effects<'s>,
+) -> Option<Result<i64, LwpErr>>
     requires lawful { LawfulParts parts.old }
     requires alone { parts.old.dying ≡ None }
     requires may_run { IsTrue (is_eligible_in (state_of parts.old) tid) }
@@ -367,8 +371,13 @@ fn settle(kind: &mut Kind, mark: u32)
 }
 
 // The exception is caught: the stack is cut back to the handler's frame, and the handler goes.
-#[inline(never)]
-fn catch(parts: &mut Parts, tid: Tid, pattern: u32, handler: Found, effects: &mut Effects)
+fn catch<'s>(
+    parts: &mut Parts<'s>,
+    tid: Tid,
+    pattern: u32,
+    handler: Found,
+    effects: &mut Effects<'s>,
+)
     requires lawful { LawfulParts parts.old }
     requires alone { parts.old.dying ≡ None }
     requires may_run { IsTrue (is_eligible_in (state_of parts.old) tid) }
@@ -393,7 +402,7 @@ fn catch(parts: &mut Parts, tid: Tid, pattern: u32, handler: Found, effects: &mu
 }
 
 // The caller goes on where the handler was set.
-fn raise(parts: &mut Parts, tid: Tid, pattern: u32, effects: &mut Effects)
+fn raise<'s>(parts: &mut Parts<'s>, tid: Tid, pattern: u32, effects: &mut Effects<'s>)
     requires lawful { LawfulParts parts.old }
     requires alone { parts.old.dying ≡ None }
     requires may_run { IsTrue (is_eligible_in (state_of parts.old) tid) }
@@ -411,7 +420,7 @@ fn raise(parts: &mut Parts, tid: Tid, pattern: u32, effects: &mut Effects)
 }
 
 // The same, but the handler may answer in place of catching.
-fn notify(parts: &mut Parts, tid: Tid, pattern: u32, effects: &mut Effects)
+fn notify<'s>(parts: &mut Parts<'s>, tid: Tid, pattern: u32, effects: &mut Effects<'s>)
     requires lawful { LawfulParts parts.old }
     requires alone { parts.old.dying ≡ None }
     requires may_run { IsTrue (is_eligible_in (state_of parts.old) tid) }

@@ -15,7 +15,13 @@ use lwp_types::{Effect, Effects, Letter, Text, Tid};
 const AGENT_ROOM: u8 = 240;
 
 // An agent has the message: it holds it, and its owner has a letter from it.
-fn deliver_to(parts: &mut Parts, agent: Tid, event: u8, text: &Text, effects: &mut Effects)
+fn deliver_to<'s>(
+    parts: &mut Parts<'s>,
+    agent: Tid,
+    event: u8,
+    text: &Text<'s>,
+    effects: &mut Effects<'s>,
+)
     requires lawful { LawfulParts parts.old }
     requires alone { parts.old.dying ≡ None }
     requires waits { IsTrue (waits_for event parts.old.agents.agents agent) }
@@ -30,7 +36,7 @@ fn deliver_to(parts: &mut Parts, agent: Tid, event: u8, text: &Text, effects: &m
     let letter = Letter {
         from: agent,
         to: owner,
-        text: *text,
+        text: text.again(),
         room: AGENT_ROOM,
         received: false,
     };
@@ -38,7 +44,12 @@ fn deliver_to(parts: &mut Parts, agent: Tid, event: u8, text: &Text, effects: &m
 }
 
 /// Each agent of the event has the message, in the order of their births.
-pub fn deliver_to_agents(parts: &mut Parts, event: u8, text: &Text, effects: &mut Effects)
+pub fn deliver_to_agents<'s>(
+    parts: &mut Parts<'s>,
+    event: u8,
+    text: &Text<'s>,
+    effects: &mut Effects<'s>,
+)
     requires lawful { LawfulParts parts.old }
     requires alone { parts.old.dying ≡ None }
     requires armed { IsTrue (is_armed (state_of parts.old).agents event) }

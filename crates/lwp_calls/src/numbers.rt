@@ -20,7 +20,12 @@ const MOST_PRIORITY: u32 = 255;
 
 /// A call of this family.
 #[inline(never)]
-pub fn carry_out(parts: &mut Parts, tid: Tid, call: &NumberCall<'_>, effects: &mut Effects)
+pub fn carry_out<'s>(
+    parts: &mut Parts<'s>,
+    tid: Tid,
+    call: &NumberCall<'_, 's>,
+    effects: &mut Effects<'s>,
+)
     requires step { InStep parts.old }
     requires alone { parts.old.dying ≡ None }
     requires room { effects.old ≡ [] }
@@ -38,8 +43,7 @@ pub fn carry_out(parts: &mut Parts, tid: Tid, call: &NumberCall<'_>, effects: &m
     effects.done_now(tid, own);
 }
 
-// The caller learns which thread it is. It stands apart, so that the other calls make no room for this answer.
-#[inline(never)]
+// The caller learns which thread it is.
 fn tell_itself(tid: Tid, effects: &mut Effects)
     requires { effects.old ≡ [] }
     ensures { effects.new ≡ effects.old ++ effect.Answered tid (Answer.Thread tid) ∷ [] }

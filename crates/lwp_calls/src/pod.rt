@@ -41,15 +41,15 @@ use std::marker::Model;
 const FIRST_EVENT: u8 = 1;
 
 /// The threads of a pod, and all that they have.
-pub struct Pod {
-    parts: Parts,
+pub struct Pod<'s> {
+    parts: Parts<'s>,
     alloc: Global,
     // Who is next by the scheduler, which is asked once a step.
     next: Option<Tid>,
 }
 
 // By hand, so that whoever drops one calls this.
-impl Drop for Pod {
+impl<'s> Drop for Pod<'s> {
     fn drop(self) {
         let Pod {
             parts: _,
@@ -59,7 +59,7 @@ impl Drop for Pod {
     }
 }
 
-impl Model for Pod {
+impl<'s> Model for Pod<'s> {
     ghost use Rattle.death_cleanup.specs.Ties.{InStep};
     ghost use Rattle.death_cleanup.specs.View.{state_of};
     ghost use Rattle.lwp_types.specs.Lawful.{Lawful};
@@ -75,7 +75,7 @@ impl Model for Pod {
 }
 
 // What a thread has that begins.
-fn beginner(alloc: Global, flags: Flags) -> Result<ThreadRec, NoMemory>
+fn beginner<'s>(alloc: Global, flags: Flags) -> Result<ThreadRec<'s>, NoMemory>
     ensures { IfOk result (λ rec. rec ≡ record { flags = flags; block = Block.Not; stack = one_frame }) }
 {
     let stack = ExcStack::new(alloc)?;
@@ -87,7 +87,7 @@ fn beginner(alloc: Global, flags: Flags) -> Result<ThreadRec, NoMemory>
 }
 
 // The parts of a pod with nobody in it.
-fn no_thread(alloc: Global, params: PodParams) -> Result<Parts, NoMemory>
+fn no_thread<'s>(alloc: Global, params: PodParams) -> Result<Parts<'s>, NoMemory>
     requires least { 1 ≤ params.maxpri }
     requires most { params.maxpri ≤ 255 }
     ensures { IfOk result (λ parts. parts ≡ no_thread params) }
@@ -138,7 +138,7 @@ fn first_thread(parts: &mut Parts, alloc: Global, params: PodParams) -> Result<(
 }
 
 // The parts of a pod as it is made.
-fn first_parts(alloc: Global, params: PodParams) -> Result<Parts, NoMemory>
+fn first_parts<'s>(alloc: Global, params: PodParams) -> Result<Parts<'s>, NoMemory>
     requires least { 1 ≤ params.maxpri }
     requires most { params.maxpri ≤ 255 }
     requires births { 1 ≤ params.births }
@@ -151,9 +151,9 @@ fn first_parts(alloc: Global, params: PodParams) -> Result<Parts, NoMemory>
     Ok(parts)
 }
 
-impl Pod {
+impl<'s> Pod<'s> {
     /// The first thread alone, with the greatest priority and no flags.
-    pub fn new(alloc: Global, params: PodParams) -> Result<Pod, NoMemory>
+    pub fn new(alloc: Global, params: PodParams) -> Result<Pod<'s>, NoMemory>
         requires least { 1 ≤ params.maxpri }
         requires most { params.maxpri ≤ 255 }
         requires births { 1 ≤ params.births }
@@ -261,7 +261,7 @@ impl Pod {
 
     /// One call of the thread whose turn it is. `effects` is emptied first, and then has what the step did besides the call itself,
     /// in order.
-    pub fn call(&mut self, call: &Call, effects: &mut Effects) -> Result<(), NoMemory>
+    pub fn call(&mut self, call: &Call<'s>, effects: &mut Effects<'s>) -> Result<(), NoMemory>
         requires { IsSome (current_of self.old) }
         ensures after { OnOk result (self.new ≡ (step self.old call.now).after) }
         ensures effects { OnOk result (called_by (current_of self.old) call.now ++ effects.new ≡ (step self.old call.now).effects) }
@@ -290,10 +290,10 @@ impl Pod {
 
     /// An event's text becomes a letter of each of its agents to the agent's owner; the clock ticks, and tells nobody the text.
     /// `effects` is emptied first, and then has what that did, in order.
-    pub fn deliver(&mut self, event: u8, text: Text, effects: &mut Effects)
+    pub fn deliver(&mut self, event: u8, text: Text<'s>, effects: &mut Effects<'s>)
         requires { IsTrue (armed self.old event) }
-        ensures after { self.new ≡ (deliver self.old event text).after }
-        ensures effects { effects.new ≡ (deliver self.old event text).effects }
+        ensures after { self.new ≡ (deliver self.old event text.entry).after }
+        ensures effects { effects.new ≡ (deliver self.old event text.entry).effects }
         ensures few { 1 ≤ event → length effects.new ≤ 512 }
         ensures lawful { Lawful self.new None }
     {
@@ -304,12 +304,12 @@ impl Pod {
 }
 
 // The same, of the parts.
-fn deliver(parts: &mut Parts, event: u8, text: Text, effects: &mut Effects)
+fn deliver<'s>(parts: &mut Parts<'s>, event: u8, text: Text<'s>, effects: &mut Effects<'s>)
     requires lawful { LawfulParts parts.old }
     requires alone { parts.old.dying ≡ None }
     requires armed { IsTrue (armed (state_of parts.old) event) }
     requires room { effects.old ≡ [] }
-    ensures { CameTo parts.old parts.new effects.old effects.new (deliver (state_of parts.old) event text) }
+    ensures { CameTo parts.old parts.new effects.old effects.new (deliver (state_of parts.old) event text.entry) }
 {
     if event == CLOCK {
         tick(parts, effects);
@@ -319,12 +319,12 @@ fn deliver(parts: &mut Parts, event: u8, text: Text, effects: &mut Effects)
 }
 
 // What the call comes to, before the end of the pod is tested. The caller's answer, if it has one now, is told last.
-fn carry_out(
-    parts: &mut Parts,
+fn carry_out<'s>(
+    parts: &mut Parts<'s>,
     alloc: Global,
     tid: Tid,
-    call: &Call,
-    effects: &mut Effects,
+    call: &Call<'s>,
+    effects: &mut Effects<'s>,
 ) -> Result<(), NoMemory>
     requires lawful { LawfulParts parts.old }
     requires alone { parts.old.dying ≡ None }
@@ -362,7 +362,7 @@ fn has_ended(parts: &Parts, next: &Option<Tid>) -> bool
 }
 
 // The pod ends, if nobody is left to run and nobody is worth waiting for. The answer is who is next by the scheduler.
-fn finish(parts: &mut Parts, effects: &mut Effects) -> Option<Tid>
+fn finish<'s>(parts: &mut Parts<'s>, effects: &mut Effects<'s>) -> Option<Tid>
     requires step { InStep parts.old }
     requires alone { parts.old.dying ≡ None }
     requires room { length effects.old < 2048 }
@@ -382,8 +382,7 @@ fn finish(parts: &mut Parts, effects: &mut Effects) -> Option<Tid>
     next
 }
 
-// The pod ends. It stands apart, so that a step that goes on makes no room for this effect.
-#[inline(never)]
+// The pod ends.
 fn tell_end(status: u8, effects: &mut Effects)
     requires { length effects.old < 2048 }
     ensures { effects.new ≡ effects.old ++ Effect.Ended status ∷ [] }

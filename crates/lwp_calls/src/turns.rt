@@ -16,7 +16,7 @@ use lwp_types::{Effects, LwpErr, Tid, TurnCall};
 
 /// A call of this family.
 #[inline(never)]
-pub fn carry_out(parts: &mut Parts, tid: Tid, call: TurnCall, effects: &mut Effects)
+pub fn carry_out<'s>(parts: &mut Parts<'s>, tid: Tid, call: TurnCall, effects: &mut Effects<'s>)
     requires step { InStep parts.old }
     requires alone { parts.old.dying ≡ None }
     requires may_run { IsTrue (is_eligible_in (state_of parts.old) tid) }

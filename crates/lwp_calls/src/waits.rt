@@ -19,11 +19,11 @@ use lwp_types::{Answer, Block, Cid, Effects, IdKind, LwpErr, Mid, NoMemory, Tid,
 
 /// A call of this family.
 #[inline(never)]
-pub fn carry_out(
-    parts: &mut Parts,
+pub fn carry_out<'s>(
+    parts: &mut Parts<'s>,
     tid: Tid,
     call: WaitCall,
-    effects: &mut Effects,
+    effects: &mut Effects<'s>,
 ) -> Result<(), NoMemory>
     requires lawful { LawfulParts parts.old }
     requires alone { parts.old.dying ≡ None }
@@ -48,9 +48,13 @@ pub fn carry_out(
     Ok(())
 }
 
-// A condition of the monitor. It stands apart, so that the calls that are answered a number make no room for its answer.
-#[inline(never)]
-fn create(parts: &mut Parts, tid: Tid, mon: Mid, effects: &mut Effects) -> Result<(), NoMemory>
+// A condition of the monitor.
+fn create<'s>(
+    parts: &mut Parts<'s>,
+    tid: Tid,
+    mon: Mid,
+    effects: &mut Effects<'s>,
+) -> Result<(), NoMemory>
     requires step { InStep parts.old }
     requires alone { parts.old.dying ≡ None }
     requires room { effects.old ≡ [] }
@@ -87,11 +91,11 @@ fn destroy(parts: &mut Parts, cond: Cid) -> Result<i64, LwpErr>
 }
 
 // The caller waits on the condition, and gives its monitor up however deep it is in.
-fn wait(
-    parts: &mut Parts,
+fn wait<'s>(
+    parts: &mut Parts<'s>,
     caller: Tid,
     cond: Cid,
-    effects: &mut Effects,
+    effects: &mut Effects<'s>,
 ) -> Option<Result<i64, LwpErr>>
     requires lawful { LawfulParts parts.old }
     requires alone { parts.old.dying ≡ None }
@@ -120,7 +124,7 @@ fn wait(
 }
 
 // The live conditions.
-fn list(parts: &Parts, tid: Tid, effects: &mut Effects) -> Result<(), NoMemory>
+fn list<'s>(parts: &Parts<'s>, tid: Tid, effects: &mut Effects<'s>) -> Result<(), NoMemory>
     requires step { InStep parts.now }
     requires room { effects.old ≡ [] }
     ensures ok { OnOk result (Told parts.now parts.now effects.old effects.new tid (listed (state_of parts.now) kind.Cond (condition_numbers (state_of parts.now).conditions))) }
@@ -132,7 +136,12 @@ fn list(parts: &Parts, tid: Tid, effects: &mut Effects) -> Result<(), NoMemory>
 }
 
 // Who waits on the condition.
-fn waiters(parts: &Parts, tid: Tid, cond: Cid, effects: &mut Effects) -> Result<(), NoMemory>
+fn waiters<'s>(
+    parts: &Parts<'s>,
+    tid: Tid,
+    cond: Cid,
+    effects: &mut Effects<'s>,
+) -> Result<(), NoMemory>
     requires step { InStep parts.now }
     requires room { effects.old ≡ [] }
     ensures ok { OnOk result (Told parts.now parts.now effects.old effects.new tid (condition_waiters (state_of parts.now) cond)) }

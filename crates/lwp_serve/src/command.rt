@@ -185,7 +185,7 @@ fn command_of(words: &Vec<String>) -> Option<Command>
 /// which does as a plan and writes what that client is told, in place of the trace. A replay reads a script and a recorded trace, and
 /// writes whether this is a trace of that script. Other words are no command: nothing is read or written then. The gates are for the
 /// clients of a run.
-pub fn top<S: Source, K: Sink, G: PostGate, R: Threads + Wait + Sync>(
+pub fn top<S: Source, K: Sink, G: PostGate + Send, R: Threads + Wait + Sync>(
     rt: &R,
     alloc: Global,
     words: &Vec<String>,

@@ -60,22 +60,22 @@ pub enum IdKind {
 
 /// The answer to a call.
 #[derive(Drop)]
-pub enum Answer {
+pub enum Answer<'s> {
     Value(i64),
     Thread(Tid),
     Monitor(Mid),
     Cond(Cid),
-    Letter { from: Tid, text: Text, room: u8 },
-    Reply(Text),
+    Letter { from: Tid, text: Text<'s>, room: u8 },
+    Reply(Text<'s>),
     Bound { func: Func, arg: u32 },
     Caught { depth: u32, mark: u32, pattern: u32 },
     Ids { kind: IdKind, list: IdList },
     Refused(LwpErr),
 }
 
-impl Answer {
+impl<'s> Answer<'s> {
     /// The answer to a call that was carried out, with a number, or refused.
-    pub fn of(done: Result<i64, LwpErr>) -> Answer
+    pub fn of(done: Result<i64, LwpErr>) -> Answer<'s>
         ensures { result ≡ answer_by done }
     {
         match done {
@@ -85,116 +85,54 @@ impl Answer {
     }
 
     /// A letter, as the thread that receives it is answered.
-    pub fn letter(letter: &Letter) -> Answer
+    pub fn letter(letter: &Letter<'s>) -> Answer<'s>
         ensures { result ≡ Answer.Letter letter.now.from letter.now.text letter.now.room }
     {
         Answer::Letter {
             from: letter.from,
-            text: letter.text,
+            text: letter.text.again(),
             room: letter.room,
-        }
-    }
-
-    // Whatever it was, it is another. It stands apart from those that set it in place, since it has room for a text.
-    #[inline(never)]
-    fn become_done(&mut self, done: Result<i64, LwpErr>)
-        ensures { self.new ≡ answer_by done }
-    {
-        *self = Answer::of(done);
-    }
-
-    #[inline(never)]
-    fn become_letter(&mut self, from: Tid, text: &Text, room: u8)
-        ensures { self.new ≡ Answer.Letter from text.now room }
-    {
-        *self = Answer::Letter {
-            from,
-            text: *text,
-            room,
-        };
-    }
-
-    #[inline(never)]
-    fn become_reply(&mut self, text: &Text)
-        ensures { self.new ≡ Answer.Reply text.now }
-    {
-        *self = Answer::Reply(*text);
-    }
-
-    fn set_value(&mut self, value: i64)
-        ensures { self.new ≡ Answer.Value value }
-    {
-        match self {
-            Answer::Value(given) => *given = value,
-            other => other.become_done(Ok(value)),
-        }
-    }
-
-    fn set_refused(&mut self, error: LwpErr)
-        ensures { self.new ≡ Answer.Refused error }
-    {
-        match self {
-            Answer::Refused(given) => *given = error,
-            other => other.become_done(Err(error)),
-        }
-    }
-
-    /// Makes it the answer to a call that was carried out, with a number, or refused. Where it was of the same kind before, only
-    /// what that holds is set; the same of `set_letter` and `set_reply`.
-    pub fn set_done(&mut self, done: Result<i64, LwpErr>)
-        ensures { self.new ≡ answer_by done }
-    {
-        match done {
-            Ok(value) => self.set_value(value),
-            Err(error) => self.set_refused(error),
-        }
-    }
-
-    /// Makes it a letter.
-    pub fn set_letter(&mut self, from: Tid, text: &Text, room: u8)
-        ensures { self.new ≡ Answer.Letter from text.now room }
-    {
-        match self {
-            Answer::Letter {
-                from: sender,
-                text: given,
-                room: most,
-            } => {
-                *sender = from;
-                *given = *text;
-                *most = room;
-            }
-            other => other.become_letter(from, text, room),
-        }
-    }
-
-    /// Makes it a reply.
-    pub fn set_reply(&mut self, text: &Text)
-        ensures { self.new ≡ Answer.Reply text.now }
-    {
-        match self {
-            Answer::Reply(given) => *given = *text,
-            other => other.become_reply(text),
         }
     }
 }
 
 /// A call that an exit procedure makes: one of the eight that neither block, raise nor kill.
-#[derive(Clone, Copy)]
-pub enum ExitCall {
+#[derive(Drop)]
+pub enum ExitCall<'s> {
     MonExit { mon: Mid },
     MonBreak { mon: Mid },
     Notify { cond: Cid },
     Broadcast { cond: Cid },
-    Reply { to: Tid, text: Text },
+    Reply { to: Tid, text: Text<'s> },
     Resume { tid: Tid },
     SetExit { code: u32 },
-    Note { text: Text },
+    Note { text: Text<'s> },
+}
+
+impl<'s> ExitCall<'s> {
+    /// The same once more.
+    pub fn again(&self) -> ExitCall<'s>
+        ensures { result ≡ self.now }
+    {
+        match self {
+            ExitCall::MonExit { mon } => ExitCall::MonExit { mon: *mon },
+            ExitCall::MonBreak { mon } => ExitCall::MonBreak { mon: *mon },
+            ExitCall::Notify { cond } => ExitCall::Notify { cond: *cond },
+            ExitCall::Broadcast { cond } => ExitCall::Broadcast { cond: *cond },
+            ExitCall::Reply { to, text } => ExitCall::Reply {
+                to: *to,
+                text: text.again(),
+            },
+            ExitCall::Resume { tid } => ExitCall::Resume { tid: *tid },
+            ExitCall::SetExit { code } => ExitCall::SetExit { code: *code },
+            ExitCall::Note { text } => ExitCall::Note { text: text.again() },
+        }
+    }
 }
 
 /// A call that a thread makes. Priorities, procedures, patterns and events may be any number: the pod refuses what doesn't fit.
-#[derive(Clone, Copy)]
-pub enum Call {
+#[derive(Drop)]
+pub enum Call<'s> {
     Create {
         proc: u32,
         prio: u32,
@@ -243,7 +181,7 @@ pub enum Call {
     Send {
         to: Tid,
         room: u8,
-        text: Text,
+        text: Text<'s>,
     },
     Recv {
         from: Option<Tid>,
@@ -251,7 +189,7 @@ pub enum Call {
     },
     Reply {
         to: Tid,
-        text: Text,
+        text: Text<'s>,
     },
     Senders,
     Receivers,
@@ -309,7 +247,7 @@ pub enum Call {
     },
     Unhandle,
     OnExit {
-        call: ExitCall,
+        call: ExitCall<'s>,
     },
     Raise {
         pattern: u32,
@@ -329,26 +267,26 @@ pub enum Call {
         event: u32,
     },
     Say {
-        text: Text,
+        text: Text<'s>,
     },
 }
 
 /// One thing that a step did.
 #[derive(Drop)]
-pub enum Effect {
+pub enum Effect<'s> {
     Called {
         tid: Tid,
-        call: Call,
+        call: Call<'s>,
     },
     Answered {
         tid: Tid,
-        answer: Answer,
+        answer: Answer<'s>,
     },
     Exited {
         tid: Tid,
         reg: u64,
-        call: ExitCall,
-        answer: Answer,
+        call: ExitCall<'s>,
+        answer: Answer<'s>,
     },
     Died {
         tid: Tid,
@@ -390,9 +328,22 @@ pub struct PodParams {
 }
 
 /// A line that a client posts; `seq` counts the client's lines from 0.
-#[derive(Clone, Copy)]
-pub struct Line {
+#[derive(Drop)]
+pub struct Line<'s> {
     pub client: u8,
     pub seq: u32,
-    pub text: Text,
+    pub text: Text<'s>,
+}
+
+impl<'s> Line<'s> {
+    /// The same once more.
+    pub fn again(&self) -> Line<'s>
+        ensures { result ≡ self.now }
+    {
+        Line {
+            client: self.client,
+            seq: self.seq,
+            text: self.text.again(),
+        }
+    }
 }

@@ -27,21 +27,21 @@ pub enum TurnCall {
 
 /// A call on the pod's own numbers, or on nothing at all.
 #[derive(Clone, Copy)]
-pub enum NumberCall<'c> {
+pub enum NumberCall<'c, 's> {
     Me,
     SetMaxPri(u32),
     SetExit(u32),
     GetExit,
     PodExit(u32),
-    Say(&'c Text),
+    Say(&'c Text<'s>),
 }
 
 /// A call on letters.
 #[derive(Clone, Copy)]
-pub enum LetterCall<'c> {
-    Send(Tid, u8, &'c Text),
+pub enum LetterCall<'c, 's> {
+    Send(Tid, u8, &'c Text<'s>),
     Recv(Option<Tid>, Mode),
-    Reply(Tid, &'c Text),
+    Reply(Tid, &'c Text<'s>),
     Senders,
     Receivers,
 }
@@ -74,12 +74,12 @@ pub enum WaitCall {
 
 /// A call on the caller's stack: procedures, handlers, exit procedures.
 #[derive(Clone, Copy)]
-pub enum MarkCall<'c> {
+pub enum MarkCall<'c, 's> {
     CallProc(u32),
     Return,
     Handle(Pattern, Func, u32),
     Unhandle,
-    OnExit(&'c ExitCall),
+    OnExit(&'c ExitCall<'s>),
     Raise(u32),
     ExcNotify(u32),
     Bound(u32),
@@ -96,21 +96,21 @@ pub enum AgentCall {
 
 /// A call, by its family. Each crate that tells calls apart has one module a family.
 #[derive(Clone, Copy)]
-pub enum Family<'c> {
+pub enum Family<'c, 's> {
     Lives(LifeCall),
     Turns(TurnCall),
-    Numbers(NumberCall<'c>),
-    Letters(LetterCall<'c>),
+    Numbers(NumberCall<'c, 's>),
+    Letters(LetterCall<'c, 's>),
     Locks(LockCall),
     Waits(WaitCall),
-    Marks(MarkCall<'c>),
+    Marks(MarkCall<'c, 's>),
     Agents(AgentCall),
 }
 
-impl Call {
+impl<'s> Call<'s> {
     /// The family that the call belongs to, with what the call holds. One row for each call.
     #[inline(always)]
-    pub fn family(&self) -> Family<'_>
+    pub fn family(&self) -> Family<'_, 's>
         ensures { call_of result ≡ self.now }
     {
         match self {

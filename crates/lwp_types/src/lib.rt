@@ -5,6 +5,7 @@
 //! step for each call, deaths, the clock, agents, and what holds of every state. They compute. The crate stands on nothing but std.
 #![tactic(auto)]
 
+mod again;
 mod body;
 mod call;
 mod effects;
@@ -16,8 +17,9 @@ mod rows;
 mod sequence;
 mod stream;
 mod text;
+mod words;
 
-pub use body::{Body, Program};
+pub use body::{Body, Polled, Program};
 pub use call::{
     Answer, Call, Effect, ExitCall, Flags, Func, IdKind, Line, LwpErr, Mode, Pattern, PodEnd,
     PodParams,
@@ -34,4 +36,4 @@ pub use rows::{
 };
 pub use sequence::{IdList, Sequence};
 pub use stream::{Failed, Sink, Source};
-pub use text::{TEXT_MAX, Text};
+pub use text::{TEXT_MAX, Text, is_text};

@@ -1,4 +1,6 @@
 // What the pod's lists are lists of.
+ghost use Rattle.std.specs.Prelude.{◌≡◌};
+
 use crate::{Cid, ExitCall, Func, Mid, Pattern, Text, Tid};
 
 /// What a thread waits for.
@@ -14,8 +16,8 @@ pub enum Block {
 }
 
 /// An entry of a thread's stack: the start of a procedure, or what it set since.
-#[derive(Clone, Copy)]
-pub enum Mark {
+#[derive(Drop)]
+pub enum Mark<'s> {
     Frame,
     Handler {
         pattern: Pattern,
@@ -24,15 +26,35 @@ pub enum Mark {
     },
     Exit {
         reg: u64,
-        call: ExitCall,
+        call: ExitCall<'s>,
     },
 }
 
+impl<'s> Mark<'s> {
+    /// The same once more.
+    pub fn again(&self) -> Mark<'s>
+        ensures { result ≡ self.now }
+    {
+        match self {
+            Mark::Frame => Mark::Frame,
+            Mark::Handler { pattern, func, arg } => Mark::Handler {
+                pattern: *pattern,
+                func: *func,
+                arg: *arg,
+            },
+            Mark::Exit { reg, call } => Mark::Exit {
+                reg: *reg,
+                call: call.again(),
+            },
+        }
+    }
+}
+
 /// An exit procedure that has left its stack and is to run. `reg` is the number that its registration was answered.
-#[derive(Clone, Copy)]
-pub struct ExitMark {
+#[derive(Drop)]
+pub struct ExitMark<'s> {
     pub reg: u64,
-    pub call: ExitCall,
+    pub call: ExitCall<'s>,
 }
 
 /// A handler that was found: how many frames there are up to its own, and how many handlers of that frame lie below it.
@@ -52,13 +74,28 @@ pub struct TimerRow {
 }
 
 /// A message on its way; `room` is how long a reply its sender takes, in bytes.
-#[derive(Clone, Copy)]
-pub struct Letter {
+#[derive(Drop)]
+pub struct Letter<'s> {
     pub from: Tid,
     pub to: Tid,
-    pub text: Text,
+    pub text: Text<'s>,
     pub room: u8,
     pub received: bool,
+}
+
+impl<'s> Letter<'s> {
+    /// The same once more.
+    pub fn again(&self) -> Letter<'s>
+        ensures { result ≡ self.now }
+    {
+        Letter {
+            from: self.from,
+            to: self.to,
+            text: self.text.again(),
+            room: self.room,
+            received: self.received,
+        }
+    }
 }
 
 /// A held monitor; `depth` is how often its owner has entered it.

@@ -1,46 +1,30 @@
-// A short printable text, which lies in the value itself.
-ghost use Rattle.std.specs.Prelude.{◌≡◌, ◌≤◌, ◌↔◌, [], length, IsTrue, IsSome, IfSome};
-ghost use Rattle.lwp_types.specs.TextFields.{padded, is_printable, is_text};
+// A short printable text, which is lent.
+ghost use Rattle.std.specs.Prelude.{◌≡◌, ◌≤◌, ◌↔◌, ◌++◌, ◌⊎◌, [], codes, length, take, IsTrue, IsSome, IfSome, IfNone};
+ghost use Rattle.std.specs.Str.{bytes_eq};
+ghost use Rattle.lwp_types.specs.TextFields.{is_printable, is_text};
 
+use crate::words::{Digits, Words};
 use std::marker::Model;
 
 /// The greatest length of a text, in bytes.
 pub const TEXT_MAX: usize = 240;
 
-/// At most 240 bytes, each from a space to `~`, seen as the list of them. It is copied like a number, so a letter never
-/// takes memory.
-#[derive(Clone, Copy)]
-pub struct Text {
-    // Zero from the length on, so that equal texts have equal fields.
-    bytes: [u8; 240],
-    len: usize,
+/// At most 240 bytes, each from a space to `~`, seen as the list of them. They are lent for `'s`, but for a short lead: so a text is as
+/// small as a few numbers, and a letter never takes memory.
+#[derive(Drop)]
+pub struct Text<'s> {
+    words: Words<'s>,
 }
 
-impl Model for Text {
-    ghost use Rattle.std.specs.Prelude.{◌≡◌, ◌≤◌, ◌++◌, ◌-◌, ℕ, List, length, take, replicate, IsTrue};
-    ghost use Rattle.lwp_types.specs.TextFields.{padded, is_text, padded-take, length_of_take};
+impl<'s> Model for Text<'s> {
+    ghost use Rattle.std.specs.Prelude.{ℕ, List, IsTrue};
+    ghost use Rattle.lwp_types.specs.TextFields.{is_text, words_bytes, AreFew};
 
     ghost Value = { List ℕ };
 
-    ghost view = { λ t. take t.len t.bytes };
+    ghost view = { λ t. words_bytes t.words };
 
-    ghost invariant = { λ t. (t.len ≤ 240) × (t.bytes ≡ padded (take t.len t.bytes)) × (length t.bytes ≡ 240) × IsTrue (is_text (take t.len t.bytes)) };
-
-    ghost inverse = { λ xs. record { bytes = padded xs; len = length xs } };
-
-    ghost inverse_ok = { λ t h i. record {
-      bytes = padded-take t.len t.bytes h.1 i;
-      len = length_of_take t.len t.bytes h.0 h.2 i;
-    } };
-}
-
-fn cells_of(bytes: &[u8]) -> [u8; 240]
-    requires { length bytes.now ≤ 240 }
-    ensures { result ≡ padded bytes.now }
-{
-    let mut cells = [0u8; 240];
-    cells[..bytes.len()].copy_from_slice(bytes);
-    cells
+    ghost invariant = { λ t. AreFew t.words × IsTrue (is_text (words_bytes t.words)) };
 }
 
 fn is_printable(bytes: &[u8]) -> bool
@@ -49,37 +33,125 @@ fn is_printable(bytes: &[u8]) -> bool
     bytes.iter().all(|b| 32 <= *b && *b <= 126)
 }
 
-impl Text {
+/// Whether these bytes are a text: at most 240, each from a space to `~`.
+pub fn is_text(bytes: &[u8]) -> bool
+    ensures { result ≡ is_text bytes.now }
+{
+    bytes.len() <= TEXT_MAX && is_printable(bytes)
+}
+
+fn cells_of(bytes: &[u8]) -> [u8; 20]
+    requires { length bytes.now ≤ 20 }
+    ensures { take (length bytes.now) result ≡ bytes.now }
+{
+    let mut cells = [0u8; 20];
+    cells[..bytes.len()].copy_from_slice(bytes);
+    cells
+}
+
+impl<'s> Text<'s> {
     /// No bytes.
-    pub fn empty() -> Text
+    pub fn empty() -> Text<'s>
         ensures { result ≡ [] }
     {
         Text {
-            bytes: cells_of(&[]),
-            len: 0,
+            words: Words::Lent(&[]),
         }
     }
 
     /// A text of these bytes, unless they are more than 240 or one isn't printable.
-    pub fn new(bytes: &[u8]) -> Option<Text>
+    pub fn new(bytes: &'s [u8]) -> Option<Text<'s>>
         ensures fits { IsSome result ↔ IsTrue (is_text bytes.now) }
         ensures same { IfSome result (λ t. t ≡ bytes.now) }
     {
-        let len = bytes.len();
-        if len > TEXT_MAX || !is_printable(bytes) {
+        if !is_text(bytes) {
             return None;
         }
-        Some(Text {
-            bytes: cells_of(bytes),
-            len,
-        })
+        Some(Text::lent(bytes))
     }
 
-    /// The bytes.
-    pub fn bytes(&self) -> &[u8]
-        ensures same { result.now ≡ self.now }
+    /// The text of these bytes.
+    pub fn lent(bytes: &'s [u8]) -> Text<'s>
+        requires { IsTrue (is_text bytes.now) }
+        ensures { result ≡ bytes.now }
+    {
+        Text {
+            words: Words::Lent(bytes),
+        }
+    }
+
+    /// The text that tells this value: `is`, and the value.
+    pub fn is(value: &'s [u8]) -> Text<'s>
+        requires { IsTrue (is_text (codes "is " ++ value.now)) }
+        ensures { result ≡ codes "is " ++ value.now }
+    {
+        Text {
+            words: Words::Is(value),
+        }
+    }
+
+    /// The text that names a thread: `t`, and the digits of its number.
+    pub fn thread(digits: &[u8]) -> Text<'s>
+        requires few { length digits.now ≤ 20 }
+        requires is_text { IsTrue (is_text (codes "t" ++ digits.now)) }
+        ensures { result ≡ codes "t" ++ digits.now }
+    {
+        Text {
+            words: Words::Thread(Digits {
+                len: digits.len() as u8,
+                bytes: cells_of(digits),
+            }),
+        }
+    }
+
+    /// The same once more.
+    pub fn again(&self) -> Text<'s>
+        ensures { result ≡ self.now }
+    {
+        Text { words: self.words }
+    }
+
+    /// How many bytes it has.
+    pub fn len(&self) -> usize
+        ensures { result ≡ length self.now }
+    {
+        let (lead, rest) = self.parts();
+        lead.len() + rest.len()
+    }
+
+    /// The bytes, in two parts.
+    pub fn parts(&self) -> (&'static [u8], &[u8])
+        ensures same { result.0.now ++ result.1.now ≡ self.now }
         ensures is_text { IsTrue (is_text self.now) }
     {
-        &self.bytes[..self.len]
+        match &self.words {
+            Words::Lent(bytes) => (&[], *bytes),
+            Words::Is(value) => (b"is ", *value),
+            Words::Thread(digits) => (b"t", &digits.bytes[..digits.len as usize]),
+        }
+    }
+
+    /// The bytes, if they are lent in one piece. Else they begin as a value does that is told, or as the name of a thread.
+    pub fn plain(&self) -> Option<&'s [u8]>
+        ensures same { IfSome result (λ bytes. bytes.now ≡ self.now) }
+        ensures none { IfNone result ((take 3 self.now ≡ codes "is ") ⊎ (take 1 self.now ≡ codes "t")) }
+        ensures is_text { IsTrue (is_text self.now) }
+    {
+        match self.words {
+            Words::Lent(bytes) => Some(bytes),
+            Words::Is(_) => None,
+            Words::Thread(_) => None,
+        }
+    }
+
+    /// Whether these are its bytes.
+    pub fn equals(&self, bytes: &[u8]) -> bool
+        ensures { result ≡ bytes_eq self.now bytes.now }
+    {
+        let (lead, rest) = self.parts();
+        match bytes.strip_prefix(lead) {
+            Some(tail) => tail == rest,
+            None => false,
+        }
     }
 }

@@ -53,25 +53,28 @@ pub trait Machine: Drop {
     fn threads(&self) -> usize
         ensures value { result ≡ length (state self.now).threads }
         ensures most { result ≤ 1024 };
+}
 
+/// A machine that takes calls and events, whose texts are lent for `'s`.
+pub trait Driven<'s>: Machine {
     /// One call, that isn't Trap, of the thread whose turn it is. `effects` is emptied first, and then has what the step did besides
     /// the call itself.
-    fn call(&mut self, call: &Call, effects: &mut Effects) -> Result<(), NoMemory>
-        requires turn { IsSome (current_of (state self.old)) }
+    fn call(&mut self, call: &Call<'s>, effects: &mut Effects<'s>) -> Result<(), NoMemory>
+        requires turn { IsSome (current_of (Self.state self.old)) }
         requires no_trap { trap_of call.now ≡ None }
-        ensures after { OnOk result (state self.new ≡ (step (state self.old) call.now).after) }
-        ensures effects { OnOk result (called_by (current_of (state self.old)) call.now ++ effects.new ≡ (step (state self.old) call.now).effects) }
+        ensures after { OnOk result (Self.state self.new ≡ (step (Self.state self.old) call.now).after) }
+        ensures effects { OnOk result (called_by (current_of (Self.state self.old)) call.now ++ effects.new ≡ (step (Self.state self.old) call.now).effects) }
         ensures most { length effects.new ≤ 1281 }
-        ensures err { OnErr result (state self.new ≡ state self.old) }
+        ensures err { OnErr result (Self.state self.new ≡ Self.state self.old) }
         ensures err_effects { OnErr result (effects.new ≡ []) }
         ensures memory { IsErr result → IsTrue (asks_memory call.now) }
-        ensures lawful { Lawful (state self.new) None };
+        ensures lawful { Lawful (Self.state self.new) None };
 
     /// An event's text becomes a letter of each of its agents; the clock ticks. `effects` is emptied first, and then has what that did.
-    fn deliver(&mut self, event: u8, text: Text, effects: &mut Effects)
-        requires { IsTrue (armed (state self.old) event) }
-        ensures after { state self.new ≡ (deliver (state self.old) event text).after }
-        ensures effects { effects.new ≡ (deliver (state self.old) event text).effects }
+    fn deliver(&mut self, event: u8, text: Text<'s>, effects: &mut Effects<'s>)
+        requires { IsTrue (armed (Self.state self.old) event) }
+        ensures after { Self.state self.new ≡ (deliver (Self.state self.old) event text.entry).after }
+        ensures effects { effects.new ≡ (deliver (Self.state self.old) event text.entry).effects }
         ensures most { 1 ≤ event → length effects.new ≤ 512 }
-        ensures lawful { Lawful (state self.new) None };
+        ensures lawful { Lawful (Self.state self.new) None };
 }

@@ -10,6 +10,7 @@ pub mod Phase
 pub mod Run
 pub mod Does
 pub mod Keeps
+pub mod Takes
 pub mod Parts
 pub mod Live
 pub mod Inlets

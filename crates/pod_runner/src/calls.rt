@@ -8,12 +8,12 @@ use crate::rows::thread_in;
 use lwp_types::{Answer, Call, Effect, Effects, Tid};
 
 // A call that isn't answered yet.
-fn made_now(tid: Tid, call: &Call) -> Made
+fn made_now<'s>(tid: Tid, call: &Call<'s>) -> Made<'s>
     ensures { result ≡ made_now tid call.now }
 {
     Made {
         tid,
-        call: *call,
+        call: call.again(),
         zero: false,
         thread: None,
     }
@@ -37,7 +37,7 @@ fn set_answered(made: &mut Made, answer: &Answer)
 }
 
 // What an effect tells where no call was told yet.
-fn begun_by(effect: &Effect) -> Option<Made>
+fn begun_by<'s>(effect: &Effect<'s>) -> Option<Made<'s>>
     ensures { result ≡ begun_by effect.now }
 {
     match effect {
@@ -58,7 +58,7 @@ fn set_answered_by(made: &mut Made, effect: &Effect)
 }
 
 // What is known of the call, one effect more.
-fn note(made: &mut Option<Made>, effect: &Effect)
+fn note<'s>(made: &mut Option<Made<'s>>, effect: &Effect<'s>)
     ensures { made.new ≡ made_by made.old effect.now }
 {
     match made {
@@ -68,8 +68,8 @@ fn note(made: &mut Option<Made>, effect: &Effect)
 }
 
 // What is known of the call, all these effects more.
-fn made_behind(known: Option<Made>, effects: &Effects) -> Option<Made>
-    ensures { result ≡ fold made_by known effects.now }
+fn made_behind<'s>(known: Option<Made<'s>>, effects: &Effects<'s>) -> Option<Made<'s>>
+    ensures { result ≡ fold made_by known.entry effects.now }
 {
     let mut made = known;
     for i in 0..effects.len() {
@@ -79,7 +79,11 @@ fn made_behind(known: Option<Made>, effects: &Effects) -> Option<Made>
 }
 
 /// The call of a step with these effects, and before them this call, if this thread made it and that was left out.
-pub(crate) fn made_among(caller: Option<Tid>, call: &Call, effects: &Effects) -> Option<Made>
+pub(crate) fn made_among<'s>(
+    caller: Option<Tid>,
+    call: &Call<'s>,
+    effects: &Effects<'s>,
+) -> Option<Made<'s>>
     ensures { result ≡ made_in (with_call_by caller call.now effects.now) }
 {
     match caller {

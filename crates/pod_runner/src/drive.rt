@@ -13,14 +13,12 @@ ghost use Rattle.whole_streams.specs.Streams.{sides};
 use crate::playing::Run;
 use crate::{Phase, RunErr};
 use event_gate::Gate;
-use lwp_types::{Body, Program, Sink};
+use lwp_types::{Polled, Program, Sink};
 use trace_text::Halt;
 
-// One line of an event that can be delivered is taken, if one is left. It stands apart, so that a turn in which nobody listens makes
-// no room for a line.
-#[inline(never)]
-fn take_line<B: Body, P: Program<B>, G: Gate, K: Sink>(
-    run: &mut Run<B, P>,
+// One line of an event that can be delivered is taken, if one is left.
+fn take_line<'s, B: Polled<'s>, P: Program<B>, G: Gate<'s>, K: Sink>(
+    run: &mut Run<'s, B, P>,
     gate: &mut G,
     event: u8,
     sink: &mut K,
@@ -38,7 +36,11 @@ fn take_line<B: Body, P: Program<B>, G: Gate, K: Sink>(
 }
 
 // The first event from `from` on that has a line left and can be delivered, if there is one below 32.
-fn next_due<B: Body, P: Program<B>, G: Gate>(run: &Run<B, P>, gate: &G, from: u8) -> Option<u8>
+fn next_due<'s, B: Polled<'s>, P: Program<B>, G: Gate<'s>>(
+    run: &Run<'s, B, P>,
+    gate: &G,
+    from: u8,
+) -> Option<u8>
     requires { run.now.failed ≡ false }
     ensures none { IfNone result (HoldsNowhere (can_take (session_of B.next P.bodies run.now).live.pod (G.stock gate.now)) from 32) }
     ensures below { IfSome result (λ event. event < 32) }
@@ -57,8 +59,8 @@ fn next_due<B: Body, P: Program<B>, G: Gate>(run: &Run<B, P>, gate: &G, from: u8
 
 // Each event in turn may have one line taken. In a turn in which no line is left, one look tells.
 #[inline(always)]
-fn serve_all<B: Body, P: Program<B>, G: Gate, K: Sink>(
-    run: &mut Run<B, P>,
+fn serve_all<'s, B: Polled<'s>, P: Program<B>, G: Gate<'s>, K: Sink>(
+    run: &mut Run<'s, B, P>,
     gate: &mut G,
     sink: &mut K,
 ) -> Result<(), RunErr>
@@ -77,8 +79,8 @@ fn serve_all<B: Body, P: Program<B>, G: Gate, K: Sink>(
 
 /// Lines are taken, each event's first if it can be delivered, and then, if somebody may run, a call is made; unless the session is
 /// over, which is told. `run` goes on so until the end.
-pub fn go_round<B: Body, P: Program<B>, G: Gate, K: Sink>(
-    run: &mut Run<B, P>,
+pub fn go_round<'s, B: Polled<'s>, P: Program<B>, G: Gate<'s>, K: Sink>(
+    run: &mut Run<'s, B, P>,
     gate: &mut G,
     sink: &mut K,
 ) -> Result<Option<Halt>, RunErr>
@@ -108,8 +110,8 @@ pub fn go_round<B: Body, P: Program<B>, G: Gate, K: Sink>(
 /// Makes calls, and takes each line that the gate has as soon as it can be delivered, until the end. A new run plays the session
 /// whose lines all are there from the start, or after an error its first part: the lines of all steps that count are written, but
 /// for the last ones of the last step after a write that failed.
-pub fn run<B: Body, P: Program<B>, G: Gate, K: Sink>(
-    run: &mut Run<B, P>,
+pub fn run<'s, B: Polled<'s>, P: Program<B>, G: Gate<'s>, K: Sink>(
+    run: &mut Run<'s, B, P>,
     gate: &mut G,
     sink: &mut K,
 ) -> Result<Halt, RunErr>

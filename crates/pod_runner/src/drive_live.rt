@@ -10,14 +10,14 @@ use crate::inlets::{all_told, serve_all};
 use crate::playing::Run;
 use crate::{Live, Phase, RunErr};
 use event_gate::Inlet;
-use lwp_types::{Body, Program, Sink};
+use lwp_types::{Polled, Program, Sink};
 use std::sync::Wait;
 use trace_text::Halt;
 
 // Lines are taken, and then, if somebody may run, a call is made; unless the session has ended or is quiet, which is told.
-fn go_round<B: Body, P: Program<B>, I: Inlet, K: Sink, R: Wait>(
+fn go_round<'s, B: Polled<'s>, P: Program<B>, I: Inlet<'s>, K: Sink, R: Wait>(
     rt: &R,
-    run: &mut Run<B, P>,
+    run: &mut Run<'s, B, P>,
     inlets: &mut Vec<I>,
     sink: &mut K,
 ) -> Result<Option<Live>, RunErr>
@@ -50,9 +50,9 @@ fn go_round<B: Body, P: Program<B>, I: Inlet, K: Sink, R: Wait>(
 }
 
 // Round after round, until there is an answer.
-fn go_on<B: Body, P: Program<B>, I: Inlet, K: Sink, R: Wait>(
+fn go_on<'s, B: Polled<'s>, P: Program<B>, I: Inlet<'s>, K: Sink, R: Wait>(
     rt: &R,
-    run: &mut Run<B, P>,
+    run: &mut Run<'s, B, P>,
     inlets: &mut Vec<I>,
     sink: &mut K,
 ) -> Result<Live, RunErr>
@@ -73,9 +73,9 @@ fn go_on<B: Body, P: Program<B>, I: Inlet, K: Sink, R: Wait>(
 /// Makes calls, and takes each line that an inlet has as soon as it can be delivered, until the end; or until nobody may run, no
 /// line is there that can be delivered, and some client's pass is out still. Lines that come later can be taken by another call.
 /// An event without an inlet has no lines. Where memory is wanting for a line that was taken, that line is lost.
-pub fn run_live<B: Body, P: Program<B>, I: Inlet, K: Sink, R: Wait>(
+pub fn run_live<'s, B: Polled<'s>, P: Program<B>, I: Inlet<'s>, K: Sink, R: Wait>(
     rt: &R,
-    run: &mut Run<B, P>,
+    run: &mut Run<'s, B, P>,
     inlets: &mut Vec<I>,
     sink: &mut K,
 ) -> Result<Live, RunErr>

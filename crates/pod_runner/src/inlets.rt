@@ -9,11 +9,11 @@ ghost use Rattle.whole_streams.specs.Streams.{sides};
 use crate::RunErr;
 use crate::playing::Run;
 use event_gate::Inlet;
-use lwp_types::{Body, Program, Sink};
+use lwp_types::{Polled, Program, Sink};
 use std::sync::Wait;
 
 // Whether all passes came back to each.
-pub(crate) fn all_told<I: Inlet>(inlets: &[I]) -> bool
+pub(crate) fn all_told<'s, I: Inlet<'s>>(inlets: &[I]) -> bool
     ensures { IsTrue result ↔ AllTold (map I.intake inlets.now) }
 {
     for inlet in inlets {
@@ -25,9 +25,9 @@ pub(crate) fn all_told<I: Inlet>(inlets: &[I]) -> bool
 }
 
 // One line of the inlet is taken, if its event waits and a line is there.
-fn serve<B: Body, P: Program<B>, I: Inlet, K: Sink, R: Wait>(
+fn serve<'s, B: Polled<'s>, P: Program<B>, I: Inlet<'s>, K: Sink, R: Wait>(
     rt: &R,
-    run: &mut Run<B, P>,
+    run: &mut Run<'s, B, P>,
     inlets: &mut Vec<I>,
     i: usize,
     sink: &mut K,
@@ -50,9 +50,9 @@ fn serve<B: Body, P: Program<B>, I: Inlet, K: Sink, R: Wait>(
 }
 
 // Each inlet in turn may have one line taken.
-pub(crate) fn serve_all<B: Body, P: Program<B>, I: Inlet, K: Sink, R: Wait>(
+pub(crate) fn serve_all<'s, B: Polled<'s>, P: Program<B>, I: Inlet<'s>, K: Sink, R: Wait>(
     rt: &R,
-    run: &mut Run<B, P>,
+    run: &mut Run<'s, B, P>,
     inlets: &mut Vec<I>,
     sink: &mut K,
 ) -> Result<(), RunErr>

@@ -19,6 +19,7 @@ mod playing;
 mod row_list;
 mod rows;
 mod session;
+mod take_list;
 mod written;
 
 pub use drive::{go_round, run};
@@ -28,4 +29,5 @@ pub use live::Live;
 pub use phase::{Phase, RunErr};
 pub use playing::Run;
 pub use session::{Made, Row, Took};
+pub use take_list::TakeList;
 pub use written::lines_of;

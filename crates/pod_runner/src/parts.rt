@@ -15,9 +15,10 @@ use crate::rows::{proc_of, settle};
 use crate::written::{set_lines, set_turn_lines};
 use crate::{Made, Phase, Took};
 use lwp_calls::Pod;
-use lwp_types::{Body, Call, Effects, Env, NoMemory, PodEnd, PodParams, Program, Text, Tid};
+use lwp_types::{Call, Effects, Env, NoMemory, PodEnd, PodParams, Polled, Program, Tid};
 use pod_events::EventPod;
 use std::alloc::Global;
+use text_list::TextList;
 
 // Whose call stands before the effects of a turn: where a trap was raised, they tell it themselves, if it was made.
 #[inline(always)]
@@ -31,19 +32,19 @@ fn caller_of(trap: Option<u8>, tid: Tid) -> Option<Tid>
 }
 
 /// A pod with its threads' bodies.
-pub(crate) struct Parts<B> {
-    pub(crate) pod: EventPod<Pod>,
-    pub(crate) rows: RowList<B>,
+pub(crate) struct Parts<'s, B> {
+    pub(crate) pod: EventPod<'s, Pod<'s>>,
+    pub(crate) rows: RowList<'s, B>,
     pub(crate) env: Env,
-    pub(crate) effects: Effects,
-    // The call of the last step. It has room for a text, so the next one is set where it lies.
-    pub(crate) call: Call,
+    pub(crate) effects: Effects<'s>,
+    // The call of the last step. The next one is set where it lies.
+    pub(crate) call: Call<'s>,
     // Who made it, where the effects of the last step begin with it. They don't have it then.
     pub(crate) caller: Option<Tid>,
 }
 
 // By hand, so that whoever drops one calls this.
-impl<B: Drop> Drop for Parts<B> {
+impl<'s, B: Drop> Drop for Parts<'s, B> {
     fn drop(self) {
         let Parts {
             pod: _,
@@ -56,7 +57,7 @@ impl<B: Drop> Drop for Parts<B> {
     }
 }
 
-impl<B: Body> Parts<B> {
+impl<'s, B: Polled<'s>> Parts<'s, B> {
     ghost use Rattle.pod_runner.specs.Parts.{live_of, told_of, Moves};
 
     /// The first thread, before its first call.
@@ -65,7 +66,7 @@ impl<B: Body> Parts<B> {
         params: PodParams,
         program: &P,
         env: Env,
-    ) -> Result<Parts<B>, NoMemory>
+    ) -> Result<Parts<'s, B>, NoMemory>
         requires least { 1 ≤ params.maxpri }
         requires most { params.maxpri ≤ 255 }
         requires births { 1 ≤ params.births }
@@ -106,7 +107,7 @@ impl<B: Body> Parts<B> {
     }
 
     /// The call of the last step, if it has one.
-    pub(crate) fn made(&self) -> Option<Made>
+    pub(crate) fn made(&self) -> Option<Made<'s>>
         ensures { result ≡ made_in (told_of self.now) }
     {
         made_among(self.caller, &self.call, &self.effects)
@@ -132,8 +133,8 @@ impl<B: Body> Parts<B> {
     pub(crate) fn deliver<P: Program<B>>(
         &mut self,
         program: &P,
-        names: &[Text],
-        took: &Took,
+        names: &TextList,
+        took: &Took<'s>,
         out: &mut Vec<u8>,
     ) -> Result<(), NoMemory>
         requires { IsTrue (is_takeable self.old.pod took.now.event) }
@@ -141,7 +142,7 @@ impl<B: Body> Parts<B> {
     {
         self.caller = None;
         self.pod
-            .deliver(took.event, took.line.text, &mut self.effects);
+            .deliver(took.event, took.line.text.again(), &mut self.effects);
         set_lines(out, &self.effects, Some(&took.line), names)?;
         settle(&mut self.rows, program, None, &self.effects)?;
         Ok(())
@@ -152,7 +153,7 @@ impl<B: Body> Parts<B> {
     pub(crate) fn turn<P: Program<B>>(
         &mut self,
         program: &P,
-        names: &[Text],
+        names: &TextList,
         out: &mut Vec<u8>,
     ) -> Result<(), NoMemory>
         requires current { IsSome (current_of self.old.pod.state) }
@@ -177,7 +178,7 @@ impl<B: Body> Parts<B> {
     fn make_call<P: Program<B>>(
         &mut self,
         program: &P,
-        names: &[Text],
+        names: &TextList,
         tid: Tid,
         i: usize,
         out: &mut Vec<u8>,

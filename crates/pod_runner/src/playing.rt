@@ -9,32 +9,33 @@ ghost use Rattle.pod_runner.specs.declared.phase.Phase.TheVariants as phase;
 ghost use Rattle.whole_streams.specs.Streams.{sides};
 
 use crate::parts::Parts;
-use crate::{Made, Phase, RunErr, Took};
-use lwp_types::{Body, Env, Line, NoMemory, PodParams, Program, Sink, Text};
+use crate::{Made, Phase, RunErr, TakeList, Took};
+use lwp_types::{Body, Env, Line, NoMemory, PodParams, Polled, Program, Sink};
 use std::alloc::Global;
 use std::marker::Model;
+use text_list::TextList;
 use whole_streams::write_all;
 
 /// A run of a program, seen as what it plays and how far it is; its session is the definition's.
-pub struct Run<B: Body, P: Program<B>> {
-    parts: Parts<B>,
+pub struct Run<'s, B: Body, P: Program<B>> {
+    parts: Parts<'s, B>,
     program: P,
     // The procedures' names, by number.
-    procs: Vec<Text>,
+    procs: TextList,
     params: PodParams,
     threads: usize,
     mons: usize,
     conds: usize,
     turns: u64,
     calls: u64,
-    takes: Vec<Took>,
+    takes: TakeList,
     failed: bool,
     // The lines of the last step, in memory that the next step's are put into.
     out: Vec<u8>,
 }
 
 // By hand, so that whoever drops one calls this.
-impl<B: Body, P: Program<B>> Drop for Run<B, P> {
+impl<'s, B: Body, P: Program<B>> Drop for Run<'s, B, P> {
     fn drop(self) {
         let Run {
             parts: _,
@@ -53,7 +54,7 @@ impl<B: Body, P: Program<B>> Drop for Run<B, P> {
     }
 }
 
-impl<B: Body, P: Program<B>> Model for Run<B, P> {
+impl<'s, B: Body, P: Program<B>> Model for Run<'s, B, P> {
     ghost use Rattle.std.specs.Prelude.{◌≡◌, false};
     ghost use Rattle.lwp_types.specs.Names.{null_names};
     ghost use Rattle.pod_runner.specs.Run.{Played};
@@ -62,23 +63,23 @@ impl<B: Body, P: Program<B>> Model for Run<B, P> {
 
     ghost Value = { Played P };
 
-    ghost view = { λ r. record { program = r.program; params = r.params; names = null_names r.threads r.mons r.conds; turns = r.turns; calls = r.calls; takes = r.takes.items; failed = r.failed } };
+    ghost view = { λ r. record { program = r.program; params = r.params; names = null_names r.threads r.mons r.conds; turns = r.turns; calls = r.calls; takes = r.takes; failed = r.failed } };
 
-    ghost invariant = { λ r. Keeps (record { next = B.next; bodies = P.bodies r.program; params = r.params; names = null_names r.threads r.mons r.conds }) (P.proc_names r.program) r.procs.items (live_of r.parts) (told_of r.parts) r.takes.items r.calls r.turns r.failed };
+    ghost invariant = { λ r. Keeps (record { next = B.next; bodies = P.bodies r.program; params = r.params; names = null_names r.threads r.mons r.conds }) (P.proc_names r.program) r.procs (live_of r.parts) (told_of r.parts) r.takes r.calls r.turns r.failed };
 }
 
 // The names of a program's procedures, by number.
-fn names_of<B: Body, P: Program<B>>(alloc: Global, program: &P) -> Result<Vec<Text>, NoMemory>
-    ensures { IfOk result (λ names. names.items ≡ P.proc_names program.now) }
+fn names_of<B: Body, P: Program<B>>(alloc: Global, program: &P) -> Result<TextList, NoMemory>
+    ensures { IfOk result (λ names. names ≡ P.proc_names program.now) }
 {
-    let mut names = Vec::new(alloc);
+    let mut names = TextList::new(alloc);
     for proc in 0..program.procs() {
         names.push(program.proc_name(proc))?;
     }
     Ok(names)
 }
 
-impl<B: Body, P: Program<B>> Run<B, P> {
+impl<'s, B: Polled<'s>, P: Program<B>> Run<'s, B, P> {
     /// A run before its first call, of at most so many calls.
     pub fn new(
         alloc: Global,
@@ -86,7 +87,7 @@ impl<B: Body, P: Program<B>> Run<B, P> {
         program: P,
         env: Env,
         turns: u64,
-    ) -> Result<Run<B, P>, NoMemory>
+    ) -> Result<Run<'s, B, P>, NoMemory>
         requires least { 1 ≤ params.maxpri }
         requires most { params.maxpri ≤ 255 }
         requires births { 1 ≤ params.births }
@@ -110,7 +111,7 @@ impl<B: Body, P: Program<B>> Run<B, P> {
             conds,
             turns,
             calls: 0,
-            takes: Vec::new(alloc),
+            takes: TakeList::new(alloc),
             failed: false,
             out: Vec::new(alloc),
         })
@@ -131,16 +132,16 @@ impl<B: Body, P: Program<B>> Run<B, P> {
     }
 
     /// The take at place `i`, counted from 0.
-    pub fn take_at(&self, i: usize) -> &Took
+    pub fn take_at(&self, i: usize) -> Took<'_>
         requires { i < length self.now.takes }
-        ensures { result.now ≡ slice_index_or self.now.takes i result.now }
+        ensures { result ≡ slice_index_or self.now.takes i result }
     {
-        &self.takes[i]
+        self.takes.get(i)
     }
 
     /// The lines that were taken, the oldest first.
-    pub fn into_takes(self) -> Vec<Took>
-        ensures { result.items ≡ self.takes }
+    pub fn into_takes(self) -> TakeList
+        ensures { result ≡ self.entry.takes }
     {
         let Run {
             parts: _,
@@ -160,7 +161,7 @@ impl<B: Body, P: Program<B>> Run<B, P> {
     }
 
     /// The call of the last step: None where there was no step yet, or the last one made no call.
-    pub fn made(&self) -> Option<Made>
+    pub fn made(&self) -> Option<Made<'s>>
         requires { self.now.failed ≡ false }
         ensures { result ≡ last_made (session_of B.next P.bodies self.now).steps }
     {
@@ -201,10 +202,10 @@ impl<B: Body, P: Program<B>> Run<B, P> {
 
     /// Delivers a line of the event, and writes its lines. After an error the run has failed: a take whose lines could not all be
     /// written counts, one for which memory was wanting doesn't, and none of its lines is written.
-    pub fn offer<K: Sink>(&mut self, event: u8, line: Line, sink: &mut K) -> Result<(), RunErr>
+    pub fn offer<K: Sink>(&mut self, event: u8, line: Line<'s>, sink: &mut K) -> Result<(), RunErr>
         requires sound { self.old.failed ≡ false }
         requires wants { IsTrue (is_takeable (session_of B.next P.bodies self.old).live.pod event) }
-        ensures after { self.new ≡ stepped self.old (with_took self.old event line) result }
+        ensures after { self.new ≡ stepped self.old (with_took self.old event line.entry) result }
         ensures told { Tells (sides K.written K.faults sink.old sink.new) (trace_of B.next P.bodies P.proc_names self.old) (trace_of B.next P.bodies P.proc_names self.old) (trace_of B.next P.bodies P.proc_names self.new) result }
         ensures made { IsDefined (setting_of B.next P.bodies self.new) self.new.takes self.new.calls }
         ensures room { self.new.calls ≤ self.new.turns }
@@ -217,7 +218,7 @@ impl<B: Body, P: Program<B>> Run<B, P> {
         };
         self.parts
             .deliver(&self.program, &self.procs, &took, &mut self.out)?;
-        self.takes.push(took)?;
+        self.takes.push(&took)?;
         match write_all(sink, &self.out) {
             Ok(()) => {
                 self.failed = false;

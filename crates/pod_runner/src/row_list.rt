@@ -5,21 +5,23 @@ ghost use Rattle.pod_runner.specs.Polls.{AreRising, ComesLast, Polls, place_of};
 ghost use Rattle.pod_runner.specs.declared.session.Row.{Row};
 
 use crate::Row;
-use lwp_types::{Answer, Body, Call, Env, IdList, NoMemory, Program, Tid, likely_place};
+use lwp_types::{
+    Answer, Body, Call, Env, IdList, NoMemory, Polled, Program, Tid, likely_place,
+};
 use std::alloc::Global;
 use std::marker::Model;
 
 /// The rows of the live threads, seen as their list.
 #[derive(Drop)]
-pub struct RowList<B> {
-    rows: Vec<Row<B>>,
+pub struct RowList<'s, B> {
+    rows: Vec<Row<'s, B>>,
     // Whether the numbers rise from row to row, as a pod gives them. Then a row is found without going over the others.
     rising: bool,
     // Where a body was polled last.
     last: usize,
 }
 
-impl<B> Model for RowList<B> {
+impl<'s, B> Model for RowList<'s, B> {
     ghost use Rattle.std.specs.Prelude.{List, IsTrue};
     ghost use Rattle.pod_runner.specs.declared.session.Row.{Row};
     ghost use Rattle.pod_runner.specs.Polls.{AreRising};
@@ -41,22 +43,21 @@ fn copy_list(alloc: Global, list: &IdList) -> Result<IdList, NoMemory>
     Ok(copy)
 }
 
-// The same answer once more. It stands apart, since it has room for a text.
-#[inline(never)]
-fn copy_answer(alloc: Global, to: &mut Answer, answer: &Answer) -> Result<(), NoMemory>
-    ensures { OnOk result (to.new ≡ answer.now) }
+// The same answer once more.
+fn copy_answer<'s>(alloc: Global, answer: &Answer<'s>) -> Result<Answer<'s>, NoMemory>
+    ensures { IfOk result (λ copy. copy ≡ answer.now) }
 {
-    *to = match answer {
+    let copy = match answer {
         Answer::Value(value) => Answer::Value(*value),
         Answer::Thread(tid) => Answer::Thread(*tid),
         Answer::Monitor(mon) => Answer::Monitor(*mon),
         Answer::Cond(cond) => Answer::Cond(*cond),
         Answer::Letter { from, text, room } => Answer::Letter {
             from: *from,
-            text: *text,
+            text: text.again(),
             room: *room,
         },
-        Answer::Reply(text) => Answer::Reply(*text),
+        Answer::Reply(text) => Answer::Reply(text.again()),
         Answer::Bound { func, arg } => Answer::Bound {
             func: *func,
             arg: *arg,
@@ -76,25 +77,15 @@ fn copy_answer(alloc: Global, to: &mut Answer, answer: &Answer) -> Result<(), No
         },
         Answer::Refused(error) => Answer::Refused(*error),
     };
-    Ok(())
-}
-
-// Sets an answer to what another is. The answers that come most are set where one of their kind lay.
-fn set_answer(alloc: Global, to: &mut Answer, answer: &Answer) -> Result<(), NoMemory>
-    ensures { OnOk result (to.new ≡ answer.now) }
-{
-    match answer {
-        Answer::Value(value) => to.set_done(Ok(*value)),
-        Answer::Refused(error) => to.set_done(Err(*error)),
-        Answer::Letter { from, text, room } => to.set_letter(*from, text, *room),
-        Answer::Reply(text) => to.set_reply(text),
-        _ => copy_answer(alloc, to, answer)?,
-    }
-    Ok(())
+    Ok(copy)
 }
 
 // Polls the body of a row, which keeps its answer.
-fn poll_row<B: Body>(row: &mut Row<B>, env: &mut Env, call: &mut Call) -> Result<(), NoMemory>
+fn poll_row<'s, B: Polled<'s>>(
+    row: &mut Row<'s, B>,
+    env: &mut Env,
+    call: &mut Call<'s>,
+) -> Result<(), NoMemory>
     ensures polls { OnOk result ((B.next row.old.body env.old row.old.answer ≡ (call.new, row.new.body, env.new)) × (row.new.answer ≡ row.old.answer)) }
     ensures same { row.new.tid ≡ row.old.tid }
 {
@@ -102,7 +93,7 @@ fn poll_row<B: Body>(row: &mut Row<B>, env: &mut Env, call: &mut Call) -> Result
 }
 
 // The place of a thread's row, or how many rows there are.
-fn scanned<B>(rows: &Vec<Row<B>>, tid: Tid) -> usize
+fn scanned<'s, B>(rows: &Vec<Row<'s, B>>, tid: Tid) -> usize
     ensures { result ≡ place_of tid rows.now.items }
 {
     let mut i = 0;
@@ -122,7 +113,7 @@ fn is_older(a: Tid, b: Tid) -> bool
 }
 
 // The same, where the numbers rise.
-fn searched<B>(rows: &Vec<Row<B>>, tid: Tid) -> usize
+fn searched<'s, B>(rows: &Vec<Row<'s, B>>, tid: Tid) -> usize
     requires { AreRising rows.now.items }
     ensures { result ≡ place_of tid rows.now.items }
 {
@@ -144,14 +135,14 @@ fn searched<B>(rows: &Vec<Row<B>>, tid: Tid) -> usize
 }
 
 // Whether the thread's row is at a place, if the numbers rise.
-fn is_at<B>(rows: &Vec<Row<B>>, tid: Tid, at: usize) -> bool
+fn is_at<'s, B>(rows: &Vec<Row<'s, B>>, tid: Tid, at: usize) -> bool
     ensures { IsTrue result → AreRising rows.now.items → place_of tid rows.now.items ≡ at }
 {
     at < rows.len() && rows[at].tid == tid
 }
 
 // Where a thread's row most likely is.
-fn guessed<B>(rows: &Vec<Row<B>>, tid: Tid) -> usize {
+fn guessed<'s, B>(rows: &Vec<Row<'s, B>>, tid: Tid) -> usize {
     match rows.first() {
         Some(oldest) => likely_place(tid.number, oldest.tid.number, rows.len()),
         None => 0,
@@ -159,7 +150,7 @@ fn guessed<B>(rows: &Vec<Row<B>>, tid: Tid) -> usize {
 }
 
 // Whether all rows are of older threads, if their numbers rise.
-fn are_older<B>(rows: &Vec<Row<B>>, tid: Tid) -> bool
+fn are_older<'s, B>(rows: &Vec<Row<'s, B>>, tid: Tid) -> bool
     ensures { IsTrue result → AreRising rows.now.items → ComesLast tid rows.now.items }
 {
     let count = rows.len();
@@ -167,11 +158,11 @@ fn are_older<B>(rows: &Vec<Row<B>>, tid: Tid) -> bool
 }
 
 // Sets what a thread is polled with next, whose row is at a place.
-fn put_answer<B>(
-    rows: &mut Vec<Row<B>>,
+fn put_answer<'s, B>(
+    rows: &mut Vec<Row<'s, B>>,
     i: usize,
     tid: Tid,
-    answer: &Answer,
+    answer: &Answer<'s>,
 ) -> Result<(), NoMemory>
     requires at { i ≡ place_of tid rows.old.items }
     requires within { i < length rows.old.items }
@@ -179,13 +170,14 @@ fn put_answer<B>(
     ensures rising { AreRising rows.old.items → AreRising rows.new.items }
 {
     let alloc = *rows.allocator();
+    let copy = copy_answer(alloc, answer)?;
     let row = &mut rows[i];
-    set_answer(alloc, &mut row.answer, answer)?;
+    row.answer = copy;
     Ok(())
 }
 
 // Forgets a thread, whose row is at a place.
-fn take_out<B: Drop>(rows: &mut Vec<Row<B>>, i: usize, tid: Tid)
+fn take_out<'s, B: Drop>(rows: &mut Vec<Row<'s, B>>, i: usize, tid: Tid)
     requires at { i ≡ place_of tid rows.old.items }
     requires within { i < length rows.old.items }
     ensures after { rows.new.items ≡ without_row tid rows.old.items }
@@ -201,11 +193,11 @@ fn take_out<B: Drop>(rows: &mut Vec<Row<B>>, i: usize, tid: Tid)
 }
 
 // Polls the body of the row at a place.
-fn poll_in<B: Body>(
-    rows: &mut Vec<Row<B>>,
+fn poll_in<'s, B: Polled<'s>>(
+    rows: &mut Vec<Row<'s, B>>,
     i: usize,
     env: &mut Env,
-    call: &mut Call,
+    call: &mut Call<'s>,
 ) -> Result<(), NoMemory>
     requires { i < length rows.old.items }
     ensures polls { OnOk result ((row : Row B) → slice_get rows.old.items i ≡ Some row → Polls B.next row env.old call.new i rows.old.items rows.new.items env.new) }
@@ -215,9 +207,9 @@ fn poll_in<B: Body>(
     poll_row(row, env, call)
 }
 
-impl<B> RowList<B> {
+impl<'s, B> RowList<'s, B> {
     /// No rows.
-    pub fn new(alloc: Global) -> RowList<B>
+    pub fn new(alloc: Global) -> RowList<'s, B>
         ensures { result ≡ [] }
     {
         RowList {
@@ -268,7 +260,7 @@ impl<B> RowList<B> {
 
     /// Sets what a thread is polled with next.
     #[inline(always)]
-    pub fn answer(&mut self, tid: Tid, answer: &Answer) -> Result<(), NoMemory>
+    pub fn answer(&mut self, tid: Tid, answer: &Answer<'s>) -> Result<(), NoMemory>
         ensures { OnOk result (self.new ≡ answered tid answer.now self.old) }
     {
         let i = self.place(tid);
@@ -291,9 +283,9 @@ impl<B> RowList<B> {
     }
 
     /// Polls the body of the row at a place.
-    pub fn poll_at(&mut self, i: usize, env: &mut Env, call: &mut Call) -> Result<(), NoMemory>
+    pub fn poll_at(&mut self, i: usize, env: &mut Env, call: &mut Call<'s>) -> Result<(), NoMemory>
     where
-        B: Body,
+        B: Polled<'s>,
         requires { i < length self.old }
         ensures { OnOk result ((row : Row B) → slice_get self.old i ≡ Some row → Polls B.next row env.old call.new i self.old self.new env.new) }
     {

@@ -3,7 +3,7 @@ ghost use Rattle.std.specs.Prelude.{◌≡◌, ◌++◌, OnOk};
 ghost use Rattle.pod_runner.specs.Session.{proc_of, thread_in, rows_born, settled_by, settled};
 
 use crate::row_list::RowList;
-use lwp_types::{Answer, Body, Call, Effect, Effects, NoMemory, Program, Tid};
+use lwp_types::{Answer, Call, Effect, Effects, NoMemory, Polled, Program, Tid};
 
 /// The procedure of a Create.
 pub fn proc_of(call: &Call) -> Option<u32>
@@ -27,8 +27,8 @@ pub fn thread_in(answer: &Answer) -> Option<Tid>
 
 // The row of the thread that was created, if the call creates one and was answered so.
 #[inline(always)]
-fn bear<B: Body, P: Program<B>>(
-    rows: &mut RowList<B>,
+fn bear<'s, B: Polled<'s>, P: Program<B>>(
+    rows: &mut RowList<'s, B>,
     program: &P,
     born: Option<u32>,
     named: Option<Tid>,
@@ -42,11 +42,11 @@ fn bear<B: Body, P: Program<B>>(
 }
 
 #[inline(always)]
-fn settle_one<B: Body, P: Program<B>>(
-    rows: &mut RowList<B>,
+fn settle_one<'s, B: Polled<'s>, P: Program<B>>(
+    rows: &mut RowList<'s, B>,
     program: &P,
     born: Option<u32>,
-    effect: &Effect,
+    effect: &Effect<'s>,
 ) -> Result<(), NoMemory>
     ensures { OnOk result (rows.new ≡ settled_by (P.bodies program.now) born effect.now rows.old) }
 {
@@ -65,11 +65,11 @@ fn settle_one<B: Body, P: Program<B>>(
 
 /// What the effects of a step do to the rows, one after the other.
 #[inline(always)]
-pub fn settle<B: Body, P: Program<B>>(
-    rows: &mut RowList<B>,
+pub fn settle<'s, B: Polled<'s>, P: Program<B>>(
+    rows: &mut RowList<'s, B>,
     program: &P,
     born: Option<u32>,
-    effects: &Effects,
+    effects: &Effects<'s>,
 ) -> Result<(), NoMemory>
     ensures { OnOk result (rows.new ≡ settled (P.bodies program.now) born effects.now rows.old) }
 {

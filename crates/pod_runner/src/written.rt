@@ -4,8 +4,9 @@ ghost use Rattle.lwp_types.specs.declared.call.Effect.TheVariants as Effect;
 ghost use Rattle.pod_events.specs.Traps.{lead};
 ghost use Rattle.trace_text.specs.Lines.{step_lines};
 
-use lwp_types::{Call, Effects, Line, NoMemory, Text, Tid};
+use lwp_types::{Call, Effects, Line, NoMemory, Tid};
 use std::alloc::Global;
+use text_list::TextList;
 use trace_text::{add_call_line, add_step_lines};
 
 /// Puts the lines of a step in the place of what was there: a line for each effect, where this line was taken, if any, and the
@@ -14,7 +15,7 @@ pub(crate) fn set_lines(
     out: &mut Vec<u8>,
     effects: &Effects,
     took: Option<&Line>,
-    names: &[Text],
+    names: &TextList,
 ) -> Result<(), NoMemory>
     ensures { OnOk result (out.new.items ≡ step_lines names.now (option_copied took.entry) effects.now) }
 {
@@ -30,7 +31,7 @@ fn set_call_lines(
     tid: Tid,
     call: &Call,
     effects: &Effects,
-    names: &[Text],
+    names: &TextList,
 ) -> Result<(), NoMemory>
     ensures { OnOk result (out.new.items ≡ step_lines names.now None (Effect.Called tid call.now ∷ effects.now)) }
 {
@@ -48,7 +49,7 @@ pub(crate) fn set_turn_lines(
     tid: Tid,
     call: &Call,
     effects: &Effects,
-    names: &[Text],
+    names: &TextList,
 ) -> Result<(), NoMemory>
     ensures { OnOk result (out.new.items ≡ step_lines names.now None (lead trap tid call.now ++ effects.now)) }
 {
@@ -63,7 +64,7 @@ pub fn lines_of(
     alloc: Global,
     effects: &Effects,
     took: Option<&Line>,
-    names: &[Text],
+    names: &TextList,
 ) -> Result<Vec<u8>, NoMemory>
     ensures { IfOk result (λ out. out.items ≡ step_lines names.now (option_copied took.entry) effects.now) }
 {

@@ -34,11 +34,11 @@ pub fn next_unread(
 }
 
 // The letter in the slot counts as received.
-pub fn receive(
-    slots: &mut Vec<Option<Letter>>,
+pub fn receive<'s>(
+    slots: &mut Vec<Option<Letter<'s>>>,
     directory: &mut Directory,
     slot: usize,
-) -> Option<Letter>
+) -> Option<Letter<'s>>
     requires tied { IsTied slots.old.items directory.old (vec_capacity slots.old) }
     requires there { is_some (slot_at slots.old.items slot) ≡ true }
     ensures value { result ≡ option_map as_received (slot_at slots.old.items slot) }
@@ -92,12 +92,12 @@ fn make_room(slots: &mut Vec<Option<Letter>>, directory: &mut Directory)
 }
 
 // One letter more, behind the others.
-pub fn post(slots: &mut Vec<Option<Letter>>, directory: &mut Directory, letter: Letter)
+pub fn post<'s>(slots: &mut Vec<Option<Letter<'s>>>, directory: &mut Directory, letter: Letter<'s>)
     requires tied { IsTied slots.old.items directory.old (vec_capacity slots.old) }
     requires few { length (living slots.old.items) < directory.old.width }
     requires new { letters_of (living slots.old.items) letter.from ≡ 0 }
     ensures tied { IsTied slots.new.items directory.new (vec_capacity slots.new) }
-    ensures letters { living slots.new.items ≡ living slots.old.items ++ letter ∷ [] }
+    ensures letters { living slots.new.items ≡ living slots.old.items ++ letter.entry ∷ [] }
     ensures width { directory.new.width ≡ directory.old.width }
 {
     make_room(slots, directory);

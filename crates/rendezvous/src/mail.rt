@@ -13,15 +13,15 @@ use std::alloc::Global;
 use std::marker::Model;
 
 /// Letters that aren't replied to, in the order of their sending: at most one of each sender.
-pub struct Mail {
-    slots: Vec<Option<Letter>>,
+pub struct Mail<'s> {
+    slots: Vec<Option<Letter<'s>>>,
     directory: Directory,
     // How many letters there may be with no more memory.
     places: usize,
 }
 
 // By hand, so that whoever drops one calls this.
-impl Drop for Mail {
+impl<'s> Drop for Mail<'s> {
     fn drop(self) {
         let Mail {
             slots: _,
@@ -31,7 +31,7 @@ impl Drop for Mail {
     }
 }
 
-impl Model for Mail {
+impl<'s> Model for Mail<'s> {
     ghost use Rattle.std.specs.Prelude.{vec_capacity};
     ghost use Rattle.rendezvous.specs.Kept.{IsKept};
     ghost use Rattle.rendezvous.specs.Mailbag.{Mailbag};
@@ -47,9 +47,9 @@ impl Model for Mail {
 // So many places there may be.
 const MOST_PLACES: usize = 1 << 60;
 
-impl Mail {
+impl<'s> Mail<'s> {
     /// No letters, and no places.
-    pub fn new(alloc: Global) -> Mail
+    pub fn new(alloc: Global) -> Mail<'s>
         ensures { result ≡ empty_mail }
     {
         Mail {
@@ -81,17 +81,17 @@ impl Mail {
     }
 
     /// One letter more, behind the others. It may count as received already, where its receiver waits for it.
-    pub fn post_letter(&mut self, letter: Letter)
+    pub fn post_letter(&mut self, letter: Letter<'s>)
         requires new { has_letter_of self.old.letters letter.from ≡ false }
         requires room { length self.old.letters < self.old.places }
-        ensures { self.new ≡ posted self.old letter }
+        ensures { self.new ≡ posted self.old letter.entry }
     {
         post(&mut self.slots, &mut self.directory, letter);
     }
 
     /// The thread receives the first letter that it hasn't received yet, of the named sender or of any. The letter stays,
     /// and waits for its reply.
-    pub fn take_letter(&mut self, to: Tid, from: Option<Tid>) -> Option<Letter>
+    pub fn take_letter(&mut self, to: Tid, from: Option<Tid>) -> Option<Letter<'s>>
         ensures value { result ≡ option_map as_received (unreceived self.old.letters to from) }
         ensures after { self.new ≡ taken self.old to from }
         ensures first { FindsFirst (λ letter. is_to to letter && is_open from letter) self.old.letters (unreceived self.old.letters to from) }

@@ -10,9 +10,9 @@ ghost use Rattle.rendezvous.specs.Slots.{IsEmptied, is_held_by, is_unread_by, ke
 use lwp_types::{Letter, LwpErr, Tid};
 
 // One letter more, the last.
-pub fn push(slots: &mut Vec<Option<Letter>>, letter: Letter)
+pub fn push<'s>(slots: &mut Vec<Option<Letter<'s>>>, letter: Letter<'s>)
     requires { length slots.old.items < vec_capacity slots.old }
-    ensures items { slots.new.items ≡ slots.old.items ++ Some letter ∷ [] }
+    ensures items { slots.new.items ≡ slots.old.items ++ Some letter.entry ∷ [] }
     ensures capacity { vec_capacity slots.new ≡ vec_capacity slots.old }
 {
     slots.push_reserved(Some(letter));
@@ -63,7 +63,7 @@ pub fn sender_at(slots: &Vec<Option<Letter>>, slot: usize) -> Option<Tid>
 }
 
 // The letter there counts as received.
-pub fn receive(slots: &mut Vec<Option<Letter>>, slot: usize) -> Option<Letter>
+pub fn receive<'s>(slots: &mut Vec<Option<Letter<'s>>>, slot: usize) -> Option<Letter<'s>>
     requires { slot < length slots.old.items }
     ensures value { result ≡ option_map as_received (slot_at slots.old.items slot) }
     ensures items { slots.new.items ≡ slice_set slots.old.items slot (option_map as_received (slot_at slots.old.items slot)) }
@@ -72,7 +72,7 @@ pub fn receive(slots: &mut Vec<Option<Letter>>, slot: usize) -> Option<Letter>
     match &mut slots[slot] {
         Some(letter) => {
             letter.received = true;
-            Some(*letter)
+            Some(letter.again())
         }
         None => None,
     }

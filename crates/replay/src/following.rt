@@ -15,18 +15,18 @@ use crate::follower::Follower;
 use crate::posted::Posted;
 use crate::replaying::{Next, TakeTold, next_step};
 use crate::stepping::{Difference, Outcome, compare, compare_end, differs};
-use lwp_types::{Body, NoMemory, Program};
+use lwp_types::{NoMemory, Polled, Program};
 use pod_runner::Run;
 use std::alloc::Global;
 use trace_text::Halt;
 
 // A line is taken, as the recorded line tells, and the lines of this step are compared.
-fn take_step<B: Body, P: Program<B>, C: Posted>(
+fn take_step<'s, B: Polled<'s>, P: Program<B>, C: Posted<'s>>(
     alloc: Global,
-    run: &mut Run<B, P>,
+    run: &mut Run<'s, B, P>,
     lines: &mut C,
     follower: &mut Follower<'_>,
-    told: TakeTold,
+    told: TakeTold<'s>,
 ) -> Result<Option<Outcome>, NoMemory>
     requires sound { run.old.failed ≡ false }
     requires clean { follower.old.step ≡ [] }
@@ -57,9 +57,9 @@ fn take_step<B: Body, P: Program<B>, C: Posted>(
 }
 
 // A call is made, and the lines of this step are compared. It counts only if its first line was recorded.
-fn call_step<B: Body, P: Program<B>>(
+fn call_step<'s, B: Polled<'s>, P: Program<B>>(
     alloc: Global,
-    run: &mut Run<B, P>,
+    run: &mut Run<'s, B, P>,
     follower: &mut Follower<'_>,
 ) -> Result<Option<Outcome>, NoMemory>
     requires sound { run.old.failed ≡ false }
@@ -95,10 +95,10 @@ fn called_outcome(difference: Difference, before: u64, after: u64) -> Outcome
 }
 
 // The session is over: what stands behind its last step is compared with all that is recorded behind it.
-fn over_step<B: Body, P: Program<B>, C: Posted>(
+fn over_step<'s, B: Polled<'s>, P: Program<B>, C: Posted<'s>>(
     alloc: Global,
     turns: u64,
-    run: &Run<B, P>,
+    run: &Run<'s, B, P>,
     lines: &C,
     follower: &Follower<'_>,
     halt: &Halt,
@@ -125,9 +125,9 @@ fn over_step<B: Body, P: Program<B>, C: Posted>(
 }
 
 // A take was to come, and none was recorded that can be made.
-fn missing_step<B: Body, P: Program<B>, C: Posted>(
+fn missing_step<'s, B: Polled<'s>, P: Program<B>, C: Posted<'s>>(
     alloc: Global,
-    run: &Run<B, P>,
+    run: &Run<'s, B, P>,
     lines: &C,
     follower: &Follower<'_>,
     line: Vec<u8>,
@@ -145,10 +145,10 @@ fn missing_step<B: Body, P: Program<B>, C: Posted>(
 }
 
 // One step of the walk, or its end.
-fn one_step<B: Body, P: Program<B>, C: Posted>(
+fn one_step<'s, B: Polled<'s>, P: Program<B>, C: Posted<'s>>(
     alloc: Global,
     turns: u64,
-    run: &mut Run<B, P>,
+    run: &mut Run<'s, B, P>,
     lines: &mut C,
     follower: &mut Follower<'_>,
 ) -> Result<Option<Outcome>, NoMemory>
@@ -179,10 +179,10 @@ fn one_step<B: Body, P: Program<B>, C: Posted>(
 }
 
 /// Follows the recorded lines to the verdict, beside a run and with the lines that its clients have left.
-pub fn follow<B: Body, P: Program<B>, C: Posted>(
+pub fn follow<'s, B: Polled<'s>, P: Program<B>, C: Posted<'s>>(
     alloc: Global,
     turns: u64,
-    run: &mut Run<B, P>,
+    run: &mut Run<'s, B, P>,
     lines: &mut C,
     follower: &mut Follower<'_>,
 ) -> Result<Outcome, NoMemory>

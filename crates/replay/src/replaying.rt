@@ -7,23 +7,23 @@ ghost use Rattle.std.specs.Prelude.{IfOk, false, length, option_map, ◌<◌, �
 
 use crate::posted::Posted;
 use crate::telling::{named_client, take_line, tells_of, tells_take};
-use lwp_types::{Body, Line, NoMemory, Program};
+use lwp_types::{Line, NoMemory, Polled, Program};
 use pod_runner::{Phase, Run};
 use std::alloc::Global;
 use trace_text::Halt;
 
 // The next line of this client is to be taken.
-#[derive(Clone, Copy)]
-pub(crate) struct TakeTold {
+#[derive(Drop)]
+pub(crate) struct TakeTold<'s> {
     pub(crate) client: usize,
-    pub(crate) line: Line,
+    pub(crate) line: Line<'s>,
 }
 
 // How a replay goes on between two steps.
 #[derive(Drop)]
-pub(crate) enum Next {
+pub(crate) enum Next<'s> {
     // This line is taken.
-    Take(TakeTold),
+    Take(TakeTold<'s>),
     Call,
     // The session is over.
     Over(Halt),
@@ -32,14 +32,14 @@ pub(crate) enum Next {
 }
 
 // The next line of a client, if it can be taken, and the recorded lines tell of it.
-fn told_of<B: Body, P: Program<B>, C: Posted>(
+fn told_of<'s, B: Polled<'s>, P: Program<B>, C: Posted<'s>>(
     alloc: Global,
     ticks: u64,
-    run: &Run<B, P>,
+    run: &Run<'s, B, P>,
     lines: &C,
     rest: &[u8],
     client: usize,
-) -> Result<Option<Line>, NoMemory>
+) -> Result<Option<Line<'s>>, NoMemory>
     requires sound { run.now.failed ≡ false }
     requires clock { (session_of B.next P.bodies run.now).live.pod.state.now ≡ ticks }
     requires small { ticks ≤ 4294967295 }
@@ -59,13 +59,13 @@ fn told_of<B: Body, P: Program<B>, C: Posted>(
 
 // The client whose next line is taken, as the recorded lines tell.
 #[inline(never)]
-fn told_take<B: Body, P: Program<B>, C: Posted>(
+fn told_take<'s, B: Polled<'s>, P: Program<B>, C: Posted<'s>>(
     alloc: Global,
     ticks: u64,
-    run: &Run<B, P>,
+    run: &Run<'s, B, P>,
     lines: &C,
     rest: &[u8],
-) -> Result<Option<TakeTold>, NoMemory>
+) -> Result<Option<TakeTold<'s>>, NoMemory>
     requires sound { run.now.failed ≡ false }
     requires clock { (session_of B.next P.bodies run.now).live.pod.state.now ≡ ticks }
     requires small { ticks ≤ 4294967295 }
@@ -89,7 +89,7 @@ fn told_take<B: Body, P: Program<B>, C: Posted>(
 }
 
 // The line of the take of the next line of a client, if it posts to this event and has one left.
-fn take_of<C: Posted>(
+fn take_of<'s, C: Posted<'s>>(
     alloc: Global,
     ticks: u64,
     lines: &C,
@@ -110,7 +110,7 @@ fn take_of<C: Posted>(
 }
 
 // That of the lowest client of the event.
-fn lowest_of<C: Posted>(
+fn lowest_of<'s, C: Posted<'s>>(
     alloc: Global,
     ticks: u64,
     lines: &C,
@@ -128,10 +128,10 @@ fn lowest_of<C: Posted>(
 }
 
 // The same, if the event waits for a line.
-fn lowest_at<B: Body, P: Program<B>, C: Posted>(
+fn lowest_at<'s, B: Polled<'s>, P: Program<B>, C: Posted<'s>>(
     alloc: Global,
     ticks: u64,
-    run: &Run<B, P>,
+    run: &Run<'s, B, P>,
     lines: &C,
     event: u8,
 ) -> Result<Option<Vec<u8>>, NoMemory>
@@ -149,10 +149,10 @@ fn lowest_at<B: Body, P: Program<B>, C: Posted>(
 
 // That of the lowest event that waits and has a line left.
 #[inline(never)]
-fn lowest_take<B: Body, P: Program<B>, C: Posted>(
+fn lowest_take<'s, B: Polled<'s>, P: Program<B>, C: Posted<'s>>(
     alloc: Global,
     ticks: u64,
-    run: &Run<B, P>,
+    run: &Run<'s, B, P>,
     lines: &C,
 ) -> Result<Option<Vec<u8>>, NoMemory>
     requires sound { run.now.failed ≡ false }
@@ -169,13 +169,13 @@ fn lowest_take<B: Body, P: Program<B>, C: Posted>(
 }
 
 // How it goes on where no recorded line tells of a take that can be made.
-fn without_take<B: Body, P: Program<B>, C: Posted>(
+fn without_take<'s, B: Polled<'s>, P: Program<B>, C: Posted<'s>>(
     alloc: Global,
     ticks: u64,
-    run: &Run<B, P>,
+    run: &Run<'s, B, P>,
     lines: &C,
     rest: &[u8],
-) -> Result<Next, NoMemory>
+) -> Result<Next<'s>, NoMemory>
     requires sound { run.now.failed ≡ false }
     requires clock { (session_of B.next P.bodies run.now).live.pod.state.now ≡ ticks }
     requires small { ticks ≤ 4294967295 }
@@ -202,13 +202,13 @@ fn without_take<B: Body, P: Program<B>, C: Posted>(
 }
 
 // What the recorded lines say of the next step.
-pub(crate) fn next_step<B: Body, P: Program<B>, C: Posted>(
+pub(crate) fn next_step<'s, B: Polled<'s>, P: Program<B>, C: Posted<'s>>(
     alloc: Global,
     ticks: u64,
-    run: &Run<B, P>,
+    run: &Run<'s, B, P>,
     lines: &C,
     rest: &[u8],
-) -> Result<Next, NoMemory>
+) -> Result<Next<'s>, NoMemory>
     requires sound { run.now.failed ≡ false }
     requires clock { (session_of B.next P.bodies run.now).live.pod.state.now ≡ ticks }
     requires small { ticks ≤ 4294967295 }

@@ -8,7 +8,7 @@ ghost use Rattle.std.specs.Prelude.{IfOk, OnOk, [], true, ◌+◌, ◌++◌, ◌
 use crate::compared::{begins_with, common_lines};
 use lwp_types::{Line, NoMemory};
 use std::alloc::Global;
-use trace_text::{add_number, add_spaced, add_text};
+use trace_text::{add_number, add_spaced_text, add_text};
 
 // Who posted a line, which of that client's it is, its text, and a newline.
 fn add_posted(out: &mut Vec<u8>, line: &Line) -> Result<(), NoMemory>
@@ -18,7 +18,7 @@ fn add_posted(out: &mut Vec<u8>, line: &Line) -> Result<(), NoMemory>
     add_number(out, u64::from(line.client))?;
     add_text(out, b" seq ")?;
     add_number(out, u64::from(line.seq))?;
-    add_spaced(out, line.text.bytes())?;
+    add_spaced_text(out, &line.text)?;
     add_text(out, b"\n")
 }
 

@@ -58,12 +58,12 @@ fn tell<K: Sink>(
 }
 
 // A run over a gate goes on to its end, and what the client is told in each of its calls is written.
-fn answer_out<'g, 's, K: Sink>(
+fn answer_out<'s, K: Sink>(
     alloc: Global,
     client: u8,
     script: &Script,
-    played: &mut Run<ThreadBody<'s>, ScriptProgram<'s>>,
-    gate: &mut ScriptGate<'g>,
+    played: &mut Run<'s, ThreadBody<'s>, ScriptProgram<'s>>,
+    gate: &mut ScriptGate<'s>,
     sink: &mut K,
 ) -> Result<Halt, RunErr>
     requires posted { IsPosted script.now }

@@ -49,7 +49,9 @@ fn line_of(alloc: Global, text: &Text) -> Result<Vec<u8>, NoMemory>
     ensures { IfOk result (λ line. line.items ≡ text.now ++ 10 ∷ []) }
 {
     let mut line = Vec::new(alloc);
-    line.extend_from_slice(text.bytes())?;
+    let (lead, rest) = text.parts();
+    line.extend_from_slice(lead)?;
+    line.extend_from_slice(rest)?;
     line.push(b'\n')?;
     Ok(line)
 }

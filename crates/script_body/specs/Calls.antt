@@ -2,7 +2,8 @@
 use Rattle.lwp_types.specs.Names.{Names, id_at, null_id}
 use Rattle.lwp_types.specs.declared.call.Call.{Call}
 use Rattle.lwp_types.specs.declared.call.ExitCall.{ExitCall}
-use Rattle.script_text.specs.Script.{proc_number, text_at}
+use Rattle.script_text.specs.Script.{proc_number}
+use Rattle.text_list.specs.Texts.{text_at}
 use Rattle.script_text.specs.declared.script.ExitStmt.{ExitStmt}
 use Rattle.script_text.specs.declared.script.Script.{Script}
 use Rattle.script_text.specs.declared.script.Stmt.{Stmt}

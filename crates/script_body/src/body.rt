@@ -9,7 +9,7 @@ use crate::frame::Frame;
 use crate::names::name_by;
 use crate::numbers::{has_numbers, proc_number, stmts_at};
 use crate::walk::{is_refused, next_stmt};
-use lwp_types::{Answer, Body, Call, Env, NULL_TID, NoMemory, Tid};
+use lwp_types::{Answer, Body, Call, Env, NULL_TID, NoMemory, Polled, Tid};
 use script_text::{Script, Stmt};
 use std::alloc::Global;
 use std::marker::Model;
@@ -217,12 +217,20 @@ impl<'s> ScriptBody<'s> {
 
 impl<'s> Body for ScriptBody<'s> {
     ghost use Rattle.script_body.specs.ScriptBody.{script_next};
-    ghost use Rattle.script_body.specs.NameLaws.{script_next-keeps_lengths};
 
     ghost next = { script_next };
+}
+
+impl<'s> Polled<'s> for ScriptBody<'s> {
+    ghost use Rattle.script_body.specs.NameLaws.{script_next-keeps_lengths};
 
     #[tactic(auto, unfolding(crate::specs::ScriptBody::script_next))]
-    fn poll(&mut self, env: &mut Env, got: &Answer, call: &mut Call) -> Result<(), NoMemory> {
+    fn poll(
+        &mut self,
+        env: &mut Env,
+        got: &Answer<'s>,
+        call: &mut Call<'s>,
+    ) -> Result<(), NoMemory> {
         let made = self.last;
         if !self.take(got)? {
             set_return(call);

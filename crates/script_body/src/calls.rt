@@ -1,13 +1,13 @@
 // What the statements of a script call. A call is set where the last one lay.
 ghost use Rattle.std.specs.Prelude.{◌≡◌, ◌<◌, ◌≤◌, ◌^◌, length, option_map};
 ghost use Rattle.lwp_types.specs.declared.call.Call.TheVariants as call_kind;
-ghost use Rattle.lwp_types.specs.declared.call.ExitCall.TheVariants as exit_kind;
-ghost use Rattle.script_text.specs.Script.{proc_places, text_at};
+ghost use Rattle.script_text.specs.Script.{proc_places};
 ghost use Rattle.script_body.specs.Calls.{who_id, exit_call_of, plain_call, lock_call, thread_call, call_of};
 
 use crate::numbers::proc_number;
 use lwp_types::{Call, Env, ExitCall, NULL_TID, Tid};
-use script_text::{ExitStmt, Script, Stmt, Texts, Who};
+use script_text::{ExitStmt, Script, Stmt, Who};
+use text_list::TextList;
 
 /// Makes it a return.
 pub fn set_return(call: &mut Call)
@@ -28,71 +28,18 @@ fn who_id(sender: Tid, env: &Env, who: Who) -> Tid
     }
 }
 
-// A letter. What has room for a text stands apart, here and in the four below, so that the other calls clear none.
-#[inline(never)]
-fn set_send(texts: &Texts, to: Tid, room: u8, place: u32, call: &mut Call)
-    ensures { call.new ≡ call_kind.Send to room (text_at texts.now place) }
+// What an exit procedure is to do.
+fn exit_call_of<'s>(texts: &'s TextList, sender: Tid, env: &Env, exit: &ExitStmt) -> ExitCall<'s>
+    ensures { result ≡ exit_call_of texts.now sender env.now exit.now }
 {
-    *call = Call::Send {
-        to,
-        room,
-        text: texts.get(place as usize),
-    };
-}
-
-#[inline(never)]
-fn set_reply(texts: &Texts, to: Tid, place: u32, call: &mut Call)
-    ensures { call.new ≡ call_kind.Reply to (text_at texts.now place) }
-{
-    *call = Call::Reply {
-        to,
-        text: texts.get(place as usize),
-    };
-}
-
-#[inline(never)]
-fn set_say(texts: &Texts, place: u32, call: &mut Call)
-    ensures { call.new ≡ call_kind.Say (text_at texts.now place) }
-{
-    *call = Call::Say {
-        text: texts.get(place as usize),
-    };
-}
-
-// A note that an exit procedure makes, and a reply that it gives.
-#[inline(never)]
-fn set_note(texts: &Texts, place: u32, call: &mut Call)
-    ensures { call.new ≡ call_kind.OnExit (exit_kind.Note (text_at texts.now place)) }
-{
-    *call = Call::OnExit {
-        call: ExitCall::Note {
-            text: texts.get(place as usize),
+    match exit {
+        ExitStmt::Note { text } => ExitCall::Note {
+            text: texts.get(*text as usize),
         },
-    };
-}
-
-#[inline(never)]
-fn set_late_reply(texts: &Texts, to: Tid, place: u32, call: &mut Call)
-    ensures { call.new ≡ call_kind.OnExit (exit_kind.Reply to (text_at texts.now place)) }
-{
-    *call = Call::OnExit {
-        call: ExitCall::Reply {
-            to,
-            text: texts.get(place as usize),
+        ExitStmt::Reply { to, text } => ExitCall::Reply {
+            to: who_id(sender, env, *to),
+            text: texts.get(*text as usize),
         },
-    };
-}
-
-// An exit procedure; those with a text are set where the call lies.
-#[inline(never)]
-fn set_on_exit(texts: &Texts, sender: Tid, env: &Env, exit: &ExitStmt, call: &mut Call)
-    ensures { call.new ≡ call_kind.OnExit (exit_call_of texts.now sender env.now exit.now) }
-{
-    let exit = match exit {
-        ExitStmt::Note { text } => return set_note(texts, *text, call),
-        ExitStmt::Reply { to, text } => {
-            return set_late_reply(texts, who_id(sender, env, *to), *text, call);
-        }
         ExitStmt::MonExit { mon } => ExitCall::MonExit { mon: env.mon(*mon) },
         ExitStmt::MonBreak { mon } => ExitCall::MonBreak { mon: env.mon(*mon) },
         ExitStmt::Notify { cond } => ExitCall::Notify {
@@ -105,12 +52,11 @@ fn set_on_exit(texts: &Texts, sender: Tid, env: &Env, exit: &ExitStmt, call: &mu
             tid: who_id(sender, env, *who),
         },
         ExitStmt::SetExit { code } => ExitCall::SetExit { code: *code },
-    };
-    *call = Call::OnExit { call: exit };
+    }
 }
 
 // A statement that names nothing.
-fn set_plain_call(texts: &Texts, stmt: &Stmt, call: &mut Call)
+fn set_plain_call<'s>(texts: &'s TextList, stmt: &Stmt, call: &mut Call<'s>)
     ensures { call.new ≡ plain_call texts.now stmt.now }
 {
     match stmt {
@@ -140,14 +86,16 @@ fn set_plain_call(texts: &Texts, stmt: &Stmt, call: &mut Call)
         Stmt::Agent { event, .. } => *call = Call::Agent { event: *event },
         Stmt::Agents => *call = Call::Agents,
         Stmt::Trap { event } => *call = Call::Trap { event: *event },
-        Stmt::Say { text } => set_say(texts, *text, call),
+        Stmt::Say { text } => *call = Call::Say {
+            text: texts.get(*text as usize),
+        },
         // A return; and what makes no call, for which nobody asks.
         _ => *call = Call::Return,
     }
 }
 
 // A statement that names monitors or conditions, or nothing.
-fn set_lock_call(texts: &Texts, sender: Tid, env: &Env, stmt: &Stmt, call: &mut Call)
+fn set_lock_call<'s>(texts: &'s TextList, sender: Tid, env: &Env, stmt: &Stmt, call: &mut Call<'s>)
     ensures { call.new ≡ lock_call texts.now sender env.now stmt.now }
 {
     match stmt {
@@ -191,7 +139,13 @@ fn source_of(sender: Tid, env: &Env, from: &Option<Who>) -> Option<Tid>
 }
 
 // A statement that names threads, or anything but procedures.
-fn set_thread_call(texts: &Texts, sender: Tid, env: &Env, stmt: &Stmt, call: &mut Call)
+fn set_thread_call<'s>(
+    texts: &'s TextList,
+    sender: Tid,
+    env: &Env,
+    stmt: &Stmt,
+    call: &mut Call<'s>,
+)
     ensures { call.new ≡ thread_call texts.now sender env.now stmt.now }
 {
     let id = |who: &Who| who_id(sender, env, *who);
@@ -206,19 +160,28 @@ fn set_thread_call(texts: &Texts, sender: Tid, env: &Env, stmt: &Stmt, call: &mu
             tid: id(who),
             prio: *prio,
         },
-        Stmt::Send { to, room, text } => set_send(texts, id(to), *room, *text, call),
+        Stmt::Send { to, room, text } => *call = Call::Send {
+            to: id(to),
+            room: *room,
+            text: texts.get(*text as usize),
+        },
         Stmt::Recv { from, mode } => *call = Call::Recv {
             from: source_of(sender, env, from),
             mode: *mode,
         },
-        Stmt::Reply { to, text } => set_reply(texts, id(to), *text, call),
-        Stmt::OnExit { exit } => set_on_exit(texts, sender, env, exit, call),
+        Stmt::Reply { to, text } => *call = Call::Reply {
+            to: id(to),
+            text: texts.get(*text as usize),
+        },
+        Stmt::OnExit { exit } => *call = Call::OnExit {
+            call: exit_call_of(texts, sender, env, exit),
+        },
         _ => set_lock_call(texts, sender, env, stmt, call),
     }
 }
 
 /// Sets the call of a statement, in a thread whose last letter came from `sender`, whatever stood there.
-pub fn set_call(script: &Script, sender: Tid, env: &Env, stmt: &Stmt, call: &mut Call)
+pub fn set_call<'s>(script: &'s Script, sender: Tid, env: &Env, stmt: &Stmt, call: &mut Call<'s>)
     requires { length (proc_places script.now) < 2 ^ 32 }
     ensures { call.new ≡ call_of script.now sender env.now stmt.now }
 {

@@ -9,7 +9,7 @@ ghost use Rattle.std.specs.Prelude.{IfErr, IfOk, OnOk, codes, decimal, option_ma
 
 use batch::Part;
 use lwp_types::{Env, NoMemory};
-use pod_runner::Took;
+use pod_runner::TakeList;
 use script_program::ScriptProgram;
 use script_replay::{Verdict, replay};
 use script_session::SessionEnd;
@@ -20,7 +20,7 @@ use std::alloc::Global;
 #[derive(Drop)]
 pub(crate) struct Told {
     pub(crate) end: SessionEnd,
-    pub(crate) taken: Vec<Took>,
+    pub(crate) taken: TakeList,
     pub(crate) turns: u64,
     pub(crate) text: Vec<u8>,
 }
@@ -127,7 +127,7 @@ fn names_for(alloc: Global, script: &Script) -> Result<Env, NoMemory>
 fn told_by(alloc: Global, turns: u64, script: &Script, recorded: &[u8]) -> Result<Told, NoMemory>
     requires within { IsWithinLimits script.now }
     requires posted { IsPosted script.now }
-    ensures { IfOk result (λ told. IsTold turns script.now recorded.now told.end told.text.items told.taken.items told.turns) }
+    ensures { IfOk result (λ told. IsTold turns script.now recorded.now told.end told.text.items told.taken told.turns) }
 {
     let env = names_for(alloc, script)?;
     let program = ScriptProgram::new(alloc, script);
@@ -149,7 +149,7 @@ pub(crate) fn told_of(
     part: Part,
 ) -> Result<Told, SessionEnd>
     requires { LiesIn text.now part }
-    ensures told { IfOk result (λ told. IsToldOf turns text.now part told.end told.text.items told.taken.items told.turns) }
+    ensures told { IfOk result (λ told. IsToldOf turns text.now part told.end told.text.items told.taken told.turns) }
     ensures none { IfErr result (λ e. IsNotTold text.now part e) }
 {
     let script = match read_script(alloc, &text[part.from..part.to]) {

@@ -49,7 +49,7 @@ impl<'s> Model for ScriptGate<'s> {
 }
 
 // The line of the post at this place.
-fn line_at(script: &Script, place: u32) -> Line
+fn line_at<'s>(script: &'s Script, place: u32) -> Line<'s>
     ensures { result ≡ line_at (lines_posted script.now) place }
 {
     match script.posts.as_slice().get(place as usize) {
@@ -64,6 +64,13 @@ fn line_at(script: &Script, place: u32) -> Line
             text: Text::empty(),
         },
     }
+}
+
+// Whose line it is.
+fn client_of(line: &Line) -> u8
+    ensures { result ≡ line.now.client }
+{
+    line.client
 }
 
 /// A gate with all lines of a script in place.
@@ -87,19 +94,15 @@ pub fn stock<'s>(alloc: Global, script: &'s Script) -> Result<ScriptGate<'s>, No
     })
 }
 
-impl<'s> Gate for ScriptGate<'s> {
+impl<'s> Gate<'s> for ScriptGate<'s> {
     ghost stock = { λ g. g };
 
     #[inline(always)]
-    fn take(&mut self, event: u8) -> Option<Line> {
-        let ScriptGate {
-            script,
-            places,
-            left,
-        } = self;
-        let place = places.next(event)?;
-        let line = line_at(script, place);
-        left[usize::from(line.client)] -= 1;
+    fn take(&mut self, event: u8) -> Option<Line<'s>> {
+        let place = self.places.next(event)?;
+        let line = line_at(self.script, place);
+        let client = usize::from(client_of(&line));
+        self.left[client] -= 1;
         Some(line)
     }
 

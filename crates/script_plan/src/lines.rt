@@ -7,7 +7,11 @@ use lwp_types::NoMemory;
 use std::alloc::Global;
 
 /// How many lines of each client a gate has left.
-pub fn counts_left<G: Gate>(alloc: Global, clients: &[u8], gate: &G) -> Result<Vec<u32>, NoMemory>
+pub fn counts_left<'s, G: Gate<'s>>(
+    alloc: Global,
+    clients: &[u8],
+    gate: &G,
+) -> Result<Vec<u32>, NoMemory>
     requires { length clients.now ≤ 256 }
     ensures { IfOk result (λ counts. counts.items ≡ left_from 0 clients.now (G.stock gate.now)) }
 {

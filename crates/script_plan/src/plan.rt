@@ -22,12 +22,12 @@ use whole_streams::write_all;
 // A run over a gate goes on to its end, and then what stands behind its lines is written. It stands apart, so that the loop of a run
 // isn't part of a function with many more locals.
 #[inline(never)]
-fn run_out<'g, 's, K: Sink>(
+fn run_out<'s, K: Sink>(
     alloc: Global,
     turns: u64,
     script: &Script,
-    played: &mut Run<ThreadBody<'s>, ScriptProgram<'s>>,
-    gate: &mut ScriptGate<'g>,
+    played: &mut Run<'s, ThreadBody<'s>, ScriptProgram<'s>>,
+    gate: &mut ScriptGate<'s>,
     sink: &mut K,
 ) -> Result<Halt, RunErr>
     requires posted { IsPosted script.now }

@@ -13,10 +13,9 @@ use line_writer::{
 };
 use lwp_types::NoMemory;
 use script_lines::{Op, Phrase, Whom, blank};
-use script_text::{
-    ExitStmt, NameList, Names, Native, NativeKind, Post, Proc, Script, Stmt, Texts, Who,
-};
+use script_text::{ExitStmt, NameList, Names, Native, NativeKind, Post, Proc, Script, Stmt, Who};
 use std::alloc::Global;
+use text_list::TextList;
 use trace_text::{add_number, add_text};
 
 // ---- Statements.
@@ -50,7 +49,7 @@ fn with_source<'s>(names: &'s Names, from: Option<Who>, line: Phrase<'s>) -> Phr
     }
 }
 
-fn exit_line<'s>(names: &'s Names, texts: &'s Texts, exit: ExitStmt) -> Phrase<'s>
+fn exit_line<'s>(names: &'s Names, texts: &'s TextList, exit: ExitStmt) -> Phrase<'s>
     ensures { result ≡ exit_line names.now texts.now exit }
 {
     match exit {
@@ -72,7 +71,7 @@ fn exit_line<'s>(names: &'s Names, texts: &'s Texts, exit: ExitStmt) -> Phrase<'
 }
 
 // A statement that names nothing, or one that sets an exit procedure.
-fn plain_line<'s>(names: &'s Names, texts: &'s Texts, stmt: Stmt) -> Phrase<'s>
+fn plain_line<'s>(names: &'s Names, texts: &'s TextList, stmt: Stmt) -> Phrase<'s>
     ensures { result ≡ plain_line names.now texts.now stmt }
 {
     match stmt {
@@ -105,7 +104,7 @@ fn plain_line<'s>(names: &'s Names, texts: &'s Texts, stmt: Stmt) -> Phrase<'s>
 }
 
 // The same, or a statement that names a monitor or a condition.
-fn lock_line<'s>(names: &'s Names, texts: &'s Texts, stmt: Stmt) -> Phrase<'s>
+fn lock_line<'s>(names: &'s Names, texts: &'s TextList, stmt: Stmt) -> Phrase<'s>
     ensures { result ≡ lock_line names.now texts.now stmt }
 {
     match stmt {
@@ -134,7 +133,7 @@ fn lock_line<'s>(names: &'s Names, texts: &'s Texts, stmt: Stmt) -> Phrase<'s>
 }
 
 // The line of a statement.
-fn stmt_line<'s>(names: &'s Names, texts: &'s Texts, stmt: Stmt) -> Phrase<'s>
+fn stmt_line<'s>(names: &'s Names, texts: &'s TextList, stmt: Stmt) -> Phrase<'s>
     ensures { result ≡ stmt_line names.now texts.now stmt }
 {
     match stmt {
@@ -237,7 +236,7 @@ fn add_natives(out: &mut Vec<u8>, names: &Names, natives: &[Native]) -> Result<(
 fn add_statements(
     out: &mut Vec<u8>,
     names: &Names,
-    texts: &Texts,
+    texts: &TextList,
     stmts: &[Stmt],
 ) -> Result<(), NoMemory>
     ensures { OnOk result (out.new.items ≡ out.old.items ++ spelling (map (stmt_line names.now texts.now) stmts.now)) }
@@ -252,7 +251,7 @@ fn add_statements(
 fn add_procs(
     out: &mut Vec<u8>,
     names: &Names,
-    texts: &Texts,
+    texts: &TextList,
     procs: &[Proc],
 ) -> Result<(), NoMemory>
     ensures { OnOk result (out.new.items ≡ out.old.items ++ spelling (flat_map (proc_lines names.now texts.now) procs.now)) }
@@ -265,13 +264,13 @@ fn add_procs(
     Ok(())
 }
 
-fn post_line<'s>(texts: &'s Texts, post: Post) -> Phrase<'s>
+fn post_line<'s>(texts: &'s TextList, post: Post) -> Phrase<'s>
     ensures { result ≡ post_line texts.now post }
 {
     line_writer::post_line(post.client, texts.bytes(post.text as usize))
 }
 
-fn add_posts(out: &mut Vec<u8>, texts: &Texts, posts: &[Post]) -> Result<(), NoMemory>
+fn add_posts(out: &mut Vec<u8>, texts: &TextList, posts: &[Post]) -> Result<(), NoMemory>
     ensures { OnOk result (out.new.items ≡ out.old.items ++ spelling (map (post_line texts.now) posts.now)) }
 {
     for post in posts {

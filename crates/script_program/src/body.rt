@@ -1,6 +1,6 @@
 // What a thread of a script runs.
 use line_server::{SessionBody, StoreBody};
-use lwp_types::{Answer, Body, Call, Env, NoMemory};
+use lwp_types::{Answer, Body, Call, Env, NoMemory, Polled};
 use script_body::ScriptBody;
 
 /// A thread's body: a procedure of statements, or one of the two that are built in.
@@ -8,17 +8,25 @@ use script_body::ScriptBody;
 pub enum ThreadBody<'s> {
     Scripted(ScriptBody<'s>),
     Serving(SessionBody),
-    Storing(StoreBody),
+    Storing(StoreBody<'s>),
 }
 
 impl<'s> Body for ThreadBody<'s> {
     ghost use Rattle.script_program.specs.Bodies.{body_next};
-    ghost use Rattle.script_program.specs.BodyLaws.{body_next-keeps_lengths};
 
     ghost next = { body_next };
+}
+
+impl<'s> Polled<'s> for ThreadBody<'s> {
+    ghost use Rattle.script_program.specs.BodyLaws.{body_next-keeps_lengths};
 
     #[inline(always)]
-    fn poll(&mut self, env: &mut Env, got: &Answer, call: &mut Call) -> Result<(), NoMemory> {
+    fn poll(
+        &mut self,
+        env: &mut Env,
+        got: &Answer<'s>,
+        call: &mut Call<'s>,
+    ) -> Result<(), NoMemory> {
         match self {
             ThreadBody::Scripted(body) => body.poll(env, got, call),
             ThreadBody::Serving(body) => body.poll(env, got, call),

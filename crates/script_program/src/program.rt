@@ -5,7 +5,7 @@ ghost use Rattle.script_text.specs.Script.{proc_places};
 
 use crate::body::ThreadBody;
 use line_server::{SessionBody, StoreBody};
-use lwp_types::{NoMemory, Program, Text};
+use lwp_types::{NoMemory, Program};
 use script_body::ScriptBody;
 use script_text::{NativeKind, Script};
 use std::alloc::Global;
@@ -73,9 +73,9 @@ impl<'s> Program<ThreadBody<'s>> for ScriptProgram<'s> {
         (self.script.procs.len() + self.script.natives.len()) as u32
     }
 
-    fn proc_name(&self, proc: u32) -> Text {
+    fn proc_name(&self, proc: u32) -> &[u8] {
         let place = name_place(self.script, proc as usize);
-        self.script.names.procs.get(place)
+        self.script.names.procs.bytes(place)
     }
 
     fn body_of(&self, proc: u32) -> Result<ThreadBody<'s>, NoMemory> {

@@ -34,7 +34,7 @@ impl<'s> Model for ScriptLines<'s> {
 }
 
 // The line of the post at this place.
-fn posted_at(script: &Script, place: u32) -> Line
+fn posted_at<'s>(script: &'s Script, place: u32) -> Line<'s>
     ensures { result ≡ line_at (lines_posted script.now) place }
 {
     match script.posts.as_slice().get(place as usize) {
@@ -107,7 +107,7 @@ impl<'s> ScriptLines<'s> {
     }
 }
 
-impl<'s> Posted for ScriptLines<'s> {
+impl<'s> Posted<'s> for ScriptLines<'s> {
     ghost lines = { λ s. s.lines };
 
     ghost posts = { λ s. s.posts };
@@ -120,7 +120,7 @@ impl<'s> Posted for ScriptLines<'s> {
         self.script.clients.as_slice()[client]
     }
 
-    fn next(&self, client: usize) -> Option<Line> {
+    fn next(&self, client: usize) -> Option<Line<'s>> {
         let place = self.places[client].first()?;
         Some(posted_at(self.script, place))
     }

@@ -7,16 +7,16 @@ ghost use Rattle.script_text.specs.Limits.{IsWithinLimits};
 ghost use Rattle.std.specs.Prelude.{IfOk, length, ◌≡◌, ◌≤◌};
 
 use crate::stock::ScriptLines;
-use lwp_types::{Body, Env, NoMemory, PodParams, Program};
+use lwp_types::{Env, NoMemory, PodParams, Polled, Program};
 use replay::{Replayed, follow_recorded};
 use script_text::Script;
 use std::alloc::Global;
 
 /// Whether the bytes are a trace of a session of this program in which the clients of the script post their lines, and of at most so
 /// many calls; or which of their lines is the first that differs, and what was to come in its place.
-pub fn replay<B: Body, P: Program<B>>(
+pub fn replay<'s, B: Polled<'s>, P: Program<B>>(
     alloc: Global,
-    script: &Script,
+    script: &'s Script,
     program: P,
     env: Env,
     turns: u64,
@@ -26,7 +26,7 @@ pub fn replay<B: Body, P: Program<B>>(
     requires posted { IsPosted script.now }
     requires procs { 1 ≤ length (P.bodies program) }
     requires names { env ≡ names_like env }
-    ensures { IfOk result (λ replayed. Says (asked_for B.next P.bodies P.proc_names script.now program env turns) bytes.now replayed.verdict replayed.taken.items replayed.turns) }
+    ensures { IfOk result (λ replayed. Says (asked_for B.next P.bodies P.proc_names script.now program env turns) bytes.now replayed.verdict replayed.taken replayed.turns) }
 {
     let params = PodParams {
         maxpri: script.maxpri,

@@ -24,9 +24,9 @@ pub struct WholeRun {
 }
 
 // The run goes on until it is over or quiet.
-fn go_live<'p, 's, K: Sink, R: Wait>(
+fn go_live<'s, K: Sink, R: Wait>(
     rt: &R,
-    played: &mut Run<ThreadBody<'p>, ScriptProgram<'p>>,
+    played: &mut Run<'s, ThreadBody<'s>, ScriptProgram<'s>>,
     outside: &mut Outside<'s>,
     sink: &mut K,
 ) -> Result<Live, RunErr>
@@ -53,9 +53,9 @@ fn rest<K: Sink, R: Wait>(rt: &R, bell: &Bell, sink: &mut K)
 }
 
 // The run goes on until it is over or all threads have left the bell. Where it is quiet and some thread hasn't, it waits.
-fn go_beside<'p, 's, K: Sink, R: Wait>(
+fn go_beside<'s, K: Sink, R: Wait>(
     rt: &R,
-    played: &mut Run<ThreadBody<'p>, ScriptProgram<'p>>,
+    played: &mut Run<'s, ThreadBody<'s>, ScriptProgram<'s>>,
     outside: &mut Outside<'s>,
     bell: &Bell,
     clients: u32,
@@ -78,9 +78,9 @@ fn go_beside<'p, 's, K: Sink, R: Wait>(
 }
 
 // All threads have ended, and the run goes on to its end with whatever they have posted.
-fn go_behind<'p, 's, K: Sink, R: Wait>(
+fn go_behind<'s, K: Sink, R: Wait>(
     rt: &R,
-    played: &mut Run<ThreadBody<'p>, ScriptProgram<'p>>,
+    played: &mut Run<'s, ThreadBody<'s>, ScriptProgram<'s>>,
     outside: &mut Outside<'s>,
     sink: &mut K,
 ) -> Result<Halt, RunErr>
@@ -101,9 +101,9 @@ fn go_behind<'p, 's, K: Sink, R: Wait>(
 
 /// The run goes on to its end: first beside the threads, and when all have ended with whatever they have posted. They have ended
 /// after an error too. A post that was refused is want of memory.
-pub fn go_to_end<'p, 's, K: Sink, R: Threads + Wait>(
+pub fn go_to_end<'s, K: Sink, R: Threads + Wait>(
     rt: &R,
-    played: &mut Run<ThreadBody<'p>, ScriptProgram<'p>>,
+    played: &mut Run<'s, ThreadBody<'s>, ScriptProgram<'s>>,
     outside: &mut Outside<'s>,
     bell: &Bell,
     clients: u32,

@@ -10,7 +10,7 @@ use script_text::Script;
 use std::alloc::Global;
 
 // The texts of a client's lines, in order.
-fn texts_for(alloc: Global, script: &Script, client: u8) -> Result<Vec<Text>, NoMemory>
+fn texts_for<'s>(alloc: Global, script: &'s Script, client: u8) -> Result<Vec<Text<'s>>, NoMemory>
     ensures { IfOk result (λ texts. texts.items ≡ texts_for client (lines_posted script.now)) }
 {
     let mut texts = Vec::new(alloc);
@@ -23,7 +23,7 @@ fn texts_for(alloc: Global, script: &Script, client: u8) -> Result<Vec<Text>, No
 }
 
 /// The texts of each client's lines, in order.
-pub fn client_texts(alloc: Global, script: &Script) -> Result<Vec<Vec<Text>>, NoMemory>
+pub fn client_texts<'s>(alloc: Global, script: &'s Script) -> Result<Vec<Vec<Text<'s>>>, NoMemory>
     requires { length script.now.clients ≤ 256 }
     ensures { IfOk result (λ all. map (λ v. v.items) all.items ≡ texts_from 0 script.now.clients (lines_posted script.now)) }
 {
@@ -35,7 +35,7 @@ pub fn client_texts(alloc: Global, script: &Script) -> Result<Vec<Vec<Text>>, No
 }
 
 // How many lines of a client were taken.
-fn count_taken<'s>(played: &Run<ThreadBody<'s>, ScriptProgram<'s>>, client: u8) -> usize
+fn count_taken<'s>(played: &Run<'s, ThreadBody<'s>, ScriptProgram<'s>>, client: u8) -> usize
     ensures { result ≡ count_taken client played.now.takes }
 {
     let mut count = 0;
@@ -50,8 +50,8 @@ fn count_taken<'s>(played: &Run<ThreadBody<'s>, ScriptProgram<'s>>, client: u8) 
 /// How many lines of each client a run has left, where the clients post these texts.
 pub fn counts_behind<'s>(
     alloc: Global,
-    texts: &[Vec<Text>],
-    played: &Run<ThreadBody<'s>, ScriptProgram<'s>>,
+    texts: &[Vec<Text<'s>>],
+    played: &Run<'s, ThreadBody<'s>, ScriptProgram<'s>>,
 ) -> Result<Vec<u32>, NoMemory>
     requires most { length texts.now ≤ 256 }
     requires few { All (λ ts. length ts.items ≤ 20000) texts.now }

@@ -48,13 +48,13 @@ impl LiveSession {
 }
 
 // A run goes on to its end while threads post, and then what stands behind its lines is written. No thread is out behind it.
-fn run_out<'p, 's, K: Sink, R: Threads + Wait>(
+fn run_out<'s, K: Sink, R: Threads + Wait>(
     rt: &R,
     alloc: Global,
     turns: u64,
     script: &Script,
-    texts: &[Vec<Text>],
-    played: &mut Run<ThreadBody<'p>, ScriptProgram<'p>>,
+    texts: &[Vec<Text<'s>>],
+    played: &mut Run<'s, ThreadBody<'s>, ScriptProgram<'s>>,
     outside: &mut Outside<'s>,
     bell: &Bell,
     sink: &mut K,
@@ -85,14 +85,14 @@ fn run_out<'p, 's, K: Sink, R: Threads + Wait>(
 }
 
 // The session of a script whose clients' threads are started in this scope.
-fn play_beside<'p, 's, E, K: Sink, G: PostGate + 's, R: Threads + Wait + Sync>(
+fn play_beside<'s, E, K: Sink, G: PostGate + Send + 's, R: Threads + Wait + Sync>(
     scope: &Scope<'s, E>,
     rt: &'s R,
     alloc: Global,
     turns: u64,
     script: &'s Script,
-    texts: &'s [Vec<Text>],
-    mut played: Run<ThreadBody<'p>, ScriptProgram<'p>>,
+    texts: &'s [Vec<Text<'s>>],
+    mut played: Run<'s, ThreadBody<'s>, ScriptProgram<'s>>,
     gates: Vec<G>,
     bell: &'s Bell,
     sink: &mut K,
@@ -130,27 +130,30 @@ fn play_beside<'p, 's, E, K: Sink, G: PostGate + 's, R: Threads + Wait + Sync>(
     }
 }
 
-// The same, and the sink is handed back, so that the scope can tell what was written.
-fn play_within<'p, 's, 'k, E, K: Sink, G: PostGate + 's, R: Threads + Wait + Sync>(
+// The same from its start, and the sink is handed back, so that the scope can tell what was written.
+fn play_within<'s, 'k, E, K: Sink, G: PostGate + Send + 's, R: Threads + Wait + Sync>(
     scope: &Scope<'s, E>,
     rt: &'s R,
     alloc: Global,
     turns: u64,
     script: &'s Script,
-    texts: &'s [Vec<Text>],
-    played: Run<ThreadBody<'p>, ScriptProgram<'p>>,
+    texts: &'s [Vec<Text<'s>>],
     gates: Vec<G>,
     bell: &'s Bell,
     sink: &'k mut K,
 ) -> (LiveSession, &'k mut K)
+    requires within { IsWithinLimits script.now }
     requires posted { IsPosted script.now }
-    requires opening { played ≡ opening_run script.now turns }
     requires texts { map (λ v. v.items) texts.now ≡ texts_from 0 script.now.clients (lines_posted script.now) }
     requires gates { 16 ≤ length gates.items }
     ensures played { IsLivePlayed turns script.now (sides K.written K.faults sink.entry.now result.1.now) result.0.session }
     ensures posted { PostsSay script.now result.0.posted result.0.session.end }
     ensures handed { result.1.ghost_name ≡ sink.entry.ghost_name }
 {
+    let Ok(played) = start(alloc, script, turns) else {
+        let unread = Session::unread(alloc, SessionEnd::NoMemory);
+        return (LiveSession::cut_off(unread), sink);
+    };
     let session = play_beside(
         scope, rt, alloc, turns, script, texts, played, gates, bell, sink,
     );
@@ -158,7 +161,7 @@ fn play_within<'p, 's, 'k, E, K: Sink, G: PostGate + 's, R: Threads + Wait + Syn
 }
 
 // The session of a script, with so many turns allowed, while threads post the lines of its clients. Client c has gate c.
-fn play_live<K: Sink, G: PostGate, R: Threads + Wait + Sync>(
+fn play_live<K: Sink, G: PostGate + Send, R: Threads + Wait + Sync>(
     rt: &R,
     alloc: Global,
     turns: u64,
@@ -172,7 +175,7 @@ fn play_live<K: Sink, G: PostGate, R: Threads + Wait + Sync>(
     ensures played { IsLivePlayed turns script.now (sides K.written K.faults sink.old sink.new) result.session }
     ensures posted { PostsSay script.now result.posted result.session.end }
 {
-    let (Ok(played), Ok(texts)) = (start(alloc, script, turns), client_texts(alloc, script)) else {
+    let Ok(texts) = client_texts(alloc, script) else {
         return LiveSession::cut_off(Session::unread(alloc, SessionEnd::NoMemory));
     };
     let bell = Bell::new();
@@ -182,8 +185,8 @@ fn play_live<K: Sink, G: PostGate, R: Threads + Wait + Sync>(
         rt,
         move |scope| -> (LiveSession, &mut K)
             requires sync { IsSync R.row }
+            requires within { IsWithinLimits script.now }
             requires posted { IsPosted script.now }
-            requires opening { played ≡ opening_run script.now turns }
             requires texts { map (λ v. v.items) texts.now ≡ texts_from 0 script.now.clients (lines_posted script.now) }
             requires gates { 16 ≤ length gates.items }
             ensures played { IsLivePlayed turns script.entry.now (sides K.written K.faults sink.entry.now result.1.now) result.0.session }
@@ -191,7 +194,7 @@ fn play_live<K: Sink, G: PostGate, R: Threads + Wait + Sync>(
             ensures handed { result.1.ghost_name ≡ sink.entry.ghost_name }
         {
             play_within(
-                scope, rt, alloc, turns, script, texts, played, gates, bell, sink,
+                scope, rt, alloc, turns, script, texts, gates, bell, sink,
             )
         },
     );
@@ -201,7 +204,7 @@ fn play_live<K: Sink, G: PostGate, R: Threads + Wait + Sync>(
 /// Reads a script to its end and runs it, with so many turns allowed, while a thread for each client posts that client's lines.
 /// Client c asks gate c before each of its posts. All threads have ended when it returns. A post that was refused is want of memory,
 /// so where the session has come to its own end, all lines of the script were posted.
-pub fn run_main<S: Source, K: Sink, G: PostGate, R: Threads + Wait + Sync>(
+pub fn run_main<S: Source, K: Sink, G: PostGate + Send, R: Threads + Wait + Sync>(
     rt: &R,
     alloc: Global,
     turns: u64,

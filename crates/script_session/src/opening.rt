@@ -64,7 +64,7 @@ pub fn start<'s>(
     alloc: Global,
     script: &'s Script,
     turns: u64,
-) -> Result<Run<ThreadBody<'s>, ScriptProgram<'s>>, NoMemory>
+) -> Result<Run<'s, ThreadBody<'s>, ScriptProgram<'s>>, NoMemory>
     requires { IsWithinLimits script.now }
     ensures { IfOk result (λ run. run ≡ opening_run script.now turns) }
 {
@@ -79,7 +79,10 @@ pub fn start<'s>(
 }
 
 /// The session of a run that has ended so.
-pub fn session_of<'s>(end: SessionEnd, played: Run<ThreadBody<'s>, ScriptProgram<'s>>) -> Session
+pub fn session_of<'s>(
+    end: SessionEnd,
+    played: Run<'s, ThreadBody<'s>, ScriptProgram<'s>>,
+) -> Session
     ensures { result ≡ outcome_of end played.entry.takes played.entry.calls }
 {
     let calls = played.calls();

@@ -3,26 +3,26 @@ ghost use Rattle.std.specs.Prelude.{◌≡◌, []};
 ghost use Rattle.script_session.specs.Outcome.{end_of, status_of};
 
 use lwp_types::Text;
-use pod_runner::Took;
+use pod_runner::TakeList;
 use script_text::Reason;
 use std::alloc::Global;
 use std::marker::Model;
 use trace_text::Halt;
 
 /// A line that was taken: how many calls had been made by then, its event, and whose line it was.
-#[derive(Clone, Copy)]
-pub struct Taken {
+#[derive(Drop)]
+pub struct Taken<'t> {
     pub turn: u64,
     pub event: u8,
     pub client: u8,
     pub seq: u32,
-    pub text: Text,
+    pub text: Text<'t>,
 }
 
 /// The lines that were taken, the oldest first, as a run keeps them.
 #[derive(Drop)]
 pub struct TakenLines {
-    takes: Vec<Took>,
+    takes: TakeList,
 }
 
 impl Model for TakenLines {
@@ -32,7 +32,7 @@ impl Model for TakenLines {
 
     ghost Value = { List OneTaken };
 
-    ghost view = { λ lines. map taken_as lines.takes.items };
+    ghost view = { λ lines. map taken_as lines.takes };
 }
 
 impl TakenLines {
@@ -40,8 +40,8 @@ impl TakenLines {
     ghost use Rattle.script_session.specs.History.{taken_as};
 
     /// The lines of these takes.
-    pub fn new(takes: Vec<Took>) -> TakenLines
-        ensures { result ≡ map taken_as takes.items }
+    pub fn new(takes: TakeList) -> TakenLines
+        ensures { result ≡ map taken_as takes }
     {
         TakenLines { takes }
     }
@@ -54,11 +54,11 @@ impl TakenLines {
     }
 
     /// The line at place `i`, counted from 0.
-    pub fn get(&self, i: usize) -> Taken
+    pub fn get(&self, i: usize) -> Taken<'_>
         requires { i < length self.now }
         ensures { result ≡ slice_index_or self.now i result }
     {
-        let took = &self.takes[i];
+        let took = self.takes.get(i);
         Taken {
             turn: took.turn,
             event: took.event,
@@ -139,8 +139,8 @@ impl Session {
     ghost use Rattle.script_session.specs.Outcome.{outcome_of};
 
     /// A session with these lines taken.
-    pub fn new(end: SessionEnd, takes: Vec<Took>, turns: u64) -> Session
-        ensures { result ≡ outcome_of end takes.items turns }
+    pub fn new(end: SessionEnd, takes: TakeList, turns: u64) -> Session
+        ensures { result ≡ outcome_of end takes turns }
     {
         Session {
             status: status_of(end),
@@ -154,7 +154,7 @@ impl Session {
     pub fn unread(alloc: Global, end: SessionEnd) -> Session
         ensures { result ≡ outcome_of end [] 0 }
     {
-        Session::new(end, Vec::new(alloc), 0)
+        Session::new(end, TakeList::new(alloc), 0)
     }
 
     /// The same session with another end.

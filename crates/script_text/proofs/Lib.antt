@@ -1,6 +1,6 @@
 pub mod SaidLaws
 pub mod NameLaws
-pub mod TextLaws
+pub mod CountLaws
 pub mod TrackLaws
 pub mod FoldLaws
 pub mod JudgeLaws

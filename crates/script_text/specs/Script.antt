@@ -5,11 +5,8 @@ use Rattle.script_text.specs.declared.script.Post.{Post}
 use Rattle.script_text.specs.declared.script.Proc.{Proc}
 use Rattle.script_text.specs.declared.script.Script.{Script}
 use Rattle.script_text.specs.declared.script.Stmt.{Stmt}
+use Rattle.text_list.specs.Texts.{text_at}
 use Rattle.std.specs.Prelude.{List, None, Option, Some, [], if◌then◌else◌, length, map, slice_get, slice_index_or, suc, ℕ, ◌++◌, ◌==◌, ◌∷◌}
-
--- the text at this place of a list of texts; the empty one behind the last
-abbrev pub text_at : List (List ℕ) → ℕ → List ℕ
-text_at texts n = slice_index_or texts n []
 
 -- a line that a client posts, with its text
 abbrev pub line_of : List (List ℕ) → Post → Line

@@ -5,11 +5,11 @@ ghost use Rattle.script_text.specs.declared.script.Stmt.TheVariants as stmt;
 
 use crate::counts::Counts;
 use crate::names::NameList;
-use crate::texts::Texts;
 use crate::{ExitStmt, Names, Native, NativeKind, Post, Proc, Script, Stmt, Who};
 use lwp_types::{NoMemory, Sequence};
 use script_lines::{Op, Phrase, Role, Whom};
 use std::alloc::Global;
+use text_list::TextList;
 
 /// The script of the lines so far, the procedure to which the next statement goes, and how many lines each client has posted.
 pub struct Draft {
@@ -40,7 +40,7 @@ pub struct Places {
 }
 
 // Enters the names of a line. They stand at these places then, and its text will stand behind those before.
-fn name(names: &mut Names, texts: &Texts, phrase: &Phrase<'_>) -> Result<Places, NoMemory>
+fn name(names: &mut Names, texts: &TextList, phrase: &Phrase<'_>) -> Result<Places, NoMemory>
     ensures entered { OnOk result (names.new ≡ named names.old phrase.now) }
     ensures places { IfOk result (λ at. at ≡ places_of (named names.old phrase.now) texts.now phrase.now) }
 {
@@ -62,7 +62,7 @@ fn name(names: &mut Names, texts: &Texts, phrase: &Phrase<'_>) -> Result<Places,
 }
 
 // Enters the text of a line that has one.
-fn speak(texts: &mut Texts, phrase: &Phrase<'_>) -> Result<(), NoMemory>
+fn speak(texts: &mut TextList, phrase: &Phrase<'_>) -> Result<(), NoMemory>
     ensures { OnOk result (texts.new ≡ spoken texts.old phrase.now) }
 {
     if phrase.op.says() {
@@ -310,7 +310,7 @@ impl Draft {
                     mons: NameList::new(alloc),
                     conds: NameList::new(alloc),
                 },
-                texts: Texts::new(alloc),
+                texts: TextList::new(alloc),
             },
             current: None,
             posted: Counts::new(alloc),

@@ -5,7 +5,7 @@
 //! with the first reason that fits. The reader answers the verdict, so it reads a script exactly where one is spelt. A text
 //! spells one script at most, and a pod can be made for each.
 //!
-//! The crate stands on the words of `lwp_types`, on `script_lines` for single lines, on the search for a byte of `memchr`, and on
+//! The crate stands on the words of `lwp_types`, on `text_list` for texts in order, on `script_lines` for single lines, on the search for a byte of `memchr`, and on
 //! `word_index`, by which a name is found in the order of names. `script_printer` writes a script back.
 #![tactic(auto)]
 
@@ -20,7 +20,6 @@ mod reading;
 mod reason;
 mod script;
 mod stage;
-mod texts;
 
 pub use laws::{first_bad_is_blamed, one_script, spelt_is_verdict};
 pub use names::NameList;
@@ -29,4 +28,3 @@ pub use reading::read_script;
 pub use reason::{ReadErr, Reason};
 pub use script::{ExitStmt, Names, Native, NativeKind, Post, Proc, Script, Stmt, Who};
 pub use script_lines::{Test, number_at};
-pub use texts::Texts;

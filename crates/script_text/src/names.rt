@@ -1,16 +1,16 @@
 // Names and their numbers.
 ghost use Rattle.std.specs.Prelude.{◌≡◌, ◌≤◌, IfOk, OnErr};
 
-use crate::texts::Texts;
-use lwp_types::{NoMemory, Text};
+use lwp_types::{NoMemory, is_text};
 use std::alloc::Global;
 use std::marker::Model;
+use text_list::TextList;
 use word_index::WordIndex;
 
 /// Names in the order in which they first appear, seen as their list. They lie in one piece of memory, each at its own length. A
 /// name is found in the order of names, and not by a hash.
 pub struct NameList {
-    names: Texts,
+    names: TextList,
     // The number of each.
     index: WordIndex,
 }
@@ -48,14 +48,14 @@ impl NameList {
     ghost use Rattle.std.specs.Prelude.{◌≡◌, ◌<◌, ◌≤◌, [], IfOk, IsTrue, OnOk, OnErr, length, false};
     ghost use Rattle.lwp_types.specs.TextFields.{is_text};
     ghost use Rattle.script_text.specs.Meaning.{contains_name, enter, place, place_of};
-    ghost use Rattle.script_text.specs.Script.{text_at};
+    ghost use Rattle.text_list.specs.Texts.{text_at};
 
     /// No names.
     pub fn new(alloc: Global) -> NameList
         ensures { result ≡ [] }
     {
         NameList {
-            names: Texts::new(alloc),
+            names: TextList::new(alloc),
             index: WordIndex::new(alloc),
         }
     }
@@ -75,13 +75,6 @@ impl NameList {
         self.names.bytes(i)
     }
 
-    /// The name at place `i`, counted from 0; the empty text behind the last.
-    pub fn get(&self, i: usize) -> Text
-        ensures { result ≡ text_at self.now i }
-    {
-        self.names.get(i)
-    }
-
     /// Whether the name is one of these.
     pub fn contains(&self, name: &[u8]) -> bool
         ensures { result ≡ contains_name self.now name.now }
@@ -97,11 +90,11 @@ impl NameList {
         ensures number { IfOk result (λ n. n ≡ length self.old) }
     {
         let number = counted(self.names.len())?;
-        let Some(text) = Text::new(name) else {
+        if !is_text(name) {
             return Ok(number);
-        };
+        }
         self.index.put(name, number)?;
-        let Ok(()) = self.names.push(text.bytes()) else {
+        let Ok(()) = self.names.push(name) else {
             self.index.take(name);
             return Err(NoMemory);
         };

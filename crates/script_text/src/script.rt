@@ -1,8 +1,8 @@
 // A script as a program sees it. A name or a text is the place at which it stands in the list of its kind.
 use crate::names::NameList;
-use crate::texts::Texts;
 use lwp_types::{Flags, Func, Mode, Pattern, Sequence};
 use script_lines::Test;
+use text_list::TextList;
 
 /// Whom a statement speaks of: a name, the thread itself, thread 0, the sender of the letter received last, nobody.
 #[derive(Clone, Copy)]
@@ -225,7 +225,7 @@ pub struct Script {
     pub procs: Sequence<Proc>,
     pub posts: Sequence<Post>,
     pub names: Names,
-    pub texts: Texts,
+    pub texts: TextList,
 }
 
 // By hand, so that whoever drops a script calls this.

@@ -8,7 +8,12 @@ use std::sync::Wait;
 use std::test::*;
 
 // A lane of this many lines, whose client has posted these and ended, so that its pass came in before its lines.
-fn early<R: Wait>(rt: &R, alloc: Global, lines: u32, texts: &[Text]) -> Result<LaneTaker, NoMemory>
+fn early<'s, R: Wait>(
+    rt: &R,
+    alloc: Global,
+    lines: u32,
+    texts: &[Text<'s>],
+) -> Result<LaneTaker<'s>, NoMemory>
     requires { (length texts.now ≤ lines) × (lines ≤ 20000) }
 {
     let (mut taker, poster) = open_lane(alloc, 7, 3, lines)?;
@@ -21,14 +26,14 @@ fn early<R: Wait>(rt: &R, alloc: Global, lines: u32, texts: &[Text]) -> Result<L
 // its number.
 type Said = (u8, bool, u32, u32, u32);
 
-fn asked<I: Inlet, R: Wait>(rt: &R, inlet: &mut I) -> Said {
+fn asked<'s, I: Inlet<'s>, R: Wait>(rt: &R, inlet: &mut I) -> Said {
     let (event, told) = (inlet.event(), inlet.told());
     let (left, other) = (inlet.left(3), inlet.left(4));
     let seq = inlet.take(rt).map_or(9, |line| line.seq);
     (event, told, left, other, seq)
 }
 
-fn says<I: Inlet, R: Wait>(rt: &R, inlet: &mut I, all: &[Said]) -> bool {
+fn says<'s, I: Inlet<'s>, R: Wait>(rt: &R, inlet: &mut I, all: &[Said]) -> bool {
     for wanted in all {
         if asked(rt, inlet) != *wanted {
             return false;
@@ -39,7 +44,7 @@ fn says<I: Inlet, R: Wait>(rt: &R, inlet: &mut I, all: &[Said]) -> bool {
 
 #[test]
 fn a_pass_comes_in_before_its_lines(rt: HostRuntime) -> Result<(), Fail> {
-    let texts = [Text::empty(); 2];
+    let texts = [Text::empty(), Text::empty()];
     let mut taker = early(&rt, rt.alloc(), 20_000, &texts)?;
     let said = [(7, true, 2, 0, 0), (7, true, 1, 0, 1), (7, true, 0, 0, 9)];
     assert!(rt; says(&rt, &mut taker, &said));

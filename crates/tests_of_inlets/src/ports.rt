@@ -2,6 +2,7 @@ ghost use Rattle.std.specs.Prelude.{◌≡◌, ◌+◌, ◌≤◌, [], All, IfOk
 ghost use denote.Param.Send.{IsSync};
 
 use event_gate::{Bell, Gate, ListGate, NoGate, PostEnd, Poster, Taker, open_port, post_all};
+use live_clients::{Job, join, start};
 use lwp_types::{Line, NoMemory, Text};
 use std::alloc::Global;
 use std::snapshot::Snapshot;
@@ -9,11 +10,22 @@ use std::sync::Wait;
 use std::test::*;
 use std::thread::{self, Promise, PromisedHandle, Scope, Threads};
 
-fn text(bytes: &[u8]) -> Text {
+fn text(bytes: &[u8]) -> Text<'_> {
     Text::new(bytes).unwrap_or(Text::empty())
 }
 
-fn line(client: u8, seq: u32) -> Line
+// So many texts.
+fn texts_of<'s>(alloc: Global, count: usize) -> Result<Vec<Text<'s>>, NoMemory>
+    ensures { IfOk result (λ v. length v.items ≡ count) }
+{
+    let mut texts = Vec::new(alloc);
+    for _ in 0..count {
+        texts.push(text(b"a"))?;
+    }
+    Ok(texts)
+}
+
+fn line<'s>(client: u8, seq: u32) -> Line<'s>
     ensures { result.client ≡ client }
 {
     Line {
@@ -23,13 +35,40 @@ fn line(client: u8, seq: u32) -> Line
     }
 }
 
-// What a thread of this port's clients will bring back.
+// What a thread of a client does: it posts all texts.
 #[derive(Drop)]
-struct OfPort {
-    taker: Snapshot<Taker>,
+struct PostsAll<'s, R> {
+    rt: &'s R,
+    poster: Poster<'s>,
+    texts: &'s [Text<'s>],
+    bell: &'s Bell,
 }
 
-impl Promise<PostEnd> for OfPort {
+impl<'s, R: Wait + Sync> Job for PostsAll<'s, R> {
+    type End = PostEnd<'s>;
+
+    ghost ready = { λ j. length j.poster.posted + length j.texts.now ≤ 4294967295 };
+
+    ghost ends = { λ j e. e.pass.port ≡ j.poster.port };
+
+    fn run(self) -> PostEnd<'s> {
+        let PostsAll {
+            rt,
+            poster,
+            texts,
+            bell,
+        } = self;
+        post_all(rt, poster, &mut NoGate, texts, bell)
+    }
+}
+
+// What a thread of this port's clients will bring back.
+#[derive(Drop)]
+struct OfPort<'s> {
+    taker: Snapshot<Taker<'s>>,
+}
+
+impl<'s> Promise<PostEnd<'s>> for OfPort<'s> {
     ghost kept_by = { λ p e. e.pass.port ≡ p.taker.value.port };
 }
 
@@ -81,11 +120,11 @@ fn start_all<'s, E, R: Threads + Wait + Sync>(
     scope: &Scope<'s, E>,
     rt: &'s R,
     alloc: Global,
-    taker: &Taker,
-    posters: Vec<Poster>,
-    texts: &'s [Text],
+    taker: &Taker<'s>,
+    posters: Vec<Poster<'s>>,
+    texts: &'s [Text<'s>],
     bell: &'s Bell,
-) -> Result<Vec<PromisedHandle<PostEnd, OfPort>>, NoMemory>
+) -> Result<Vec<PromisedHandle<PostEnd<'s>, OfPort<'s>>>, NoMemory>
     requires new { All (λ p. (p.port ≡ taker.now.port) × (p.posted ≡ [])) posters.items }
     requires few { length texts.now ≤ 1000 }
     ensures { IfOk result (λ v. All (λ h. h.promise.taker.value.port ≡ taker.now.port) v.items) }
@@ -95,14 +134,13 @@ fn start_all<'s, E, R: Threads + Wait + Sync>(
         let promise = OfPort {
             taker: Snapshot::of(taker),
         };
-        let started = scope.spawn_with(
-            promise,
-            move || -> PostEnd
-                requires { length poster.posted + length texts.now ≤ 4294967295 }
-                ensures { result.pass.port ≡ poster.port }
-            { post_all(rt, poster, &mut NoGate, texts, bell) },
-        );
-        let Ok(handle) = started else {
+        let posts = PostsAll {
+            rt,
+            poster,
+            texts,
+            bell,
+        };
+        let Ok(handle) = start(scope, rt, promise, posts) else {
             return Err(NoMemory);
         };
         handles.push(handle)?;
@@ -111,18 +149,18 @@ fn start_all<'s, E, R: Threads + Wait + Sync>(
 }
 
 // Takes in the passes of all threads, and answers how many have posted all.
-fn take_in_all<R: Threads + Wait>(
+fn take_in_all<'s, R: Threads + Wait>(
     rt: &R,
-    taker: &mut Taker,
-    handles: Vec<PromisedHandle<PostEnd, OfPort>>,
+    taker: &mut Taker<'s>,
+    handles: Vec<PromisedHandle<PostEnd<'s>, OfPort<'s>>>,
 ) -> u32
     requires { All (λ h. h.promise.taker.value.port ≡ taker.old.port) handles.items }
 {
     let mut whole = 0u32;
     for handle in handles {
-        let end = handle.join(rt);
-        taker.take_in(end.pass);
-        whole = whole.wrapping_add(u32::from(end.all));
+        let PostEnd { pass, all } = join(rt, handle);
+        taker.take_in(pass);
+        whole = whole.wrapping_add(u32::from(all));
     }
     whole
 }
@@ -142,14 +180,13 @@ fn take_beside<'s, E, R: Threads + Wait + Sync>(
     scope: &Scope<'s, E>,
     rt: &'s R,
     alloc: Global,
-    mut taker: Taker,
-    posters: Vec<Poster>,
-    texts: &'s [Text],
+    texts: &'s [Text<'s>],
     bell: &'s Bell,
 ) -> Result<Harvest, NoMemory>
-    requires new { All (λ p. (p.port ≡ taker.port) × (p.posted ≡ [])) posters.items }
-    requires few { length texts.now ≤ 1000 }
+    requires { length texts.now ≤ 1000 }
 {
+    let clients = [0u8, 1, 2, 3, 4, 5, 6, 7, 8, 9, 10, 11, 12, 13, 14, 15];
+    let (mut taker, posters) = open_port(rt, alloc, 5, &clients)?;
     let handles = start_all(scope, rt, alloc, &taker, posters, texts, bell)?;
     let mut tally = Tally::new();
     take_some(rt, &mut taker, bell, 10_000, &mut tally);
@@ -175,16 +212,14 @@ fn rush_of_sixteen<R: Threads + Wait + Sync>(
 ) -> Result<Harvest, NoMemory>
     requires { length texts.now ≤ 1000 }
 {
-    let clients = [0u8, 1, 2, 3, 4, 5, 6, 7, 8, 9, 10, 11, 12, 13, 14, 15];
-    let (taker, posters) = open_port(rt, alloc, 5, &clients)?;
     let bell = Bell::new();
     let bell = &bell;
     thread::scope(
         thread::scope_env(),
         rt,
         move |scope| -> Result<Harvest, NoMemory>
-            requires { IsSync R.row × All (λ p. (p.port ≡ taker.port) × (p.posted ≡ [])) posters.items × (length texts.now ≤ 1000) }
-        { take_beside(scope, rt, alloc, taker, posters, texts, bell) },
+            requires { IsSync R.row × (length texts.now ≤ 1000) }
+        { take_beside(scope, rt, alloc, texts, bell) },
     )
 }
 
@@ -199,18 +234,18 @@ fn is_whole(harvest: &Harvest) -> bool {
 
 #[test]
 fn sixteen_clients_post_while_one_thread_takes(rt: HostRuntime) -> Result<(), Fail> {
-    let texts = [text(b"a"); 1000];
+    let texts = texts_of(rt.alloc(), 1000)?;
     let harvest = rush_of_sixteen(&rt, rt.alloc(), &texts)?;
     assert!(rt; is_whole(&harvest));
     Ok(())
 }
 
 // Each client posts these texts and ends, and its pass comes in at once. Answers how often another pass was still out.
-fn take_in_each<R: Wait>(
+fn take_in_each<'s, R: Wait>(
     rt: &R,
-    taker: &mut Taker,
-    posters: Vec<Poster>,
-    texts: &[Text],
+    taker: &mut Taker<'s>,
+    posters: Vec<Poster<'s>>,
+    texts: &[Text<'s>],
     bell: &Bell,
 ) -> u32
     requires new { All (λ p. (p.port ≡ taker.old.port) × (p.posted ≡ [])) posters.items }
@@ -218,19 +253,19 @@ fn take_in_each<R: Wait>(
 {
     let mut out = 0u32;
     for poster in posters {
-        let end = post_all(rt, poster, &mut NoGate, texts, bell);
-        taker.take_in(end.pass);
+        let PostEnd { pass, all: _ } = post_all(rt, poster, &mut NoGate, texts, bell);
+        taker.take_in(pass);
         out = out.wrapping_add(u32::from(!taker.told()));
     }
     out
 }
 
-fn both_end_early<R: Wait>(
+fn both_end_early<'s, R: Wait>(
     rt: &R,
     alloc: Global,
-    texts: &[Text],
+    texts: &[Text<'s>],
     bell: &Bell,
-) -> Result<(Taker, u32), NoMemory>
+) -> Result<(Taker<'s>, u32), NoMemory>
     requires { length texts.now ≤ 1000 }
 {
     let (mut taker, posters) = open_port(rt, alloc, 7, &[3, 9])?;
@@ -251,7 +286,7 @@ fn is_emptied<R: Wait>(rt: &R, taker: &mut Taker) -> bool {
 
 #[test]
 fn a_pass_comes_in_before_its_lines(rt: HostRuntime) -> Result<(), Fail> {
-    let texts = [text(b"a"); 2];
+    let texts = texts_of(rt.alloc(), 2)?;
     let bell = Bell::new();
     let (mut taker, out) = both_end_early(&rt, rt.alloc(), &texts, &bell)?;
     bell.park(&rt);
@@ -286,7 +321,7 @@ fn gives_all(gate: &mut ListGate) -> bool {
     true
 }
 
-fn list_gate(alloc: Global) -> Result<ListGate, NoMemory> {
+fn list_gate<'s>(alloc: Global) -> Result<ListGate<'s>, NoMemory> {
     let posts = [line(0, 0), line(1, 0), line(0, 1), line(2, 0)];
     ListGate::new(alloc, &[5, 6, 5], &posts)
 }

@@ -156,7 +156,7 @@ fn start_and_take<'s, E, R: Threads + Wait + Sync>(
     scope: &Scope<'s, E>,
     rt: &'s R,
     alloc: Global,
-    texts: &'s [Vec<Text>],
+    texts: &'s [Vec<Text<'s>>],
     gates: Vec<Own<'s>>,
     bell: &'s Bell,
 ) -> Result<Harvest, NoMemory>
@@ -188,17 +188,20 @@ fn run_three<R: Threads + Wait + Sync>(
 }
 
 // So many lines of one more client.
-fn add_texts(alloc: Global, all: &mut Vec<Vec<Text>>, lines: usize) -> Result<(), NoMemory>
+fn add_texts(alloc: Global, all: &mut Vec<Vec<Text<'_>>>, lines: usize) -> Result<(), NoMemory>
     requires lines { lines ≤ 20000 }
     requires before { All (λ ts. length ts.items ≤ 20000) all.old.items }
     ensures { OnOk result ((length all.new.items ≡ length all.old.items + 1) × All (λ ts. length ts.items ≤ 20000) all.new.items) }
 {
-    let texts = Vec::from_elem(alloc, Text::empty(), lines)?;
+    let mut texts = Vec::new(alloc);
+    for _ in 0..lines {
+        texts.push(Text::empty())?;
+    }
     all.push(texts)?;
     Ok(())
 }
 
-fn three_texts(alloc: Global) -> Result<Vec<Vec<Text>>, NoMemory>
+fn three_texts<'s>(alloc: Global) -> Result<Vec<Vec<Text<'s>>>, NoMemory>
     ensures { IfOk result (λ v. (length v.items ≡ 3) × All (λ ts. length ts.items ≤ 20000) v.items) }
 {
     let mut texts = Vec::new(alloc);

@@ -14,8 +14,8 @@ const C: Tid = Tid { number: 2 };
 const D: Tid = Tid { number: 3 };
 
 // A letter that nobody has received, with room for a reply of four bytes.
-fn letter(from: Tid, to: Tid, text: Text) -> Letter
-    ensures { result ≡ record { from = from; to = to; text = text; room = 4; received = false } }
+fn letter<'s>(from: Tid, to: Tid, text: Text<'s>) -> Letter<'s>
+    ensures { result ≡ record { from = from; to = to; text = text.entry; room = 4; received = false } }
 {
     Letter {
         from,
@@ -31,7 +31,7 @@ fn takes(mail: &mut Mail, from: Option<Tid>, wanted: Tid) -> bool {
     let Some(letter) = mail.take_letter(D, from) else {
         return false;
     };
-    letter.from == wanted && letter.received && letter.text.bytes() == b"hello".as_slice()
+    letter.from == wanted && letter.received && letter.text.equals(b"hello")
 }
 
 fn is_received(mail: &mut Mail) -> bool {
@@ -76,8 +76,8 @@ fn does_all(mail: &mut Mail) -> bool
     let Some(text) = Text::new(b"hello") else {
         return false;
     };
-    mail.post_letter(letter(C, D, text));
-    mail.post_letter(letter(A, D, text));
+    mail.post_letter(letter(C, D, text.again()));
+    mail.post_letter(letter(A, D, text.again()));
     mail.post_letter(letter(B, D, text));
     is_received(mail) && replies(mail) && forgets(mail)
 }

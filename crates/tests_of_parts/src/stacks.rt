@@ -2,10 +2,10 @@ use exc_stack::ExcStack;
 use lwp_types::{ExitCall, ExitMark, Func, LwpErr, Mark, Pattern};
 use std::alloc::Global;
 
-const EXIT: ExitCall = ExitCall::SetExit { code: 3 };
+const EXIT: ExitCall<'static> = ExitCall::SetExit { code: 3 };
 
 // An exit is set in one frame, and handlers in a second one.
-const MARKS: [Mark; 5] = [
+const MARKS: [Mark<'static>; 5] = [
     Mark::Exit { reg: 0, call: EXIT },
     Mark::Frame,
     Mark::Handler {
@@ -26,14 +26,14 @@ const MARKS: [Mark; 5] = [
 ];
 
 // The call by which such a mark is set.
-fn sets(stack: &mut ExcStack, mark: &Mark) -> bool {
+fn sets<'s>(stack: &mut ExcStack<'s>, mark: &Mark<'s>) -> bool {
     if stack.marks() == 0 {
         return false;
     }
-    let set = match *mark {
+    let set = match mark {
         Mark::Frame => stack.enter_frame(),
-        Mark::Handler { pattern, func, arg } => stack.handle(pattern, func, arg),
-        Mark::Exit { reg, call } => stack.on_exit(reg, call),
+        Mark::Handler { pattern, func, arg } => stack.handle(*pattern, *func, *arg),
+        Mark::Exit { reg, call } => stack.on_exit(*reg, call.again()),
     };
     set == Ok(true)
 }

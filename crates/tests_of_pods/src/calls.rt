@@ -13,7 +13,7 @@ const PARAMS: PodParams = PodParams {
 };
 
 // The fifteen calls that may ask for memory, each where nothing else refuses it.
-const ASKING: [Call; 15] = [
+const ASKING: [Call<'static>; 15] = [
     Call::MonCreate,
     Call::Monitors,
     Call::MonWaiters {
@@ -52,7 +52,7 @@ const ASKING: [Call; 15] = [
 ];
 
 // How many effects the call of whoever's turn it is has besides itself; None if it is nobody's turn, or memory is refused.
-fn makes(pod: &mut Pod, effects: &mut Effects, call: &Call) -> Option<usize> {
+fn makes<'s>(pod: &mut Pod<'s>, effects: &mut Effects<'s>, call: &Call<'s>) -> Option<usize> {
     if pod.current().is_none() || pod.call(call, effects).is_err() {
         return None;
     }
@@ -60,7 +60,7 @@ fn makes(pod: &mut Pod, effects: &mut Effects, call: &Call) -> Option<usize> {
 }
 
 // How many effects the event has; none if it isn't armed.
-fn delivers(pod: &mut Pod, effects: &mut Effects, event: u8) -> usize {
+fn delivers<'s>(pod: &mut Pod<'s>, effects: &mut Effects<'s>, event: u8) -> usize {
     if !pod.armed(event) {
         return 0;
     }
@@ -80,7 +80,7 @@ fn is_answered(effects: &Effects) -> bool {
 }
 
 // Whether whoever asks for memory is given it. Then the first thread lives, another, and the first one's agent.
-fn gives_memory(pod: &mut Pod, effects: &mut Effects) -> bool {
+fn gives_memory<'s>(pod: &mut Pod<'s>, effects: &mut Effects<'s>) -> bool {
     for call in &ASKING {
         if makes(pod, effects, call) != Some(1) || !is_answered(effects) {
             return false;
@@ -90,7 +90,7 @@ fn gives_memory(pod: &mut Pod, effects: &mut Effects) -> bool {
 }
 
 // The first thread waits for its agent, and the other dies: it is nobody's turn.
-fn waits(pod: &mut Pod, effects: &mut Effects, agent: Tid) -> bool {
+fn waits<'s>(pod: &mut Pod<'s>, effects: &mut Effects<'s>, agent: Tid) -> bool {
     let (from, mode) = (Some(agent), Mode::Block);
     makes(pod, effects, &Call::Recv { from, mode }) == Some(0)
         && makes(pod, effects, &Call::Return) == Some(1)
@@ -98,7 +98,7 @@ fn waits(pod: &mut Pod, effects: &mut Effects, agent: Tid) -> bool {
 }
 
 // The event's letter is received; until the reply the agent takes no other.
-fn takes_an_event(pod: &mut Pod, effects: &mut Effects, agent: Tid) -> bool {
+fn takes_an_event<'s>(pod: &mut Pod<'s>, effects: &mut Effects<'s>, agent: Tid) -> bool {
     let (to, text) = (agent, Text::empty());
     delivers(pod, effects, 5) == 2
         && is_answered(effects)
@@ -108,7 +108,7 @@ fn takes_an_event(pod: &mut Pod, effects: &mut Effects, agent: Tid) -> bool {
 }
 
 // The thread sleeps until the clock, which is event 0, has ticked twice.
-fn sleeps(pod: &mut Pod, effects: &mut Effects) -> bool {
+fn sleeps<'s>(pod: &mut Pod<'s>, effects: &mut Effects<'s>) -> bool {
     makes(pod, effects, &Call::Sleep { ticks: 2 }) == Some(0)
         && delivers(pod, effects, 0) == 1
         && pod.ending() == Some(PodEnd::Idle)
@@ -118,13 +118,13 @@ fn sleeps(pod: &mut Pod, effects: &mut Effects) -> bool {
         && pod.ending().is_none()
 }
 
-fn ends(pod: &mut Pod, effects: &mut Effects) -> bool {
+fn ends<'s>(pod: &mut Pod<'s>, effects: &mut Effects<'s>) -> bool {
     makes(pod, effects, &Call::PodExit { code: 98 }) == Some(1)
         && pod.ending() == Some(PodEnd::Ended(98))
         && pod.current().is_none()
 }
 
-fn does_all(pod: &mut Pod, effects: &mut Effects) -> bool {
+fn does_all<'s>(pod: &mut Pod<'s>, effects: &mut Effects<'s>) -> bool {
     let agent = Tid { number: 2 };
     gives_memory(pod, effects)
         && waits(pod, effects, agent)
@@ -156,12 +156,12 @@ const CROWDED: PodParams = PodParams {
 };
 
 // The agent of an event is made, for the thread whose turn it is.
-fn makes_agent(pod: &mut Pod, effects: &mut Effects) -> bool {
+fn makes_agent<'s>(pod: &mut Pod<'s>, effects: &mut Effects<'s>) -> bool {
     makes(pod, effects, &Call::Agent { event: 7 }) == Some(1) && is_answered(effects)
 }
 
 // As many agents as may live are made, all of one event. Each of them has a letter of one line, and the event waits then.
-fn reaches_all(pod: &mut Pod, effects: &mut Effects) -> bool {
+fn reaches_all<'s>(pod: &mut Pod<'s>, effects: &mut Effects<'s>) -> bool {
     for _ in 0..256 {
         if !makes_agent(pod, effects) {
             return false;

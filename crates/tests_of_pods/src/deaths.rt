@@ -36,10 +36,10 @@ const JOINS: Block = Block::Joining(DYING);
 const AGENT: Tid = Tid { number: 8 };
 
 // A thread is born that waits so, with these marks.
-fn bear_with(ids: &mut Registry<Kind>, block: Block, stack: ExcStack)
+fn bear_with<'s>(ids: &mut Registry<Kind<'s>>, block: Block, stack: ExcStack<'s>)
     requires room { length ids.old.live < ids.old.places }
     requires more { ids.old.births < ids.old.limit }
-    ensures { ids.new ≡ inserted ids.old (thread block stack) }
+    ensures { ids.new ≡ inserted ids.old (thread block stack.entry) }
 {
     let _ = ids.insert(Kind::Thread(ThreadRec {
         flags: PLAIN,
@@ -60,7 +60,7 @@ fn bear(ids: &mut Registry<Kind>, alloc: Global, block: Block) -> Result<(), NoM
 }
 
 // The stack with five exit procedures: one of them resumes the dying thread itself.
-fn five_exits(alloc: Global) -> Result<ExcStack, NoMemory>
+fn five_exits<'s>(alloc: Global) -> Result<ExcStack<'s>, NoMemory>
     ensures { IfOk result (λ s. s ≡ example.stack) }
 {
     let mut stack = ExcStack::new(alloc)?;
@@ -104,12 +104,12 @@ fn bear_all(
     Ok(())
 }
 
-fn living(
+fn living<'s>(
     alloc: Global,
     third: Block,
     fourth: Block,
     fifth: Block,
-) -> Result<Registry<Kind>, NoMemory>
+) -> Result<Registry<Kind<'s>>, NoMemory>
     ensures { IfOk result (λ ids. ids ≡ register_as third fourth fifth) }
 {
     let mut ids = Registry::new(alloc, 100);
@@ -118,7 +118,7 @@ fn living(
     Ok(ids)
 }
 
-fn all_waiting(alloc: Global) -> Result<Registry<Kind>, NoMemory>
+fn all_waiting<'s>(alloc: Global) -> Result<Registry<Kind<'s>>, NoMemory>
     ensures { IfOk result (λ ids. ids ≡ example.ids) }
 {
     living(alloc, RECEIVES, JOINS, JOINS)
@@ -149,7 +149,7 @@ fn scheduled(alloc: Global) -> Result<Sched, NoMemory>
 }
 
 // A letter to the dying thread.
-fn letter(from: u64, room: u8, received: bool) -> Letter
+fn letter<'s>(from: u64, room: u8, received: bool) -> Letter<'s>
     ensures { result ≡ record { from = from; to = 0; text = []; room = room; received = received } }
 {
     Letter {
@@ -161,7 +161,7 @@ fn letter(from: u64, room: u8, received: bool) -> Letter
     }
 }
 
-fn posted(alloc: Global) -> Result<Mail, NoMemory>
+fn posted<'s>(alloc: Global) -> Result<Mail<'s>, NoMemory>
     ensures { IfOk result (λ m. m ≡ example.mail) }
 {
     let mut mail = Mail::new(alloc);
@@ -245,7 +245,7 @@ fn noted(alloc: Global) -> Result<Named, NoMemory>
     Ok(named)
 }
 
-fn parts(alloc: Global) -> Result<Parts, NoMemory>
+fn parts<'s>(alloc: Global) -> Result<Parts<'s>, NoMemory>
     ensures same { IfOk result (λ p. p ≡ record example.parts { named = p.named }) }
     ensures lawful { IfOk result (λ p. LawfulParts p) }
 {

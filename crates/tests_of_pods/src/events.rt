@@ -15,7 +15,7 @@ const AGENT: Tid = Tid { number: 1 };
 const WORKER: Tid = Tid { number: 2 };
 
 // How many effects the call of whoever's turn it is has; none if it is nobody's turn, or memory is refused.
-fn makes(pod: &mut EventPod<Pod>, effects: &mut Effects, call: &Call) -> usize {
+fn makes<'s>(pod: &mut EventPod<'s, Pod<'s>>, effects: &mut Effects<'s>, call: &Call<'s>) -> usize {
     if pod.current().is_none() || pod.call(call, effects).is_err() {
         return 0;
     }
@@ -23,7 +23,7 @@ fn makes(pod: &mut EventPod<Pod>, effects: &mut Effects, call: &Call) -> usize {
 }
 
 // The effect at this place, if there is one.
-fn effect_at(effects: &Effects, i: usize) -> Option<&Effect> {
+fn effect_at<'e, 's>(effects: &'e Effects<'s>, i: usize) -> Option<&'e Effect<'s>> {
     if i < effects.len() {
         Some(effects.get(i))
     } else {
@@ -32,7 +32,7 @@ fn effect_at(effects: &Effects, i: usize) -> Option<&Effect> {
 }
 
 // The event is taken, which is told by one effect, and its trap is to be raised.
-fn takes_a_trap(pod: &mut EventPod<Pod>, effects: &mut Effects, event: u8) -> bool {
+fn takes_a_trap<'s>(pod: &mut EventPod<'s, Pod<'s>>, effects: &mut Effects<'s>, event: u8) -> bool {
     if pod.next_armed(1) != Some(event) || !pod.armed(event) {
         return false;
     }
@@ -41,7 +41,7 @@ fn takes_a_trap(pod: &mut EventPod<Pod>, effects: &mut Effects, event: u8) -> bo
 }
 
 // A trap with a handler that gives a value: the trap is told, the call, and what the call comes to.
-fn is_trapped(pod: &mut EventPod<Pod>, effects: &mut Effects) -> bool {
+fn is_trapped<'s>(pod: &mut EventPod<'s, Pod<'s>>, effects: &mut Effects<'s>) -> bool {
     let handle = Call::Handle {
         pattern: Pattern::Num(5),
         func: Func::Give,
@@ -59,7 +59,7 @@ fn is_trapped(pod: &mut EventPod<Pod>, effects: &mut Effects) -> bool {
 }
 
 // The first thread has an agent for reports, and lets another run, which dies: that is told, and reported to the agent.
-fn reports_a_death(pod: &mut EventPod<Pod>, effects: &mut Effects) -> bool {
+fn reports_a_death<'s>(pod: &mut EventPod<'s, Pod<'s>>, effects: &mut Effects<'s>) -> bool {
     let create = Call::Create {
         proc: 1,
         prio: 1,
@@ -81,21 +81,21 @@ fn reports_a_death(pod: &mut EventPod<Pod>, effects: &mut Effects) -> bool {
 }
 
 // What the owner of the agent receives.
-fn is_told(pod: &mut EventPod<Pod>, effects: &mut Effects) -> bool {
+fn is_told<'s>(pod: &mut EventPod<'s, Pod<'s>>, effects: &mut Effects<'s>) -> bool {
     let (from, mode) = (Some(AGENT), Mode::Poll);
     if makes(pod, effects, &Call::Recv { from, mode }) != 1 {
         return false;
     }
     match effect_at(effects, 0) {
         Some(Effect::Answered { answer, .. }) => match answer {
-            Answer::Letter { text, .. } => text.bytes() == b"t2".as_slice(),
+            Answer::Letter { text, .. } => text.equals(b"t2"),
             _ => false,
         },
         _ => false,
     }
 }
 
-fn does_all(pod: &mut EventPod<Pod>, effects: &mut Effects) -> bool {
+fn does_all<'s>(pod: &mut EventPod<'s, Pod<'s>>, effects: &mut Effects<'s>) -> bool {
     is_trapped(pod, effects)
         && reports_a_death(pod, effects)
         && is_told(pod, effects)

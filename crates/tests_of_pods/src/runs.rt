@@ -4,6 +4,7 @@ use lwp_types::{Effect, Effects, Line, MemSink, NoMemory, Text, Tid};
 use pod_runner::lines_of;
 use std::alloc::Global;
 use std::test::Fail;
+use text_list::TextList;
 use whole_streams::write_all;
 
 fn push_three(effects: &mut Effects)
@@ -20,7 +21,7 @@ fn push_three(effects: &mut Effects)
     effects.push(Effect::Ended { status: 7 });
 }
 
-fn text_of(bytes: &[u8]) -> Text {
+fn text_of(bytes: &[u8]) -> Text<'_> {
     Text::new(bytes).unwrap_or(Text::empty())
 }
 
@@ -33,7 +34,7 @@ fn lines_of_three(alloc: Global) -> Result<Vec<u8>, NoMemory> {
         seq: 1,
         text: text_of(b"two"),
     };
-    lines_of(alloc, &effects, Some(&line), &[])
+    lines_of(alloc, &effects, Some(&line), &TextList::new(alloc))
 }
 
 // What such lines are in a sink that takes three bytes at most at a time.

@@ -19,7 +19,7 @@ fn start<'s>(
     alloc: Global,
     script: &'s Script,
     turns: u64,
-) -> Result<Run<ThreadBody<'s>, ScriptProgram<'s>>, NoMemory>
+) -> Result<Run<'s, ThreadBody<'s>, ScriptProgram<'s>>, NoMemory>
     requires { IsWithinLimits script.now }
     ensures { IfOk result (λ run. run.failed ≡ false) }
 {
@@ -37,7 +37,7 @@ fn start<'s>(
 
 // A call more, if one is due.
 fn step<'s>(
-    run: &mut Run<ThreadBody<'s>, ScriptProgram<'s>>,
+    run: &mut Run<'s, ThreadBody<'s>, ScriptProgram<'s>>,
     sink: &mut MemSink,
 ) -> Result<(), RunErr>
     requires { run.old.failed ≡ false }
@@ -51,7 +51,7 @@ fn step<'s>(
 
 // Calls, until so many were made in all.
 fn step_to<'s>(
-    run: &mut Run<ThreadBody<'s>, ScriptProgram<'s>>,
+    run: &mut Run<'s, ThreadBody<'s>, ScriptProgram<'s>>,
     calls: u64,
     sink: &mut MemSink,
 ) -> Result<(), RunErr>
@@ -66,8 +66,8 @@ fn step_to<'s>(
 
 // A line is taken at its turn, if it can be delivered there.
 fn take<'s>(
-    run: &mut Run<ThreadBody<'s>, ScriptProgram<'s>>,
-    taken: &Taken,
+    run: &mut Run<'s, ThreadBody<'s>, ScriptProgram<'s>>,
+    taken: &Taken<'s>,
     sink: &mut MemSink,
 ) -> Result<(), RunErr>
     requires { run.old.failed ≡ false }
@@ -80,15 +80,15 @@ fn take<'s>(
     let line = Line {
         client: taken.client,
         seq: taken.seq,
-        text: taken.text,
+        text: taken.text.again(),
     };
     run.offer(taken.event, line, sink)
 }
 
 // All lines are taken at their turns, and calls made between and behind them.
 fn replay<'s>(
-    run: &mut Run<ThreadBody<'s>, ScriptProgram<'s>>,
-    session: &Session,
+    run: &mut Run<'s, ThreadBody<'s>, ScriptProgram<'s>>,
+    session: &'s Session,
     sink: &mut MemSink,
 ) -> Result<(), RunErr>
     requires { run.old.failed ≡ false }
@@ -100,11 +100,11 @@ fn replay<'s>(
 }
 
 // A script is played by the takes of a session.
-fn play_takes(
+fn play_takes<'s>(
     alloc: Global,
-    script: &Script,
+    script: &'s Script,
     turns: u64,
-    session: &Session,
+    session: &'s Session,
     sink: &mut MemSink,
 ) -> Result<(), RunErr>
     requires { IsWithinLimits script.now }

@@ -1,10 +1,10 @@
 use line_server::StoreBody;
-use lwp_types::{Answer, Body, Call, Env, ExitCall, NoMemory, Text, Tid};
+use lwp_types::{Answer, Call, Env, ExitCall, NoMemory, Polled, Text, Tid};
 use std::alloc::Global;
 use std::test::Fail;
 
 // Whether a store that begins, or whose reply was taken, waits for a text.
-fn waits(body: &mut StoreBody, env: &mut Env) -> Result<bool, NoMemory> {
+fn waits<'s>(body: &mut StoreBody<'s>, env: &mut Env) -> Result<bool, NoMemory> {
     // The checker asks for the types that a call holds.
     let _inside: Option<(Call, ExitCall, Answer)> = None;
     let mut call = Call::Return;
@@ -14,17 +14,17 @@ fn waits(body: &mut StoreBody, env: &mut Env) -> Result<bool, NoMemory> {
 
 fn is_reply(call: &Call, sender: Tid, told: &[u8]) -> bool {
     match call {
-        Call::Reply { to, text } => *to == sender && text.bytes() == told,
+        Call::Reply { to, text } => *to == sender && text.equals(told),
         _ => false,
     }
 }
 
 // Whether a store replies so to this text of a sender.
-fn tells(
-    body: &mut StoreBody,
+fn tells<'s>(
+    body: &mut StoreBody<'s>,
     env: &mut Env,
     from: u64,
-    text: &[u8],
+    text: &'s [u8],
     told: &[u8],
 ) -> Result<bool, NoMemory> {
     // The checker asks for the types that a call holds.
@@ -37,11 +37,23 @@ fn tells(
     Ok(is_reply(&call, from, told) && waits(body, env)?)
 }
 
-// One sender puts a hundred keys.
-fn fills(body: &mut StoreBody, env: &mut Env) -> Result<bool, NoMemory> {
+// The texts that put a hundred keys. A store keeps what it is sent where it lies.
+fn hundred_puts() -> [[u8; 6]; 100] {
+    let mut puts = [*b"put 00"; 100];
     for i in 0..100u8 {
-        let text = [b'p', b'u', b't', b' ', b'0' + i / 10, b'0' + i % 10];
-        if !tells(body, env, 5, &text, b"ok")? {
+        puts[usize::from(i)] = [b'p', b'u', b't', b' ', b'0' + i / 10, b'0' + i % 10];
+    }
+    puts
+}
+
+// One sender puts a hundred keys.
+fn fills<'s>(
+    body: &mut StoreBody<'s>,
+    env: &mut Env,
+    puts: &'s [[u8; 6]; 100],
+) -> Result<bool, NoMemory> {
+    for put in puts {
+        if !tells(body, env, 5, put, b"ok")? {
             return Ok(false);
         }
     }
@@ -62,7 +74,7 @@ const ROWS: [(u64, &[u8], &[u8]); 10] = [
     (6, b"get k", b"is v"),
 ];
 
-fn tells_rows(body: &mut StoreBody, env: &mut Env) -> Result<bool, NoMemory> {
+fn tells_rows<'s>(body: &mut StoreBody<'s>, env: &mut Env) -> Result<bool, NoMemory> {
     for (from, text, told) in &ROWS {
         if !tells(body, env, *from, text, told)? {
             return Ok(false);
@@ -71,14 +83,19 @@ fn tells_rows(body: &mut StoreBody, env: &mut Env) -> Result<bool, NoMemory> {
     Ok(true)
 }
 
-fn tells_all(body: &mut StoreBody, env: &mut Env) -> Result<bool, NoMemory> {
-    Ok(waits(body, env)? && fills(body, env)? && tells_rows(body, env)?)
+fn tells_all<'s>(
+    body: &mut StoreBody<'s>,
+    env: &mut Env,
+    puts: &'s [[u8; 6]; 100],
+) -> Result<bool, NoMemory> {
+    Ok(waits(body, env)? && fills(body, env, puts)? && tells_rows(body, env)?)
 }
 
 fn is_done(alloc: Global) -> Result<bool, NoMemory> {
     let mut env = Env::new(alloc, 0, 0, 0)?;
+    let puts = hundred_puts();
     let mut body = StoreBody::new(alloc);
-    tells_all(&mut body, &mut env)
+    tells_all(&mut body, &mut env, &puts)
 }
 
 #[test]

@@ -1,5 +1,6 @@
 use lwp_types::{Answer, Effect, Effects, Flags, Func, LwpErr, Mode, NoMemory, Pattern, Tid};
 use std::alloc::Global;
+use text_list::TextList;
 use trace_text::*;
 
 const FLAGS: Flags = Flags {
@@ -19,7 +20,7 @@ fn add_words(out: &mut Vec<u8>) -> Result<(), NoMemory> {
 }
 
 // What a refusal, a death and a later delivery are written as.
-fn add_step(out: &mut Vec<u8>, effects: &mut Effects) -> Result<(), NoMemory> {
+fn add_step(out: &mut Vec<u8>, effects: &mut Effects, names: &TextList) -> Result<(), NoMemory> {
     effects.clear();
     effects.push(Effect::Answered {
         tid: Tid { number: 0 },
@@ -32,15 +33,16 @@ fn add_step(out: &mut Vec<u8>, effects: &mut Effects) -> Result<(), NoMemory> {
         agent: Tid { number: 3 },
         event: 5,
     });
-    add_step_lines(out, effects, None, &[])
+    add_step_lines(out, effects, None, names)
 }
 
 fn add_lines(out: &mut Vec<u8>, alloc: Global) -> Result<(), NoMemory> {
+    let names = TextList::new(alloc);
     add_words(out)?;
-    add_step(out, &mut Effects::new(alloc)?)?;
+    add_step(out, &mut Effects::new(alloc)?, &names)?;
     add_text(
         out,
-        &trace_line(alloc, &Effect::Ended { status: 3 }, None, &[])?,
+        &trace_line(alloc, &Effect::Ended { status: 3 }, None, &names)?,
     )?;
     add_text(out, &end_lines(alloc, &Halt::Stuck, 9, &[0, 2])?)
 }

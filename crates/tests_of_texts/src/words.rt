@@ -15,7 +15,7 @@ const NULL: u64 = u64::MAX;
 
 fn is_kept(bytes: &[u8]) -> bool {
     match Text::new(bytes) {
-        Some(text) => text.bytes() == bytes,
+        Some(text) => text.equals(bytes),
         None => false,
     }
 }

@@ -250,7 +250,7 @@ fn add_procedure_words(out: &mut Vec<u8>, name: &[u8]) -> Result<(), NoMemory>
     add_escaped(out, name)
 }
 
-fn procedure_of(id: u64, namings: &[Naming]) -> &[u8]
+fn procedure_of<'t>(id: u64, namings: &[Naming<'t>]) -> &'t [u8]
     ensures { result.now ≡ procedure_of id namings.now }
 {
     for naming in namings {
@@ -261,7 +261,7 @@ fn procedure_of(id: u64, namings: &[Naming]) -> &[u8]
     &[]
 }
 
-impl Scene {
+impl<'t> Scene<'t> {
     #[tactic(auto, unfolding(crate::specs::Frame::name_words))]
     fn add_name_words(&self, out: &mut Vec<u8>, lane: Lane) -> Result<(), NoMemory>
         ensures { OnOk result (out.new.items ≡ out.old.items ++ name_words self.now lane) }

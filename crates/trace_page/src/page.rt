@@ -31,7 +31,7 @@ impl From<NoMemory> for PageErr {
     }
 }
 
-impl Scene {
+impl<'t> Scene<'t> {
     #[tactic(auto, unfolding(crate::specs::Page::shown))]
     fn add_shown(&self, out: &mut Vec<u8>, line: &[u8]) -> Result<(), NoMemory>
         ensures { OnOk result (out.new.items ≡ out.old.items ++ shown self.now line.now) }
@@ -46,7 +46,12 @@ impl Scene {
 
 // A line is told and drawn, if it is one.
 #[tactic(auto, unfolding(crate::specs::Page::told_line))]
-fn add_line(scene: &mut Scene, out: &mut Vec<u8>, line: &[u8], number: u64) -> Result<(), PageErr>
+fn add_line<'t>(
+    scene: &mut Scene<'t>,
+    out: &mut Vec<u8>,
+    line: &'t [u8],
+    number: u64,
+) -> Result<(), PageErr>
     ensures told { OnOk result (scene.new ≡ told_line line.now scene.old) }
     ensures drawn { OnOk result (out.new.items ≡ out.old.items ++ shown (told_line line.now scene.old) line.now) }
     ensures good { OnOk result (is_some (entry_of line.now) ≡ true) }
@@ -62,7 +67,7 @@ fn add_line(scene: &mut Scene, out: &mut Vec<u8>, line: &[u8], number: u64) -> R
 }
 
 // The lines of a text, which are told and drawn one by one.
-fn add_lines(scene: &mut Scene, out: &mut Vec<u8>, text: &[u8]) -> Result<(), PageErr>
+fn add_lines<'t>(scene: &mut Scene<'t>, out: &mut Vec<u8>, text: &'t [u8]) -> Result<(), PageErr>
     ensures told { OnOk result (scene.new ≡ told_all scene.old (whole_lines text.now)) }
     ensures drawn { OnOk result (out.new.items ≡ out.old.items ++ groups scene.old (whole_lines text.now)) }
     ensures good { OnOk result (bad_line text.now ≡ None) }

@@ -1,5 +1,6 @@
 // What is known of a trace so far, and what is drawn for its next line.
-use lwp_types::Text;
+ghost use Rattle.std.specs.Prelude.{◌≡◌, length};
+
 use std::marker::Model;
 use trace_lines::{Gain, Verb};
 
@@ -69,11 +70,55 @@ pub struct Setting {
     pub tid: u64,
 }
 
+/// A part of a line of the trace, where the trace has it, seen as the list of its bytes.
+#[derive(Drop)]
+pub struct Words<'t> {
+    bytes: &'t [u8],
+}
+
+impl<'t> Model for Words<'t> {
+    ghost use Rattle.std.specs.Prelude.{List, ℕ};
+
+    ghost Value = { List ℕ };
+
+    ghost view = { λ w. w.bytes.now };
+}
+
+impl<'t> Words<'t> {
+    /// The words that lie there.
+    pub(crate) fn new(bytes: &'t [u8]) -> Words<'t>
+        ensures { result ≡ bytes.now }
+    {
+        Words { bytes }
+    }
+
+    /// The same once more.
+    pub(crate) fn again(&self) -> Words<'t>
+        ensures { result ≡ self.now }
+    {
+        Words { bytes: self.bytes }
+    }
+
+    /// How many bytes they have.
+    pub(crate) fn len(&self) -> usize
+        ensures { result ≡ length self.now }
+    {
+        self.bytes.len()
+    }
+
+    /// Their bytes.
+    pub(crate) fn bytes(&self) -> &'t [u8]
+        ensures { result.now ≡ self.now }
+    {
+        self.bytes
+    }
+}
+
 /// The procedure that a thread begins with.
-#[derive(Clone, Copy)]
-pub struct Naming {
+#[derive(Drop)]
+pub struct Naming<'t> {
     pub tid: u64,
-    pub name: Text,
+    pub name: Words<'t>,
 }
 
 /// What goes from one lane to another.
@@ -163,7 +208,7 @@ pub enum Shape {
 }
 
 /// All that is known of the lines so far, and what is drawn for the last of them.
-pub struct Scene {
+pub struct Scene<'t> {
     pub(crate) base: u64,
     pub(crate) last: u64,
     pub(crate) more: bool,
@@ -172,15 +217,15 @@ pub struct Scene {
     pub(crate) events: u64,
     pub(crate) agent: u64,
     pub(crate) closings: u64,
-    pub(crate) words: Text,
+    pub(crate) words: Words<'t>,
     pub(crate) lanes: Vec<Lane>,
     pub(crate) spans: Vec<Span>,
     pub(crate) settings: Vec<Setting>,
-    pub(crate) names: Vec<Naming>,
+    pub(crate) names: Vec<Naming<'t>>,
     pub(crate) shapes: Vec<Shape>,
 }
 
-impl Drop for Scene {
+impl<'t> Drop for Scene<'t> {
     fn drop(self) {
         let Scene {
             base: _,
@@ -201,7 +246,7 @@ impl Drop for Scene {
     }
 }
 
-impl Model for Scene {
+impl<'t> Model for Scene<'t> {
     ghost use Rattle.trace_page.specs.Scene.{Seen};
 
     ghost Value = { Seen };

@@ -314,7 +314,7 @@ pub(crate) fn add_group_closed(out: &mut Vec<u8>) -> Result<(), NoMemory>
 
 // ---- Shapes.
 
-impl Scene {
+impl<'t> Scene<'t> {
     /// Where a moment is, from the left.
     #[tactic(auto, unfolding(crate::specs::Shapes::x_of))]
     pub(crate) fn x_of(&self, at: Moment) -> u64

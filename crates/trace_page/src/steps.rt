@@ -4,9 +4,9 @@ ghost use Rattle.trace_page.specs.Scene.{begun, blank, drawn, lane_of, need_of, 
 ghost use Rattle.trace_page.specs.Spans.{changed, held_more};
 ghost use Rattle.trace_page.specs.Steps.{all_due, also_sent, answered, asking, called, came, carried, closed, counted, created, died, done, drawable, due, event_taken, exited, finished, given_up, granted, has_waited, is_call, is_past, is_shown, left, may_wait, met, met_thread, named, noted, owner_of, parked, reported, room, said, sent, set, settled, shown_answer, spoken, ticked, told, trapped, waited, with_agent, woken, words_of};
 
-use crate::scene::{Kind, Lane, Moment, Naming, Need, Scene, Setting, Shape, Span, Way};
+use crate::scene::{Kind, Lane, Moment, Naming, Need, Scene, Setting, Shape, Span, Way, Words};
 use crate::spans::{Change, add_bars, add_kept, agent_of, level_of, monitor_at, top_level};
-use lwp_types::{NoMemory, Text};
+use lwp_types::{NoMemory, is_text};
 use std::alloc::Global;
 use trace_lines::{Entry, Gain, NOBODY, Verb, rest, word};
 
@@ -186,18 +186,20 @@ fn words_of(verb: Verb, line: &[u8]) -> &[u8]
 }
 
 // As much of a text as is drawn, if it can be.
-fn drawable(text: &[u8]) -> Text
+fn drawable(text: &[u8]) -> Words<'_>
     ensures { result ≡ drawable text.now }
 {
-    match Text::new(&text[..text.len().min(40)]) {
-        Some(words) => words,
-        None => Text::empty(),
+    let front = &text[..text.len().min(40)];
+    if is_text(front) {
+        Words::new(front)
+    } else {
+        Words::new(&[])
     }
 }
 
-impl Scene {
+impl<'t> Scene<'t> {
     /// Before the first line. The calls behind `base`, up to `last`, are to be drawn.
-    pub fn new(alloc: Global, base: u64, last: u64) -> Scene
+    pub fn new(alloc: Global, base: u64, last: u64) -> Scene<'t>
         ensures { result ≡ opening base last }
     {
         Scene {
@@ -212,7 +214,7 @@ impl Scene {
             events: 0,
             agent: NOBODY,
             closings: 0,
-            words: Text::empty(),
+            words: Words::new(&[]),
             lanes: Vec::new(alloc),
             spans: Vec::new(alloc),
             settings: Vec::new(alloc),
@@ -345,7 +347,7 @@ impl Scene {
     fn room(&self) -> u64
         ensures { result ≡ room self.now }
     {
-        let words = self.words.bytes().len() as u64;
+        let words = self.words.len() as u64;
         self.time.call.saturating_add(2 + words / 3)
     }
 
@@ -461,7 +463,7 @@ impl Scene {
     fn name(&mut self, tid: u64) -> Result<(), NoMemory>
         ensures { OnOk result (self.new ≡ named tid self.old) }
     {
-        let name = self.words;
+        let name = self.words.again();
         self.names.push(Naming { tid, name })?;
         Ok(())
     }
@@ -785,7 +787,7 @@ impl Scene {
     }
 
     /// The words of a line are known.
-    pub fn note(&mut self, entry: Entry, line: &[u8])
+    pub fn note(&mut self, entry: Entry, line: &'t [u8])
         ensures { self.new ≡ noted entry line.now self.old }
     {
         if let Entry::Called {

@@ -5,7 +5,7 @@ ghost use Rattle.std.specs.List.{flat_map};
 ghost use Rattle.trace_text.specs.Lines.{id_text, error_text, ids_text, answer_text};
 
 use crate::words::{
-    add_number, add_spaced, add_word, add_word_id, add_word_number, add_word_text, func_word,
+    add_number, add_spaced_text, add_word, add_word_id, add_word_number, add_word_text, func_word,
 };
 use itoa::Buffer;
 use lwp_types::{Answer, Func, IdKind, IdList, LwpErr, NoMemory, Text, Tid};
@@ -52,7 +52,7 @@ fn add_letter(out: &mut Vec<u8>, from: Tid, text: &Text, room: u8) -> Result<(),
 {
     add_word_id(out, b" = letter ", b't', from.number)?;
     add_word_number(out, b" ", u32::from(room))?;
-    add_spaced(out, text.bytes())
+    add_spaced_text(out, text)
 }
 
 fn add_bound(out: &mut Vec<u8>, func: Func, arg: u32) -> Result<(), NoMemory>
@@ -100,7 +100,7 @@ fn add_any_answer(out: &mut Vec<u8>, answer: &Answer) -> Result<(), NoMemory>
         Answer::Monitor(mon) => add_word_id(out, b" = ", b'm', mon.number),
         Answer::Cond(cond) => add_word_id(out, b" = ", b'c', cond.number),
         Answer::Letter { from, text, room } => add_letter(out, *from, text, *room),
-        Answer::Reply(text) => add_word_text(out, b" = reply", text.bytes()),
+        Answer::Reply(text) => add_word_text(out, b" = reply", text),
         Answer::Bound { func, arg } => add_bound(out, *func, *arg),
         Answer::Caught {
             depth: _,

@@ -4,13 +4,14 @@ ghost use Rattle.lwp_types.specs.Families.{agent_call, letter_call, life_call, l
 ghost use Rattle.trace_text.specs.Lines.{source_text, exit_text, call_text};
 
 use crate::words::{
-    add_flags, add_mode, add_pattern, add_proc, add_spaced, add_who, add_word, add_word_id,
+    add_flags, add_mode, add_pattern, add_proc, add_spaced_text, add_who, add_word, add_word_id,
     add_word_number, add_word_text, add_word_who, add_word_who_text, func_word,
 };
 use lwp_types::{
     AgentCall, Call, ExitCall, Family, Flags, Func, LetterCall, LifeCall, LockCall, MarkCall, Mode,
     NoMemory, NumberCall, Pattern, Text, Tid, TurnCall, WaitCall,
 };
+use text_list::TextList;
 
 fn add_source(out: &mut Vec<u8>, me: Option<Tid>, from: Option<Tid>) -> Result<(), NoMemory>
     ensures { OnOk result (out.new.items ≡ out.old.items ++ source_text me from) }
@@ -29,10 +30,10 @@ pub(crate) fn add_exit(out: &mut Vec<u8>, me: Option<Tid>, call: &ExitCall) -> R
         ExitCall::MonBreak { mon } => add_word_id(out, b"monbreak ", b'm', mon.number),
         ExitCall::Notify { cond } => add_word_id(out, b"notify ", b'c', cond.number),
         ExitCall::Broadcast { cond } => add_word_id(out, b"broadcast ", b'c', cond.number),
-        ExitCall::Reply { to, text } => { add_word_who_text(out, b"reply ", me, *to, text.bytes()) }
+        ExitCall::Reply { to, text } => { add_word_who_text(out, b"reply ", me, *to, text) }
         ExitCall::Resume { tid } => add_word_who(out, b"resume ", me, *tid),
         ExitCall::SetExit { code } => add_word_number(out, b"setexit ", *code),
-        ExitCall::Note { text } => add_word_text(out, b"note", text.bytes()),
+        ExitCall::Note { text } => add_word_text(out, b"note", text),
     }
 }
 
@@ -45,7 +46,7 @@ fn add_on_exit(out: &mut Vec<u8>, me: Option<Tid>, call: &ExitCall) -> Result<()
 
 fn add_create(
     out: &mut Vec<u8>,
-    procs: &[Text],
+    procs: &TextList,
     number: u32,
     prio: u32,
     flags: Flags,
@@ -77,7 +78,7 @@ fn add_send(
 {
     add_word_who(out, b"send ", me, to)?;
     add_word_number(out, b" ", u32::from(room))?;
-    add_spaced(out, text.bytes())
+    add_spaced_text(out, text)
 }
 
 fn add_receive(
@@ -111,7 +112,7 @@ fn add_handle(out: &mut Vec<u8>, pattern: Pattern, func: Func, arg: u32) -> Resu
     add_word_number(out, b" ", arg)
 }
 
-fn add_call_procedure(out: &mut Vec<u8>, procs: &[Text], number: u32) -> Result<(), NoMemory>
+fn add_call_procedure(out: &mut Vec<u8>, procs: &TextList, number: u32) -> Result<(), NoMemory>
     ensures { OnOk result (out.new.items ≡ out.old.items ++ call_text procs.now None (Call.CallProc number)) }
 {
     add_word(out, b"call ")?;
@@ -120,7 +121,7 @@ fn add_call_procedure(out: &mut Vec<u8>, procs: &[Text], number: u32) -> Result<
 
 fn add_life(
     out: &mut Vec<u8>,
-    procs: &[Text],
+    procs: &TextList,
     me: Option<Tid>,
     call: LifeCall,
 ) -> Result<(), NoMemory>
@@ -148,7 +149,7 @@ fn add_turn(out: &mut Vec<u8>, me: Option<Tid>, call: TurnCall) -> Result<(), No
     }
 }
 
-fn add_number_call(out: &mut Vec<u8>, call: &NumberCall<'_>) -> Result<(), NoMemory>
+fn add_number_call(out: &mut Vec<u8>, call: &NumberCall) -> Result<(), NoMemory>
     ensures { OnOk result (out.new.items ≡ out.old.items ++ call_text [] None (number_call call.now)) }
 {
     match call {
@@ -157,21 +158,17 @@ fn add_number_call(out: &mut Vec<u8>, call: &NumberCall<'_>) -> Result<(), NoMem
         NumberCall::SetExit(code) => add_word_number(out, b"setexit ", *code),
         NumberCall::GetExit => add_word(out, b"getexit"),
         NumberCall::PodExit(code) => add_word_number(out, b"podexit ", *code),
-        NumberCall::Say(text) => add_word_text(out, b"say", text.bytes()),
+        NumberCall::Say(text) => add_word_text(out, b"say", text),
     }
 }
 
-fn add_letter_call(
-    out: &mut Vec<u8>,
-    me: Option<Tid>,
-    call: &LetterCall<'_>,
-) -> Result<(), NoMemory>
+fn add_letter_call(out: &mut Vec<u8>, me: Option<Tid>, call: &LetterCall) -> Result<(), NoMemory>
     ensures { OnOk result (out.new.items ≡ out.old.items ++ call_text [] me (letter_call call.now)) }
 {
     match call {
         LetterCall::Send(to, room, text) => add_send(out, me, *to, *room, text),
         LetterCall::Recv(from, mode) => add_receive(out, me, *from, *mode),
-        LetterCall::Reply(to, text) => add_word_who_text(out, b"reply ", me, *to, text.bytes()),
+        LetterCall::Reply(to, text) => add_word_who_text(out, b"reply ", me, *to, text),
         LetterCall::Senders => add_word(out, b"senders"),
         LetterCall::Receivers => add_word(out, b"receivers"),
     }
@@ -209,9 +206,9 @@ fn add_wait(out: &mut Vec<u8>, me: Option<Tid>, call: WaitCall) -> Result<(), No
 
 fn add_mark(
     out: &mut Vec<u8>,
-    procs: &[Text],
+    procs: &TextList,
     me: Option<Tid>,
-    call: &MarkCall<'_>,
+    call: &MarkCall,
 ) -> Result<(), NoMemory>
     ensures { OnOk result (out.new.items ≡ out.old.items ++ call_text procs.now me (mark_call call.now)) }
 {
@@ -241,7 +238,7 @@ fn add_agent_call(out: &mut Vec<u8>, call: AgentCall) -> Result<(), NoMemory>
 // A call, in what thread `me` calls.
 pub(crate) fn add_call(
     out: &mut Vec<u8>,
-    procs: &[Text],
+    procs: &TextList,
     me: Tid,
     call: &Call,
 ) -> Result<(), NoMemory>

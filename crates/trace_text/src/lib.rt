@@ -5,7 +5,7 @@
 //! they go, and longer ones by the kit's `itoa`. All lines of a step go into one buffer, so that a step asks for no memory where the
 //! buffer has room.
 //!
-//! The crate stands on the words of `lwp_types`. What scripts and traces write alike, such as flags and patterns, is here too.
+//! The crate stands on the words of `lwp_types` and the names of `text_list`. What scripts and traces write alike, such as flags and patterns, is here too.
 #![tactic(auto)]
 
 mod answers;
@@ -16,4 +16,6 @@ mod words;
 
 pub use ends::{Halt, end_lines};
 pub use lines::{add_call_line, add_step_lines, trace_line};
-pub use words::{add_flags, add_mode, add_number, add_pattern, add_spaced, add_text, func_word};
+pub use words::{
+    add_flags, add_mode, add_number, add_pattern, add_spaced, add_spaced_text, add_text, func_word,
+};

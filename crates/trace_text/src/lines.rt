@@ -4,9 +4,10 @@ ghost use Rattle.trace_text.specs.Lines.{posted_text, taken_text, ticked_text, d
 
 use crate::answers::add_answer;
 use crate::calls::{add_call, add_exit};
-use crate::words::{add_byte, add_id, add_number, add_spaced, add_word, add_word_number};
-use lwp_types::{Answer, Call, Effect, Effects, ExitCall, Line, NoMemory, Text, Tid};
+use crate::words::{add_byte, add_id, add_number, add_spaced_text, add_word, add_word_number};
+use lwp_types::{Answer, Call, Effect, Effects, ExitCall, Line, NoMemory, Tid};
 use std::alloc::Global;
+use text_list::TextList;
 
 #[inline(always)]
 fn add_posted(out: &mut Vec<u8>, line: &Line) -> Result<(), NoMemory>
@@ -14,7 +15,7 @@ fn add_posted(out: &mut Vec<u8>, line: &Line) -> Result<(), NoMemory>
 {
     add_word_number(out, b" client ", u32::from(line.client))?;
     add_word_number(out, b" seq ", line.seq)?;
-    add_spaced(out, line.text.bytes())
+    add_spaced_text(out, &line.text)
 }
 
 #[inline(never)]
@@ -35,7 +36,7 @@ fn add_tick(out: &mut Vec<u8>, now: u64, line: &Line) -> Result<(), NoMemory>
 }
 
 #[inline(always)]
-fn add_called(out: &mut Vec<u8>, procs: &[Text], tid: Tid, call: &Call) -> Result<(), NoMemory>
+fn add_called(out: &mut Vec<u8>, procs: &TextList, tid: Tid, call: &Call) -> Result<(), NoMemory>
     ensures { OnOk result (out.new.items ≡ out.old.items ++ line_text procs.now None (Effect.Called tid call.now)) }
 {
     add_id(out, b't', tid.number)?;
@@ -123,7 +124,7 @@ fn add_line(
     out: &mut Vec<u8>,
     e: &Effect,
     took: Option<&Line>,
-    names: &[Text],
+    names: &TextList,
 ) -> Result<(), NoMemory>
     ensures { OnOk result (out.new.items ≡ out.old.items ++ line_text names.now (option_copied took.entry) e.now) }
 {
@@ -151,7 +152,7 @@ fn add_ended(
     out: &mut Vec<u8>,
     e: &Effect,
     took: Option<&Line>,
-    names: &[Text],
+    names: &TextList,
 ) -> Result<(), NoMemory>
     ensures { OnOk result (out.new.items ≡ out.old.items ++ ended_line (line_text names.now (option_copied took.entry) e.now)) }
 {
@@ -166,7 +167,7 @@ pub fn add_call_line(
     out: &mut Vec<u8>,
     tid: Tid,
     call: &Call,
-    names: &[Text],
+    names: &TextList,
 ) -> Result<(), NoMemory>
     ensures { OnOk result (out.new.items ≡ out.old.items ++ ended_line (line_text names.now None (Effect.Called tid call.now))) }
 {
@@ -182,7 +183,7 @@ pub fn add_step_lines(
     out: &mut Vec<u8>,
     effects: &Effects,
     took: Option<&Line>,
-    names: &[Text],
+    names: &TextList,
 ) -> Result<(), NoMemory>
     ensures { OnOk result (out.new.items ≡ out.old.items ++ step_lines names.now (option_copied took.entry) effects.now) }
 {
@@ -199,7 +200,7 @@ pub fn trace_line(
     alloc: Global,
     e: &Effect,
     took: Option<&Line>,
-    names: &[Text],
+    names: &TextList,
 ) -> Result<Vec<u8>, NoMemory>
     ensures { IfOk result (λ out. out.items ≡ ended_line (line_text names.now (option_copied took.entry) e.now)) }
 {

@@ -5,6 +5,7 @@ ghost use Rattle.trace_text.specs.Lines.{spaced, id_text, who_text, proc_text, f
 
 use itoa::Buffer;
 use lwp_types::{Flags, Func, Mode, NoMemory, Pattern, Text, Tid};
+use text_list::TextList;
 
 /// A text as it is.
 pub fn add_text(out: &mut Vec<u8>, text: &[u8]) -> Result<(), NoMemory>
@@ -55,6 +56,20 @@ pub fn add_spaced(out: &mut Vec<u8>, text: &[u8]) -> Result<(), NoMemory>
         add_byte(out, b' ')?;
         out.extend_from_slice(text)?;
     }
+    Ok(())
+}
+
+/// The same of a text that is lent.
+pub fn add_spaced_text(out: &mut Vec<u8>, text: &Text) -> Result<(), NoMemory>
+    ensures { OnOk result (out.new.items ≡ out.old.items ++ spaced text.now) }
+{
+    let (lead, rest) = text.parts();
+    if lead.is_empty() {
+        return add_spaced(out, rest);
+    }
+    add_byte(out, b' ')?;
+    add_word(out, lead)?;
+    out.extend_from_slice(rest)?;
     Ok(())
 }
 
@@ -174,12 +189,14 @@ pub(crate) fn add_who(out: &mut Vec<u8>, me: Option<Tid>, tid: Tid) -> Result<()
     }
 }
 
-pub(crate) fn add_proc(out: &mut Vec<u8>, procs: &[Text], number: u32) -> Result<(), NoMemory>
+pub(crate) fn add_proc(out: &mut Vec<u8>, procs: &TextList, number: u32) -> Result<(), NoMemory>
     ensures { OnOk result (out.new.items ≡ out.old.items ++ proc_text procs.now number) }
 {
-    match procs.get(number as usize) {
-        Some(name) => add_text(out, name.bytes()),
-        None => add_word(out, b"none"),
+    let place = number as usize;
+    if place < procs.len() {
+        add_text(out, procs.bytes(place))
+    } else {
+        add_word(out, b"none")
     }
 }
 
@@ -271,11 +288,11 @@ pub(crate) fn add_word_number(out: &mut Vec<u8>, word: &[u8], n: u32) -> Result<
 }
 
 // A word and a text.
-pub(crate) fn add_word_text(out: &mut Vec<u8>, word: &[u8], text: &[u8]) -> Result<(), NoMemory>
+pub(crate) fn add_word_text(out: &mut Vec<u8>, word: &[u8], text: &Text) -> Result<(), NoMemory>
     ensures { OnOk result (out.new.items ≡ out.old.items ++ (word.now ++ spaced text.now)) }
 {
     add_word(out, word)?;
-    add_spaced(out, text)
+    add_spaced_text(out, text)
 }
 
 // A word, a thread and a text.
@@ -284,11 +301,11 @@ pub(crate) fn add_word_who_text(
     word: &[u8],
     me: Option<Tid>,
     tid: Tid,
-    text: &[u8],
+    text: &Text,
 ) -> Result<(), NoMemory>
     ensures { OnOk result (out.new.items ≡ out.old.items ++ (word.now ++ (who_text me tid ++ spaced text.now))) }
 {
     add_word(out, word)?;
     add_who(out, me, tid)?;
-    add_spaced(out, text)
+    add_spaced_text(out, text)
 }

@@ -15,7 +15,7 @@ returns-then-not-is_id c = record { answers = answers_refused c.args.parts.now c
 
 pub returns-in-Err : goal.returns-in-Err
 returns-in-Err c =
-    let cause : refusal (received_from c.args.parts.now.mail.letters c.args.tid c.args.to) (length c.args.text.now) ≡ Some c.in-Err.err = rw (← c.bytes-len.ensures.same) (sym c.reply.ensures.cause ∙ ap result_err c.in-Err.is) in
+    let cause : refusal (received_from c.args.parts.now.mail.letters c.args.tid c.args.to) (length c.args.text.now) ≡ Some c.in-Err.err = rw (← c.len-len.ensures) (sym c.reply.ensures.cause ∙ ap result_err c.in-Err.is) in
     record {
       answers = rw c.in-Err.ensures.err (answers_refused c.args.parts.now c.args.effects.now _ c.in-Err.err c.requires.lawful.step
           (reply-refused (state_of c.args.parts.now) c.args.tid c.args.to c.args.text.now (sym c.if-not-is_id.ensures) c.in-Err.err cause));
@@ -23,7 +23,7 @@ returns-in-Err c =
 
 pub returns-then-is_agent : goal.returns-then-is_agent
 returns-then-is_agent c =
-    let fine : refusal (received_from c.args.parts.now.mail.letters c.args.tid c.args.to) (length c.args.text.now) ≡ None = rw (← c.bytes-len.ensures.same) (sym c.reply.ensures.cause ∙ ap result_err c.in_default.is) in
+    let fine : refusal (received_from c.args.parts.now.mail.letters c.args.tid c.args.to) (length c.args.text.now) ≡ None = rw (← c.len-len.ensures) (sym c.reply.ensures.cause ∙ ap result_err c.in_default.is) in
     record {
       answers = rw (c.release.ensures, c.in_default.ensures.ok) (answers_zero c.args.parts.now (rearmed c.args.parts.now c.args.to) c.args.effects.now c.args.effects.now (replied c.args.to c.args.text.now (state_of c.args.parts.now)) _
           (came_quietly c.args.parts.now (rearmed c.args.parts.now c.args.to) c.args.effects.now _ (InStep-rearmed c.args.parts.now c.args.to c.requires.lawful.step) refl (replied-agent c.args.parts.now c.args.to c.args.text.now (sym c.if-is_agent.ensures)))
@@ -35,13 +35,13 @@ wake_replied-requires-clause-step c = rw c.in_default.ensures.ok (InStep-lighter
 
 pub wake_replied-requires-clause-waits : goal.wake_replied-requires-clause-waits
 wake_replied-requires-clause-waits c =
-    let fine : refusal (received_from c.args.parts.now.mail.letters c.args.tid c.args.to) (length c.args.text.now) ≡ None = rw (← c.bytes-len.ensures.same) (sym c.reply.ensures.cause ∙ ap result_err c.in_default.is) in
+    let fine : refusal (received_from c.args.parts.now.mail.letters c.args.tid c.args.to) (length c.args.text.now) ≡ None = rw (← c.len-len.ensures) (sym c.reply.ensures.cause ∙ ap result_err c.in_default.is) in
     sender-waits c.args.parts.now c.args.to c.requires.lawful c.args.tid
     (reply-some (state_of c.args.parts.now) c.args.tid c.args.to c.args.text.now fine) (thread-is (state_of c.args.parts.now) c.args.to (sym c.if-not-is_id.ensures) (sym c.if-is_agent.ensures))
 
 pub returns : goal.returns
 returns c =
-    let fine : refusal (received_from c.args.parts.now.mail.letters c.args.tid c.args.to) (length c.args.text.now) ≡ None = rw (← c.bytes-len.ensures.same) (sym c.reply.ensures.cause ∙ ap result_err c.in_default.is) in
+    let fine : refusal (received_from c.args.parts.now.mail.letters c.args.tid c.args.to) (length c.args.text.now) ≡ None = rw (← c.len-len.ensures) (sym c.reply.ensures.cause ∙ ap result_err c.in_default.is) in
     let is : replied c.args.to c.args.text.now (state_of c.args.parts.now) ≡ unblock (answer.Reply c.args.text.now) c.args.to (state_of (record c.args.parts.now { mail = c.reply.new.self })) =
     rw c.in_default.ensures.ok (replied-thread c.args.parts.now c.args.to c.args.text.now (sym c.if-is_agent.ensures)) in
     record {

@@ -13,9 +13,9 @@ invariant_of-self-in-Ok g c =
     let sound : c.self.inside.failed ≡ false = rw (← c.self.view_is) at c.requires.sound in
     let kept = c.self.invariant in
     let due = rw (← c.self.view_is) at c.requires.due in
-    let step = called-step setting names c.deref.result.now c.self.inside.takes.items c.self.inside.calls c.self.inside.turns (live_of c.self.inside.parts) (live_of c.turn.new.self) (told_of c.turn.new.self) c.turn.new.out.items c.deref-2.result.now
-    (c.deref.ensures.value ∙ kept.named) c.deref-2.ensures.value kept.made (kept.now sound) c.in_ok-turn.ensures in
-    keeps-call setting names c.self.inside.procs.items c.self.inside.takes.items c.self.inside.calls c.self.inside.turns (live_of c.turn.new.self) (told_of c.turn.new.self) false c.deref-2.result.now kept.named kept.made due step
+    let step = called-step setting names c.self.inside.procs c.self.inside.takes c.self.inside.calls c.self.inside.turns (live_of c.self.inside.parts) (live_of c.turn.new.self) (told_of c.turn.new.self) c.turn.new.out.items c.deref.result.now
+    kept.named c.deref.ensures.value kept.made (kept.now sound) c.in_ok-turn.ensures in
+    keeps-call setting names c.self.inside.procs c.self.inside.takes c.self.inside.calls c.self.inside.turns (live_of c.turn.new.self) (told_of c.turn.new.self) false c.deref.result.now kept.named kept.made due step
 
 pub invariant_of-self-in-Err : goal.invariant_of-self-in-Err
 invariant_of-self-in-Err g c =
@@ -24,9 +24,9 @@ invariant_of-self-in-Err g c =
     let sound : c.self.inside.failed ≡ false = rw (← c.self.view_is) at c.requires.sound in
     let kept = c.self.invariant in
     let due = rw (← c.self.view_is) at c.requires.due in
-    let step = called-step setting names c.deref.result.now c.self.inside.takes.items c.self.inside.calls c.self.inside.turns (live_of c.self.inside.parts) (live_of c.turn.new.self) (told_of c.turn.new.self) c.turn.new.out.items c.deref-2.result.now
-    (c.deref.ensures.value ∙ kept.named) c.deref-2.ensures.value kept.made (kept.now sound) c.in_ok-turn.ensures in
-    keeps-call setting names c.self.inside.procs.items c.self.inside.takes.items c.self.inside.calls c.self.inside.turns (live_of c.turn.new.self) (told_of c.turn.new.self) true c.deref-2.result.now kept.named kept.made due step
+    let step = called-step setting names c.self.inside.procs c.self.inside.takes c.self.inside.calls c.self.inside.turns (live_of c.self.inside.parts) (live_of c.turn.new.self) (told_of c.turn.new.self) c.turn.new.out.items c.deref.result.now
+    kept.named c.deref.ensures.value kept.made (kept.now sound) c.in_ok-turn.ensures in
+    keeps-call setting names c.self.inside.procs c.self.inside.takes c.self.inside.calls c.self.inside.turns (live_of c.turn.new.self) (told_of c.turn.new.self) true c.deref.result.now kept.named kept.made due step
 
 pub returns-in-Ok-clause-told : goal.returns-in-Ok-clause-told
 returns-in-Ok-clause-told g c =
@@ -35,9 +35,9 @@ returns-in-Ok-clause-told g c =
     let sound : c.self.inside.failed ≡ false = rw (← c.self.view_is) at c.requires.sound in
     let kept = c.self.invariant in
     let due = rw (← c.self.view_is) at c.requires.due in
-    let step = called-step setting names c.deref.result.now c.self.inside.takes.items c.self.inside.calls c.self.inside.turns (live_of c.self.inside.parts) (live_of c.turn.new.self) (told_of c.turn.new.self) c.turn.new.out.items c.deref-2.result.now
-    (c.deref.ensures.value ∙ kept.named) c.deref-2.ensures.value kept.made (kept.now sound) c.in_ok-turn.ensures in
-    rw (← c.self.view_is) (told-ok names (play setting c.self.inside.takes.items c.self.inside.calls) (play setting c.self.inside.takes.items (c.self.inside.calls + 1)) (live_of c.turn.new.self) (told_of c.turn.new.self) c.deref-2.result.now (g.K.Sink.written c.args.sink.now) (g.K.Sink.written c.write_all.new.sink) (g.K.Sink.faults c.args.sink.now) (g.K.Sink.faults c.write_all.new.sink) tt step c.in-Ok.ensures.ok c.in-Ok.ensures.cause.same)
+    let step = called-step setting names c.self.inside.procs c.self.inside.takes c.self.inside.calls c.self.inside.turns (live_of c.self.inside.parts) (live_of c.turn.new.self) (told_of c.turn.new.self) c.turn.new.out.items c.deref.result.now
+    kept.named c.deref.ensures.value kept.made (kept.now sound) c.in_ok-turn.ensures in
+    rw (← c.self.view_is) (told-ok names (play setting c.self.inside.takes c.self.inside.calls) (play setting c.self.inside.takes (c.self.inside.calls + 1)) (live_of c.turn.new.self) (told_of c.turn.new.self) c.deref.result.now (g.K.Sink.written c.args.sink.now) (g.K.Sink.written c.write_all.new.sink) (g.K.Sink.faults c.args.sink.now) (g.K.Sink.faults c.write_all.new.sink) tt step c.in-Ok.ensures.ok c.in-Ok.ensures.cause.same)
 
 pub returns-in-Err-clause-told : goal.returns-in-Err-clause-told
 returns-in-Err-clause-told g c =
@@ -46,9 +46,9 @@ returns-in-Err-clause-told g c =
     let sound : c.self.inside.failed ≡ false = rw (← c.self.view_is) at c.requires.sound in
     let kept = c.self.invariant in
     let due = rw (← c.self.view_is) at c.requires.due in
-    let step = called-step setting names c.deref.result.now c.self.inside.takes.items c.self.inside.calls c.self.inside.turns (live_of c.self.inside.parts) (live_of c.turn.new.self) (told_of c.turn.new.self) c.turn.new.out.items c.deref-2.result.now
-    (c.deref.ensures.value ∙ kept.named) c.deref-2.ensures.value kept.made (kept.now sound) c.in_ok-turn.ensures in
-    rw (← c.self.view_is) (told-fault names (play setting c.self.inside.takes.items c.self.inside.calls) (play setting c.self.inside.takes.items (c.self.inside.calls + 1)) (live_of c.turn.new.self) (told_of c.turn.new.self) c.deref-2.result.now (g.K.Sink.written c.args.sink.now) (g.K.Sink.written c.write_all.new.sink) (g.K.Sink.faults c.args.sink.now) (g.K.Sink.faults c.write_all.new.sink) step c.in-Err.ensures.err c.in-Err.ensures.cause.failed c.in-Err.ensures.cause.later)
+    let step = called-step setting names c.self.inside.procs c.self.inside.takes c.self.inside.calls c.self.inside.turns (live_of c.self.inside.parts) (live_of c.turn.new.self) (told_of c.turn.new.self) c.turn.new.out.items c.deref.result.now
+    kept.named c.deref.ensures.value kept.made (kept.now sound) c.in_ok-turn.ensures in
+    rw (← c.self.view_is) (told-fault names (play setting c.self.inside.takes c.self.inside.calls) (play setting c.self.inside.takes (c.self.inside.calls + 1)) (live_of c.turn.new.self) (told_of c.turn.new.self) c.deref.result.now (g.K.Sink.written c.args.sink.now) (g.K.Sink.written c.write_all.new.sink) (g.K.Sink.faults c.args.sink.now) (g.K.Sink.faults c.write_all.new.sink) step c.in-Err.ensures.err c.in-Err.ensures.cause.failed c.in-Err.ensures.cause.later)
 
 pub returns-in-Ok-clause-made : goal.returns-in-Ok-clause-made
 returns-in-Ok-clause-made g c =
@@ -57,7 +57,7 @@ returns-in-Ok-clause-made g c =
     let sound : c.self.inside.failed ≡ false = rw (← c.self.view_is) at c.requires.sound in
     let kept = c.self.invariant in
     let due = rw (← c.self.view_is) at c.requires.due in
-    made-call setting c.self.inside.takes.items c.self.inside.calls c.self.inside.turns kept.made due
+    made-call setting c.self.inside.takes c.self.inside.calls c.self.inside.turns kept.made due
 
 pub returns-in-Err-clause-made : goal.returns-in-Err-clause-made
 returns-in-Err-clause-made g c =
@@ -66,4 +66,4 @@ returns-in-Err-clause-made g c =
     let sound : c.self.inside.failed ≡ false = rw (← c.self.view_is) at c.requires.sound in
     let kept = c.self.invariant in
     let due = rw (← c.self.view_is) at c.requires.due in
-    made-call setting c.self.inside.takes.items c.self.inside.calls c.self.inside.turns kept.made due
+    made-call setting c.self.inside.takes c.self.inside.calls c.self.inside.turns kept.made due

@@ -1,6 +1,6 @@
 use Rattle.std.proofs.Common.{arith, ap, ◌∙◌, length}
 use Rattle.script_text.specs.Meaning.{raised}
-use Rattle.script_text.proofs.TextLaws.{raised_there, raised_past}
+use Rattle.script_text.proofs.CountLaws.{raised_there, raised_past}
 use Rattle.script_text.proofs.counts.Counts.raise.Goals as goal
 
 pub returns-else-count-clause-ok : goal.returns-else-count-clause-ok

@@ -1,4 +1,4 @@
-use Rattle.std.proofs.Common.{Some, [], ap, false, subst, sym, ◌++◌, ◌∙◌, ◌∷◌, ◌≡◌}
+use Rattle.std.proofs.Common.{Some, ap, false, subst, sym, ◌∙◌, ◌≡◌}
 use Rattle.script_text.specs.Meaning.{contains_name}
 use Rattle.script_text.specs.Parts.{IsIndexed}
 use Rattle.script_text.proofs.NameLaws.{back_indexed, put_indexed}
@@ -9,7 +9,7 @@ invariant_of-self-in-Ok c =
     let w = c.args.name.now in
     let names = c.self.inside.names in
     let new : contains_name names w ≡ false = ap (λ l. contains_name l w) c.self.view_is ∙ c.requires.new in
-    subst (λ l. IsIndexed l c.put.new.self) ((λ i. names ++ (sym c.in-Some.ensures.same ∙ sym c.bytes.ensures.same) i ∷ []) ∙ sym c.in-Ok.ensures.ok)
+    subst (λ l. IsIndexed l c.put.new.self) (sym c.in-Ok.ensures.ok)
     (put_indexed names w c.self.inside.index c.put.new.self c.in_ok-number.number c.self.invariant new (c.in_ok-number.ensures.value ∙ c.len.ensures) c.in_ok-put.ensures.ok)
 
 pub invariant_of-self-in_default-push : goal.invariant_of-self-in_default-push

@@ -1,0 +1,23 @@
+// What can be had once more.
+ghost use Rattle.std.specs.Prelude.{◌≡◌};
+
+use lwp_types::Line;
+
+/// A value that can be had once more, though it may not be `Copy`.
+pub trait Again {
+    /// The same once more.
+    fn again(&self) -> Self
+        ensures { result ≡ self.now };
+}
+
+impl Again for u32 {
+    fn again(&self) -> u32 {
+        *self
+    }
+}
+
+impl<'s> Again for Line<'s> {
+    fn again(&self) -> Line<'s> {
+        self.again()
+    }
+}

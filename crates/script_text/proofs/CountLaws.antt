@@ -1,0 +1,20 @@
+-- Counts.
+use Rattle.std.proofs.Common.{ap, arith, length, List, refl, ℕ, suc, zero, ◌+◌, ◌≡◌, ◌≤◌, ◌<◌, ◌∷◌, []}
+use Rattle.std.specs.Prelude.{slice_index_or, slice_set}
+use Rattle.script_text.specs.Meaning.{raised}
+
+pub raised_there : (c v : ℕ) (xs : List ℕ) → c < length xs → v ≡ slice_index_or xs c v → slice_set xs c (v + 1) ≡ raised c xs
+raised_there c v [] h e = absurd (omega (arith, h))
+raised_there zero v (x ∷ xs) h e = ap (λ n. n ∷ xs) (omega (arith, e))
+raised_there (suc c) v (x ∷ xs) h e = ap (λ l. x ∷ l) (raised_there c v xs (omega (arith, h)) e)
+
+pub raised_past : (c : ℕ) (xs : List ℕ) → length xs ≤ c → xs ≡ raised c xs
+raised_past c [] h = refl
+raised_past zero (x ∷ xs) h = absurd (omega (arith, h))
+raised_past (suc c) (x ∷ xs) h = ap (λ l. x ∷ l) (raised_past c xs (omega (arith, h)))
+
+-- the text of a span
+pub span_is_text : (spans : List Span) (bytes : List ℕ) (i : ℕ) (s d : Span) → AllByRecursion (λ x. IsTrue (is_text x)) (texts_in bytes spans) → i < length spans → s ≡ slice_index_or spans i d → IsTrue (is_text (text_in bytes s))
+span_is_text [] bytes i s d h lt e = absurd (omega (arith, lt))
+span_is_text (x ∷ spans) bytes zero s d h lt e = subst (λ y. IsTrue (is_text (text_in bytes y))) (sym e) h.0
+span_is_text (x ∷ spans) bytes (suc i) s d h lt e = span_is_text spans bytes i s d h.1 (omega (arith, lt)) e

@@ -1,0 +1,15 @@
+use Rattle.std.proofs.Common.{◌≡◌, ◌+◌, ◌<◌, ℕ, List, [], ◌∷◌, slice_index_or, arith}
+use Rattle.std.proofs.lemmas.List.FromFn.{get_or-range_with_len}
+use Rattle.tests_of_inlets.proofs.ports.take_beside.Goals as goal
+
+abbrev sixteen : List ℕ
+sixteen = 0 ∷ 1 ∷ 2 ∷ 3 ∷ 4 ∷ 5 ∷ 6 ∷ 7 ∷ 8 ∷ 9 ∷ 10 ∷ 11 ∷ 12 ∷ 13 ∷ 14 ∷ 15 ∷ []
+
+apart : (i j d : ℕ) → i < j → j < 16 → slice_index_or sixteen i d ≡ slice_index_or sixteen j d → ⊥
+apart i j d low high e =
+    let a : slice_index_or sixteen i d ≡ 0 + i = get_or-range_with_len 0 16 i d (omega arith) in
+    let b : slice_index_or sixteen j d ≡ 0 + j = get_or-range_with_len 0 16 j d high in
+    omega (arith, a, b, e, low)
+
+pub open_port-requires : goal.open_port-requires
+open_port-requires g c = λ i j d low high e. apart i j d low high e
