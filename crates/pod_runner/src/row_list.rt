@@ -5,9 +5,7 @@ ghost use Rattle.pod_runner.specs.Polls.{AreRising, ComesLast, Polls, place_of};
 ghost use Rattle.pod_runner.specs.declared.session.Row.{Row};
 
 use crate::Row;
-use lwp_types::{
-    Answer, Body, Call, Env, IdList, NoMemory, Polled, Program, Tid, likely_place,
-};
+use lwp_types::{Answer, Body, Call, Env, IdList, NoMemory, Polled, Program, Tid, likely_place};
 use std::alloc::Global;
 use std::marker::Model;
 

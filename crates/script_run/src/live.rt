@@ -192,11 +192,7 @@ fn play_live<K: Sink, G: PostGate + Send, R: Threads + Wait + Sync>(
             ensures played { IsLivePlayed turns script.entry.now (sides K.written K.faults sink.entry.now result.1.now) result.0.session }
             ensures posted { PostsSay script.entry.now result.0.posted result.0.session.end }
             ensures handed { result.1.ghost_name ≡ sink.entry.ghost_name }
-        {
-            play_within(
-                scope, rt, alloc, turns, script, texts, gates, bell, sink,
-            )
-        },
+        { play_within(scope, rt, alloc, turns, script, texts, gates, bell, sink) },
     );
     session
 }

@@ -10,7 +10,7 @@ returns-in-Some c =
     let lead = c.parts.result.0.now in
     let bytes = c.args.bytes.now in
     let begins = subst (λ r. MatchOption r ((rest : List ℕ) → bytes ≢ lead ++ rest) (λ (x : Bor (List ℕ)). bytes ≡ lead ++ x.now)) c.in-Some.is
-        (strip_prefix_is Decides-eqb bytes lead c.strip_prefix.result c.strip_prefix.ensures.cases) in
+    (strip_prefix_is Decides-eqb bytes lead c.strip_prefix.result c.strip_prefix.ensures.cases) in
     rest_decides lead c.parts.result.1.now c.in-Some.tail.now c.args.self.now bytes c.eq.result c.parts.ensures.same begins c.eq.ensures
 
 pub returns-in-None : goal.returns-in-None
@@ -18,5 +18,5 @@ returns-in-None c =
     let lead = c.parts.result.0.now in
     let bytes = c.args.bytes.now in
     let none = subst (λ r. MatchOption r ((rest : List ℕ) → bytes ≢ lead ++ rest) (λ (x : Bor (List ℕ)). bytes ≡ lead ++ x.now)) c.in-None.is
-        (strip_prefix_is Decides-eqb bytes lead c.strip_prefix.result c.strip_prefix.ensures.cases) in
+    (strip_prefix_is Decides-eqb bytes lead c.strip_prefix.result c.strip_prefix.ensures.cases) in
     other_lead lead c.parts.result.1.now c.args.self.now bytes c.parts.ensures.same none

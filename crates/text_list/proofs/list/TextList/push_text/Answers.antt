@@ -51,8 +51,8 @@ invariant_of-self-2 c =
     let text : IsTrue (is_text (lead ++ rest)) = subst (λ xs. IsTrue (is_text xs)) (sym c.parts.ensures.same) c.parts.ensures.is_text in
     rw (c.in_ok-push.ensures.items, c.in_ok-extend_from_slice-2.ensures.items, c.in_ok-extend_from_slice.ensures.items)
     (subst (λ (y : List ℕ × ℕ). AreWithin (length y.0) (s ++ record { start = c.len-start.result; len = y.1 } ∷ []) × AllByRecursion (λ x. IsTrue (is_text x)) (texts_in y.0 (s ++ record { start = c.len-start.result; len = y.1 } ∷ [])))
-        (λ i. (sym (append_assoc b lead rest) i, length-append lead rest i))
-        (within_push s b (lead ++ rest) c.len-start.result start c.self.invariant.0, are_push s b (lead ++ rest) c.len-start.result start c.self.invariant.0 c.self.invariant.1 text))
+    (λ i. (sym (append_assoc b lead rest) i, length-append lead rest i))
+    (within_push s b (lead ++ rest) c.len-start.result start c.self.invariant.0, are_push s b (lead ++ rest) c.len-start.result start c.self.invariant.0 c.self.invariant.1 text))
 
 pub returns-clause-ok : goal.returns-clause-ok
 returns-clause-ok c =
@@ -63,5 +63,5 @@ returns-clause-ok c =
     let start : c.len-start.result ≡ length b = search rules in
     rw (c.in_ok-push.ensures.items, c.in_ok-extend_from_slice-2.ensures.items, c.in_ok-extend_from_slice.ensures.items)
     (subst (λ (y : List ℕ × ℕ × List ℕ × List (List ℕ)). texts_in y.0 (s ++ record { start = c.len-start.result; len = y.1 } ∷ []) ≡ y.3 ++ y.2 ∷ [])
-        (λ i. (sym (append_assoc b lead rest) i, length-append lead rest i, c.parts.ensures.same i, c.self.view_is i))
-        (texts_push s b (lead ++ rest) c.len-start.result start c.self.invariant.0))
+    (λ i. (sym (append_assoc b lead rest) i, length-append lead rest i, c.parts.ensures.same i, c.self.view_is i))
+    (texts_push s b (lead ++ rest) c.len-start.result start c.self.invariant.0))
