@@ -43,4 +43,4 @@ returns-clause-comes c =
     let letter : Letter = record { from = c.args.caller; to = c.args.to; text = c.args.text.now; room = c.args.room; received = false } in
     let there = ap (λ (s : State). post letter s) c.block.ensures.state in
     rw (send-made (state_of c.args.parts.now) c.args.caller c.args.to c.args.room c.args.text.now (sym c.if-not-is_thread.ensures) (sym c.if-eq.ensures))
-    (record { came = came_as c.args.parts.now c.block.new.parts c.post.new.parts c.args.effects.now c.post.new.effects _ _ c.post.ensures c.block.ensures.dying (sym there); own = refl })
+    (record { came = came_as c.args.parts.now c.block.new.parts c.post.new.parts c.args.effects.now c.post.new.effects _ _ (rw c.again.ensures at c.post.ensures) c.block.ensures.dying (sym there); own = refl })

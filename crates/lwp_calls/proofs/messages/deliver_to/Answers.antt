@@ -23,4 +23,4 @@ pub returns : goal.returns
 returns c =
     let parts = c.args.parts.now in
     let owner = owned parts c.args.event c.args.agent c.args.text.now c.requires.waits c.in-Some.owner c.owner_of.result c.owner_of.ensures c.in-Some.is in
-    came_found parts c.args.event c.args.agent c.args.text.now c.requires.waits c.post.new.parts c.args.effects.now c.push.new.self c.post.new.effects c.in-Some.owner owner c.push.ensures (rw c.hold.ensures at c.post.ensures)
+    came_found parts c.args.event c.args.agent c.args.text.now c.requires.waits c.post.new.parts c.args.effects.now c.push.new.self c.post.new.effects c.in-Some.owner owner c.push.ensures (rw (c.hold.ensures, c.again.ensures) at c.post.ensures)
