@@ -1,5 +1,6 @@
 // The two ends of a lane, over one table.
 ghost use Rattle.std.specs.Prelude.{◌≡◌, ◌↔◌, ◌<◌, ◌≤◌, true, false, [], length, IfSome, IfNone, IfOk, IsNone, IsTrue};
+ghost use Rattle.std.specs.Arc.{arc_value};
 ghost use Rattle.lanes.specs.Lane.{after_post, after_take_in, Sees};
 ghost use Rattle.lanes.specs.Ends.{line_more, lane_posting, lane_opened, lane_left, LaneTakes, LaneFindsNothing, LaneTakesIn, IsLaneTold, IsLaneTaken, IsAtLane, IsLanePoster, Hits, Misses, TakesInSeat};
 

@@ -12,9 +12,3 @@ pub raised_past : (c : ℕ) (xs : List ℕ) → length xs ≤ c → xs ≡ raise
 raised_past c [] h = refl
 raised_past zero (x ∷ xs) h = absurd (omega (arith, h))
 raised_past (suc c) (x ∷ xs) h = ap (λ l. x ∷ l) (raised_past c xs (omega (arith, h)))
-
--- the text of a span
-pub span_is_text : (spans : List Span) (bytes : List ℕ) (i : ℕ) (s d : Span) → AllByRecursion (λ x. IsTrue (is_text x)) (texts_in bytes spans) → i < length spans → s ≡ slice_index_or spans i d → IsTrue (is_text (text_in bytes s))
-span_is_text [] bytes i s d h lt e = absurd (omega (arith, lt))
-span_is_text (x ∷ spans) bytes zero s d h lt e = subst (λ y. IsTrue (is_text (text_in bytes y))) (sym e) h.0
-span_is_text (x ∷ spans) bytes (suc i) s d h lt e = span_is_text spans bytes i s d h.1 (omega (arith, lt)) e

@@ -1,6 +1,6 @@
-use Rattle.std.proofs.Common.{List, ap, arith, length, sym, ℕ, ◌∙◌, ◌≡◌}
+use Rattle.std.proofs.Common.{ap, arith, length, sym, ℕ, ◌∙◌, ◌≡◌}
 use Rattle.lwp_types.specs.declared.call.Line.{Line}
-use Rattle.event_gate.specs.Ends.{Posting, posted_more}
+use Rattle.event_gate.specs.Ends.{Posting}
 use Rattle.event_gate.proofs.Texts.{asked_short, asked_whole, asks_more, posts_more, room_left, seq_is}
 use Rattle.event_gate.proofs.posts.post_texts.Goals as goal
 use Rattle.event_gate.specs.Texts.{asked_each}
@@ -15,8 +15,8 @@ loop-text-preserved g c =
     let i = c.loop-text.text-index in
     let q = c.loop-text.poster in
     let text = c.text-item.result in
-    let line : Line = record { client = c.client-client.result; seq = c.count-seq.result; text = text } in (
-      c.in-Ok.ensures.posted ∙ ap (λ (t : List ℕ). posted_more q (record { client = c.client-client.result; seq = c.count-seq.result; text = t })) c.again.ensures ∙ posts_more p texts i text q line c.loop-text-test.true c.loop-text.invariant.0 (c.client-client.ensures ∙ sym (ap (λ (r : Posting). r.client) c.loop-text.invariant.0)) c.count-seq.ensures c.text-item.is,
+    let line : Line = record { client = c.client-client.result; seq = c.count-seq.result; text = c.again.result } in (
+      c.in-Ok.ensures.posted ∙ posts_more p texts i text q line c.loop-text-test.true c.loop-text.invariant.0 (c.client-client.ensures ∙ sym (ap (λ (r : Posting). r.client) c.loop-text.invariant.0)) c.count-seq.ensures (c.again.ensures ∙ c.text-item.is),
       asks_more g.G.PostGate.asked c.args.gate.now c.loop-text.gate c.before-in-loop-text.new.self p.client (length p.posted) c.count-seq.result texts i text c.loop-text-test.true c.loop-text.invariant.1
           (seq_is p q texts i c.count-seq.result c.loop-text-test.true c.loop-text.invariant.0 c.count-seq.ensures)
           (c.before-in-loop-text.ensures ∙ ap (λ (client : ℕ). g.G.PostGate.asked c.loop-text.gate client c.count-seq.result) c.client-client.ensures),
