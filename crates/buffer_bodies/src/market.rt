@@ -20,17 +20,25 @@ impl Market {
 
 impl<'s> Program<Actor<'s>> for Market {
     ghost use Rattle.buffer_bodies.specs.Actors.{cast, cast_names};
-    ghost use Rattle.std.specs.Prelude.{refl};
+    ghost use Rattle.lwp_types.specs.TextFields.{is_text};
+    ghost use Rattle.std.specs.Prelude.{IsTrue, Some, length, refl, slice_get, ◌<◌, ◌≡◌};
 
     ghost bodies = { λ market. cast };
 
     ghost proc_names = { λ market. cast_names };
 
-    fn procs(&self) -> u32 {
+    // The market has no `'s`, so the methods that don't name it state their clauses themselves.
+    fn procs(&self) -> u32
+        ensures { result ≡ length cast }
+    {
         4
     }
 
-    fn proc_name(&self, proc: u32) -> &[u8] {
+    fn proc_name(&self, proc: u32) -> &[u8]
+        requires { proc < length cast }
+        ensures same { slice_get cast_names proc ≡ Some result.now }
+        ensures is_text { IsTrue (is_text result.now) }
+    {
         match proc {
             0 => b"buffer",
             1 => b"apples",

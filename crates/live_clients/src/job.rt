@@ -2,6 +2,7 @@
 // names no lifetime there.
 ghost use Rattle.std.specs.Prelude.{◌≡◌, IfErr, IfOk};
 
+use std::sync::Wait;
 use std::thread::{Promise, PromisedHandle, Scope, Threads};
 
 /// What a thread does.
@@ -14,15 +15,15 @@ pub trait Job: Send + Drop {
     /// What may come of it.
     ghost ends: { Self → Self.End → Type 0 };
 
-    fn run(self) -> Self::End
+    fn run<R: Wait>(self, rt: &R) -> Self::End
         requires { ready self }
         ensures { ends self result };
 }
 
 /// Starts a thread for the job. Where none can be started, the job is done here and now.
-pub fn start<'s, E, J: Job + 's, P: Promise<J::End> + Drop, R: Threads>(
+pub fn start<'s, E, J: Job + 's, P: Promise<J::End> + Drop, R: Threads + Wait + Sync>(
     scope: &Scope<'s, E>,
-    _rt: &'s R,
+    rt: &'s R,
     promise: P,
     job: J,
 ) -> Result<PromisedHandle<J::End, P>, J::End>
@@ -37,8 +38,8 @@ where
         promise,
         move || -> J::End
             requires { J.ready job }
-            ensures { J.ends job.entry result }
-        { job.run() },
+            ensures { J.ends job result }
+        { job.run(rt) },
     );
     match started {
         Ok(handle) => Ok(handle),

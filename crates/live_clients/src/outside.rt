@@ -18,24 +18,22 @@ use std::thread::{Promise, PromisedHandle, Scope, Threads};
 
 /// What a client's thread does: it posts the client's texts.
 #[derive(Drop)]
-pub(crate) struct Posts<'s, G, R> {
-    rt: &'s R,
+pub(crate) struct Posts<'s, G> {
     poster: AnyPoster<'s>,
     gate: G,
     texts: &'s Vec<Text<'s>>,
     bell: &'s Bell,
 }
 
-impl<'s, G: PostGate + Send, R: Wait + Sync> Job for Posts<'s, G, R> {
+impl<'s, G: PostGate + Send> Job for Posts<'s, G> {
     type End = AnyEnd<'s>;
 
     ghost ready = { λ j. IsReady (posting_of j.poster).place (posting_of j.poster).client j.texts.now.items (posting_of j.poster) };
 
     ghost ends = { λ j e. IsEnd (posting_of j.poster).place (posting_of j.poster).client j.texts.now.items e };
 
-    fn run(self) -> AnyEnd<'s> {
+    fn run<R: Wait>(self, rt: &R) -> AnyEnd<'s> {
         let Posts {
-            rt,
             poster,
             mut gate,
             texts,
@@ -85,7 +83,26 @@ pub(crate) struct Client<'s> {
     pub(crate) work: Work<'s>,
 }
 
-// Starts the thread of a client. Where none can be started, the client's lines are posted here and now.
+// Starts a thread that posts. Where none can be started, the lines are posted here and now.
+fn start_posts<'s, E, G: PostGate + Send + 's, R: Threads + Wait + Sync>(
+    scope: &Scope<'s, E>,
+    rt: &'s R,
+    posts: Posts<'s, G>,
+) -> Work<'s>
+    requires { IsReady (posting_of posts.poster).place (posting_of posts.poster).client posts.texts.now.items (posting_of posts.poster) }
+    ensures { IsWork (posting_of posts.entry.poster).place (posting_of posts.entry.poster).client posts.entry.texts.now.items result }
+{
+    let promise = Owes {
+        poster: Snapshot::of(&posts.poster),
+        texts: Snapshot::of(posts.texts),
+    };
+    match start(scope, rt, promise, posts) {
+        Ok(handle) => Work::There(handle),
+        Err(end) => Work::Here(end),
+    }
+}
+
+// Starts the thread of a client.
 fn start_client<'s, E, G: PostGate + Send + 's, R: Threads + Wait + Sync>(
     scope: &Scope<'s, E>,
     rt: &'s R,
@@ -99,22 +116,16 @@ fn start_client<'s, E, G: PostGate + Send + 's, R: Threads + Wait + Sync>(
     ensures work { IsWork (posting_of seat.entry.poster).place (posting_of seat.entry.poster).client texts.now.items result.work }
 {
     let Seat { inlet, poster } = seat;
-    let promise = Owes {
-        poster: Snapshot::of(&poster),
-        texts: Snapshot::of(texts),
-    };
     let posts = Posts {
-        rt,
         poster,
         gate,
         texts,
         bell,
     };
-    let work = match start(scope, rt, promise, posts) {
-        Ok(handle) => Work::There(handle),
-        Err(end) => Work::Here(end),
-    };
-    Client { inlet, work }
+    Client {
+        inlet,
+        work: start_posts(scope, rt, posts),
+    }
 }
 
 /// That all clients have posted all their lines, and how many these are. Contracts see the number. Nobody but `Outside::close` makes

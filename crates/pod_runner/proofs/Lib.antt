@@ -1,5 +1,6 @@
 pub mod Rising
 pub mod RowLemmas
+pub mod TakeLemmas
 pub mod Appends
 pub mod Plays
 pub mod Moves

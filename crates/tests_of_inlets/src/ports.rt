@@ -37,23 +37,21 @@ fn line<'s>(client: u8, seq: u32) -> Line<'s>
 
 // What a thread of a client does: it posts all texts.
 #[derive(Drop)]
-struct PostsAll<'s, R> {
-    rt: &'s R,
+struct PostsAll<'s> {
     poster: Poster<'s>,
     texts: &'s [Text<'s>],
     bell: &'s Bell,
 }
 
-impl<'s, R: Wait + Sync> Job for PostsAll<'s, R> {
+impl<'s> Job for PostsAll<'s> {
     type End = PostEnd<'s>;
 
     ghost ready = { λ j. length j.poster.posted + length j.texts.now ≤ 4294967295 };
 
     ghost ends = { λ j e. e.pass.port ≡ j.poster.port };
 
-    fn run(self) -> PostEnd<'s> {
+    fn run<R: Wait>(self, rt: &R) -> PostEnd<'s> {
         let PostsAll {
-            rt,
             poster,
             texts,
             bell,
@@ -135,7 +133,6 @@ fn start_all<'s, E, R: Threads + Wait + Sync>(
             taker: Snapshot::of(taker),
         };
         let posts = PostsAll {
-            rt,
             poster,
             texts,
             bell,

@@ -1,4 +1,4 @@
-use Rattle.std.proofs.Common.{map}
+use Rattle.std.proofs.Common.{map, rules}
 use Rattle.live_clients.specs.Ties.{any_intake, intakes}
 use Rattle.script_run.proofs.BesideLaws.{gave-drawn, goes-live}
 use Rattle.pod_runner.proofs.Rounds.{stream}
@@ -15,5 +15,5 @@ pub returns-clause-tied : goal.returns-clause-tied
 returns-clause-tied g c = c.draws_keep_ties.ensures _ _ _ _ (intakes c.args.outside.now) (map any_intake c.run_live.new.inlets.items) c.requires.tied
     (gave-drawn c.args.played.now c.run_live.new.run (intakes c.args.outside.now) (map any_intake c.run_live.new.inlets.items) (may_lose c.run_live.result) c.run_live.ensures.draws)
 
-pub run_live-requires-clause-rise : goal.run_live-requires-clause-rise
-run_live-requires-clause-rise g c = c.requires.tied.are_for.rise.1
+pub run_live-requires : goal.run_live-requires
+run_live-requires g c κs = (search rules, (search rules, c.requires.tied.are_for.rise.1))
