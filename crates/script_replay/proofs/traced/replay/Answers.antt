@@ -1,11 +1,14 @@
-use Rattle.std.proofs.Common.{List, subst, sym}
+use Rattle.std.proofs.Common.{List, arith, refl, subst, sym}
 use Rattle.lwp_types.specs.declared.call.Line.{Line}
 use Rattle.replay.specs.Walk.{AreLeft}
 use Rattle.script_replay.proofs.StockLaws.{posted-fits}
 use Rattle.script_replay.proofs.traced.replay.Goals as goal
 
-pub follow_recorded-requires-clause-left : goal.follow_recorded-requires-clause-left
-follow_recorded-requires-clause-left g c = subst (λ (posts : List Line). AreLeft c.in_ok-lines.lines.lines posts) (sym c.in_ok-lines.ensures.posts) c.in_ok-lines.ensures.left
-
-pub follow_recorded-requires-clause-fit : goal.follow_recorded-requires-clause-fit
-follow_recorded-requires-clause-fit g c = posted-fits _ c.args.script.now c.requires.posted c.in_ok-lines.ensures.clients c.in_ok-lines.ensures.posts
+pub follow_recorded-requires : goal.follow_recorded-requires
+follow_recorded-requires g c =
+    let within = c.requires.within in
+    let left = subst (λ (posts : List Line). AreLeft c.in_ok-lines.lines.lines posts) (sym c.in_ok-lines.ensures.posts) c.in_ok-lines.ensures.left in
+    λ k. (
+      (refl, tt),
+      (within.least_priority, (within.most_priority, (within.least_births, (within.most_births, (omega (arith, c.procs.ensures, c.requires.procs), (c.requires.names, (left, (posted-fits _ c.args.script.now c.requires.posted c.in_ok-lines.ensures.clients c.in_ok-lines.ensures.posts, sym c.procs.ensures)))))))),
+    )
