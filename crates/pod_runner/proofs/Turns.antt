@@ -1,5 +1,5 @@
 -- A run, one step on.
-use Rattle.std.proofs.Common.{◌≡◌, ◌≤◌, ℕ, ◌+◌, List, [], ◌∷◌, ◌++◌, Bool, true, false, cond, None, Some, ap, ◌∙◌, sym, refl, arith}
+use Rattle.std.proofs.Common.{◌≡◌, ◌<◌, ◌^◌, ◌≤◌, ℕ, ◌+◌, List, [], ◌∷◌, ◌++◌, Bool, true, false, cond, None, Some, ap, ◌∙◌, sym, refl, arith}
 use Rattle.std.specs.Prelude.{Option, Ok, IsTrue, is_some, not, option_map, ◌&&◌, nat_lt}
 use Rattle.std.proofs.lemmas.Bool.Decides.{nat_tests}
 use Rattle.lwp_types.specs.Choice.{choice}
@@ -98,10 +98,11 @@ pub made-call : {B : Type 0} (setting : Setting B) (takes : List Took) (n turns 
 made-call setting takes n turns made due = IsDefined-call setting takes n (LastBy-of setting takes n made) made (is_call_due-turn (play setting takes n) turns n due)
 
 pub keeps-call : {B : Type 0} (setting : Setting B) (names procs : List (List ℕ)) (takes : List Took) (n turns : ℕ) (live : Live B) (told : List Effect) (failed : Bool) (out : List ℕ)
-    → procs ≡ names → IsDefined setting takes n → phase_of (play setting takes n).live.pod.state turns n ≡ phase.Turn
+    → procs ≡ names → turns < 2 ^ 64 → IsDefined setting takes n → phase_of (play setting takes n).live.pod.state turns n ≡ phase.Turn
     → Stepped names (play setting takes n) (play setting takes (n + 1)) live told out → Keeps setting names procs live told takes (n + 1) turns failed
-keeps-call setting names procs takes n turns live told failed out named made due step = record {
+keeps-call setting names procs takes n turns live told failed out named few made due step = record {
   named = named;
+  few = few;
   made = made-call setting takes n turns made due;
   room = room-turn (play setting takes n).live.pod.state turns n due;
   now = λ _. step.now;
@@ -109,10 +110,11 @@ keeps-call setting names procs takes n turns live told failed out named made due
 }
 
 pub keeps-take : {B : Type 0} (setting : Setting B) (names procs : List (List ℕ)) (takes : List Took) (n turns : ℕ) (live : Live B) (told : List Effect) (failed : Bool) (out : List ℕ) (took : Took)
-    → procs ≡ names → IsDefined setting takes n → n ≤ turns → took.turn ≡ n → IsTrue (is_takeable (play setting takes n).live.pod took.event)
+    → procs ≡ names → turns < 2 ^ 64 → IsDefined setting takes n → n ≤ turns → took.turn ≡ n → IsTrue (is_takeable (play setting takes n).live.pod took.event)
     → Stepped names (play setting takes n) (play setting (takes ++ took ∷ []) n) live told out → Keeps setting names procs live told (takes ++ took ∷ []) n turns failed
-keeps-take setting names procs takes n turns live told failed out took named made room h may step = record {
+keeps-take setting names procs takes n turns live told failed out took named few made room h may step = record {
   named = named;
+  few = few;
   made = IsDefined-take setting took takes n h made may;
   room = room;
   now = λ _. step.now;

@@ -12,6 +12,7 @@ invariant_of-result g c =
       named = c.in_ok-procs.ensures;
       made = IsDefined-zero setting;
       room = omega arith;
+      few = omega (arith, c.ranges.turns.fits);
       now = λ _. rw (play-zero setting) (c.in_ok-parts.ensures.live ∙ rw same refl);
       last = λ _. rw (play-zero setting) c.in_ok-parts.ensures.effects;
     })

@@ -18,7 +18,7 @@ invariant_of-self-in-Ok g c =
     let step = taken-step setting names c.self.inside.procs c.self.inside.takes c.self.inside.calls c.self.inside.turns (live_of c.self.inside.parts) (live_of c.deliver.new.self) (told_of c.deliver.new.self) c.deliver.new.out.items c.deref.result.now
     kept.named c.deref.ensures.value kept.made (kept.now sound) took refl c.in_ok-deliver.ensures in
     let may = rw (← c.self.view_is) at c.requires.wants in
-    rw c.in_ok-push.ensures.ok (keeps-take setting names c.self.inside.procs c.self.inside.takes c.self.inside.calls c.self.inside.turns (live_of c.deliver.new.self) (told_of c.deliver.new.self) false c.deref.result.now took kept.named kept.made kept.room refl may step)
+    rw c.in_ok-push.ensures.ok (keeps-take setting names c.self.inside.procs c.self.inside.takes c.self.inside.calls c.self.inside.turns (live_of c.deliver.new.self) (told_of c.deliver.new.self) false c.deref.result.now took kept.named kept.few kept.made kept.room refl may step)
 
 pub invariant_of-self-in-Err : goal.invariant_of-self-in-Err
 invariant_of-self-in-Err g c =
@@ -30,7 +30,7 @@ invariant_of-self-in-Err g c =
     let step = taken-step setting names c.self.inside.procs c.self.inside.takes c.self.inside.calls c.self.inside.turns (live_of c.self.inside.parts) (live_of c.deliver.new.self) (told_of c.deliver.new.self) c.deliver.new.out.items c.deref.result.now
     kept.named c.deref.ensures.value kept.made (kept.now sound) took refl c.in_ok-deliver.ensures in
     let may = rw (← c.self.view_is) at c.requires.wants in
-    rw c.in_ok-push.ensures.ok (keeps-take setting names c.self.inside.procs c.self.inside.takes c.self.inside.calls c.self.inside.turns (live_of c.deliver.new.self) (told_of c.deliver.new.self) true c.deref.result.now took kept.named kept.made kept.room refl may step)
+    rw c.in_ok-push.ensures.ok (keeps-take setting names c.self.inside.procs c.self.inside.takes c.self.inside.calls c.self.inside.turns (live_of c.deliver.new.self) (told_of c.deliver.new.self) true c.deref.result.now took kept.named kept.few kept.made kept.room refl may step)
 
 pub returns-in-Ok-clause-told : goal.returns-in-Ok-clause-told
 returns-in-Ok-clause-told g c =

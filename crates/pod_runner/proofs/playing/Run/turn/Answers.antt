@@ -1,10 +1,16 @@
-use Rattle.std.proofs.Common.{◌≡◌, ◌+◌, ◌∙◌, List, ℕ, false, true}
+use Rattle.std.proofs.Common.{arith, ◌≡◌, ◌+◌, ◌∙◌, List, ℕ, false, true}
 use Rattle.lwp_types.specs.Names.{null_names}
 use Rattle.pod_runner.specs.Parts.{live_of, told_of}
 use Rattle.pod_runner.specs.Play.{play}
 use Rattle.pod_runner.specs.Session.{Setting}
-use Rattle.pod_runner.proofs.Turns.{called-step, keeps-call, made-call, told-fault, told-ok}
+use Rattle.pod_runner.proofs.Turns.{called-step, keeps-call, made-call, room-turn, told-fault, told-ok}
 use Rattle.pod_runner.proofs.playing.Run.turn.Goals as goal
+
+pub overflow_add-self : goal.overflow_add-self
+overflow_add-self g c =
+    let setting : Setting _ = record { next = g.B.Body.next; bodies = g.P.Program.bodies c.self.inside.program; params = c.self.inside.params; names = null_names c.self.inside.threads c.self.inside.mons c.self.inside.conds } in
+    let due = rw (← c.self.view_is) at c.requires.due in
+    omega (arith, c.self.invariant.few, room-turn (play setting c.self.inside.takes c.self.inside.calls).live.pod.state c.self.inside.turns c.self.inside.calls due)
 
 pub invariant_of-self-in-Ok : goal.invariant_of-self-in-Ok
 invariant_of-self-in-Ok g c =
@@ -15,7 +21,7 @@ invariant_of-self-in-Ok g c =
     let due = rw (← c.self.view_is) at c.requires.due in
     let step = called-step setting names c.self.inside.procs c.self.inside.takes c.self.inside.calls c.self.inside.turns (live_of c.self.inside.parts) (live_of c.turn.new.self) (told_of c.turn.new.self) c.turn.new.out.items c.deref.result.now
     kept.named c.deref.ensures.value kept.made (kept.now sound) c.in_ok-turn.ensures in
-    keeps-call setting names c.self.inside.procs c.self.inside.takes c.self.inside.calls c.self.inside.turns (live_of c.turn.new.self) (told_of c.turn.new.self) false c.deref.result.now kept.named kept.made due step
+    keeps-call setting names c.self.inside.procs c.self.inside.takes c.self.inside.calls c.self.inside.turns (live_of c.turn.new.self) (told_of c.turn.new.self) false c.deref.result.now kept.named kept.few kept.made due step
 
 pub invariant_of-self-in-Err : goal.invariant_of-self-in-Err
 invariant_of-self-in-Err g c =
@@ -26,7 +32,7 @@ invariant_of-self-in-Err g c =
     let due = rw (← c.self.view_is) at c.requires.due in
     let step = called-step setting names c.self.inside.procs c.self.inside.takes c.self.inside.calls c.self.inside.turns (live_of c.self.inside.parts) (live_of c.turn.new.self) (told_of c.turn.new.self) c.turn.new.out.items c.deref.result.now
     kept.named c.deref.ensures.value kept.made (kept.now sound) c.in_ok-turn.ensures in
-    keeps-call setting names c.self.inside.procs c.self.inside.takes c.self.inside.calls c.self.inside.turns (live_of c.turn.new.self) (told_of c.turn.new.self) true c.deref.result.now kept.named kept.made due step
+    keeps-call setting names c.self.inside.procs c.self.inside.takes c.self.inside.calls c.self.inside.turns (live_of c.turn.new.self) (told_of c.turn.new.self) true c.deref.result.now kept.named kept.few kept.made due step
 
 pub returns-in-Ok-clause-told : goal.returns-in-Ok-clause-told
 returns-in-Ok-clause-told g c =
