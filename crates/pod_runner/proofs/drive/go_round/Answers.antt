@@ -1,10 +1,16 @@
-use Rattle.std.proofs.Common.{◌∙◌, sym, Ok, Err}
+use Rattle.std.proofs.Common.{refl, ◌∙◌, sym, Ok, Err}
 use Rattle.pod_runner.specs.Eager.{round}
 use Rattle.pod_runner.proofs.Rounds.{does-call, does-err, does-idle, does-idle-lines, does-turn, does-turn-call, due-still, over-on, over-stuck, stream}
 use Rattle.pod_runner.proofs.drive.go_round.Goals as goal
 
-pub turn-requires-clause-due : goal.turn-requires-clause-due
-turn-requires-clause-due g c = due-still g.B.Body.next g.P.Program.bodies g.P.Program.proc_names (stream (g.K.Sink.written c.args.sink.now) (g.K.Sink.written c.serve_all.new.sink) (g.K.Sink.faults c.args.sink.now) (g.K.Sink.faults c.serve_all.new.sink)) c.args.run.now c.serve_all.new.run (g.G.Gate.stock c.args.gate.now) (g.G.Gate.stock c.serve_all.new.gate) _ (sym c.phase.ensures.phase ∙ c.in-Turn.is) c.in_ok-serve_all-in-Turn.ensures
+pub turn-requires : goal.turn-requires
+turn-requires g c = λ k. (
+  (refl, tt),
+  (
+    c.in_ok-serve_all-in-Turn.ensures.sound,
+    due-still g.B.Body.next g.P.Program.bodies g.P.Program.proc_names (stream (g.K.Sink.written c.args.sink.now) (g.K.Sink.written c.serve_all.new.sink) (g.K.Sink.faults c.args.sink.now) (g.K.Sink.faults c.serve_all.new.sink)) c.args.run.now c.serve_all.new.run (g.G.Gate.stock c.args.gate.now) (g.G.Gate.stock c.serve_all.new.gate) _ (sym c.phase.ensures.phase ∙ c.in-Turn.is) c.in_ok-serve_all-in-Turn.ensures,
+  ),
+)
 
 pub returns-in_ok-turn-in-Turn-clause-does : goal.returns-in_ok-turn-in-Turn-clause-does
 returns-in_ok-turn-in-Turn-clause-does g c = does-turn g.B.Body.next g.P.Program.bodies g.P.Program.proc_names (g.K.Sink.written c.args.sink.now) (g.K.Sink.written c.serve_all.new.sink) (g.K.Sink.written c.turn.new.sink) (g.K.Sink.faults c.args.sink.now) (g.K.Sink.faults c.serve_all.new.sink) (g.K.Sink.faults c.turn.new.sink)

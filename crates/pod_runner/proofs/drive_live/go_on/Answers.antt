@@ -1,4 +1,4 @@
-use Rattle.std.proofs.Common.{map, rules, Ok, Err}
+use Rattle.std.proofs.Common.{refl, map, rules, Ok, Err}
 use Rattle.pod_runner.proofs.Lives.{answers-on, lives-answer, lives-err, living-of, living-same, living-then, rise-living}
 use Rattle.pod_runner.proofs.Looks.{looks-same, looks-then}
 use Rattle.pod_runner.proofs.Rounds.{stream}
@@ -7,8 +7,14 @@ use Rattle.pod_runner.proofs.drive_live.go_on.Goals as goal
 pub loop-init : goal.loop-init
 loop-init g c = (living-same g.B.Body.next g.P.Program.bodies g.P.Program.proc_names (g.K.Sink.written c.args.sink.now) (g.K.Sink.faults c.args.sink.now) c.args.run.now (map g.I.Inlet.intake c.args.inlets.now.items) c.requires.sound, looks-same g.B.Body.next g.P.Program.bodies g.P.Program.proc_names c.args.run.now (map g.I.Inlet.intake c.args.inlets.now.items))
 
-pub go_round-requires-clause-rise : goal.go_round-requires-clause-rise
-go_round-requires-clause-rise g c = rise-living g.B.Body.next g.P.Program.bodies g.P.Program.proc_names (stream (g.K.Sink.written c.args.sink.now) (g.K.Sink.written c.loop.sink) (g.K.Sink.faults c.args.sink.now) (g.K.Sink.faults c.loop.sink)) c.args.run.now c.loop.run (map g.I.Inlet.intake c.args.inlets.now.items) (map g.I.Inlet.intake c.loop.inlets.items) c.loop.invariant.0 c.requires.rise
+pub go_round-requires : goal.go_round-requires
+go_round-requires g c = λ k. (
+  (refl, tt),
+  (
+    search rules,
+    rise-living g.B.Body.next g.P.Program.bodies g.P.Program.proc_names (stream (g.K.Sink.written c.args.sink.now) (g.K.Sink.written c.loop.sink) (g.K.Sink.faults c.args.sink.now) (g.K.Sink.faults c.loop.sink)) c.args.run.now c.loop.run (map g.I.Inlet.intake c.args.inlets.now.items) (map g.I.Inlet.intake c.loop.inlets.items) c.loop.invariant.0 c.requires.rise,
+  ),
+)
 
 pub returns-in_err-answer-clause-lives : goal.returns-in_err-answer-clause-lives
 returns-in_err-answer-clause-lives g c = lives-err g.B.Body.next g.P.Program.bodies g.P.Program.proc_names _ _ (stream (g.K.Sink.written c.args.sink.now) (g.K.Sink.written c.go_round.new.sink) (g.K.Sink.faults c.args.sink.now) (g.K.Sink.faults c.go_round.new.sink)) c.args.run.now c.go_round.new.run (map g.I.Inlet.intake c.args.inlets.now.items) (map g.I.Inlet.intake c.go_round.new.inlets.items) c.from_residual.result c.in_err-answer.field-0.0 c.from_residual.ensures.1

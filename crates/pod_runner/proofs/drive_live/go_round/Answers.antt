@@ -1,4 +1,5 @@
-use Rattle.std.proofs.Common.{◌≡◌, ◌∙◌, length, map, rules, subst, sym, Ok, Err}
+use Rattle.std.proofs.Common.{◌≡◌, ◌∙◌, false, length, map, rules, subst, sym, Ok, Err}
+use Rattle.std.proofs.lemmas.Bool.{false≢true}
 use Rattle.pod_runner.specs.Live.{AllTold}
 use Rattle.pod_runner.proofs.Lives.{halts-stuck, idle-still, lives-answer, lives-call, lives-err, lives-same, lives-then, none-comes, quiet-now}
 use Rattle.pod_runner.proofs.Looks.{looks-call, looks-same, looks-still}
@@ -40,8 +41,9 @@ returns-else-all_told-clause-answers g c =
     let idle = sym c.phase.ensures.phase ∙ c.in-Idle.is in
     let lived = c.in_ok-serve_all-in-Idle.ensures.lives in
     let served = c.in_ok-serve_all-in-Idle.ensures.served in
+    let untold : c.all_told.result ≡ false = search rules in
     quiet-now g.B.Body.next g.P.Program.bodies g.P.Program.proc_names (stream (g.K.Sink.written c.args.sink.now) (g.K.Sink.written c.serve_all-in-Idle.new.sink) (g.K.Sink.faults c.args.sink.now) (g.K.Sink.faults c.serve_all-in-Idle.new.sink)) c.args.run.now c.serve_all-in-Idle.new.run (map g.I.Inlet.intake c.args.inlets.now.items) (map g.I.Inlet.intake c.serve_all-in-Idle.new.inlets.items) (Ok c.in_ok-serve_all-in-Idle.field-0) lived served same idle
-    (λ all. let answered = c.all_told.ensures.1 (subst (λ xs. AllTold (map g.I.Inlet.intake xs)) (sym c.deref.ensures.value) all) in absurd (cc))
+    (λ all. let answered = c.all_told.ensures.1 (subst (λ xs. AllTold (map g.I.Inlet.intake xs)) (sym c.deref.ensures.value) all) in absurd (false≢true (sym untold ∙ answered)))
 
 pub returns-in-Ended-clause-looked : goal.returns-in-Ended-clause-looked
 returns-in-Ended-clause-looked g c = looks-same g.B.Body.next g.P.Program.bodies g.P.Program.proc_names c.args.run.now (map g.I.Inlet.intake c.args.inlets.now.items)
