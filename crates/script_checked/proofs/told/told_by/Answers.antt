@@ -1,8 +1,10 @@
-use Rattle.std.proofs.Common.{length, subst, sym, ◌≤◌}
+use Rattle.std.proofs.Common.{length, refl, rules, subst, sym, ◌≤◌}
 use Rattle.script_checked.proofs.ToldLaws.{some-bodies}
 use Rattle.script_program.specs.Bodies.{bodies_of}
 use Rattle.script_text.specs.declared.script.Script.{Script}
 use Rattle.script_checked.proofs.told.told_by.Goals as goal
 
-pub replay-requires-clause-procs : goal.replay-requires-clause-procs
-replay-requires-clause-procs c = subst (λ (s : Script). 1 ≤ length (bodies_of s)) (sym c.new-program.ensures) (some-bodies c.args.script.now c.requires.within)
+pub replay-requires : goal.replay-requires
+replay-requires c =
+    let procs = subst (λ (s : Script). 1 ≤ length (bodies_of s)) (sym c.new-program.ensures) (some-bodies c.args.script.now c.requires.within) in
+    λ k. ((refl, tt), (c.requires.within, (c.requires.posted, (procs, search rules))))
