@@ -12,7 +12,7 @@ use Rattle.std.proofs.Common.{List, None, Some, [], ap, arith, cond, eqb, length
 use Rattle.std.proofs.lemmas.List.{length_push}
 use Rattle.std.specs.Prelude.{option_map}
 
-module _ {s : MonitorTable} {held : List Lock} {lock_room held_room : ℕ} (was : IsSound s held lock_room held_room) where
+module _ {s : MonitorTable} {held : List Lock} {counts : List ℕ} {lock_room held_room : ℕ} (was : IsSound s held counts lock_room held_room) where
   many : (m : ℕ) → locks_on held m ≡ locks_on s.locks m
   many m = as_many held s.locks m (at_most_once held m was.by_monitor.ordered) (was.kept.held_once m) (was.by_monitor.same m)
 

@@ -5,3 +5,4 @@ pub mod HeldLaws
 pub mod Room
 pub mod Machine
 pub mod Lines
+pub mod OwnerLaws

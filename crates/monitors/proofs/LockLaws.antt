@@ -4,13 +4,14 @@ use Rattle.lwp_types.specs.Locks.{depth_set, with_depth}
 use Rattle.lwp_types.specs.OnlyLaws.{count_at, filter_none, map_none, remove_only, set_only}
 use Rattle.lwp_types.specs.Release.{is_lock, lock_of, locks_on, without_lock}
 use Rattle.lwp_types.specs.declared.rows.Lock.{Lock}
-use Rattle.monitors.specs.Held.{AreOrdered, IsLockAt}
+use Rattle.monitors.specs.Held.{AreOrdered, IsGapAt, IsLockAt}
 use Rattle.std.proofs.Common.{Bool, List, None, Option, Some, [], ap, arith, cond, eqb, false, get_or, inl, inr, length, not, refl, set, suc, sym, take, true, zero, ℕ, ◌++◌, ◌+◌, ◌<◌, ◌∙◌, ◌∷◌, ◌≡◌, ◌≤◌}
 use Rattle.std.proofs.lemmas.Bool.{cases_eq, eq-eqb, eqb-true, ne_eqb}
 use Rattle.std.specs.List.{AllByRecursion, insert, remove}
 use Rattle.std.specs.List.Sorted.{IsNonDecreasingBy, IsPartitionPoint}
 use Rattle.std.specs.Prelude.{nat_lt, option_map}
 use Rattle.std.proofs.lemmas.Bool.{ltb-false, ltb-true}
+use Rattle.waiting_list.proofs.SearchLaws.{none_pass}
 
 abbrev pub no_lock : Lock
 no_lock = record { mon = 0; owner = 0; depth = 0 }
@@ -23,6 +24,11 @@ All-at P (l ∷ ls) (suc i) d within all = All-at P ls i d (omega arith) all.1
 All-from : (P : Lock → Type 0) (ls : List Lock) → ((i : ℕ) (d : Lock) → i < length ls → P (get_or ls i d)) → AllByRecursion P ls
 All-from P [] each = tt
 All-from P (l ∷ ls) each = (each 0 l (omega arith), All-from P ls (λ i d lt. each (suc i) d (omega (arith, lt))))
+
+get_or_within : (ls : List Lock) (i : ℕ) (d e : Lock) → i < length ls → get_or ls i d ≡ get_or ls i e
+get_or_within [] i d e within = absurd (omega (arith, within))
+get_or_within (l ∷ ls) zero d e within = refl
+get_or_within (l ∷ ls) (suc i) d e within = get_or_within ls i d e (omega (arith, within))
 
 rises : (ls : List Lock) (i j : ℕ) (d : Lock) → AreOrdered ls → i < j → j < length ls → (get_or ls i d).mon < (get_or ls j d).mon
 rises [] i j d ordered lt within = absurd (omega arith)
@@ -172,15 +178,37 @@ ordered_insert (l ∷ ls) (suc at) lock ordered within below above = (
   ordered_insert ls at lock ordered.1 (omega (arith, within)) (λ j d lt. below (suc j) d (omega (arith, lt))) (λ j d ge lt. above (suc j) d (omega (arith, ge)) (omega (arith, lt))),
 )
 
--- behind those that are less, and before all others, where none is the same
-pub ordered_parted : (ls : List Lock) (at : ℕ) (lock : Lock) → AreOrdered ls → at ≤ length ls → IsPartitionPoint (λ (l : Lock). nat_lt l.mon lock.mon ≡ true) (λ (l : Lock). nat_lt l.mon lock.mon ≡ false) ls at → locks_on ls lock.mon ≡ 0 → AreOrdered (insert ls at lock)
-ordered_parted ls at lock ordered within point free = ordered_insert ls at lock ordered within
-    (λ j d lt. ltb-true (get_or ls j d).mon lock.mon (point.0 j d (omega arith) lt))
-    (λ j d ge lt.
-    let more : lock.mon ≤ (get_or ls j d).mon = ltb-false (get_or ls j d).mon lock.mon (point.1 j d ge lt) in
-    elim (cases_eq (get_or ls j d).mon lock.mon) [
+-- where a lock belongs
+
+pub gap_parted : (ls : List Lock) (at m : ℕ) → at ≤ length ls → IsPartitionPoint (λ (l : Lock). nat_lt l.mon m ≡ true) (λ (l : Lock). nat_lt l.mon m ≡ false) ls at → IsGapAt m ls at
+gap_parted ls at m within point = record {
+  within = within;
+  low = λ j d lt. omega (arith, ltb-true (get_or ls j d).mon m (point.0 j d (omega arith) lt));
+  high = λ j d ge lt. ltb-false (get_or ls j d).mon m (point.1 j d ge lt);
+}
+
+-- behind the last, which isn't greater
+pub gap_behind : (ls : List Lock) (m i : ℕ) (last : Lock) → AreOrdered ls → i + 1 ≡ length ls → last ≡ get_or ls i last → last.mon ≤ m → IsGapAt m ls (length ls)
+gap_behind ls m i last ordered end is low = record {
+  within = omega arith;
+  low = λ j d lt. omega (arith, never_falls ls ordered j i d (omega (arith, lt, end)) (omega (arith, end)), ap (λ (l : Lock). l.mon) is, ap (λ (l : Lock). l.mon) (get_or_within ls i d last (omega (arith, end))), low);
+  high = λ j d ge lt. absurd (omega (arith, ge, lt));
+}
+
+-- nor is any lock of a monitor that is greater than the last
+pub none_behind : (ls : List Lock) (m i : ℕ) (last : Lock) → AreOrdered ls → i + 1 ≡ length ls → last ≡ get_or ls i last → last.mon < m → locks_on ls m ≡ 0
+none_behind ls m i last ordered end is less = none_pass (is_lock m) ls last (λ j lt. ne_eqb (get_or ls j last).mon m (λ same. absurd (omega (arith, never_falls ls ordered j i last (omega (arith, lt, end)) (omega (arith, end)), ap (λ (l : Lock). l.mon) is, less, same))))
+
+-- it belongs there, where none is of the same monitor
+pub ordered_gap : (ls : List Lock) (at : ℕ) (lock : Lock) → AreOrdered ls → IsGapAt lock.mon ls at → locks_on ls lock.mon ≡ 0 → AreOrdered (insert ls at lock)
+ordered_gap ls at lock ordered gap free = ordered_insert ls at lock ordered gap.within
+    (λ j d lt. elim (cases_eq (get_or ls j d).mon lock.mon) [
+      | inl same ↦ absurd (omega (arith, free, count_at (is_lock lock.mon) ls j d (omega (arith, lt, gap.within)) (eq-eqb (get_or ls j d).mon lock.mon same)))
+      | inr other ↦ omega (arith, gap.low j d lt, other)
+    ])
+    (λ j d ge lt. elim (cases_eq (get_or ls j d).mon lock.mon) [
       | inl same ↦ absurd (omega (arith, free, count_at (is_lock lock.mon) ls j d lt (eq-eqb (get_or ls j d).mon lock.mon same)))
-      | inr other ↦ omega (arith, more, other)
+      | inr other ↦ omega (arith, gap.high j d ge lt, other)
     ])
 
 -- both lists

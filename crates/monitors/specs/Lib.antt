@@ -3,3 +3,4 @@ pub mod Kept
 pub mod Held
 pub mod Machine
 pub mod Requests
+pub mod Owners

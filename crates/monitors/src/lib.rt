@@ -11,6 +11,7 @@ mod laws;
 mod live;
 mod locks;
 mod monitors;
+mod owners;
 mod requests;
 
 pub use laws::{every_change, every_question, every_rank};

@@ -3,8 +3,10 @@ ghost use Rattle.std.specs.Prelude.{[], ◌∷◌, ◌++◌, ◌≡◌, ◌<◌,
 ghost use Rattle.std.specs.List.{insert, remove};
 ghost use Rattle.lwp_types.specs.Locks.{depth_in, with_depth};
 ghost use Rattle.lwp_types.specs.Release.{last_lock, lock_of, locks_on, without_lock};
-ghost use Rattle.monitors.specs.Held.{AreOrdered, IsLockAt};
+ghost use Rattle.monitors.specs.Held.{AreOrdered, IsGapAt, IsLockAt};
+ghost use Rattle.monitors.specs.Owners.{IsCounted};
 
+use crate::owners::{count_in, count_out, holds_none};
 use lwp_types::{Lock, Mid, Tid};
 
 // Where the lock of the monitor stands, by rising monitors.
@@ -21,17 +23,21 @@ fn place_by_halves(held: &[Lock], mon: Mid) -> Option<usize>
     }
 }
 
-// The same. Whoever asks mostly asks for the last.
+// The same. Whoever asks mostly asks for the last, or for one behind it that nobody holds.
 #[inline(always)]
 fn place_of(held: &[Lock], mon: Mid) -> Option<usize>
     requires { AreOrdered held.now }
     ensures none { IfNone result (locks_on held.now mon ≡ 0) }
     ensures some { IfSome result (IsLockAt mon held.now) }
 {
-    match held.last() {
-        Some(last) if last.mon == mon => Some(held.len() - 1),
-        _ => place_by_halves(held, mon),
+    let last = held.last()?;
+    if last.mon.number < mon.number {
+        return None;
     }
+    if last.mon == mon {
+        return Some(held.len() - 1);
+    }
+    place_by_halves(held, mon)
 }
 
 // The lock of the monitor, if it is held.
@@ -51,11 +57,24 @@ pub fn depth_of(held: &[Lock], mon: Mid) -> u32
     lock_of(held, mon).map_or(0, |lock| lock.depth)
 }
 
-// Of the thread's locks the one that it acquired last.
-pub fn last_lock(locks: &[Lock], tid: Tid) -> Option<Lock>
+// Of the thread's locks the one that it acquired last, from the last of all locks on.
+#[inline(never)]
+fn last_by_steps(locks: &[Lock], tid: Tid) -> Option<Lock>
     ensures { result ≡ last_lock locks.now tid }
 {
     locks.iter().rev().copied().find(|lock| lock.owner == tid)
+}
+
+// The same. Most threads that die hold none, and then nobody's locks are gone over.
+pub fn last_lock(locks: &[Lock], owners: &[u16], tid: Tid) -> Option<Lock>
+    requires { IsCounted locks.now owners.now }
+    ensures { result ≡ last_lock locks.now tid }
+{
+    if holds_none(owners, tid) {
+        None
+    } else {
+        last_by_steps(locks, tid)
+    }
 }
 
 // Where the lock of the monitor stands in the order of acquisition. Whoever holds several mostly leaves the last first.
@@ -105,6 +124,30 @@ fn put_at(locks: &mut Vec<Lock>, at: usize, lock: Lock)
     }
 }
 
+// Where a lock of the monitor belongs, by rising monitors.
+#[inline(never)]
+fn gap_by_halves(held: &[Lock], mon: Mid) -> usize
+    requires { AreOrdered held.now }
+    ensures { IsGapAt mon held.now result }
+{
+    held.partition_point(|other| other.mon.number < mon.number)
+}
+
+// The same. Most belong behind the last.
+#[inline(always)]
+fn gap_for(held: &[Lock], mon: Mid) -> usize
+    requires { AreOrdered held.now }
+    ensures { IsGapAt mon held.now result }
+{
+    let Some(last) = held.last() else {
+        return held.len();
+    };
+    if mon.number < last.mon.number {
+        return gap_by_halves(held, mon);
+    }
+    held.len()
+}
+
 // One lock more, by rising monitors.
 fn hold(held: &mut Vec<Lock>, lock: Lock)
     requires ordered { AreOrdered held.old.items }
@@ -114,12 +157,15 @@ fn hold(held: &mut Vec<Lock>, lock: Lock)
     ensures locks { (m : ℕ) → lock_of held.new.items m ≡ (if lock.mon == m then Some lock else lock_of held.old.items m) }
     ensures capacity { vec_capacity held.new ≡ vec_capacity held.old }
 {
-    let at = held.partition_point(|other| other.mon.number < lock.mon.number);
+    let at = gap_for(held, lock.mon);
     put_at(held, at, lock);
 }
 
 // A free monitor is held.
-pub fn acquire(locks: &mut Vec<Lock>, held: &mut Vec<Lock>, lock: &Lock)
+pub fn acquire(locks: &mut Vec<Lock>, held: &mut Vec<Lock>, owners: &mut Vec<u16>, lock: &Lock)
+    requires counted { IsCounted locks.old.items owners.old.items }
+    requires counters { 4096 ≤ length owners.old.items }
+    requires few { length locks.old.items ≤ 256 }
     requires ordered { AreOrdered held.old.items }
     requires free { locks_on held.old.items lock.now.mon ≡ 0 }
     requires room { length locks.old.items < vec_capacity locks.old }
@@ -129,9 +175,12 @@ pub fn acquire(locks: &mut Vec<Lock>, held: &mut Vec<Lock>, lock: &Lock)
     ensures ordered { AreOrdered held.new.items }
     ensures held { (m : ℕ) → lock_of held.new.items m ≡ (if lock.now.mon == m then Some lock.now else lock_of held.old.items m) }
     ensures held_capacity { vec_capacity held.new ≡ vec_capacity held.old }
+    ensures counted { IsCounted locks.new.items owners.new.items }
+    ensures counters { length owners.new.items ≡ length owners.old.items }
 {
     hold(held, *lock);
     locks.push_reserved(*lock);
+    count_in(owners, lock.owner);
 }
 
 // The monitor is held at this depth, in the order of acquisition.
@@ -157,12 +206,17 @@ fn deepen_held(held: &mut Vec<Lock>, mon: Mid, depth: u32)
 }
 
 // Nobody holds the monitor, in the order of acquisition.
-fn take_last(locks: &mut Vec<Lock>, mon: Mid)
-    requires { (m : ℕ) → locks_on locks.old.items m ≤ 1 }
+fn take_last(locks: &mut Vec<Lock>, owners: &mut Vec<u16>, mon: Mid)
+    requires once { (m : ℕ) → locks_on locks.old.items m ≤ 1 }
+    requires counted { IsCounted locks.old.items owners.old.items }
     ensures items { locks.new.items ≡ without_lock mon locks.old.items }
     ensures capacity { vec_capacity locks.new ≡ vec_capacity locks.old }
+    ensures counted { IsCounted locks.new.items owners.new.items }
+    ensures counters { length owners.new.items ≡ length owners.old.items }
 {
     if let Some(at) = last_place(locks, mon) {
+        let owner = locks[at].owner;
+        count_out(owners, owner);
         take_at(locks, at);
     }
 }
@@ -192,14 +246,17 @@ pub fn set_depth(locks: &mut Vec<Lock>, held: &mut Vec<Lock>, mon: Mid, depth: u
 }
 
 // Nobody holds the monitor.
-pub fn free(locks: &mut Vec<Lock>, held: &mut Vec<Lock>, mon: Mid)
+pub fn free(locks: &mut Vec<Lock>, held: &mut Vec<Lock>, owners: &mut Vec<u16>, mon: Mid)
     requires once { (m : ℕ) → locks_on locks.old.items m ≤ 1 }
+    requires counted { IsCounted locks.old.items owners.old.items }
     requires ordered { AreOrdered held.old.items }
     ensures items { locks.new.items ≡ without_lock mon locks.old.items }
     ensures capacity { vec_capacity locks.new ≡ vec_capacity locks.old }
     ensures held { held.new.items ≡ without_lock mon held.old.items }
     ensures held_capacity { vec_capacity held.new ≡ vec_capacity held.old }
+    ensures counted { IsCounted locks.new.items owners.new.items }
+    ensures counters { length owners.new.items ≡ length owners.old.items }
 {
-    take_last(locks, mon);
+    take_last(locks, owners, mon);
     take_held(held, mon);
 }

@@ -7,6 +7,7 @@ ghost use Rattle.monitors.specs.MonitorTable.{created, destroyed, empty_table, e
 
 use crate::live::{has, list, take_out};
 use crate::locks::{acquire, depth_of, free, last_lock, lock_of, set_depth};
+use crate::owners::provide;
 use lwp_types::{IdList, Lock, Mid, NoMemory, Tid};
 use std::alloc::Global;
 use std::marker::Model;
@@ -25,6 +26,8 @@ pub struct Monitors {
     locks: Vec<Lock>,
     // The same by rising monitors, so that whether one is held is found at once.
     held: Vec<Lock>,
+    // How many of them there are by their owners.
+    owners: Vec<u16>,
     requests: WaitingList,
 }
 
@@ -38,6 +41,7 @@ impl Drop for Monitors {
             limit: _,
             locks: _,
             held: _,
+            owners: _,
             requests: _,
         } = self;
     }
@@ -53,7 +57,7 @@ impl Model for Monitors {
 
     ghost view = { λ s. record { monitors = s.live.items; births = s.births; limit = s.limit; locks = s.locks.items; requests = map request_of s.requests.waiting; places = s.requests.places } };
 
-    ghost invariant = { λ s. IsSound (record { monitors = s.live.items; births = s.births; limit = s.limit; locks = s.locks.items; requests = map request_of s.requests.waiting; places = s.requests.places }) s.held.items (vec_capacity s.locks) (vec_capacity s.held) };
+    ghost invariant = { λ s. IsSound (record { monitors = s.live.items; births = s.births; limit = s.limit; locks = s.locks.items; requests = map request_of s.requests.waiting; places = s.requests.places }) s.held.items s.owners.items (vec_capacity s.locks) (vec_capacity s.held) };
 }
 
 impl Monitors {
@@ -68,6 +72,7 @@ impl Monitors {
             limit: births,
             locks: Vec::new(alloc),
             held: Vec::new(alloc),
+            owners: Vec::new(alloc),
             requests: WaitingList::new(alloc),
         }
     }
@@ -94,6 +99,7 @@ impl Monitors {
         let mon = Mid { number: births };
         self.locks.reserve(self.live.len() + 1 - self.locks.len())?;
         self.held.reserve(self.live.len() + 1 - self.held.len())?;
+        provide(&mut self.owners)?;
         self.live.push(mon)?;
         self.births = births + 1;
         Ok(Some(mon))
@@ -146,7 +152,7 @@ impl Monitors {
                     owner: tid,
                     depth: 1,
                 };
-                acquire(&mut self.locks, &mut self.held, &lock);
+                acquire(&mut self.locks, &mut self.held, &mut self.owners, &lock);
                 0
             }
             Some(lock) => {
@@ -193,7 +199,7 @@ impl Monitors {
         ensures value { result ≡ next_owner self.old mon }
         ensures after { self.new ≡ released self.old mon }
     {
-        free(&mut self.locks, &mut self.held, mon);
+        free(&mut self.locks, &mut self.held, &mut self.owners, mon);
         self.grant(mon)
     }
 
@@ -204,7 +210,7 @@ impl Monitors {
         ensures after { self.new ≡ freed self.old mon }
     {
         let before = depth_of(&self.held, mon);
-        free(&mut self.locks, &mut self.held, mon);
+        free(&mut self.locks, &mut self.held, &mut self.owners, mon);
         before
     }
 
@@ -223,7 +229,7 @@ impl Monitors {
             owner: next.tid,
             depth: next.depth,
         };
-        acquire(&mut self.locks, &mut self.held, &lock);
+        acquire(&mut self.locks, &mut self.held, &mut self.owners, &lock);
         Some(next.tid)
     }
 
@@ -232,7 +238,7 @@ impl Monitors {
         ensures value { result ≡ option_map (λ lock. lock.mon) (last_lock self.now.locks tid) }
         ensures held_once { (m : ℕ) → locks_on self.now.locks m ≤ 1 }
     {
-        last_lock(&self.locks, tid).map(|lock| lock.mon)
+        last_lock(&self.locks, &self.owners, tid).map(|lock| lock.mon)
     }
 
     /// Gives the thread's request, if it has one, a priority. The request keeps its place.
@@ -254,7 +260,7 @@ impl Monitors {
         ensures value { result ≡ last_release self.old tid }
         ensures after { self.new ≡ last_released self.old tid }
     {
-        let lock = last_lock(&self.locks, tid)?;
+        let lock = last_lock(&self.locks, &self.owners, tid)?;
         let next = self.break_lock(lock.mon);
         Some((lock.mon, next))
     }

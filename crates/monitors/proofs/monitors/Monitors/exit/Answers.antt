@@ -1,5 +1,6 @@
 use Rattle.monitors.proofs.HeldLaws.{IsHeld-deepened}
 use Rattle.monitors.proofs.KeptLemmas.{IsKept-deepened}
+use Rattle.monitors.proofs.OwnerLaws.{IsByOwner-deepened}
 use Rattle.monitors.proofs.monitors.Monitors.exit.Goals as goal
 use Rattle.std.proofs.Common.{◌-◌}
 
@@ -9,4 +10,5 @@ invariant_of-self c =
     (record {
       kept = IsKept-deepened c.self.invariant.kept c.args.mon (c.depth_of-depth.result - 1);
       by_monitor = IsHeld-deepened c.self.invariant c.args.mon (c.depth_of-depth.result - 1);
+      by_owner = IsByOwner-deepened c.self.invariant.by_owner c.args.mon (c.depth_of-depth.result - 1);
     })

@@ -3,6 +3,7 @@ use Rattle.lwp_types.specs.declared.rows.Lock.{Lock}
 use Rattle.monitors.proofs.HeldLaws.{IsHeld-taken, held_none, held_room_free}
 use Rattle.monitors.proofs.KeptLemmas.{IsKept-taken, room_free}
 use Rattle.monitors.proofs.Lines.{left-line, next-line}
+use Rattle.monitors.proofs.OwnerLaws.{IsByOwner-counted, all_counters, few_locks}
 use Rattle.monitors.proofs.monitors.Monitors.grant.Goals as goal
 use Rattle.monitors.specs.MonitorTable.{requests_of, with_grant}
 use Rattle.monitors.specs.Requests.{request_of}
@@ -38,6 +39,12 @@ acquire-requires-clause-room c = room_free c.self.invariant.kept c.args.mon (rw 
 pub acquire-requires-clause-held_room : goal.acquire-requires-clause-held_room
 acquire-requires-clause-held_room c = held_room_free c.self.invariant c.args.mon (rw (← c.self.view_is) at c.requires.live) (rw (← c.self.view_is) at c.requires.free)
 
+pub acquire-requires-clause-counters : goal.acquire-requires-clause-counters
+acquire-requires-clause-counters c = all_counters c.self.invariant.by_owner c.args.mon (rw (← c.self.view_is) at c.requires.live)
+
+pub acquire-requires-clause-few : goal.acquire-requires-clause-few
+acquire-requires-clause-few c = few_locks c.self.invariant.by_owner c.self.invariant.kept
+
 pub invariant_of-self : goal.invariant_of-self
 invariant_of-self c =
     let next = c.in_ok-next.next in
@@ -47,10 +54,12 @@ invariant_of-self c =
     let lock : Lock = record { mon = next.what; owner = next.tid; depth = next.depth } in
     let kept = IsKept-taken c.self.invariant.kept c.args.mon live free lock its in
     let held = IsHeld-taken c.self.invariant c.args.mon live free lock _ its c.acquire.ensures.ordered c.acquire.ensures.held in
+    let counted = IsByOwner-counted c.self.invariant.by_owner (c.self.inside.locks.items ++ lock ∷ []) _ (rw c.acquire.ensures.items at c.acquire.ensures.counted) c.acquire.ensures.counters in
     rw (c.acquire.ensures.items, c.acquire.ensures.capacity, c.acquire.ensures.held_capacity)
     (record {
       kept = record { held_once = kept.held_once; held_live = kept.held_live; locks_fit = kept.locks_fit; rising = kept.rising; born = kept.born };
       by_monitor = record { ordered = held.ordered; same = held.same; fits = held.fits };
+      by_owner = record { counted = counted.counted; whole = counted.whole; there = counted.there; few = counted.few };
     })
 
 pub returns-clause-value : goal.returns-clause-value
