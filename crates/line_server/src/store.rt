@@ -20,8 +20,8 @@ pub enum StorePlace {
 }
 
 /// A thread that keeps a table for each thread that sends to it, for its whole life. It takes memory only for a new sender
-/// and for a put, and finds a table by its sender's number and a key in it by its bytes, each in an ordered map, so that no hash
-/// can be made to collide.
+/// and for a put, and finds a table by its sender's number in an ordered map and a key in it by halves, so that no hash can be
+/// made to collide.
 pub struct StoreBody<'s> {
     alloc: Global,
     tables: BTreeMap<u64, Table<'s>>,

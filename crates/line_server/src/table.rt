@@ -5,28 +5,31 @@ ghost use Rattle.lwp_types.specs.TextFields.{is_printable, is_text};
 ghost use Rattle.std.specs.Prelude.{◌≡◌, ◌≤◌, [], length, IfOk, IsTrue, OnOk};
 
 use crate::command::{Asked, command_of};
-use crate::kept::Kept;
-use crate::key::Key;
+use crate::entries;
+use crate::entry::Entry;
 use lwp_types::{NoMemory, Text};
 use std::alloc::Global;
-use std::collections::BTreeMap;
 use std::marker::Model;
 
 /// How many keys a table may have.
 pub const KEYS_MAX: usize = 100;
 
-/// The keys of one client in their order, and the value of each.
+/// The keys of one client in their order, and the value of each. They lie in a vector, which takes little more memory than
+/// they do: most clients have few keys, and even of 100 it costs little to move those behind a new one.
 #[derive(Drop)]
 pub struct Table<'s> {
-    entries: BTreeMap<Key, Kept<'s>>,
+    entries: Vec<Entry<'s>>,
 }
 
 impl<'s> Model for Table<'s> {
+    ghost use Rattle.line_server.specs.Places.{AreInOrder};
     ghost use Rattle.line_server.specs.Tables.{Table};
 
     ghost Value = { Table };
 
-    ghost view = { λ t. t.entries.entries };
+    ghost view = { λ t. t.entries.items };
+
+    ghost invariant = { λ t. AreInOrder t.entries.items };
 }
 
 impl<'s> Table<'s> {
@@ -35,43 +38,41 @@ impl<'s> Table<'s> {
         ensures { result ≡ [] }
     {
         Table {
-            entries: BTreeMap::new(alloc),
+            entries: Vec::new(alloc),
         }
     }
 
-    fn put(&mut self, key: &[u8], value: &'s [u8]) -> Result<Text<'s>, NoMemory>
-        requires key { length key.now ≤ 16 }
+    fn put(&mut self, key: &'s [u8], value: &'s [u8]) -> Result<Text<'s>, NoMemory>
         requires short { length value.now ≤ 237 }
         requires printable { IsTrue (is_printable value.now) }
         ensures reply { IfOk result (λ reply. reply ≡ (told_put key.now value.now self.old).reply) }
         ensures after { OnOk result (self.new ≡ (told_put key.now value.now self.old).table) }
     {
-        let key = Key::new(key);
-        if KEYS_MAX <= self.entries.len() && !self.entries.contains_key(&key) {
+        let place = entries::place_of(&self.entries, key);
+        if KEYS_MAX <= self.entries.len() && place.is_err() {
             return Ok(Text::lent(b"full"));
         }
-        self.entries.insert(key, Kept::new(value))?;
+        entries::put(&mut self.entries, place, Entry::new(key, value))?;
         Ok(Text::lent(b"ok"))
     }
 
     fn get(&self, key: &[u8]) -> Text<'s>
-        requires { length key.now ≤ 16 }
         ensures { result ≡ told_value (at_key key.now self.now) }
     {
-        let Some(kept) = self.entries.get(&Key::new(key)) else {
-            return Text::lent(b"none");
-        };
-        kept.text()
+        match entries::find(&self.entries, key) {
+            Some(entry) => entry.text(),
+            None => Text::lent(b"none"),
+        }
     }
 
     fn del(&mut self, key: &[u8]) -> Text<'s>
-        requires { length key.now ≤ 16 }
         ensures reply { result ≡ (told_del key.now self.old).reply }
         ensures after { self.new ≡ (told_del key.now self.old).table }
     {
-        match self.entries.remove(&Key::new(key)) {
-            Some(_) => Text::lent(b"ok"),
-            None => Text::lent(b"none"),
+        if entries::take(&mut self.entries, key) {
+            Text::lent(b"ok")
+        } else {
+            Text::lent(b"none")
         }
     }
 

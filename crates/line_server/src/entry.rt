@@ -1,0 +1,53 @@
+// A key of a table, and what the table keeps for it.
+ghost use Rattle.line_server.specs.Tables.{key_cmp, shown};
+ghost use Rattle.lwp_types.specs.TextFields.{is_printable};
+ghost use Rattle.std.specs.Prelude.{◌≡◌, ◌≤◌, length, IsTrue};
+
+use crate::kept::Kept;
+use lwp_types::Text;
+use std::cmp::Ordering;
+use std::marker::Model;
+
+/// A key, where the line has it that put it first, and what is kept for it.
+#[derive(Drop)]
+pub struct Entry<'s> {
+    key: &'s [u8],
+    kept: Kept<'s>,
+}
+
+impl<'s> Model for Entry<'s> {
+    ghost use Rattle.std.specs.Prelude.{ℕ, List};
+
+    ghost Value = { List ℕ × List ℕ };
+
+    ghost view = { λ e. (e.key.now, e.kept) };
+}
+
+impl<'s> Entry<'s> {
+    /// A key with this value.
+    pub fn new(key: &'s [u8], value: &'s [u8]) -> Entry<'s>
+        requires short { length value.now ≤ 237 }
+        requires printable { IsTrue (is_printable value.now) }
+        ensures { result ≡ (key.now, shown value.now) }
+    {
+        Entry {
+            key,
+            kept: Kept::new(value),
+        }
+    }
+
+    /// How the key stands to these bytes.
+    #[inline(always)]
+    pub fn order(&self, key: &[u8]) -> Ordering
+        ensures { result ≡ key_cmp self.now.0 key.now }
+    {
+        self.key.cmp(key)
+    }
+
+    /// What a get of the key is told.
+    pub fn text(&self) -> Text<'s>
+        ensures { result ≡ self.now.1 }
+    {
+        self.kept.text()
+    }
+}
