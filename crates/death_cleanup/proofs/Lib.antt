@@ -7,6 +7,7 @@ pub mod Firsts
 pub mod Keeping
 pub mod Waits
 pub mod Refusals
+pub mod Quiet
 pub mod Releases
 pub mod AgentEnds
 pub mod Unmarking

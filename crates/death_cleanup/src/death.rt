@@ -13,22 +13,26 @@ use crate::rows::Awaited;
 use crate::waiters::{dismiss, end_agents, refuse_senders, release_all};
 use lwp_types::{Block, Effect, Effects, Tid};
 
-// The thread begins to die: it is out of all that it waited in, and out of the scheduler.
+// The thread begins to die: it is out of all that it waited in, and out of the scheduler. One that comes to its own end waits for
+// nothing, so nothing is looked through for it.
 fn withdraw(parts: &mut Parts, tid: Tid)
-    requires step { InStep parts.old }
+    requires lawful { LawfulParts parts.old }
     requires alone { parts.old.dying ≡ None }
     requires lives { IsTrue (is_thread (state_of parts.old) tid) }
     ensures after { state_of parts.new ≡ (withdraw tid (state_of parts.old)).after }
     ensures step { InStep parts.new }
     ensures dying { parts.new.dying ≡ Some tid }
 {
+    let waits = parts.sched.blocked(tid);
     parts.last_prio = parts.sched.prio_of(tid);
     parts.dying = Some(tid);
     parts.sched.leave(tid);
     set_block(&mut parts.ids, tid, Block::Not);
-    parts.conds.forget(tid);
-    parts.mons.forget(tid);
-    parts.mail.forget(tid);
+    if waits {
+        parts.conds.forget(tid);
+        parts.mons.forget(tid);
+        parts.mail.forget(tid);
+    }
 }
 
 // A death is told.

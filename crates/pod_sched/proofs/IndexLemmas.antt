@@ -3,7 +3,7 @@ use Rattle.lwp_types.specs.State.{passes}
 use Rattle.pod_sched.specs.Index.{IsAbsent, IsAt, IsGapAt, IsHint, IsIndexed, IsRising, cell_in, is_entry_of, no_place, slot_in, without_entry}
 use Rattle.pod_sched.specs.Slots.{Puts}
 use Rattle.pod_sched.specs.declared.index.Place.{Place}
-use Rattle.std.proofs.Common.{Bool, Err, IfNone, IfSome, IsSome, Ok, Result, get_or, inl, inr, suc, zero, ◌%◌, ◌<◌, List, None, Option, Some, [], ap, arith, cond, eqb, false, length, not, option_map, refl, sym, true, ℕ, ◌+◌, ◌∙◌, ◌∷◌, ◌≡◌, ◌≢◌, ◌≤◌}
+use Rattle.std.proofs.Common.{Bool, Err, IfNone, IfSome, IsSome, Ok, Result, get_or, inl, inr, suc, zero, ◌%◌, ◌<◌, List, None, Option, Some, [], ap, arith, cond, eqb, false, length, not, option_map, refl, sym, take, true, ℕ, ◌++◌, ◌+◌, ◌-◌, ◌∙◌, ◌∷◌, ◌≡◌, ◌≢◌, ◌≤◌}
 use Rattle.std.proofs.lemmas.Bool.{cases_lt, eq-eqb, eqb-false, eqb-true, ne_eqb}
 use Rattle.std.proofs.lemmas.Bool.Decides.{nat_tests}
 use Rattle.std.proofs.lemmas.Cmp.{ranked}
@@ -115,6 +115,21 @@ module _ (es : List Place) (rising : IsRising es) (n : ℕ) where
         found = tt;
       }
 
+-- what is above the last belongs behind it
+pub gap_last : (n : ℕ) (es : List Place) (last : Place) → IsRising es → ((d : Place) → last ≡ get_or es (length es - 1) d) → last.number < n → IsGapAt n es (length es)
+gap_last n es last rising is less = record {
+  within = omega arith;
+  below = λ j d lt.
+      let greatest : (get_or es (length es - 1) d).number < n = rw (← is d) less in
+      elim (cases_lt j (length es - 1)) [
+        | inl before ↦ omega (arith, rises es j (length es - 1) d rising before (omega (arith, lt)), greatest)
+        | inr there ↦
+            let same : j ≡ length es - 1 = omega (arith, lt, there) in
+            rw same greatest
+      ];
+  above = λ j d ge lt. absurd (omega (arith, ge, lt));
+}
+
 -- ---- one entry more
 
 All-insert : (P : Place → Type 0) (es : List Place) (at : ℕ) (e : Place) → at ≤ length es → AllByRecursion P es → P e → AllByRecursion P (insert es at e)
@@ -195,6 +210,17 @@ remove_at n (e ∷ es) (suc at) rising here =
     let is : (get_or es at no_place).number ≡ n = here.here no_place in
     let less : e.number < (get_or es at no_place).number = All-at (λ f. e.number < f.number) es at no_place (omega (arith, here.within)) rising.0 in
     rw (ne_eqb e.number n (λ same. absurd (omega (arith, less, is, same)))) (ap (λ fs. e ∷ fs) (remove_at n es at rising.1 (record { within = omega (arith, here.within); here = λ d. here.here d })))
+
+pub remove_last : {X : Type 0} (xs : List X) (i : ℕ) → i + 1 ≡ length xs → remove xs i ≡ take i xs
+remove_last [] i e = absurd (omega (arith, e))
+remove_last (x ∷ []) zero e = refl
+remove_last (x ∷ []) (suc i) e = absurd (omega (arith, e))
+remove_last (x ∷ y ∷ ys) zero e = absurd (omega (arith, e))
+remove_last (x ∷ y ∷ ys) (suc i) e = ap (λ l. x ∷ l) (remove_last (y ∷ ys) i (omega (arith, e)))
+
+pub insert_last : {X : Type 0} (xs : List X) (x : X) → insert xs (length xs) x ≡ xs ++ x ∷ []
+insert_last [] x = refl
+insert_last (y ∷ ys) x = ap (λ l. y ∷ l) (insert_last ys x)
 
 -- ---- the cells
 

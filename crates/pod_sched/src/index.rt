@@ -1,6 +1,6 @@
 // The slot of each known thread.
 ghost use Rattle.std.specs.Prelude.{◌≡◌, ◌+◌, ◌<◌, ◌≤◌, ◌==◌, ◌%◌, if◌then◌else◌, ℕ, IfNone, IfOk, IfSome, IsSome, None, OnOk, Option, Some, [], length, slice_index_or, vec_capacity};
-ghost use Rattle.std.specs.List.{find};
+ghost use Rattle.std.specs.List.{find, insert, remove};
 ghost use Rattle.lwp_types.specs.State.{passes};
 ghost use Rattle.pod_sched.specs.Slots.{Puts};
 ghost use Rattle.pod_sched.specs.declared.index.Place.{Place};
@@ -49,7 +49,7 @@ fn place_at(places: &Vec<Place>, at: usize) -> Place
 }
 
 // Where a number stands among rising ones.
-fn place_of(places: &[Place], number: u64) -> Option<usize>
+fn place_by_halves(places: &[Place], number: u64) -> Option<usize>
     requires { IsRising places.now }
     ensures absent { IfNone result (IsAbsent number places.now) }
     ensures found { IfSome result (IsAt number places.now) }
@@ -59,8 +59,20 @@ fn place_of(places: &[Place], number: u64) -> Option<usize>
         .ok()
 }
 
+// The same. Whoever leaves is often the youngest, which stands last.
+fn place_of(places: &[Place], number: u64) -> Option<usize>
+    requires { IsRising places.now }
+    ensures absent { IfNone result (IsAbsent number places.now) }
+    ensures found { IfSome result (IsAt number places.now) }
+{
+    match places.last() {
+        Some(last) if last.number == number => Some(places.len() - 1),
+        _ => place_by_halves(places, number),
+    }
+}
+
 // Where a number that isn't there belongs among rising ones.
-fn gap_of(places: &[Place], number: u64) -> Option<usize>
+fn gap_by_halves(places: &[Place], number: u64) -> Option<usize>
     requires { IsRising places.now }
     ensures gap { IfSome result (IsGapAt number places.now) }
     ensures found { IfNone result (IsSome (find (is_entry_of number) places.now)) }
@@ -70,14 +82,56 @@ fn gap_of(places: &[Place], number: u64) -> Option<usize>
         .err()
 }
 
+// The same. Whoever is new is the youngest, which stands last.
+fn gap_of(places: &[Place], number: u64) -> Option<usize>
+    requires { IsRising places.now }
+    ensures gap { IfSome result (IsGapAt number places.now) }
+    ensures found { IfNone result (IsSome (find (is_entry_of number) places.now)) }
+{
+    match places.last() {
+        Some(last) if last.number >= number => gap_by_halves(places, number),
+        _ => Some(places.len()),
+    }
+}
+
 // The slot under a number, among rising ones.
 fn halving(places: &Vec<Place>, number: u64) -> Option<usize>
     requires { IsRising places.now.items }
     ensures { result ≡ slot_in places.now.items number }
 {
-    match place_of(places, number) {
+    match place_by_halves(places, number) {
         Some(at) => Some(place_at(places, at).slot),
         None => None,
+    }
+}
+
+// Takes out the entry that stands there; the last is no move of others.
+#[tactic(auto, using(crate::proofs::IndexLemmas::remove_last))]
+fn take_at(places: &mut Vec<Place>, at: usize)
+    requires { at < length places.old.items }
+    ensures items { places.new.items ≡ remove places.old.items at }
+    ensures capacity { vec_capacity places.new ≡ vec_capacity places.old }
+{
+    if at + 1 == places.len() {
+        places.pop();
+    } else {
+        places.remove(at);
+    }
+}
+
+// Puts in an entry there, where there is room.
+#[tactic(auto, using(crate::proofs::IndexLemmas::insert_last))]
+fn put_at(places: &mut Vec<Place>, at: usize, place: Place)
+    requires place { at ≤ length places.old.items }
+    requires room { length places.old.items < vec_capacity places.old }
+    ensures items { places.new.items ≡ insert places.old.items at place }
+    ensures capacity { vec_capacity places.new ≡ vec_capacity places.old }
+{
+    if at == places.len() {
+        places.push_reserved(place);
+    } else {
+        // There is room, so no memory is asked for.
+        let _ = places.insert(at, place);
     }
 }
 
@@ -88,7 +142,7 @@ fn take_out(places: &mut Vec<Place>, number: u64)
     ensures capacity { vec_capacity places.new ≡ vec_capacity places.old }
 {
     if let Some(at) = place_of(places, number) {
-        places.remove(at);
+        take_at(places, at);
     }
 }
 
@@ -103,8 +157,7 @@ fn put_in(places: &mut Vec<Place>, number: u64, slot: usize)
     ensures capacity { vec_capacity places.new ≡ vec_capacity places.old }
 {
     if let Some(at) = gap_of(places, number) {
-        // There is room, so no memory is asked for.
-        let _ = places.insert(at, Place { number, slot });
+        put_at(places, at, Place { number, slot });
     }
 }
 

@@ -57,7 +57,7 @@ impl Model for Turns {
 }
 
 impl Turns {
-    ghost use Rattle.pod_sched.specs.Held.{back_with, out_with};
+    ghost use Rattle.pod_sched.specs.Held.{back_with, out_with, requeued};
 
     /// A scheduler that knows nobody yet, with priorities from 1 to `maxpri`.
     pub fn new(alloc: Global, maxpri: u32) -> Result<Turns, NoMemory>
@@ -227,8 +227,7 @@ impl Turns {
         ensures { self.new ≡ yielded self.old from to }
     {
         if from == to {
-            let row = self.row(from);
-            self.put_back(from, row);
+            self.requeue(from);
         } else {
             let slot = index::known_slot(&self.index, from.number);
             let other = index::known_slot(&self.index, to.number);
@@ -386,6 +385,16 @@ impl Turns {
         let slot = index::known_slot(&self.index, tid.number);
         put_row(&mut self.rows, slot, row);
         self.order.take(slot);
+    }
+
+    // A thread that may run goes last, with the row that it has.
+    fn requeue(&mut self, tid: Tid)
+        requires { IsTrue (is_eligible_in self.old tid) }
+        ensures { self.new ≡ requeued self.old tid }
+    {
+        let slot = index::known_slot(&self.index, tid.number);
+        let prio = row_at(&self.rows, slot).prio;
+        self.order.put_last(slot, prio);
     }
 
     // A thread that may run has this row from now on, and goes last.

@@ -1,11 +1,6 @@
-use Rattle.pod_sched.proofs.IndexLemmas.{parted}
+use Rattle.pod_sched.proofs.IndexLemmas.{gap_last}
 use Rattle.pod_sched.proofs.index.gap_of.Goals as goal
-use Rattle.std.proofs.Common.{rules}
-use Rattle.std.proofs.lemmas.List.Sorted.{answers_always}
+use Rattle.std.proofs.Common.{arith}
 
--- the search compares by the number of each entry
-pub returns : goal.returns
-returns c =
-    let facts = c.binary_search_by_key.ensures in
-    let by_key = facts.position (λ e. e.number) (answers_always _ _ _ (λ f a r g called. search rules)) in
-    rw c.err.ensures.value (parted _ c.requires c.args.number _ facts.bound by_key)
+pub returns-in_default-clause-gap : goal.returns-in_default-clause-gap
+returns-in_default-clause-gap c = gap_last c.args.number c.args.places.now c.in-Some.last.now c.requires (λ d. c.in-Some.ensures.item.4 (omega arith) d) c.if-last-number.false

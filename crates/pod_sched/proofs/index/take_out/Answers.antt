@@ -4,7 +4,7 @@ use Rattle.std.proofs.Common.{sym, ◌∙◌}
 
 pub returns-in-Some-clause-items : goal.returns-in-Some-clause-items
 returns-in-Some-clause-items c =
-    c.remove.ensures.items ∙ remove_at c.args.number c.args.places.now.items c.in-Some.at c.requires (rw c.deref.ensures.value at c.in-Some.ensures.found)
+    c.take_at.ensures.items ∙ remove_at c.args.number c.args.places.now.items c.in-Some.at c.requires (rw c.deref.ensures.value at c.in-Some.ensures.found)
 
 pub returns-in_default-clause-items : goal.returns-in_default-clause-items
 returns-in_default-clause-items c = sym (absent_stays c.args.number c.args.places.now.items (rw c.deref.ensures.value at c.in_default.ensures.absent))

@@ -1,6 +1,5 @@
 use Rattle.pod_sched.proofs.BeforeLemmas.{IsHeld-before, eligible_known, same_weight, slots_differ, view_before}
 use Rattle.pod_sched.proofs.HeldLemmas.{in_limit, is_key, known_at}
-use Rattle.pod_sched.proofs.OpLemmas.{back_same}
 use Rattle.pod_sched.specs.Held.{schedule_of}
 use Rattle.std.proofs.lemmas.Bool.{eqb-false}
 use Rattle.pod_sched.proofs.turns.Turns.yield_to.Goals as goal
@@ -36,9 +35,5 @@ invariant_of-self c = rw c.put_before.ensures (IsHeld-before c.self.inside.slots
 pub returns-else-eq : goal.returns-else-eq
 returns-else-eq c = rw (c.put_before.ensures, ← c.self.view_is) (view_before c.self.inside.slots c.self.inside.order c.self.inside.rows.items _ _ _ c.self.inside.maxpri c.self.inside.places c.self.invariant c.args.from _ (rw c.from.view_is at c.known_slot-slot.ensures) (rw (← c.self.view_is) at c.requires.from_may_run) c.args.to _ (rw c.to.view_is at c.known_slot-other.ensures) (rw (← c.self.view_is) at c.requires.to_may_run) (eqb-false _ _ (sym c.eq.ensures ∙ c.if-eq.false)))
 
-pub row-row-requires : goal.row-row-requires
-row-row-requires c = eligible_known c.args.self.now c.args.from c.requires.from_may_run
-
 pub returns-then-eq : goal.returns-then-eq
-returns-then-eq c =
-    rw (sym c.eq.ensures ∙ c.if-eq.true) (c.put_back.ensures ∙ back_same c.args.self.now c.args.from c.row-row.result c.row-row.ensures.ordered c.row-row.ensures.value)
+returns-then-eq c = rw (sym c.eq.ensures ∙ c.if-eq.true) c.requeue.ensures
