@@ -20,7 +20,7 @@ use lwp_types::{Block, Effects, IdKind, Letter, LetterCall, LwpErr, Mode, NoMemo
 use std::alloc::Global;
 
 /// A call of this family.
-#[inline(never)]
+#[inline(always)]
 pub fn carry_out<'s>(
     parts: &mut Parts<'s>,
     alloc: Global,

@@ -15,7 +15,7 @@ use death_cleanup::{Parts, is_thread, resume};
 use lwp_types::{Effects, LwpErr, Tid, TurnCall};
 
 /// A call of this family.
-#[inline(never)]
+#[inline(always)]
 pub fn carry_out<'s>(parts: &mut Parts<'s>, tid: Tid, call: TurnCall, effects: &mut Effects<'s>)
     requires step { InStep parts.old }
     requires alone { parts.old.dying ≡ None }
