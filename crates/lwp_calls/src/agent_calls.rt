@@ -24,7 +24,7 @@ const MOST_EVENT: u32 = 32;
 const MOST_AGENTS: usize = 256;
 
 /// A call of this family.
-#[inline(never)]
+#[inline(always)]
 pub fn carry_out<'s>(
     parts: &mut Parts<'s>,
     tid: Tid,

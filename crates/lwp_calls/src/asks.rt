@@ -47,6 +47,7 @@ pub fn may_run(parts: &Parts, tid: Tid) -> bool
 }
 
 /// A thread that may run waits for something.
+#[inline(always)]
 pub fn block(parts: &mut Parts, tid: Tid, why: Block)
     requires step { InStep parts.old }
     requires alone { parts.old.dying ≡ None }

@@ -20,7 +20,7 @@ use lwp_types::{Block, Effects, IdKind, Letter, LetterCall, LwpErr, Mode, NoMemo
 use std::alloc::Global;
 
 /// A call of this family.
-#[inline(never)]
+#[inline(always)]
 pub fn carry_out<'s>(
     parts: &mut Parts<'s>,
     alloc: Global,
@@ -112,6 +112,7 @@ fn block_takes(why: Block, sender: Tid) -> bool
 }
 
 /// A letter more, which nobody has received. Who waits for such a letter has it at once, and goes on.
+#[inline(always)]
 pub fn post<'s>(parts: &mut Parts<'s>, letter: &Letter<'s>, effects: &mut Effects<'s>)
     requires step { InStep parts.old }
     requires alone { parts.old.dying ≡ None }

@@ -25,7 +25,7 @@ use std::alloc::Global;
 const MOST_THREADS: usize = 1024;
 
 /// A call of this family.
-#[inline(never)]
+#[inline(always)]
 pub fn carry_out<'s>(
     parts: &mut Parts<'s>,
     alloc: Global,

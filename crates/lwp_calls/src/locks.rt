@@ -21,7 +21,7 @@ use lwp_types::{Answer, Block, Effects, IdKind, LockCall, LwpErr, Mid, NoMemory,
 const MOST_DEPTH: u32 = 65_535;
 
 /// A call of this family.
-#[inline(never)]
+#[inline(always)]
 pub fn carry_out<'s>(
     parts: &mut Parts<'s>,
     tid: Tid,

@@ -28,7 +28,7 @@ const MOST_PATTERN: u32 = 2_147_483_647;
 const MOST_REGISTRATIONS: u64 = 4_294_967_295;
 
 /// A call of this family.
-#[inline(never)]
+#[inline(always)]
 pub fn carry_out<'s>(
     parts: &mut Parts<'s>,
     tid: Tid,

@@ -19,7 +19,7 @@ const MOST_STATUS: u32 = 99;
 const MOST_PRIORITY: u32 = 255;
 
 /// A call of this family.
-#[inline(never)]
+#[inline(always)]
 pub fn carry_out<'s>(
     parts: &mut Parts<'s>,
     tid: Tid,

@@ -15,7 +15,7 @@ use death_cleanup::{Parts, is_thread, resume};
 use lwp_types::{Effects, LwpErr, Tid, TurnCall};
 
 /// A call of this family.
-#[inline(never)]
+#[inline(always)]
 pub fn carry_out<'s>(parts: &mut Parts<'s>, tid: Tid, call: TurnCall, effects: &mut Effects<'s>)
     requires step { InStep parts.old }
     requires alone { parts.old.dying ≡ None }
@@ -24,14 +24,13 @@ pub fn carry_out<'s>(parts: &mut Parts<'s>, tid: Tid, call: TurnCall, effects: &
     ensures told { Told parts.old parts.new effects.old effects.new tid (case_of (state_of parts.old) tid (turn_call call)) }
     ensures most { length effects.new ≤ 1280 }
 {
-    let done = match call {
-        TurnCall::Yield(to) => yield_to(parts, tid, to),
-        TurnCall::Resched(prio) => resched(parts, tid, prio),
-        TurnCall::SetPri(other, prio) => set_priority(parts, other, prio),
-        TurnCall::Suspend(other) => suspend(parts, other),
-        TurnCall::Resume(other) => resume(parts, other),
-    };
-    effects.done(tid, done);
+    match call {
+        TurnCall::Yield(to) => effects.done(tid, yield_to(parts, tid, to)),
+        TurnCall::Resched(prio) => effects.done(tid, resched(parts, tid, prio)),
+        TurnCall::SetPri(other, prio) => effects.done(tid, set_priority(parts, other, prio)),
+        TurnCall::Suspend(other) => effects.done(tid, suspend(parts, other)),
+        TurnCall::Resume(other) => effects.done(tid, resume(parts, other)),
+    }
 }
 
 // Another goes ahead of the caller, or all others of its priority do.

@@ -18,7 +18,7 @@ use death_cleanup::{Parts, broadcast, cond_send, is_last, notify, release};
 use lwp_types::{Answer, Block, Cid, Effects, IdKind, LwpErr, Mid, NoMemory, Tid, WaitCall};
 
 /// A call of this family.
-#[inline(never)]
+#[inline(always)]
 pub fn carry_out<'s>(
     parts: &mut Parts<'s>,
     tid: Tid,

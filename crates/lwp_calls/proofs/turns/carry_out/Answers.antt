@@ -1,20 +1,17 @@
-use Rattle.death_cleanup.specs.Comes.{Answers}
-use Rattle.death_cleanup.specs.View.{state_of}
 use Rattle.lwp_calls.proofs.Made.{told-alone}
 use Rattle.lwp_calls.proofs.turns.carry_out.Goals as goal
-use Rattle.lwp_calls.proofs.turns.carry_out.Goals.{in-Resched, in-Resume, in-SetPri, in-Suspend, in-Yield}
-use Rattle.lwp_types.specs.Case.{answer_by}
-use Rattle.lwp_types.specs.Families.{turn_call}
-use Rattle.lwp_types.specs.Step.{case_of}
-use Rattle.std.proofs.Common.{[]}
 
-pub returns-clause-told : goal.returns-clause-told
-returns-clause-told c =
-    let answers : Answers c.args.parts.now c.match-call.parts [] [] (case_of (state_of c.args.parts.now) c.args.tid (turn_call c.args.call)) (answer_by c.match-call.done) = elim c.match-call.branch [
-      | in-Yield w ↦ rw (w.parts-is, w.done-is, w.in-Yield.is) w.yield_to-done.ensures
-      | in-Resched w ↦ rw (w.parts-is, w.done-is, w.in-Resched.is) w.resched-done.ensures
-      | in-SetPri w ↦ rw (w.parts-is, w.done-is, w.in-SetPri.is) w.set_priority-done.ensures
-      | in-Suspend w ↦ rw (w.parts-is, w.done-is, w.in-Suspend.is) w.suspend-done.ensures
-      | in-Resume w ↦ rw (w.parts-is, w.done-is, w.in-Resume.is) w.resume-done.ensures.answers
-    ] in
-    told-alone answers c.args.tid c.done.ensures
+pub returns-in-Yield-clause-told : goal.returns-in-Yield-clause-told
+returns-in-Yield-clause-told c = rw c.in-Yield.is (told-alone c.yield_to.ensures c.args.tid c.done.ensures)
+
+pub returns-in-Resched-clause-told : goal.returns-in-Resched-clause-told
+returns-in-Resched-clause-told c = rw c.in-Resched.is (told-alone c.resched.ensures c.args.tid c.done-in-Resched.ensures)
+
+pub returns-in-SetPri-clause-told : goal.returns-in-SetPri-clause-told
+returns-in-SetPri-clause-told c = rw c.in-SetPri.is (told-alone c.set_priority.ensures c.args.tid c.done-in-SetPri.ensures)
+
+pub returns-in-Suspend-clause-told : goal.returns-in-Suspend-clause-told
+returns-in-Suspend-clause-told c = rw c.in-Suspend.is (told-alone c.suspend.ensures c.args.tid c.done-in-Suspend.ensures)
+
+pub returns-in-Resume-clause-told : goal.returns-in-Resume-clause-told
+returns-in-Resume-clause-told c = rw c.in-Resume.is (told-alone c.resume.ensures.answers c.args.tid c.done-in-Resume.ensures)
