@@ -1,8 +1,7 @@
 -- A statement that is passed over.
 use Rattle.std.proofs.Common.{◌≡◌, ◌<◌, ◌+◌, ℕ, suc, Bool, true, false, List, drop, drop-cons, length, sym, ap, ◌∙◌, arith}
 use Rattle.lwp_types.specs.declared.call.Answer.{Answer}
-use Rattle.script_body.specs.Walk.{next_stmt}
-use Rattle.script_body.specs.declared.walk.At.{At}
+use Rattle.script_body.specs.Walk.{At, next_stmt}
 use Rattle.script_text.specs.declared.script.Stmt.{Stmt}
 use Rattle.script_text.specs.declared.script.Stmt.TheVariants as stmt
 

@@ -5,8 +5,7 @@ use Rattle.lwp_types.specs.Poll.{Next, Polled, is_refused, stopped}
 use Rattle.script_body.specs.Calls.{call_of}
 use Rattle.script_body.specs.Frame.{Frame, opening_frame, with_caught, with_handler, without_handler}
 use Rattle.script_body.specs.Naming.{named}
-use Rattle.script_body.specs.Walk.{next_stmt}
-use Rattle.script_body.specs.declared.walk.At.{At}
+use Rattle.script_body.specs.Walk.{At, next_stmt}
 use Rattle.script_text.specs.Script.{proc_number, stmts_at}
 use Rattle.script_text.specs.declared.script.Script.{Script}
 use Rattle.script_text.specs.declared.script.Stmt.{Stmt}

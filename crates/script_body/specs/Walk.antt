@@ -1,13 +1,17 @@
 -- Which statement of a procedure comes next.
 use Rattle.lwp_types.specs.Poll.{is_refused}
 use Rattle.lwp_types.specs.declared.call.Answer.{Answer}
-use Rattle.script_body.specs.declared.walk.At.{At}
 use Rattle.script_text.specs.declared.script.Stmt.{Stmt}
 use Rattle.script_lines.specs.declared.table.Test.{Test}
 use Rattle.std.specs.Prelude.{Bool, List, [], false, not, pos, true, ℕ, ◌+◌, ◌==◌, ◌||◌, ◌∷◌}
 use Rattle.lwp_types.specs.declared.call.Answer.TheVariants as answer
 use Rattle.script_text.specs.declared.script.Stmt.TheVariants as stmt
 use Rattle.script_lines.specs.declared.table.Test.TheVariants as test
+
+-- a statement that makes a call, and the place behind it
+pub record At : Type 0 where
+  pub stmt : Stmt
+  pub place : ℕ
 
 -- the answer is this value
 abbrev pub is_value : ℕ → Answer → Bool

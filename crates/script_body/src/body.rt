@@ -1,14 +1,15 @@
 // A thread that runs a procedure of a script.
-ghost use Rattle.std.specs.Prelude.{◌≡◌, ◌<◌, ◌≤◌, ◌^◌, is_some, unwrap_or, length, IfOk, OnOk, OnErr};
+ghost use Rattle.std.specs.Prelude.{◌≡◌, ◌<◌, ◌≤◌, ◌^◌, Some, false, is_some, unwrap_or, length, IfOk, IsTrue, OnOk, OnErr};
 ghost use Rattle.script_text.specs.Script.{proc_number, proc_places};
 ghost use Rattle.script_body.specs.Calls.{call_of};
-ghost use Rattle.script_body.specs.ScriptBody.{script_opening, frame_above, back_at, taken_caught, unhandled, with_frame, returned, with_sender_by, taken_by, taken_refused, taken_plain, taken, stmt_after, behind};
+ghost use Rattle.script_body.specs.Naming.{named};
+ghost use Rattle.script_body.specs.ScriptBody.{script_opening, frame_above, back_at, taken_caught, unhandled, with_frame, returned, with_sender_by, taken_by, taken_refused, taken_plain, taken, stmt_after, behind, script_next};
 
 use crate::calls::{set_call, set_return};
 use crate::frame::Frame;
 use crate::names::name_by;
 use crate::numbers::{has_numbers, proc_number, stmts_at};
-use crate::walk::{is_refused, next_stmt};
+use crate::walk::{is_refused, near_stmt, next_stmt};
 use lwp_types::{Answer, Body, Call, Env, NULL_TID, NoMemory, Polled, Tid};
 use script_text::{Script, Stmt};
 use std::alloc::Global;
@@ -23,7 +24,7 @@ pub struct ScriptBody<'s> {
     // Those that it will return to, the innermost last.
     below: Vec<Frame>,
     sender: Tid,
-    last: Option<Stmt>,
+    last: Option<&'s Stmt>,
 }
 
 impl<'s> Drop for ScriptBody<'s> {
@@ -40,13 +41,13 @@ impl<'s> Drop for ScriptBody<'s> {
 }
 
 impl<'s> Model for ScriptBody<'s> {
-    ghost use Rattle.std.specs.Prelude.{◌<◌, ◌^◌, length};
+    ghost use Rattle.std.specs.Prelude.{◌<◌, ◌^◌, length, option_map};
     ghost use Rattle.script_text.specs.Script.{proc_places};
     ghost use Rattle.script_body.specs.ScriptBody.{ScriptBody};
 
     ghost Value = { ScriptBody };
 
-    ghost view = { λ b. record { script = b.script.now; top = b.top; below = b.below.items; sender = b.sender; last = b.last } };
+    ghost view = { λ b. record { script = b.script.now; top = b.top; below = b.below.items; sender = b.sender; last = option_map (λ s. s.now) b.last } };
 
     ghost invariant = { λ b. length (proc_places b.script.now) < 2 ^ 32 };
 }
@@ -184,9 +185,9 @@ impl<'s> ScriptBody<'s> {
             return Ok(true);
         };
         if is_refused(got) {
-            return Ok(self.take_refused(&stmt));
+            return Ok(self.take_refused(stmt));
         }
-        self.take_by(got, &stmt)
+        self.take_by(got, stmt)
     }
 
     // Takes the answer to the last call, if it can be one. If not, nothing changes.
@@ -202,16 +203,88 @@ impl<'s> ScriptBody<'s> {
         }
     }
 
-    // Goes on to the next statement that makes a call, and stands behind it.
-    fn go_on(&mut self, got: &Answer) -> Stmt
-        ensures stmt { result ≡ (stmt_after got.now self.old).stmt }
+    // Takes an answer that changes no more than the names and the sender, as most do. Any other is left, and nothing changes.
+    #[inline(always)]
+    fn settle(&mut self, env: &mut Env, got: &Answer) -> bool
+        ensures took { IsTrue result → taken self.old got.now ≡ Some self.new }
+        ensures names { IsTrue result → env.new ≡ named got.now self.old.last env.old }
+        ensures same { result ≡ false → self.new ≡ self.old }
+        ensures same_names { result ≡ false → env.new ≡ env.old }
+    {
+        let Some(stmt) = self.last else {
+            return false;
+        };
+        if matches!(got, Answer::Caught { .. } | Answer::Refused(_)) {
+            return false;
+        }
+        match stmt {
+            Stmt::Handle { .. } | Stmt::Unhandle | Stmt::CallProc { .. } | Stmt::Return => {
+                return false;
+            }
+            Stmt::Recv { .. } => self.know_sender(got),
+            _ => name_by(env, got, stmt),
+        }
+        true
+    }
+
+    // Goes on behind this statement, and makes its call.
+    #[inline(always)]
+    fn make(&mut self, env: &Env, stmt: &'s Stmt, place: usize, call: &mut Call<'s>)
+        ensures call { call.new ≡ call_of self.old.script self.old.sender env.now stmt.now }
+        ensures after { self.new ≡ behind self.old (record { stmt = stmt.now; place = place }) }
+    {
+        self.top.go_on_at(place);
+        self.last = Some(stmt);
+        set_call(self.script, self.sender, env, stmt, call);
+    }
+
+    // Makes the next call, where skips may come before it. As `take_and_call` it is a function of its own, so that what saves and
+    // restores registers isn't on the way of most calls.
+    #[inline(never)]
+    fn call_behind_skips(&mut self, env: &Env, got: &Answer, call: &mut Call<'s>)
+        ensures call { call.new ≡ call_of self.old.script self.old.sender env.now (stmt_after got.now self.old).stmt }
         ensures after { self.new ≡ behind self.old (stmt_after got.now self.old) }
     {
         let stmts = stmts_at(self.script, self.top.number());
-        let at = next_stmt(stmts, self.top.place(), got);
-        self.top.go_on_at(at.place);
-        self.last = Some(at.stmt);
-        at.stmt
+        let (stmt, place) = next_stmt(stmts, self.top.place(), got);
+        self.make(env, stmt, place, call);
+    }
+
+    // Goes on to the next statement that makes a call, and makes it.
+    #[inline(always)]
+    fn call_next(&mut self, env: &Env, got: &Answer, call: &mut Call<'s>)
+        ensures call { call.new ≡ call_of self.old.script self.old.sender env.now (stmt_after got.now self.old).stmt }
+        ensures after { self.new ≡ behind self.old (stmt_after got.now self.old) }
+    {
+        let stmts = stmts_at(self.script, self.top.number());
+        match near_stmt(stmts, self.top.place()) {
+            Some((stmt, place)) => self.make(env, stmt, place, call),
+            None => self.call_behind_skips(env, got, call),
+        }
+    }
+
+    // Takes any answer, and makes the next call: a function of its own, so that what saves and restores registers isn't on the
+    // way of an answer that is settled.
+    #[inline(never)]
+    #[tactic(auto, unfolding(crate::specs::ScriptBody::script_next))]
+    fn take_and_call(
+        &mut self,
+        env: &mut Env,
+        got: &Answer,
+        call: &mut Call<'s>,
+    ) -> Result<(), NoMemory>
+        ensures { OnOk result (script_next self.old env.old got.now ≡ (call.new, self.new, env.new)) }
+    {
+        let made = self.last;
+        if !self.take(got)? {
+            set_return(call);
+            return Ok(());
+        }
+        if let Some(stmt) = made {
+            name_by(env, got, stmt);
+        }
+        self.call_next(env, got, call);
+        Ok(())
     }
 }
 
@@ -231,15 +304,11 @@ impl<'s> Polled<'s> for ScriptBody<'s> {
         got: &Answer<'s>,
         call: &mut Call<'s>,
     ) -> Result<(), NoMemory> {
-        let made = self.last;
-        if !self.take(got)? {
-            set_return(call);
+        if self.settle(env, got) {
+            self.call_next(env, got, call);
             return Ok(());
         }
-        name_by(env, got, &made);
-        let stmt = self.go_on(got);
-        set_call(self.script, self.sender, env, &stmt, call);
-        Ok(())
+        self.take_and_call(env, got, call)
     }
 
     ghost keeps_lengths = { script_next-keeps_lengths };

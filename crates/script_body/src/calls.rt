@@ -1,11 +1,11 @@
 // What the statements of a script call. A call is set where the last one lay.
 ghost use Rattle.std.specs.Prelude.{◌≡◌, ◌<◌, ◌≤◌, ◌^◌, length, option_map};
 ghost use Rattle.lwp_types.specs.declared.call.Call.TheVariants as call_kind;
-ghost use Rattle.script_text.specs.Script.{proc_places};
+ghost use Rattle.script_text.specs.Script.{proc_number, proc_places};
 ghost use Rattle.script_body.specs.Calls.{who_id, exit_call_of, plain_call, lock_call, thread_call, call_of};
 
 use crate::numbers::proc_number;
-use lwp_types::{Call, Env, ExitCall, NULL_TID, Tid};
+use lwp_types::{Call, Env, ExitCall, Flags, NULL_TID, Tid};
 use script_text::{ExitStmt, Script, Stmt, Who};
 use text_list::TextList;
 
@@ -16,6 +16,7 @@ pub fn set_return(call: &mut Call)
     *call = Call::Return;
 }
 
+#[inline(always)]
 fn who_id(sender: Tid, env: &Env, who: Who) -> Tid
     ensures { result ≡ who_id sender env.now who }
 {
@@ -55,7 +56,24 @@ fn exit_call_of<'s>(texts: &'s TextList, sender: Tid, env: &Env, exit: &ExitStmt
     }
 }
 
+// The call that sets an exit procedure; a function of its own, since what is to be done is made in a place of its own first.
+#[inline(never)]
+fn set_exit_call<'s>(
+    texts: &'s TextList,
+    sender: Tid,
+    env: &Env,
+    exit: &ExitStmt,
+    call: &mut Call<'s>,
+)
+    ensures { call.new ≡ call_kind.OnExit (exit_call_of texts.now sender env.now exit.now) }
+{
+    *call = Call::OnExit {
+        call: exit_call_of(texts, sender, env, exit),
+    };
+}
+
 // A statement that names nothing.
+#[inline(always)]
 fn set_plain_call<'s>(texts: &'s TextList, stmt: &Stmt, call: &mut Call<'s>)
     ensures { call.new ≡ plain_call texts.now stmt.now }
 {
@@ -95,6 +113,7 @@ fn set_plain_call<'s>(texts: &'s TextList, stmt: &Stmt, call: &mut Call<'s>)
 }
 
 // A statement that names monitors or conditions, or nothing.
+#[inline(always)]
 fn set_lock_call<'s>(texts: &'s TextList, sender: Tid, env: &Env, stmt: &Stmt, call: &mut Call<'s>)
     ensures { call.new ≡ lock_call texts.now sender env.now stmt.now }
 {
@@ -139,6 +158,7 @@ fn source_of(sender: Tid, env: &Env, from: &Option<Who>) -> Option<Tid>
 }
 
 // A statement that names threads, or anything but procedures.
+#[inline(always)]
 fn set_thread_call<'s>(
     texts: &'s TextList,
     sender: Tid,
@@ -148,20 +168,31 @@ fn set_thread_call<'s>(
 )
     ensures { call.new ≡ thread_call texts.now sender env.now stmt.now }
 {
-    let id = |who: &Who| who_id(sender, env, *who);
     match stmt {
-        Stmt::Destroy { who } => *call = Call::Destroy { tid: id(who) },
-        Stmt::Ping { who } => *call = Call::Ping { tid: id(who) },
-        Stmt::Yield { to } => *call = Call::Yield { to: id(to) },
-        Stmt::Suspend { who } => *call = Call::Suspend { tid: id(who) },
-        Stmt::Resume { who } => *call = Call::Resume { tid: id(who) },
-        Stmt::Join { who } => *call = Call::Join { tid: id(who) },
+        Stmt::Destroy { who } => *call = Call::Destroy {
+            tid: who_id(sender, env, *who),
+        },
+        Stmt::Ping { who } => *call = Call::Ping {
+            tid: who_id(sender, env, *who),
+        },
+        Stmt::Yield { to } => *call = Call::Yield {
+            to: who_id(sender, env, *to),
+        },
+        Stmt::Suspend { who } => *call = Call::Suspend {
+            tid: who_id(sender, env, *who),
+        },
+        Stmt::Resume { who } => *call = Call::Resume {
+            tid: who_id(sender, env, *who),
+        },
+        Stmt::Join { who } => *call = Call::Join {
+            tid: who_id(sender, env, *who),
+        },
         Stmt::SetPri { who, prio } => *call = Call::SetPri {
-            tid: id(who),
+            tid: who_id(sender, env, *who),
             prio: *prio,
         },
         Stmt::Send { to, room, text } => *call = Call::Send {
-            to: id(to),
+            to: who_id(sender, env, *to),
             room: *room,
             text: texts.get(*text as usize),
         },
@@ -170,17 +201,40 @@ fn set_thread_call<'s>(
             mode: *mode,
         },
         Stmt::Reply { to, text } => *call = Call::Reply {
-            to: id(to),
+            to: who_id(sender, env, *to),
             text: texts.get(*text as usize),
         },
-        Stmt::OnExit { exit } => *call = Call::OnExit {
-            call: exit_call_of(texts, sender, env, exit),
-        },
+        Stmt::OnExit { exit } => set_exit_call(texts, sender, env, exit, call),
         _ => set_lock_call(texts, sender, env, stmt, call),
     }
 }
 
+// The calls that name a procedure are set by functions of their own, since they look for its number: what most statements call is
+// set without a loop and without a call.
+#[inline(never)]
+fn set_create(script: &Script, proc: u32, prio: u32, flags: Flags, call: &mut Call)
+    requires { length (proc_places script.now) < 2 ^ 32 }
+    ensures { call.new ≡ call_kind.Create (proc_number script.now proc) prio flags }
+{
+    *call = Call::Create {
+        proc: proc_number(script, proc),
+        prio,
+        flags,
+    };
+}
+
+#[inline(never)]
+fn set_call_proc(script: &Script, proc: u32, call: &mut Call)
+    requires { length (proc_places script.now) < 2 ^ 32 }
+    ensures { call.new ≡ call_kind.CallProc (proc_number script.now proc) }
+{
+    *call = Call::CallProc {
+        proc: proc_number(script, proc),
+    };
+}
+
 /// Sets the call of a statement, in a thread whose last letter came from `sender`, whatever stood there.
+#[inline(always)]
 pub fn set_call<'s>(script: &'s Script, sender: Tid, env: &Env, stmt: &Stmt, call: &mut Call<'s>)
     requires { length (proc_places script.now) < 2 ^ 32 }
     ensures { call.new ≡ call_of script.now sender env.now stmt.now }
@@ -191,14 +245,8 @@ pub fn set_call<'s>(script: &'s Script, sender: Tid, env: &Env, stmt: &Stmt, cal
             prio,
             flags,
             ..
-        } => *call = Call::Create {
-            proc: proc_number(script, *proc),
-            prio: *prio,
-            flags: *flags,
-        },
-        Stmt::CallProc { proc } => *call = Call::CallProc {
-            proc: proc_number(script, *proc),
-        },
+        } => set_create(script, *proc, *prio, *flags, call),
+        Stmt::CallProc { proc } => set_call_proc(script, *proc, call),
         _ => set_thread_call(&script.texts, sender, env, stmt, call),
     }
 }

@@ -1,6 +1,6 @@
 // The names that calls set.
 ghost use Rattle.std.specs.Prelude.{◌≡◌};
-ghost use Rattle.script_body.specs.Naming.{thread_named_by, monitor_named_by, condition_named_by, named};
+ghost use Rattle.script_body.specs.Naming.{thread_named_by, monitor_named_by, condition_named_by, named_by};
 
 use lwp_types::{Answer, Env};
 use script_text::Stmt;
@@ -30,13 +30,14 @@ fn name_condition(env: &mut Env, name: u32, got: &Answer)
 }
 
 /// Sets the name of the last call's statement, if the call has made something.
-pub fn name_by(env: &mut Env, got: &Answer, made: &Option<Stmt>)
-    ensures { env.new ≡ named got.now made.now env.old }
+#[inline(always)]
+pub fn name_by(env: &mut Env, got: &Answer, made: &Stmt)
+    ensures { env.new ≡ named_by got.now made.now env.old }
 {
     match made {
-        Some(Stmt::Create { name, .. } | Stmt::Agent { name, .. }) => name_thread(env, *name, got),
-        Some(Stmt::MonCreate { mon }) => name_monitor(env, *mon, got),
-        Some(Stmt::CvCreate { cond, .. }) => name_condition(env, *cond, got),
+        Stmt::Create { name, .. } | Stmt::Agent { name, .. } => name_thread(env, *name, got),
+        Stmt::MonCreate { mon } => name_monitor(env, *mon, got),
+        Stmt::CvCreate { cond, .. } => name_condition(env, *cond, got),
         _ => {}
     }
 }

@@ -1,17 +1,11 @@
 // Which statement of a procedure comes next.
-ghost use Rattle.std.specs.Prelude.{◌≡◌, drop, false};
+ghost use Rattle.std.specs.Prelude.{◌≡◌, drop, false, IfSome};
+ghost use Rattle.lwp_types.specs.declared.call.Answer.{Answer};
 ghost use Rattle.lwp_types.specs.Poll.{is_refused};
 ghost use Rattle.script_body.specs.Walk.{is_value, is_caught, meets, first_stmt, next_stmt};
 
 use lwp_types::Answer;
 use script_text::{Stmt, Test};
-
-/// A statement that makes a call, and the place behind it.
-#[derive(Clone, Copy)]
-pub struct At {
-    pub stmt: Stmt,
-    pub place: usize,
-}
 
 pub fn is_refused(got: &Answer) -> bool
     ensures { result ≡ is_refused got.now }
@@ -46,24 +40,19 @@ fn meets(got: &Answer, test: Test) -> bool
     }
 }
 
-fn first_stmt(stmts: &[Stmt]) -> At
-    ensures { result ≡ first_stmt stmts.now }
+fn first_stmt(stmts: &[Stmt]) -> (&Stmt, usize)
+    ensures { first_stmt stmts.now ≡ record { stmt = result.0.now; place = result.1 } }
 {
     match stmts.first() {
-        Some(stmt) => At {
-            stmt: *stmt,
-            place: 1,
-        },
-        None => At {
-            stmt: Stmt::Return,
-            place: 0,
-        },
+        Some(stmt) => (stmt, 1),
+        None => (&Stmt::Return, 0),
     }
 }
 
-/// The first statement from `from` on that makes a call and isn't passed over; past the last one, a return.
-pub fn next_stmt(stmts: &[Stmt], from: usize, got: &Answer) -> At
-    ensures { result ≡ next_stmt got.now stmts.now false from (drop from stmts.now) }
+/// The first statement from `from` on that makes a call and isn't passed over, and the place behind it; past the last one, a
+/// return.
+pub fn next_stmt<'s>(stmts: &'s [Stmt], from: usize, got: &Answer) -> (&'s Stmt, usize)
+    ensures { next_stmt got.now stmts.now false from (drop from stmts.now) ≡ record { stmt = result.0.now; place = result.1 } }
 {
     let mut place = from;
     let mut over = false;
@@ -77,11 +66,21 @@ pub fn next_stmt(stmts: &[Stmt], from: usize, got: &Answer) -> At
         match stmt {
             Stmt::Skip { test } => over = meets(got, *test),
             Stmt::Again => return first_stmt(stmts),
-            _ => return At { stmt: *stmt, place },
+            _ => return (stmt, place),
         }
     }
-    At {
-        stmt: Stmt::Return,
-        place,
+    (&Stmt::Return, place)
+}
+
+/// The same where no skip stands at `from`, and so without a loop.
+#[inline(always)]
+pub fn near_stmt(stmts: &[Stmt], from: usize) -> Option<(&Stmt, usize)>
+    ensures { IfSome result (λ x. (got : Answer) → next_stmt got stmts.now false from (drop from stmts.now) ≡ record { stmt = x.0.now; place = x.1 }) }
+{
+    match stmts.get(from) {
+        None => Some((&Stmt::Return, from)),
+        Some(Stmt::Skip { .. }) => None,
+        Some(Stmt::Again) => Some(first_stmt(stmts)),
+        Some(stmt) => Some((stmt, from + 1)),
     }
 }
