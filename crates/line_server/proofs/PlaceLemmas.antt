@@ -1,16 +1,16 @@
 -- What is done at the place of a key is what the definitions say of the whole table.
 use Rattle.line_server.specs.Places.{AreInOrder, IsGapAt, IsKeyAt, IsPlace}
 use Rattle.line_server.specs.Tables.{Table, at_key, key_cmp}
-use Rattle.std.proofs.Common.{Bool, Equal, Err, Greater, Less, List, None, Ok, Ordering, Result, Some, [], ap, arith, cond, false, get_or, insert, is_err, is_none, length, refl, remove, set, subst, suc, sym, true, zero, ℕ, ◌+◌, ◌<◌, ◌∙◌, ◌∷◌, ◌≡◌}
+use Rattle.std.proofs.Common.{Bool, Equal, Err, Greater, Less, List, None, Ok, Ordering, Result, Some, [], ap, arith, cond, false, get_or, inl, inr, insert, is_err, is_none, length, refl, remove, set, subst, suc, sym, true, zero, ℕ, ◌+◌, ◌<◌, ◌∙◌, ◌∷◌, ◌≡◌, ◌≤◌}
+use Rattle.std.proofs.lemmas.Bool.{cases_lt}
 use Rattle.std.proofs.lemmas.Cmp.{nat_list_cmp_total}
-use Rattle.std.proofs.lemmas.List.Sorted.{searchable_from_sorted}
 use Rattle.std.proofs.lemmas.Map.Keys.{Less-from_sorted, sorted_tail}
 use Rattle.std.specs.BTreeMap.{insert_entry, is_at}
 use Rattle.std.specs.Cmp.Lexicographic.{bytes_decides, texts_ties}
 use Rattle.std.specs.List.{AllByRecursion}
-use Rattle.std.specs.List.Sorted.{IsBinarySearchResult, IsSearchInRange, IsSortedBy, IsStrictlySortedBy}
+use Rattle.std.specs.List.Sorted.{IsStrictlySortedBy}
 use Rattle.std.specs.Map.{keys_of, lookup, remove_entry}
-use Rattle.std.specs.Ordering.{is_eq, is_lt, match_ordering, ordering_reverse}
+use Rattle.std.specs.Ordering.{is_eq, match_ordering, ordering_reverse}
 
 -- an entry
 abbrev Pair : Type 0
@@ -39,20 +39,62 @@ rises es i j d sorted lt within =
 
 -- ---- the search
 
-in_order : (es : Table) → AreInOrder es → IsSortedBy (λ (a b : Pair). is_lt (key_cmp a.0 b.0)) es
-in_order es sorted k d low within =
-    ap is_lt (flip (get_or es (k + 1) d).0 (get_or es k d).0 ∙ ap ordering_reverse (rises es k (k + 1) d sorted (omega arith) within))
+-- the key is above what stands before low, and below what stands from high on
+pub record IsBetween (key : List ℕ) (es : Table) (low high : ℕ) : Type 0 where
+  pub order : low ≤ high
+  pub within : high ≤ length es
+  pub above : (j : ℕ) (d : Pair) → j < low → key_cmp key (get_or es j d).0 ≡ Greater
+  pub below : (j : ℕ) (d : Pair) → high ≤ j → j < length es → key_cmp key (get_or es j d).0 ≡ Less
 
--- what the search answers is the place of the key
-pub searched : (key : List ℕ) (es : Table) (r : Result ℕ ℕ) → AreInOrder es → IsSearchInRange r (length es) → IsBinarySearchResult (λ (e : Pair). key_cmp e.0 key) es r → IsPlace key es r
-searched key es (Ok i) sorted within equal = record { within = within; here = λ d. flip key (get_or es i d).0 ∙ ap ordering_reverse (equal d) }
-searched key es (Err i) sorted within parts =
-    let parted = parts (searchable_from_sorted nat_list_cmp_total (λ (e : Pair). e.0) es key (in_order es sorted)) in
-    record {
-      within = within;
-      above = λ j d lt. flip key (get_or es j d).0 ∙ ap ordering_reverse (parted.0 j d (omega arith) lt);
-      below = λ j d le lt. flip key (get_or es j d).0 ∙ ap ordering_reverse (parted.1 j d le lt);
-    }
+pub all_between : (key : List ℕ) (es : Table) → IsBetween key es 0 (length es)
+all_between key es = record { order = omega arith; within = omega arith; above = λ j d lt. absurd (omega arith); below = λ j d le lt. absurd (omega arith) }
+
+chain : (x y z : List ℕ) → key_cmp x y ≡ Less → key_cmp y z ≡ Less → key_cmp x z ≡ Less
+chain = nat_list_cmp_total.trans
+
+-- the key there is below: so are those before it
+pub go_up : (key : List ℕ) (es : Table) (low high mid : ℕ) → AreInOrder es → IsBetween key es low high → low ≤ mid → mid < high → ((d : Pair) → key_cmp (get_or es mid d).0 key ≡ Less) → IsBetween key es (mid + 1) high
+go_up key es low high mid sorted was le lt is = record {
+  order = omega arith;
+  within = was.within;
+  above = λ j d under. flip key (get_or es j d).0 ∙ ap ordering_reverse (elim (cases_lt j mid) [
+    | inl before ↦ chain (get_or es j d).0 (get_or es mid d).0 key (rises es j mid d sorted before (omega (arith, was.within))) (is d)
+    | inr behind ↦ subst (λ n. key_cmp (get_or es n d).0 key ≡ Less) (omega arith) (is d)
+  ]);
+  below = was.below;
+}
+
+-- the key there is above: so are those behind it
+pub go_down : (key : List ℕ) (es : Table) (low high mid : ℕ) → AreInOrder es → IsBetween key es low high → low ≤ mid → mid < high → ((d : Pair) → key_cmp (get_or es mid d).0 key ≡ Greater) → IsBetween key es low mid
+go_down key es low high mid sorted was le lt is = record {
+  order = le;
+  within = omega (arith, was.within);
+  above = was.above;
+  below = λ j d from within. elim (cases_lt mid j) [
+    | inl behind ↦ chain key (get_or es mid d).0 (get_or es j d).0 (flip key (get_or es mid d).0 ∙ ap ordering_reverse (is d)) (rises es mid j d sorted behind within)
+    | inr before ↦ subst (λ n. key_cmp key (get_or es n d).0 ≡ Less) (omega arith) (flip key (get_or es mid d).0 ∙ ap ordering_reverse (is d))
+  ];
+}
+
+any_default : (es : Table) (i : ℕ) (d e : Pair) → i < length es → get_or es i d ≡ get_or es i e
+any_default [] i d e within = absurd (omega arith)
+any_default (x ∷ es) zero d e within = refl
+any_default (x ∷ es) (suc i) d e within = any_default es i d e (omega arith)
+
+-- how the entry that was read there stands to the key, whatever a read past the end would give
+pub there : (key : List ℕ) (es : Table) (i : ℕ) (e : Pair) (o : Ordering) → i < length es → e ≡ get_or es i e → key_cmp e.0 key ≡ o → (d : Pair) → key_cmp (get_or es i d).0 key ≡ o
+there key es i e o within is h d = ap (λ p. key_cmp p.0 key) (any_default es i d e within ∙ sym is) ∙ h
+
+-- nothing is left between: the key belongs there
+pub is-gap : (key : List ℕ) (es : Table) (low high : ℕ) → IsBetween key es low high → high ≤ low → IsGapAt key es low
+is-gap key es low high was met = record {
+  within = omega (arith, was.order, was.within);
+  above = was.above;
+  below = λ j d le lt. was.below j d (omega arith) lt;
+}
+
+pub is-key : (key : List ℕ) (es : Table) (mid : ℕ) → mid < length es → ((d : Pair) → key_cmp (get_or es mid d).0 key ≡ Equal) → IsKeyAt key es mid
+is-key key es mid within is = record { within = within; here = λ d. flip key (get_or es mid d).0 ∙ ap ordering_reverse (is d) }
 
 -- ---- where the key stands
 

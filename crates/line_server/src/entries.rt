@@ -8,6 +8,7 @@ ghost use Rattle.std.specs.Prelude.{◌≡◌, if◌then◌else◌, is_err, is_n
 
 use crate::entry::Entry;
 use lwp_types::NoMemory;
+use std::cmp::Ordering;
 
 /// Where a key stands, found by halving, or else where it belongs.
 pub fn place_of(entries: &[Entry], key: &[u8]) -> Result<usize, usize>
@@ -15,7 +16,17 @@ pub fn place_of(entries: &[Entry], key: &[u8]) -> Result<usize, usize>
     ensures place { IsPlace key.now entries.now result }
     ensures missing { is_err result ≡ is_none (at_key key.now entries.now) }
 {
-    entries.binary_search_by(|entry| entry.order(key))
+    let mut low = 0;
+    let mut high = entries.len();
+    while low < high {
+        let mid = low + (high - low) / 2;
+        match entries[mid].order(key) {
+            Ordering::Less => low = mid + 1,
+            Ordering::Equal => return Ok(mid),
+            Ordering::Greater => high = mid,
+        }
+    }
+    Err(low)
 }
 
 // A quarter more room where there is none: most senders have few keys, and a table of 100 has grown seventeen times.

@@ -2,8 +2,10 @@
 ghost use Rattle.line_server.specs.Sessions.{session_receives, session_returns, session_replies, session_next, session_next-keeps_lengths, session_opening, session_received, session_reads, session_told, session_opened, session_at, session_by};
 ghost use Rattle.line_server.specs.Tables.{is_quit};
 ghost use Rattle.line_server.specs.Turns.{is_replied};
+ghost use Rattle.line_server.specs.declared.session.SessionPlace.TheVariants as place_kind;
 ghost use Rattle.lwp_types.specs.TextFields.{is_text};
-ghost use Rattle.std.specs.Prelude.{◌≡◌, IsTrue};
+ghost use Rattle.lwp_types.specs.declared.call.Call.TheVariants as call_kind;
+ghost use Rattle.std.specs.Prelude.{◌≡◌, IsTrue, codes, if◌then◌else◌};
 
 use crate::calls::{set_agent, set_recv, set_reply, set_return, set_send, set_word};
 use crate::command::command_of;
@@ -99,18 +101,29 @@ impl SessionBody {
         set_word(call, self.agent, word);
     }
 
-    // A line was received.
-    fn read<'s>(&mut self, env: &Env, text: &Text<'s>, call: &mut Call<'s>)
-        ensures { (call.new, self.new) ≡ session_reads self.old env.now text.now }
+    // A line that is no command was received. It stands apart, so that whatever else a session does saves no registers for the
+    // calls that are made here.
+    #[inline(never)]
+    fn read_other(&mut self, text: &Text, call: &mut Call)
+        ensures { (call.new, self.new) ≡ (if is_quit text.now then (call_kind.Reply self.old.agent (codes "bye"), session_at self.old place_kind.Bye) else session_replies self.old (codes "bad")) }
     {
         if is_quit(text) {
             self.place = SessionPlace::Bye;
             set_word(call, self.agent, b"bye");
-        } else if command_of(text).is_none() {
-            self.reply_word(b"bad", call);
         } else {
+            self.reply_word(b"bad", call);
+        }
+    }
+
+    // A line was received. Most are commands, so that is asked first.
+    fn read<'s>(&mut self, env: &Env, text: &Text<'s>, call: &mut Call<'s>)
+        ensures { (call.new, self.new) ≡ session_reads self.old env.now text.now }
+    {
+        if command_of(text).is_some() {
             self.place = SessionPlace::Send;
             set_send(call, env.thread(self.store), text);
+        } else {
+            self.read_other(text, call);
         }
     }
 
