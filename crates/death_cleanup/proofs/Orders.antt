@@ -3,7 +3,7 @@ use Rattle.death_cleanup.specs.Named.{AreOrdered, IsBefore, IsGap, is_before, is
 use Rattle.death_cleanup.specs.declared.rows.Awaited.{Awaited}
 use Rattle.death_cleanup.specs.declared.rows.Awaited.TheVariants as awaited
 use Rattle.death_cleanup.specs.declared.rows.NamedWait.{NamedWait}
-use Rattle.std.proofs.Common.{Bool, List, [], ap, arith, cond, eqb, false, get_or, inl, inr, length, refl, suc, sym, true, zero, ℕ, ◌&&◌, ◌<◌, ◌∙◌, ◌∷◌, ◌≡◌, ◌≤◌, ◌||◌}
+use Rattle.std.proofs.Common.{Bool, List, [], ap, arith, cond, eqb, false, get_or, inl, inr, length, refl, suc, sym, take, true, zero, ℕ, ◌&&◌, ◌+◌, ◌-◌, ◌<◌, ◌∙◌, ◌∷◌, ◌≡◌, ◌≤◌, ◌||◌}
 use Rattle.std.proofs.lemmas.Bool.{and_from, cases_lt, eq-eqb, eqb-true, le-ltb, lt-ltb, ltb-false, ltb-true, or_right}
 use Rattle.std.specs.List.{AllByRecursion, filter, insert, list_any, remove}
 use Rattle.std.specs.List.Sorted.{IsPartitionedBy}
@@ -189,3 +189,18 @@ parted ws r n ordered i j d le within passes = elim (cases_lt i j) [
   | inl less ↦ before-down (get_or ws i d) (get_or ws j d) r n (ordered-at ws i j d ordered less within) passes
   | inr more ↦ ap (λ k. is_before r n (get_or ws k d)) (let e : i ≡ j = omega (arith, le, more) in e) ∙ passes
 ]
+
+-- what stands behind the last stands behind all
+pub behind_last : (ws : List NamedWait) (r n : ℕ) (last : NamedWait) → AreOrdered ws → ((d : NamedWait) → last ≡ get_or ws (length ws - 1) d) → is_before r n last ≡ true → IsGap r n ws (length ws)
+behind_last ws r n last ordered is passes = record {
+  within = omega arith;
+  below = λ j d lt. parted ws r n ordered j (length ws - 1) d (omega (arith, lt)) (omega (arith, lt)) (ap (is_before r n) (sym (is d)) ∙ passes);
+  above = λ j d ge lt. absurd (omega (arith, ge, lt));
+}
+
+pub remove_last : {X : Type 0} (xs : List X) (i : ℕ) → i + 1 ≡ length xs → remove xs i ≡ take i xs
+remove_last [] i e = absurd (omega (arith, e))
+remove_last (x ∷ []) zero e = refl
+remove_last (x ∷ []) (suc i) e = absurd (omega (arith, e))
+remove_last (x ∷ y ∷ ys) zero e = absurd (omega (arith, e))
+remove_last (x ∷ y ∷ ys) (suc i) e = ap (λ l. x ∷ l) (remove_last (y ∷ ys) i (omega (arith, e)))

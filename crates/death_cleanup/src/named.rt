@@ -1,7 +1,7 @@
 // The note of those that wait by name, so that a death goes over those alone that wait for it.
 ghost use Rattle.std.specs.Prelude.{◌≡◌, ◌==◌, ◌<◌, ◌≤◌, ◌*◌, false, map, length, nat_lt, vec_capacity, IfNone, IfOk, IfSome, IsFalse, IsOk, IsTrue, OnErr, OnOk, Option, ℕ};
 ghost use Rattle.death_cleanup.specs.Moves.{block_set};
-ghost use Rattle.std.specs.List.{list_any, slice_index_or};
+ghost use Rattle.std.specs.List.{list_any, remove, slice_index_or};
 ghost use Rattle.death_cleanup.specs.Named.{AreOrdered, HasNoWaiter, HasWaiter, IsGap, IsNoteOf, all_noted, is_before, is_on, is_wait, no_names, reserved, run_of};
 ghost use Rattle.death_cleanup.specs.Waits.{first_waiting};
 
@@ -67,11 +67,25 @@ fn is_before(wait: &NamedWait, other: &NamedWait) -> bool
     is_earlier(wait, other) || (are_alike(wait, other) && wait.tid.number < other.tid.number)
 }
 
-// Where the wait stands, or would.
+// Whether the wait would stand behind all others.
+fn is_behind_all(waits: &[NamedWait], wait: &NamedWait) -> bool
+    requires { AreOrdered waits.now }
+    ensures { IsTrue result → IsGap (run_of wait.now) wait.now.tid waits.now (length waits.now) }
+{
+    match waits.last() {
+        Some(last) => is_before(last, wait),
+        None => false,
+    }
+}
+
+// Where the wait stands, or would. Who is waited for is often the youngest of those that anybody waits for.
 fn gap_of(waits: &[NamedWait], wait: &NamedWait) -> usize
     requires { AreOrdered waits.now }
     ensures { IsGap (run_of wait.now) wait.now.tid waits.now result }
 {
+    if is_behind_all(waits, wait) {
+        return waits.len();
+    }
     waits.partition_point(|other| is_before(other, wait))
 }
 
@@ -94,6 +108,20 @@ fn waiter_at(waits: &Vec<NamedWait>, at: usize, alike: &NamedWait) -> Option<Nam
     match waits.get(at) {
         Some(wait) if are_alike(wait, alike) => Some(*wait),
         _ => None,
+    }
+}
+
+// Takes out the wait that stands there; the last is no move of others.
+#[tactic(auto, using(crate::proofs::Orders::remove_last))]
+fn take_at(waits: &mut Vec<NamedWait>, at: usize)
+    requires { at < length waits.old.items }
+    ensures items { waits.new.items ≡ remove waits.old.items at }
+    ensures capacity { vec_capacity waits.new ≡ vec_capacity waits.old }
+{
+    if at + 1 == waits.len() {
+        waits.pop();
+    } else {
+        waits.remove(at);
     }
 }
 
@@ -124,7 +152,7 @@ fn first_in(
         if goes_on(ids, &wait) {
             return Some(wait.tid);
         }
-        waits.remove(at);
+        take_at(waits, at);
     }
     None
 }

@@ -141,14 +141,14 @@ impl Turns {
         requires { IsTrue (knows self.old tid) }
         ensures { self.new ≡ blocked self.old tid }
     {
-        let row = self.row(tid);
-        self.put_out(
-            tid,
-            Known {
-                blocked: true,
-                ..row
-            },
-        );
+        let slot = index::known_slot(&self.index, tid.number);
+        let row = row_at(&self.rows, slot);
+        let now = Known {
+            blocked: true,
+            ..row
+        };
+        put_row(&mut self.rows, slot, now);
+        self.order.take(slot);
     }
 
     /// The thread has what it waited for. It goes last, unless it is suspended.
@@ -156,15 +156,17 @@ impl Turns {
         requires { IsTrue (is_blocked_in self.old tid) }
         ensures { self.new ≡ unblocked self.old tid }
     {
-        let row = self.row(tid);
+        let slot = index::known_slot(&self.index, tid.number);
+        let row = row_at(&self.rows, slot);
         let now = Known {
             blocked: false,
             ..row
         };
+        put_row(&mut self.rows, slot, now);
         if row.suspended {
-            self.put_out(tid, now);
+            self.order.take(slot);
         } else {
-            self.put_back(tid, now);
+            self.order.put_last(slot, row.prio);
         }
     }
 

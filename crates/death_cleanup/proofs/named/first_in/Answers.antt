@@ -13,8 +13,8 @@ pub loop-wait-preserved : goal.loop-wait-preserved
 loop-wait-preserved c =
     let off = sym c.goes_on.ensures ∙ c.if-goes_on.false in
     record {
-      reached = rw c.remove.ensures.items (reached-less c.args.what c.args.tid c.args.ids.now.live c.len-living.ensures.rising c.loop-wait.waits.items c.gap_of-at.result c.loop-wait.invariant.reached c.in-Some.wait c.in-Some.ensures.some off);
-      capacity = c.remove.ensures.capacity ∙ c.loop-wait.invariant.capacity;
+      reached = rw c.take_at.ensures.items (reached-less c.args.what c.args.tid c.args.ids.now.live c.len-living.ensures.rising c.loop-wait.waits.items c.gap_of-at.result c.loop-wait.invariant.reached c.in-Some.wait c.in-Some.ensures.some off);
+      capacity = c.take_at.ensures.capacity ∙ c.loop-wait.invariant.capacity;
     }
 
 pub returns-clause-value : goal.returns-clause-value
