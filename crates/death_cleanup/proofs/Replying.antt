@@ -5,6 +5,7 @@ use Rattle.death_cleanup.specs.Ties.{InStep, LawfulParts}
 use Rattle.death_cleanup.specs.View.{state_of}
 use Rattle.death_cleanup.specs.declared.parts.Parts.{Parts}
 use Rattle.lwp_types.specs.Case.{refused, unless, with_zero}
+use Rattle.lwp_types.specs.Counts.{is_one_kind}
 use Rattle.lwp_types.specs.Letters.{received_from, replied, reply, with_holding}
 use Rattle.lwp_types.specs.State.{State, agent_of, is_agent, is_blocked_in, is_id, is_not_blocked, is_thread, passes, still, thread_of}
 use Rattle.lwp_types.specs.Unblock.{unblock}
@@ -16,8 +17,8 @@ use Rattle.lwp_types.specs.declared.rows.Letter.{Letter}
 use Rattle.pod_laws.proofs.LetterCalls.{reply_sends, sender_row}
 use Rattle.rendezvous.specs.Mailbag as mail
 use Rattle.rendezvous.specs.Mailbag.{refusal}
-use Rattle.std.proofs.Common.{Bool, List, None, Option, Some, [], ap, arith, cond, false, length, not, refl, sym, true, ℕ, ◌∙◌, ◌∷◌, ◌≡◌, ◌||◌}
-use Rattle.std.specs.Prelude.{is_none, is_some, nat_lt, option_map}
+use Rattle.std.proofs.Common.{Bool, List, None, Option, Some, [], ap, arith, cond, false, length, not, refl, sym, true, ℕ, ◌&&◌, ◌∙◌, ◌∷◌, ◌≡◌, ◌||◌}
+use Rattle.std.specs.Prelude.{IsTrue, is_none, is_some, nat_lt, option_map}
 
 -- an agent has an owner
 pub agent-is : (rows : List AgentRow) (a : ℕ) (o : Option ℕ) (b : Bool) → o ≡ option_map (λ (row : AgentRow). row.owner) (agent_of rows a) → is_some o ≡ b → is_some (agent_of rows a) ≡ b
@@ -27,13 +28,23 @@ agent-is rows a o b owner is = by_row (agent_of rows a) (ap is_some (sym owner) 
     by_row None e = e
     by_row (Some row) e = e
 
--- who lives and is no agent is a thread
-pub thread-is : (s : State) (u : ℕ) → is_id s u ≡ true → is_agent s u ≡ false → is_thread s u ≡ true
-thread-is s u lives none = by_test (is_thread s u) (is_agent s u) lives none
+-- who lives and is no thread is an agent
+pub agent-left : (s : State) (u : ℕ) → is_id s u ≡ true → is_thread s u ≡ false → is_agent s u ≡ true
+agent-left s u lives none = by_test (is_thread s u) (is_agent s u) lives none
   where
-    by_test : (a b : Bool) → (a || b) ≡ true → b ≡ false → a ≡ true
-    by_test true b h e = refl
-    by_test false b h e = absurd (let no-way : true ≡ false = sym h ∙ e in cc)
+    by_test : (a b : Bool) → (a || b) ≡ true → a ≡ false → b ≡ true
+    by_test true b h e = absurd (let no-way : true ≡ false = e in cc)
+    by_test false b h e = h
+
+-- a thread is no agent
+pub thread-apart : (s : State) (u : ℕ) → IsTrue (is_one_kind s u) → is_thread s u ≡ true → is_agent s u ≡ false
+thread-apart s u apart is = by_test (is_thread s u) (is_agent s u) apart is
+  where
+    by_test : (a b : Bool) → IsTrue (not (a && b)) → a ≡ true → b ≡ false
+    by_test true false h e = refl
+    by_test false false h e = refl
+    by_test true true h e = absurd (let no-way : false ≡ true = h in cc)
+    by_test false true h e = absurd (let no-way : false ≡ true = e in cc)
 
 module _ (s : State) (t u : ℕ) (text : List ℕ) where
   pub reply-absent : is_id s u ≡ false → reply s t u text ≡ refused s error.NonExist

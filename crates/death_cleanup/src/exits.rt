@@ -3,13 +3,14 @@ ghost use Rattle.std.specs.Prelude.{◌≡◌, ◌<◌, ◌≤◌, ◌+◌, ◌+
 ghost use Rattle.lwp_types.specs.Case.{answer_by};
 ghost use Rattle.lwp_types.specs.Exits.{exit_case, run_exit};
 ghost use Rattle.lwp_types.specs.Letters.{reply};
+ghost use Rattle.lwp_types.specs.State.{is_id, is_thread};
 ghost use Rattle.lwp_types.specs.Threads.{resume, set_exit};
 ghost use Rattle.death_cleanup.specs.Comes.{Answers, CameTo};
 ghost use Rattle.death_cleanup.specs.Ties.{InStep, LawfulParts};
 ghost use Rattle.death_cleanup.specs.View.{state_of};
 
 use crate::locks::{monitor_break, monitor_exit};
-use crate::parts::{Parts, is_agent, is_id, is_thread, wake_replied};
+use crate::parts::{Parts, is_agent, is_thread, wake_replied};
 use crate::signals::{broadcast, notify};
 use lwp_types::{Answer, Effect, Effects, ExitCall, ExitMark, LwpErr, Text, Tid};
 
@@ -40,8 +41,17 @@ pub fn resume(parts: &mut Parts, tid: Tid) -> Result<i64, LwpErr>
     Ok(0)
 }
 
+// Whether it is a live thread or agent, where it is known whether it is a thread: so it is looked for among the threads once.
+fn lives(parts: &Parts, is_one: bool, tid: Tid) -> bool
+    requires { is_one ≡ is_thread (state_of parts.now) tid }
+    ensures { result ≡ is_id (state_of parts.now) tid }
+{
+    is_one || is_agent(&parts.agents, tid)
+}
+
 /// The letter that the thread has received from the other is done with. A thread that sent it goes on with the text; an agent
 /// can take the next event.
+#[inline(always)]
 pub fn reply<'s>(
     parts: &mut Parts<'s>,
     tid: Tid,
@@ -53,18 +63,19 @@ pub fn reply<'s>(
     requires room { length effects.old < 2048 }
     ensures answers { Answers parts.old parts.new effects.old effects.new (reply (state_of parts.old) tid to text.now) (answer_by result) }
 {
-    if !is_id(parts, to) {
+    let is_one = is_thread(parts, to);
+    if !lives(parts, is_one, to) {
         return Err(LwpErr::NonExist);
     }
     let len = text.len();
     if let Err(err) = parts.mail.reply(tid, to, len) {
         return Err(err);
     }
-    if is_agent(&parts.agents, to) {
-        parts.agents.release(to);
+    if is_one {
+        wake_replied(parts, to, text, effects);
         return Ok(0);
     }
-    wake_replied(parts, to, text, effects);
+    parts.agents.release(to);
     Ok(0)
 }
 

@@ -175,6 +175,8 @@ fn put_in(waits: &mut Vec<NamedWait>, wait: &NamedWait)
 }
 
 // Where all room is taken, those that wait no longer go. No more are left than threads live, which is half of the room at most.
+// It stands apart, since it is rare, and `note` is compiled into all that wait.
+#[inline(never)]
 fn make_room(named: &mut Named, ids: &Registry<Kind>)
     requires { IsNoteOf named.old ids.now.live }
     ensures noted { IsNoteOf named.new ids.now.live }
@@ -238,6 +240,7 @@ impl Named {
 }
 
 /// A thread is about to wait so: the note then has it, if that is by name.
+#[inline(always)]
 pub fn note(named: &mut Named, ids: &Registry<Kind>, tid: Tid, why: &Block)
     requires { IsNoteOf named.old ids.now.live }
     ensures { IsNoteOf named.new (map (block_set tid why.now) ids.now.live) }

@@ -69,6 +69,7 @@ impl<'s> Drop for Parts<'s> {
 }
 
 /// Whether it is a live thread.
+#[inline(always)]
 pub fn is_thread(parts: &Parts, tid: Tid) -> bool
     ensures { result ≡ is_thread (state_of parts.now) tid }
 {
@@ -96,6 +97,7 @@ pub fn is_id(parts: &Parts, tid: Tid) -> bool
 }
 
 /// Says of a live thread what it waits for.
+#[inline(always)]
 pub fn set_block(ids: &mut Registry<Kind>, tid: Tid, block: Block)
     ensures { ids.new ≡ record ids.old { live = map (block_set tid block) ids.old.live } }
 {

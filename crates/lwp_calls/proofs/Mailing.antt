@@ -14,7 +14,7 @@ use Rattle.lwp_types.specs.CountLaws.{count-append, count-filter, count_agree, c
 use Rattle.lwp_types.specs.Counts.{is_sending, sendings_of}
 use Rattle.lwp_types.specs.Lawful.{NineParts}
 use Rattle.lwp_types.specs.Letters.{as_answer, as_received, is_letter_of, marked_received, post, receive_by, send, takes_from, unreceived}
-use Rattle.lwp_types.specs.State.{State, ThreadRow, agent_numbers, is_agent_row, is_not_blocked, is_number, is_thread, numbers, passes, still, thread_of, times_in}
+use Rattle.lwp_types.specs.State.{State, ThreadRow, agent_numbers, block_set, is_agent_row, is_not_blocked, is_number, is_thread, numbers, passes, still, thread_of, times_in, with_block}
 use Rattle.lwp_types.specs.Unblock.{blocked, blocked_for, unblock}
 use Rattle.lwp_types.specs.declared.call.LwpErr.{LwpErr}
 use Rattle.lwp_types.specs.declared.call.LwpErr.TheVariants as error
@@ -29,9 +29,9 @@ use Rattle.lwp_types.specs.declared.call.Mode.TheVariants as mode
 use Rattle.rendezvous.specs.Mailbag.{Mailbag, has_letter_of, marked, taken}
 use Rattle.stale_ids.specs.Register.{AreRising, value_of}
 use Rattle.std.proofs.Common.{Bool, List, None, Option, Some, [], ap, arith, cond, eqb, false, length, length-append, map, not, refl, subst, sym, true, ℕ, ◌&&◌, ◌+◌, ◌++◌, ◌<◌, ◌==◌, ◌∙◌, ◌∷◌, ◌≡◌, ◌≤◌}
-use Rattle.std.proofs.lemmas.Bool.{eq-eqb, eqb-true}
+use Rattle.std.proofs.lemmas.Bool.{eq-eqb, eqb-true, ne_eqb}
 use Rattle.std.specs.List.{filter, find}
-use Rattle.std.specs.Prelude.{option_map}
+use Rattle.std.specs.Prelude.{is_some, option_map}
 
 -- a call that is refused by the first of its checks that strikes, or isn't refused
 pub unless_struck : (s : State) (checks : List Check) (otherwise : Case) (e : LwpErr) → first_refusal checks ≡ Some e → unless s checks otherwise ≡ refused s e
@@ -53,9 +53,44 @@ unless_passed s (check ∷ checks) otherwise passed = by_check check.0 passed (u
     by_check false h rest = rest h
 
 -- what is asked of a thread, by who lives under its number
-pub takes-under : (parts : Parts) (t sender : ℕ) (o : Option Kind) → AreRising parts.ids.live → value_of t parts.ids.live ≡ o
-    → passes (λ row. takes_from sender row.block) (thread_of (state_of parts) t) ≡ passes (λ (row : ThreadRow). takes_from sender row.block) (row_under parts.last_prio parts.sched.threads t o)
-takes-under parts t sender o rising e = ap (passes (λ (row : ThreadRow). takes_from sender row.block)) (rows-under parts.last_prio parts.sched.threads t parts.ids.live rising ∙ ap (row_under parts.last_prio parts.sched.threads t) e)
+pub taking-under : (parts : Parts) (t sender : ℕ) (o : Option Kind) → AreRising parts.ids.live → value_of t parts.ids.live ≡ o
+    → option_map (λ (row : ThreadRow). takes_from sender row.block) (thread_of (state_of parts) t) ≡ option_map (λ (row : ThreadRow). takes_from sender row.block) (row_under parts.last_prio parts.sched.threads t o)
+taking-under parts t sender o rising e = ap (option_map (λ (row : ThreadRow). takes_from sender row.block)) (rows-under parts.last_prio parts.sched.threads t parts.ids.live rising ∙ ap (row_under parts.last_prio parts.sched.threads t) e)
+
+-- what is asked of who is there, and that nobody is there
+module _ {A : Type 0} (q : A → Bool) where
+  pub mapped-some : (o : Option A) (b : Bool) → option_map q o ≡ Some b → b ≡ passes q o
+  mapped-some None b e = absurd (cc)
+  mapped-some (Some x) b e = let is : Some (q x) ≡ Some b = e in cc
+
+  pub mapped-there : (o : Option A) (b : Bool) → option_map q o ≡ Some b → is_some o ≡ true
+  mapped-there None b e = absurd (cc)
+  mapped-there (Some x) b e = refl
+
+  pub mapped-none : (o : Option A) → option_map q o ≡ None → false ≡ passes q o
+  mapped-none None e = refl
+  mapped-none (Some x) e = absurd (cc)
+
+  pub mapped-absent : (o : Option A) → option_map q o ≡ None → is_some o ≡ false
+  mapped-absent None e = refl
+  mapped-absent (Some x) e = absurd (cc)
+
+-- another thread's row is as it was
+row_kept : (t u : ℕ) → eqb t u ≡ false → (b : Block) (rows : List ThreadRow) → find (is_number u) (with_block t b rows) ≡ find (is_number u) rows
+row_kept t u away b [] = refl
+row_kept t u away b (row ∷ rows) = by_test (is_number u row) refl (row_kept t u away b rows)
+  where
+    other : eqb row.number u ≡ true → eqb row.number t ≡ false
+    other e = ne_eqb row.number t (λ same. absurd (let no-way : false ≡ true = sym away ∙ eq-eqb t u (sym same ∙ eqb-true row.number u e) in cc))
+
+    by_test : (c : Bool) → is_number u row ≡ c → find (is_number u) (with_block t b rows) ≡ find (is_number u) rows
+        → cond c (Some (block_set t b row)) (find (is_number u) (with_block t b rows)) ≡ cond c (Some row) (find (is_number u) rows)
+    by_test true e rest = rw (other e) refl
+    by_test false e rest = rest
+
+-- what another thread takes is what it took before the caller waited
+pub taken-still : (s : State) (t u : ℕ) → eqb t u ≡ false → (b : Block) → passes (λ (row : ThreadRow). takes_from t row.block) (thread_of (blocked s t b) u) ≡ passes (λ (row : ThreadRow). takes_from t row.block) (thread_of s u)
+taken-still s t u away b = ap (passes (λ (row : ThreadRow). takes_from t row.block)) (row_kept t u away b s.threads)
 
 -- who takes a letter waits
 pub taker-waits : (sender : ℕ) (o : Option ThreadRow) → passes (λ row. takes_from sender row.block) o ≡ true → passes waits o ≡ true

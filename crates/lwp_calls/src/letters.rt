@@ -15,7 +15,7 @@ ghost use Rattle.lwp_calls.specs.Asks.{asks_memory, first_refusal};
 ghost use Rattle.lwp_calls.specs.Comes.{ComesTo, IsAsBefore, Told};
 
 use crate::asks::{block, block_for, receivers, tell_ids};
-use death_cleanup::{Kind, Parts, is_id, is_thread, reply, wake_lettered};
+use death_cleanup::{Kind, Parts, is_id, reply, wake_lettered};
 use lwp_types::{Block, Effects, IdKind, Letter, LetterCall, LwpErr, Mode, NoMemory, Text, Tid};
 use std::alloc::Global;
 
@@ -67,9 +67,9 @@ fn send<'s>(
     ensures comes { ComesTo parts.old parts.new effects.old effects.new (send (state_of parts.old) caller to room text.now) (option_map answer_by result) }
     ensures most { length effects.new ≤ 1 }
 {
-    if !is_thread(parts, to) {
+    let Some(received) = receiver(parts, to, caller) else {
         return Some(Err(LwpErr::NonExist));
-    }
+    };
     if caller == to {
         return Some(Err(LwpErr::InvalidArg));
     }
@@ -79,21 +79,32 @@ fn send<'s>(
         to,
         text: text.again(),
         room,
-        received: false,
+        received,
     };
-    post(parts, &letter, effects);
+    put(parts, &letter, effects);
     None
+}
+
+// Of a live thread, whether it waits for a letter that this sender may write.
+#[inline(always)]
+fn receiver(parts: &Parts, tid: Tid, sender: Tid) -> Option<bool>
+    ensures { result ≡ option_map (λ row. takes_from sender row.block) (thread_of (state_of parts.now) tid) }
+{
+    // The check learns here that the living stand in birth order, so that a number finds one of them.
+    let _living = parts.ids.len();
+    match parts.ids.get(tid.number) {
+        Some(Kind::Thread(rec)) => Some(block_takes(rec.block, sender)),
+        Some(Kind::Agent) => None,
+        None => None,
+    }
 }
 
 // Whether the thread waits for a letter that this sender may write.
 fn takes_from(parts: &Parts, tid: Tid, sender: Tid) -> bool
     ensures { result ≡ passes (λ row. takes_from sender row.block) (thread_of (state_of parts.now) tid) }
 {
-    // The check learns here that the living stand in birth order, so that a number finds one of them.
-    let _living = parts.ids.len();
-    match parts.ids.get(tid.number) {
-        Some(Kind::Thread(rec)) => block_takes(rec.block, sender),
-        Some(Kind::Agent) => false,
+    match receiver(parts, tid, sender) {
+        Some(takes) => takes,
         None => false,
     }
 }
@@ -123,14 +134,35 @@ pub fn post<'s>(parts: &mut Parts<'s>, letter: &Letter<'s>, effects: &mut Effect
     ensures { CameTo parts.old parts.new effects.old effects.new (post letter.now (state_of parts.old)) }
 {
     let received = takes_from(parts, letter.to, letter.from);
-    parts.mail.post_letter(Letter {
+    let letter = Letter {
         from: letter.from,
         to: letter.to,
         text: letter.text.again(),
         room: letter.room,
         received,
+    };
+    put(parts, &letter, effects);
+}
+
+// The same of a letter that counts as received if its receiver waits for it.
+#[inline(always)]
+fn put<'s>(parts: &mut Parts<'s>, letter: &Letter<'s>, effects: &mut Effects<'s>)
+    requires step { InStep parts.old }
+    requires alone { parts.old.dying ≡ None }
+    requires known { letter.now.received ≡ passes (λ row. takes_from letter.now.from row.block) (thread_of (state_of parts.old) letter.now.to) }
+    requires new { has_letter_of parts.old.mail.letters letter.now.from ≡ false }
+    requires place { length parts.old.mail.letters < parts.old.mail.places }
+    requires room { length effects.old < 2048 }
+    ensures { CameTo parts.old parts.new effects.old effects.new (post (record letter.now { received = false }) (state_of parts.old)) }
+{
+    parts.mail.post_letter(Letter {
+        from: letter.from,
+        to: letter.to,
+        text: letter.text.again(),
+        room: letter.room,
+        received: letter.received,
     });
-    if received {
+    if letter.received {
         wake_lettered(parts, letter.to, letter, effects);
     }
 }

@@ -73,7 +73,7 @@ pub fn carry_out<'s>(
 }
 
 // Tells the caller of a call that asks for memory its answer, where there was memory.
-#[inline]
+#[inline(always)]
 fn tell(
     tid: Tid,
     done: Result<Result<i64, LwpErr>, NoMemory>,
@@ -159,6 +159,7 @@ fn is_no_pattern(pattern: u32) -> bool
 }
 
 // A frame more.
+#[inline(always)]
 fn call_procedure(parts: &mut Parts, tid: Tid, number: u32) -> Result<Result<i64, LwpErr>, NoMemory>
     requires lawful { LawfulParts parts.old }
     requires alone { parts.old.dying ≡ None }
@@ -190,6 +191,7 @@ fn is_bad(pattern: Pattern) -> bool
 }
 
 // A handler more, in the present frame.
+#[inline(always)]
 fn handle(
     parts: &mut Parts,
     tid: Tid,
@@ -217,6 +219,7 @@ fn handle(
 }
 
 // The topmost mark goes, if it is a handler.
+#[inline(always)]
 fn unhandle(parts: &mut Parts, tid: Tid) -> Result<i64, LwpErr>
     requires lawful { LawfulParts parts.old }
     requires alone { parts.old.dying ≡ None }
@@ -233,6 +236,7 @@ fn unhandle(parts: &mut Parts, tid: Tid) -> Result<i64, LwpErr>
 }
 
 // An exit procedure more, in the present frame; the answer is its number.
+#[inline(always)]
 fn on_exit<'s>(
     parts: &mut Parts<'s>,
     tid: Tid,
@@ -260,6 +264,7 @@ fn on_exit<'s>(
 }
 
 // The handler by which the thread catches an exception of this number.
+#[inline(always)]
 fn found(parts: &Parts, tid: Tid, pattern: u32) -> Option<Found>
     requires lawful { LawfulParts parts.now }
     requires alone { parts.now.dying ≡ None }
@@ -338,6 +343,7 @@ fn frames(parts: &Parts, tid: Tid) -> u32
 }
 
 // The topmost frame goes, or the caller dies.
+#[inline(always)]
 fn return_from<'s>(
     parts: &mut Parts<'s>,
     tid: Tid,

@@ -81,6 +81,7 @@ impl<'s> Mail<'s> {
     }
 
     /// One letter more, behind the others. It may count as received already, where its receiver waits for it.
+    #[inline(always)]
     pub fn post_letter(&mut self, letter: Letter<'s>)
         requires new { has_letter_of self.old.letters letter.from ≡ false }
         requires room { length self.old.letters < self.old.places }
@@ -102,6 +103,7 @@ impl<'s> Mail<'s> {
 
     /// `to` replies to the letter of `from` with so many bytes, and the letter goes. It must have received it, and the
     /// sender must have room for the reply.
+    #[inline(always)]
     pub fn reply(&mut self, to: Tid, from: Tid, len: usize) -> Result<(), LwpErr>
         ensures cause { result_err result ≡ refusal (received_from self.old.letters to from) len }
         ensures ok { OnOk result (self.new ≡ forgotten self.old from) }

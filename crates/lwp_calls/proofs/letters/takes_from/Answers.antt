@@ -1,17 +1,11 @@
-use Rattle.death_cleanup.specs.declared.rows.Kind.{Kind}
-use Rattle.death_cleanup.specs.declared.rows.Kind.TheVariants as kind
-use Rattle.lwp_calls.proofs.Mailing.{takes-under}
+use Rattle.lwp_calls.proofs.Mailing.{mapped-none, mapped-some}
 use Rattle.lwp_calls.proofs.letters.takes_from.Goals as goal
-use Rattle.std.proofs.Common.{None, Some, ap, sym, ◌∙◌}
-use Rattle.std.specs.Prelude.{option_copied}
+use Rattle.death_cleanup.specs.View.{state_of}
+use Rattle.lwp_types.specs.State.{thread_of}
+use Rattle.std.proofs.Common.{sym, ◌∙◌}
 
-pub returns-in-Some-Thread : goal.returns-in-Some-Thread
-returns-in-Some-Thread c = c.block_takes.ensures ∙ sym (takes-under c.args.parts.now c.args.tid c.args.sender (Some (kind.Thread c.in-Some-Thread.rec)) c.len-living.ensures.rising
-    (rw (← c.tid.view_is) (sym c.get.ensures ∙ ap option_copied c.in-Some-Thread.is ∙ ap (λ (k : Kind). Some k) c.in-Some-Thread.field-0-is)))
-
-pub returns-in-Some-Agent : goal.returns-in-Some-Agent
-returns-in-Some-Agent c = sym (takes-under c.args.parts.now c.args.tid c.args.sender (Some kind.Agent) c.len-living.ensures.rising
-    (rw (← c.tid.view_is) (sym c.get.ensures ∙ ap option_copied c.in-Some-Agent.is ∙ ap (λ (k : Kind). Some k) c.in-Some-Agent.field-0-is)))
+pub returns-in-Some : goal.returns-in-Some
+returns-in-Some c = mapped-some _ (thread_of (state_of c.args.parts.now) c.args.tid) c.in-Some.takes (sym c.receiver.ensures ∙ c.in-Some.is)
 
 pub returns-in-None : goal.returns-in-None
-returns-in-None c = sym (takes-under c.args.parts.now c.args.tid c.args.sender None c.len-living.ensures.rising (rw (← c.tid.view_is) (sym c.get.ensures ∙ ap option_copied c.in-None.is)))
+returns-in-None c = mapped-none _ (thread_of (state_of c.args.parts.now) c.args.tid) (sym c.receiver.ensures ∙ c.in-None.is)
