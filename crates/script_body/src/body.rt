@@ -7,7 +7,7 @@ ghost use Rattle.script_body.specs.ScriptBody.{script_opening, frame_above, back
 
 use crate::calls::{set_call, set_return};
 use crate::frame::Frame;
-use crate::names::name_by;
+use crate::names::{name_by, name_condition, name_monitor, name_thread};
 use crate::numbers::{has_numbers, proc_number, stmts_at};
 use crate::walk::{is_refused, near_stmt, next_stmt};
 use lwp_types::{Answer, Body, Call, Env, NULL_TID, NoMemory, Polled, Tid};
@@ -222,7 +222,10 @@ impl<'s> ScriptBody<'s> {
                 return false;
             }
             Stmt::Recv { .. } => self.know_sender(got),
-            _ => name_by(env, got, stmt),
+            Stmt::Create { name, .. } | Stmt::Agent { name, .. } => name_thread(env, *name, got),
+            Stmt::MonCreate { mon } => name_monitor(env, *mon, got),
+            Stmt::CvCreate { cond, .. } => name_condition(env, *cond, got),
+            _ => {}
         }
         true
     }

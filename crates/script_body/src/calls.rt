@@ -212,14 +212,14 @@ fn set_thread_call<'s>(
 // The calls that name a procedure are set by functions of their own, since they look for its number: what most statements call is
 // set without a loop and without a call.
 #[inline(never)]
-fn set_create(script: &Script, proc: u32, prio: u32, flags: Flags, call: &mut Call)
+fn set_create(script: &Script, proc: u32, prio: u32, flags: &Flags, call: &mut Call)
     requires { length (proc_places script.now) < 2 ^ 32 }
-    ensures { call.new ≡ call_kind.Create (proc_number script.now proc) prio flags }
+    ensures { call.new ≡ call_kind.Create (proc_number script.now proc) prio flags.now }
 {
     *call = Call::Create {
         proc: proc_number(script, proc),
         prio,
-        flags,
+        flags: *flags,
     };
 }
 
@@ -245,7 +245,7 @@ pub fn set_call<'s>(script: &'s Script, sender: Tid, env: &Env, stmt: &Stmt, cal
             prio,
             flags,
             ..
-        } => set_create(script, *proc, *prio, *flags, call),
+        } => set_create(script, *proc, *prio, flags, call),
         Stmt::CallProc { proc } => set_call_proc(script, *proc, call),
         _ => set_thread_call(&script.texts, sender, env, stmt, call),
     }

@@ -5,7 +5,8 @@ ghost use Rattle.script_body.specs.Naming.{thread_named_by, monitor_named_by, co
 use lwp_types::{Answer, Env};
 use script_text::Stmt;
 
-fn name_thread(env: &mut Env, name: u32, got: &Answer)
+/// Sets the name, if the call has made something of its kind.
+pub fn name_thread(env: &mut Env, name: u32, got: &Answer)
     ensures { env.new ≡ thread_named_by name got.now env.old }
 {
     if let Answer::Thread(tid) = got {
@@ -13,7 +14,8 @@ fn name_thread(env: &mut Env, name: u32, got: &Answer)
     }
 }
 
-fn name_monitor(env: &mut Env, name: u32, got: &Answer)
+/// Sets the name, if the call has made something of its kind.
+pub fn name_monitor(env: &mut Env, name: u32, got: &Answer)
     ensures { env.new ≡ monitor_named_by name got.now env.old }
 {
     if let Answer::Monitor(mon) = got {
@@ -21,7 +23,8 @@ fn name_monitor(env: &mut Env, name: u32, got: &Answer)
     }
 }
 
-fn name_condition(env: &mut Env, name: u32, got: &Answer)
+/// Sets the name, if the call has made something of its kind.
+pub fn name_condition(env: &mut Env, name: u32, got: &Answer)
     ensures { env.new ≡ condition_named_by name got.now env.old }
 {
     if let Answer::Cond(cond) = got {
@@ -30,7 +33,6 @@ fn name_condition(env: &mut Env, name: u32, got: &Answer)
 }
 
 /// Sets the name of the last call's statement, if the call has made something.
-#[inline(always)]
 pub fn name_by(env: &mut Env, got: &Answer, made: &Stmt)
     ensures { env.new ≡ named_by got.now made.now env.old }
 {

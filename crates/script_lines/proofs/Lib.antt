@@ -3,3 +3,4 @@ pub mod TableLaws
 pub mod PhraseLaws
 pub mod PrintableLaws
 pub mod LengthLaws
+pub mod SpokenLaws

@@ -9,6 +9,7 @@ use Rattle.lwp_types.specs.declared.call.Mode.TheVariants as mode
 use Rattle.lwp_types.specs.declared.call.Pattern.{Pattern}
 use Rattle.lwp_types.specs.declared.call.Pattern.TheVariants as pattern
 use Rattle.script_lines.specs.declared.table.Op.{Op}
+use Rattle.script_lines.specs.declared.table.Op.TheVariants as op
 use Rattle.script_lines.specs.declared.table.Kind.{Kind}
 use Rattle.script_lines.specs.declared.table.Kind.TheVariants as kind
 use Rattle.script_lines.specs.declared.table.Whom.{Whom}
@@ -156,6 +157,14 @@ blank o = record {
   test = test.Fine;
   text = [];
 }
+
+-- a line that says a text
+abbrev pub saying : List ℕ → Phrase
+saying text = record (blank op.Say) { text = text }
+
+-- a line that a client posts
+abbrev pub posting : ℕ → List ℕ → Phrase
+posting client text = record (blank op.Post) { client = client; text = text }
 
 -- q with p's slot of this kind
 abbrev pub copy_slot : Kind → Phrase → Phrase → Phrase

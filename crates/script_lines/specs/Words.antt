@@ -9,6 +9,12 @@ abbrev pub reach : ℕ → List ℕ → ℕ
 reach c [] = 0
 reach c (b ∷ bs) = if b == c then 0 else suc (reach c bs)
 
+-- the bytes behind these, if it begins with them
+abbrev pub behind : List ℕ → List ℕ → List ℕ
+behind [] line = line
+behind (b ∷ bs) [] = []
+behind (b ∷ bs) (c ∷ cs) = if b == c then behind bs cs else []
+
 -- a letter from `a` to `z`
 abbrev pub is_lowercase : ℕ → Bool
 is_lowercase b = nat_le 97 b && nat_le b 122

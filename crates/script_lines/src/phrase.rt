@@ -148,7 +148,8 @@ fn room_at(word: &[u8]) -> Option<u8>
     }
 }
 
-fn client_at(word: &[u8]) -> Option<u8>
+/// A client that is written so.
+pub fn client_at(word: &[u8]) -> Option<u8>
     ensures { result ≡ client_at word.now }
 {
     match number_at(word) {

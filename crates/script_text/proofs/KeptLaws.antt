@@ -8,7 +8,7 @@ use Rattle.std.proofs.lemmas.List.Folds.{list_all-append}
 use Rattle.std.proofs.lemmas.Slice.Eq.{bytes_eq-Decides}
 use Rattle.lwp_types.specs.TextFields.{is_printable}
 use Rattle.script_lines.specs.Phrase.{Phrase}
-use Rattle.script_lines.specs.Words.{is_name, reach}
+use Rattle.script_lines.specs.Words.{behind, is_name, reach}
 use Rattle.script_lines.specs.Table.{role_of}
 use Rattle.script_lines.specs.Reading.{first_word, phrase_at}
 use Rattle.script_lines.proofs.LengthLaws.{name_length, long_says_nothing}
@@ -18,7 +18,7 @@ use Rattle.script_text.specs.declared.reader.Reader.{Reader}
 use Rattle.script_text.specs.declared.reason.Reason.{Reason}
 use Rattle.script_text.specs.declared.reason.Reason.TheVariants as reason
 use Rattle.script_text.specs.declared.stage.Stage.{Stage}
-use Rattle.script_text.specs.Declaring.{behind, only_name, spaced_word, proc_on, native_on}
+use Rattle.script_text.specs.Declaring.{only_name, spaced_word, proc_on, native_on}
 use Rattle.script_text.specs.Grammar.{may_stand_at}
 use Rattle.script_text.specs.Kept.{marked, kept}
 use Rattle.script_text.specs.Meaning.{enter}

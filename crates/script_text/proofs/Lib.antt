@@ -4,6 +4,7 @@ pub mod CountLaws
 pub mod TrackLaws
 pub mod FoldLaws
 pub mod JudgeLaws
+pub mod SpokenLaws
 pub mod CutLaws
 pub mod ScriptLaws
 pub mod LimitLaws

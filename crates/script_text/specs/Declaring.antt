@@ -1,12 +1,6 @@
 -- Lines that declare a procedure, wherever they stand, and whatever else they say.
-use Rattle.std.specs.Prelude.{ℕ, List, [], ◌∷◌, length, take, nat_lt, ◌==◌, if◌then◌else◌, codes}
-use Rattle.script_lines.specs.Words.{is_name, reach}
-
--- the bytes behind these, if it begins with them
-abbrev pub behind : List ℕ → List ℕ → List ℕ
-behind [] line = line
-behind (b ∷ bs) [] = []
-behind (b ∷ bs) (c ∷ cs) = if b == c then behind bs cs else []
+use Rattle.std.specs.Prelude.{ℕ, List, [], length, take, nat_lt, if◌then◌else◌, codes}
+use Rattle.script_lines.specs.Words.{behind, is_name, reach}
 
 -- the word if it is a name, and else the empty one
 abbrev pub only_name : List ℕ → List ℕ

@@ -205,6 +205,14 @@ raised c [] = []
 raised zero (n ∷ ns) = suc n ∷ ns
 raised (suc c) (n ∷ ns) = n ∷ raised c ns
 
+-- one more text
+abbrev pub with_text : Draft → List ℕ → Draft
+with_text d text = record d { script = record d.script { texts = d.script.texts ++ text ∷ [] } }
+
+-- one more line of this client, whose text stands there
+abbrev pub with_post : ℕ → ℕ → Draft → Draft
+with_post client text d = record d { script = record d.script { posts = d.script.posts ++ record { client = client; seq = slice_index_or d.posted client 0; text = text } ∷ [] }; posted = raised client d.posted }
+
 -- a line by the part it plays: a procedure ends where the next one begins
 abbrev pub added_at : Role → Places → Draft → Phrase → Draft
 added_at role.Header at d p = d
@@ -213,7 +221,7 @@ added_at role.Limit at d p = record d { script = record d.script { births = p.nu
 added_at role.Client at d p = record d { script = record d.script { clients = d.script.clients ++ p.event ∷ [] }; posted = d.posted ++ 0 ∷ [] }
 added_at role.Native at d p = record d { script = record d.script { natives = d.script.natives ++ record { name = at.procedure; kind = native_kind p.event at.thread } ∷ [] } }
 added_at role.Proc at d p = record d { script = closed d; current = Some (record { name = at.procedure; stmts = [] }) }
-added_at role.Post at d p = record d { script = record d.script { posts = d.script.posts ++ record { client = p.client; seq = slice_index_or d.posted p.client 0; text = at.text } ∷ [] }; posted = raised p.client d.posted }
+added_at role.Post at d p = with_post p.client at.text d
 added_at role.Statement at d p = pushed at d p
 added_at role.Skip at d p = pushed at d p
 added_at role.Again at d p = pushed at d p

@@ -289,8 +289,10 @@ fn native_kind(event: u8, store: u32) -> NativeKind
 
 impl Draft {
     ghost use Rattle.script_lines.specs.Table.{role_of};
-    ghost use Rattle.std.specs.Prelude.{IfOk};
-    ghost use Rattle.script_text.specs.Meaning.{empty_draft, added_at, added, entered, closed, named, places_of};
+    ghost use Rattle.std.specs.Prelude.{IfOk, IsTrue, length};
+    ghost use Rattle.lwp_types.specs.TextFields.{is_text};
+    ghost use Rattle.script_lines.specs.Line.{posting, saying};
+    ghost use Rattle.script_text.specs.Meaning.{empty_draft, added_at, added, entered, closed, named, places_of, with_post, with_text};
 
     /// No lines.
     pub fn new(alloc: Global) -> Draft
@@ -346,16 +348,16 @@ impl Draft {
         end(&mut self.script.procs, self.current.replace(next))
     }
 
-    // One more line of a client.
-    fn post(&mut self, phrase: &Phrase<'_>, at: Places) -> Result<(), NoMemory>
-        ensures { OnOk result (self.new ≡ added_at Role.Post at self.old phrase.now) }
+    // One more line of a client, whose text stands there.
+    fn post(&mut self, client: u8, text: u32) -> Result<(), NoMemory>
+        ensures { OnOk result (self.new ≡ with_post client text self.old) }
     {
         self.script.posts.push(Post {
-            client: phrase.client,
-            seq: self.posted.get(phrase.client, 0),
-            text: at.text,
+            client,
+            seq: self.posted.get(client, 0),
+            text,
         })?;
-        self.posted.raise(phrase.client)
+        self.posted.raise(client)
     }
 
     // A line whose names and text have been entered.
@@ -375,11 +377,45 @@ impl Draft {
             Role::Client => self.open(phrase, at),
             Role::Native => self.build(phrase, at),
             Role::Proc => self.begin(alloc, phrase, at),
-            Role::Post => self.post(phrase, at),
+            Role::Post => self.post(phrase.client, at.text),
             Role::Statement | Role::Skip | Role::Again => {
                 grow(&mut self.current, statement_of(at, phrase))
             }
         }
+    }
+
+    // Enters a text, and gives its place.
+    fn enter(&mut self, text: &[u8]) -> Result<u32, NoMemory>
+        requires { IsTrue (is_text text.now) }
+        ensures entered { OnOk result (self.new ≡ with_text self.old text.now) }
+        ensures place { IfOk result (λ n. n ≡ length self.old.script.texts) }
+    {
+        let place = self.script.texts.len();
+        if place > 0xffff_ffff {
+            return Err(NoMemory);
+        }
+        self.script.texts.push(text)?;
+        Ok(place as u32)
+    }
+
+    /// One more line, which says this text.
+    #[tactic(auto, using(crate::proofs::SpokenLaws::added_said))]
+    pub fn say(&mut self, text: &[u8]) -> Result<(), NoMemory>
+        requires { IsTrue (is_text text.now) }
+        ensures { OnOk result (self.new ≡ added self.old (saying text.now)) }
+    {
+        let place = self.enter(text)?;
+        grow(&mut self.current, Some(Stmt::Say { text: place }))
+    }
+
+    /// One more line, by which a client posts this text.
+    #[tactic(auto, using(crate::proofs::SpokenLaws::added_posted))]
+    pub fn post_text(&mut self, client: u8, text: &[u8]) -> Result<(), NoMemory>
+        requires { IsTrue (is_text text.now) }
+        ensures { OnOk result (self.new ≡ added self.old (posting client text.now)) }
+    {
+        let place = self.enter(text)?;
+        self.post(client, place)
     }
 
     /// One more line, and where its names stand.

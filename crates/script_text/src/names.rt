@@ -115,7 +115,7 @@ impl NameList {
     }
 
     /// Puts the name at the end, if it is new, and is a text that isn't empty, and gives its number.
-    #[inline]
+    #[inline(always)]
     pub fn numbered(&mut self, name: &[u8]) -> Result<u32, NoMemory>
         ensures names { OnOk result (self.new ≡ enter self.old name.now) }
         ensures number { IfOk result (λ n. n ≡ place_of (enter self.old name.now) name.now) }

@@ -17,7 +17,7 @@ use crate::names::NameList;
 use crate::reason::{ReadErr, Reason};
 use crate::stage::Stage;
 use lwp_types::{NoMemory, Sequence};
-use script_lines::{Phrase, Role, is_name, is_printable, phrase_at, reach};
+use script_lines::{Phrase, Role, is_name, is_printable, phrase_at, posted_at, reach, said_at};
 use std::alloc::Global;
 
 /// A line that starts a procedure, the number of the procedure's name, and whether a built-in one will do.
@@ -227,7 +227,10 @@ fn close_at(line: u32, draft: Draft) -> Result<Script, ReadErr>
 }
 
 impl Reader {
-    ghost use Rattle.std.specs.Prelude.{◌+◌, Err, None, IfSome, IfNone, IfOk, IfErr};
+    ghost use Rattle.std.specs.Prelude.{◌+◌, ◌&&◌, Err, None, IfSome, IfNone, IfOk, IfErr, IsTrue, nat_lt, slice_index_or};
+    ghost use Rattle.lwp_types.specs.TextFields.{is_text};
+    ghost use Rattle.script_lines.specs.Line.{posting, saying};
+    ghost use Rattle.script_text.specs.Grammar.{follows};
     ghost use Rattle.script_text.specs.Meaning.{place_of, closed};
     ghost use Rattle.script_text.specs.Spelling.{Gives, whole};
     ghost use Rattle.script_text.specs.Track.{start, taken, judge_alone, took, judged, step, answer, answer_at};
@@ -298,13 +301,68 @@ impl Reader {
         }
     }
 
-    // One more line, which is judged unless an earlier one is bad.
-    fn judge(&mut self, alloc: Global, line: &[u8]) -> Result<(), NoMemory>
-        ensures { OnOk result (self.new ≡ judged self.old.bad self.old line.now) }
+    // One more line, which says this text and may stand.
+    #[tactic(auto, using(crate::proofs::SpokenLaws::taken_said))]
+    fn say(&mut self, text: &[u8]) -> Result<(), NoMemory>
+        requires { IsTrue (is_text text.now) }
+        ensures { OnOk result (self.new ≡ taken self.old (saying text.now)) }
     {
-        if self.bad.is_some() {
-            return Ok(());
+        let Some(count) = self.count.checked_add(1) else {
+            return Err(NoMemory);
+        };
+        self.draft.say(text)?;
+        self.count = count;
+        self.stage = self.stage.after(Role::Statement);
+        Ok(())
+    }
+
+    // One more line, by which a client posts this text, and which may stand.
+    #[tactic(auto, using(crate::proofs::SpokenLaws::taken_posted))]
+    fn post(&mut self, client: u8, text: &[u8]) -> Result<(), NoMemory>
+        requires { IsTrue (is_text text.now) }
+        ensures { OnOk result (self.new ≡ taken self.old (posting client text.now)) }
+    {
+        let Some(count) = self.count.checked_add(1) else {
+            return Err(NoMemory);
+        };
+        self.draft.post_text(client, text)?;
+        self.count = count;
+        self.stage = self.stage.after(Role::Post);
+        Ok(())
+    }
+
+    // Whether one more line of this client may stand.
+    fn may_post(&self, client: u8) -> bool
+        ensures { result ≡ (follows self.now.stage Role.Post && nat_lt (slice_index_or self.now.draft.posted client 20000) 20000) }
+    {
+        self.stage.allows(Role::Post) && self.draft.posted.get(client, 20_000) < 20_000
+    }
+
+    // One more line, where none before is bad. Those that say or post a text are taken at once.
+    #[inline(never)]
+    fn judge_next(&mut self, alloc: Global, line: &[u8]) -> Result<(), NoMemory>
+        requires { self.old.bad ≡ None }
+        ensures { OnOk result (self.new ≡ judged None self.old line.now) }
+    {
+        if let Some(text) = said_at(line) {
+            if self.stage.allows(Role::Statement) {
+                return self.say(text);
+            }
         }
+        if let Some((client, text)) = posted_at(line) {
+            if self.may_post(client) {
+                return self.post(client, text);
+            }
+        }
+        self.judge_by_table(alloc, line)
+    }
+
+    // One more line, where none before is bad, whatever it says.
+    #[inline(never)]
+    fn judge_by_table(&mut self, alloc: Global, line: &[u8]) -> Result<(), NoMemory>
+        requires { self.old.bad ≡ None }
+        ensures { OnOk result (self.new ≡ judged None self.old line.now) }
+    {
         match phrase_at(line) {
             Some(phrase) => {
                 if may_stand_at(self.stage, &self.declared, &self.draft.posted, &phrase) {
@@ -317,7 +375,19 @@ impl Reader {
         Ok(())
     }
 
+    // One more line, which is judged unless an earlier one is bad.
+    #[inline(always)]
+    fn judge(&mut self, alloc: Global, line: &[u8]) -> Result<(), NoMemory>
+        ensures { OnOk result (self.new ≡ judged self.old.bad self.old line.now) }
+    {
+        match self.bad {
+            Some(_) => Ok(()),
+            None => self.judge_next(alloc, line),
+        }
+    }
+
     /// One more line, which has ended.
+    #[inline(always)]
     pub fn line(&mut self, alloc: Global, line: &[u8]) -> Result<(), NoMemory>
         ensures { OnOk result (self.new ≡ step self.old line.now) }
     {
