@@ -57,9 +57,9 @@ fn next_due<'s, B: Polled<'s>, P: Program<B>, G: Gate<'s>>(
     None
 }
 
-// Each event in turn may have one line taken. In a turn in which no line is left, one look tells.
-#[inline(always)]
-fn serve_all<'s, B: Polled<'s>, P: Program<B>, G: Gate<'s>, K: Sink>(
+// Each event in turn may have one line taken. It stands apart, so that a turn without one has no registers to save for it.
+#[inline(never)]
+fn serve_each<'s, B: Polled<'s>, P: Program<B>, G: Gate<'s>, K: Sink>(
     run: &mut Run<'s, B, P>,
     gate: &mut G,
     sink: &mut K,
@@ -75,6 +75,24 @@ fn serve_all<'s, B: Polled<'s>, P: Program<B>, G: Gate<'s>, K: Sink>(
         from = event + 1;
     }
     Ok(())
+}
+
+// The same. Mostly no line can be taken, which one look tells.
+#[inline(always)]
+fn serve_all<'s, B: Polled<'s>, P: Program<B>, G: Gate<'s>, K: Sink>(
+    run: &mut Run<'s, B, P>,
+    gate: &mut G,
+    sink: &mut K,
+) -> Result<(), RunErr>
+    requires sound { run.old.failed ≡ false }
+    requires made { IsDefined (setting_of B.next P.bodies run.old) run.old.takes run.old.calls }
+    requires room { run.old.calls ≤ run.old.turns }
+    ensures { Does B.next P.bodies P.proc_names (sides K.written K.faults sink.old sink.new) (λ planned plan. boundary planned plan) run.old run.new (G.stock gate.old) (G.stock gate.new) result }
+{
+    match next_due(run, gate, 0) {
+        Some(_) => serve_each(run, gate, sink),
+        None => Ok(()),
+    }
 }
 
 /// Lines are taken, each event's first if it can be delivered, and then, if somebody may run, a call is made; unless the session is

@@ -150,6 +150,7 @@ impl<'s, B: Polled<'s>> Parts<'s, B> {
 
     /// Polls the body of the thread whose turn it is, and makes its call. `out` then has the lines of what that did, and nothing
     /// else.
+    #[inline(always)]
     pub(crate) fn turn<P: Program<B>>(
         &mut self,
         program: &P,
@@ -159,22 +160,19 @@ impl<'s, B: Polled<'s>> Parts<'s, B> {
         requires current { IsSome (current_of self.old.pod.state) }
         ensures { OnOk result (Moves names.now None (move B.next (P.bodies program.now) (live_of self.old)) (live_of self.new) (told_of self.new) out.new.items) }
     {
-        out.clear();
-        match self.pod.current() {
-            None => Ok(()),
-            Some(tid) => {
-                let i = self.rows.place(tid);
-                if i < self.rows.len() {
-                    self.make_call(program, names, tid, i, out)
-                } else {
-                    self.caller = None;
-                    self.effects.clear();
-                    Ok(())
-                }
-            }
+        let tid = self.pod.current().unwrap();
+        let i = self.rows.place(tid);
+        if i < self.rows.len() {
+            self.make_call(program, names, tid, i, out)
+        } else {
+            self.caller = None;
+            self.effects.clear();
+            out.clear();
+            Ok(())
         }
     }
 
+    #[inline(always)]
     fn make_call<P: Program<B>>(
         &mut self,
         program: &P,
@@ -190,11 +188,11 @@ impl<'s, B: Polled<'s>> Parts<'s, B> {
     {
         self.env.set_me(tid);
         self.rows.poll_at(i, &mut self.env, &mut self.call)?;
-        let born = proc_of(&self.call);
         let trap = self.pod.pending();
         self.pod.call(&self.call, &mut self.effects)?;
         self.caller = caller_of(trap, tid);
         set_turn_lines(out, trap, tid, &self.call, &self.effects, names)?;
+        let born = proc_of(&self.call);
         settle(&mut self.rows, program, born, &self.effects)?;
         Ok(())
     }

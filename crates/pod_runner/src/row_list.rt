@@ -2,10 +2,13 @@
 ghost use Rattle.std.specs.Prelude.{◌≡◌, ◌++◌, ◌<◌, [], length, nat_lt, slice_get, Some, OnOk, IfOk, IsTrue};
 ghost use Rattle.pod_runner.specs.Session.{answered, without_row, row_opened};
 ghost use Rattle.pod_runner.specs.Polls.{AreRising, ComesLast, Polls, place_of};
+ghost use Rattle.lwp_types.specs.declared.call.Answer.TheVariants as answer;
 ghost use Rattle.pod_runner.specs.declared.session.Row.{Row};
 
 use crate::Row;
-use lwp_types::{Answer, Body, Call, Env, IdList, NoMemory, Polled, Program, Tid, likely_place};
+use lwp_types::{
+    Answer, Body, Call, Env, IdKind, IdList, NoMemory, Polled, Program, Tid, likely_place,
+};
 use std::alloc::Global;
 use std::marker::Model;
 
@@ -41,41 +44,68 @@ fn copy_list(alloc: Global, list: &IdList) -> Result<IdList, NoMemory>
     Ok(copy)
 }
 
-// The same answer once more.
-fn copy_answer<'s>(alloc: Global, answer: &Answer<'s>) -> Result<Answer<'s>, NoMemory>
-    ensures { IfOk result (λ copy. copy ≡ answer.now) }
+// A row is polled with this list next. It takes memory, and stands apart from the answers that don't.
+#[inline(never)]
+fn set_list<'s, B>(
+    row: &mut Row<'s, B>,
+    alloc: Global,
+    kind: IdKind,
+    list: &IdList,
+) -> Result<(), NoMemory>
+    ensures set { OnOk result (row.new ≡ record row.old { answer = answer.Ids kind list.now }) }
+    ensures same { row.new.tid ≡ row.old.tid }
 {
-    let copy = match answer {
-        Answer::Value(value) => Answer::Value(*value),
-        Answer::Thread(tid) => Answer::Thread(*tid),
-        Answer::Monitor(mon) => Answer::Monitor(*mon),
-        Answer::Cond(cond) => Answer::Cond(*cond),
-        Answer::Letter { from, text, room } => Answer::Letter {
-            from: *from,
-            text: text.again(),
-            room: *room,
-        },
-        Answer::Reply(text) => Answer::Reply(text.again()),
-        Answer::Bound { func, arg } => Answer::Bound {
-            func: *func,
-            arg: *arg,
-        },
+    row.answer = Answer::Ids {
+        kind,
+        list: copy_list(alloc, list)?,
+    };
+    Ok(())
+}
+
+// A row is polled with the same answer next. Each kind of answer is set where it lies.
+#[inline(always)]
+fn set_answer<'s, B>(
+    row: &mut Row<'s, B>,
+    alloc: Global,
+    answer: &Answer<'s>,
+) -> Result<(), NoMemory>
+    ensures set { OnOk result (row.new ≡ record row.old { answer = answer.now }) }
+    ensures same { row.new.tid ≡ row.old.tid }
+{
+    match answer {
+        Answer::Value(value) => row.answer = Answer::Value(*value),
+        Answer::Thread(tid) => row.answer = Answer::Thread(*tid),
+        Answer::Monitor(mon) => row.answer = Answer::Monitor(*mon),
+        Answer::Cond(cond) => row.answer = Answer::Cond(*cond),
+        Answer::Letter { from, text, room } => {
+            row.answer = Answer::Letter {
+                from: *from,
+                text: text.again(),
+                room: *room,
+            }
+        }
+        Answer::Reply(text) => row.answer = Answer::Reply(text.again()),
+        Answer::Bound { func, arg } => {
+            row.answer = Answer::Bound {
+                func: *func,
+                arg: *arg,
+            }
+        }
         Answer::Caught {
             depth,
             mark,
             pattern,
-        } => Answer::Caught {
-            depth: *depth,
-            mark: *mark,
-            pattern: *pattern,
-        },
-        Answer::Ids { kind, list } => Answer::Ids {
-            kind: *kind,
-            list: copy_list(alloc, list)?,
-        },
-        Answer::Refused(error) => Answer::Refused(*error),
-    };
-    Ok(copy)
+        } => {
+            row.answer = Answer::Caught {
+                depth: *depth,
+                mark: *mark,
+                pattern: *pattern,
+            }
+        }
+        Answer::Ids { kind, list } => return set_list(row, alloc, *kind, list),
+        Answer::Refused(error) => row.answer = Answer::Refused(*error),
+    }
+    Ok(())
 }
 
 // Polls the body of a row, which keeps its answer.
@@ -156,6 +186,7 @@ fn are_older<'s, B>(rows: &Vec<Row<'s, B>>, tid: Tid) -> bool
 }
 
 // Sets what a thread is polled with next, whose row is at a place.
+#[inline(always)]
 fn put_answer<'s, B>(
     rows: &mut Vec<Row<'s, B>>,
     i: usize,
@@ -168,9 +199,8 @@ fn put_answer<'s, B>(
     ensures rising { AreRising rows.old.items → AreRising rows.new.items }
 {
     let alloc = *rows.allocator();
-    let copy = copy_answer(alloc, answer)?;
     let row = &mut rows[i];
-    row.answer = copy;
+    set_answer(row, alloc, answer)?;
     Ok(())
 }
 
@@ -228,11 +258,20 @@ impl<'s, B> RowList<'s, B> {
     pub fn place(&self, tid: Tid) -> usize
         ensures { result ≡ place_of tid self.now }
     {
+        if self.rising && is_at(&self.rows, tid, self.last) {
+            return self.last;
+        }
+        self.other_place(tid)
+    }
+
+    // The same, for a row that isn't the one polled last. It stands apart, since mostly it is that one: so a turn's way has no registers
+    // to save for a search.
+    #[inline(never)]
+    fn other_place(&self, tid: Tid) -> usize
+        ensures { result ≡ place_of tid self.now }
+    {
         if !self.rising {
             return scanned(&self.rows, tid);
-        }
-        if is_at(&self.rows, tid, self.last) {
-            return self.last;
         }
         let likely = guessed(&self.rows, tid);
         if is_at(&self.rows, tid, likely) {

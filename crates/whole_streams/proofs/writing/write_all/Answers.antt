@@ -1,10 +1,5 @@
-use Rattle.std.proofs.Common.{arith, length-drop, ◌∙◌}
-use Rattle.whole_streams.proofs.WriteLaws.{told_on}
+use Rattle.whole_streams.proofs.WriteLaws.{on_err, rest_cut}
 use Rattle.whole_streams.proofs.writing.write_all.Goals as goal
 
-pub loop-done-preserved : goal.loop-done-preserved
-loop-done-preserved g c = record {
-  inside = omega (arith, c.in_ok-done.ensures.bound, length-drop c.loop-done.done c.args.bytes.now);
-  told = told_on (g.K.Sink.written c.args.sink.now) (g.K.Sink.written c.loop-done.sink) (g.K.Sink.written c.write.new.self) c.loop-done.done c.in_ok-done.field-0 c.args.bytes.now c.loop-done.invariant.told c.in_ok-done.ensures.ok;
-  same = c.in_ok-done.ensures.cause.same ∙ c.loop-done.invariant.same;
-}
+pub returns-in_err-write_rest-clause-err : goal.returns-in_err-write_rest-clause-err
+returns-in_err-write_rest-clause-err g c = on_err c.from_residual-in_err-write_rest.result _ (rest_cut (g.K.Sink.written c.args.sink.now) (g.K.Sink.written c.write.new.self) (g.K.Sink.written c.write_rest.new.sink) c.in_ok-done.done c.args.bytes.now c.in_ok-done.ensures.bound c.in_ok-done.ensures.ok c.in_err-write_rest.ensures.err)

@@ -7,7 +7,7 @@ use Rattle.pod_runner.proofs.parts.Parts.turn.Goals as goal
 
 pub returns-else-i-len : goal.returns-else-i-len
 returns-else-i-len g c =
-    let past : length c.args.self.now.rows ≤ place_of c.in-Some.tid c.args.self.now.rows = search rules in
-    let turn : current_of c.args.self.now.pod.state ≡ Some c.in-Some.tid = sym c.current.ensures.value ∙ c.in-Some.is in
-    let m = moves_none g.B.Body.next (g.P.Program.bodies c.args.program.now) c.args.names.now (live_of c.args.self.now) c.in-Some.tid c.clear.new.self.items (chosen_from c.args.self.now.pod.state c.in-Some.tid turn) past c.clear.ensures.items in
-    record { live = m.live; effects = c.clear-else-i-len.ensures ∙ m.effects; lines = m.lines }
+    let past : length c.args.self.now.rows ≤ place_of c.unwrap-tid.result c.args.self.now.rows = search rules in
+    let turn : current_of c.args.self.now.pod.state ≡ Some c.unwrap-tid.result = sym c.current.ensures.value ∙ c.unwrap-tid.ensures in
+    let m = moves_none g.B.Body.next (g.P.Program.bodies c.args.program.now) c.args.names.now (live_of c.args.self.now) c.unwrap-tid.result c.clear-else-i-len.new.self.items (chosen_from c.args.self.now.pod.state c.unwrap-tid.result turn) past c.clear-else-i-len.ensures.items in
+    record { live = m.live; effects = c.clear.ensures ∙ m.effects; lines = m.lines }

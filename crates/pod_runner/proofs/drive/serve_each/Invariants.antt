@@ -3,7 +3,7 @@ use Rattle.std.specs.List.{fold, range_with_len}
 use Rattle.pod_runner.specs.Does.{Does}
 use Rattle.pod_runner.specs.Eager.{Plan, offered}
 use Rattle.pod_runner.proofs.Rounds.{stream}
-use Rattle.pod_runner.proofs.drive.serve_all.Given as goal
+use Rattle.pod_runner.proofs.drive.serve_each.Given as goal
 
 abbrev pub invariant-loop-event : goal.invariant-loop-event
 invariant-loop-event g l = (l.from ≤ 32)

@@ -1,6 +1,6 @@
 use Rattle.std.proofs.Common.{◌≡◌, ◌≤◌, ◌-◌, length, take}
 use Rattle.lwp_types.specs.Streams.{appended}
-use Rattle.whole_streams.proofs.writing.write_all.Given as goal
+use Rattle.whole_streams.proofs.writing.write_rest.Given as goal
 
 abbrev pub invariant-loop-done : goal.invariant-loop-done
 invariant-loop-done g l = record {
