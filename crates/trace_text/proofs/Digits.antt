@@ -4,19 +4,18 @@ use Rattle.std.proofs.lemmas.Fmt.{decimal_digit, decimal_step}
 use Rattle.std.proofs.lemmas.List.{append_assoc}
 use Rattle.std.specs.Fmt.{decimal}
 
-pub decimal_of_two : (n : ℕ) → 10 ≤ n → n < 100 → decimal n ≡ (48 + n / 10 % 10) ∷ (48 + n % 10) ∷ []
+pub decimal_of_two : (n : ℕ) → 10 ≤ n → n < 100 → decimal n ≡ (48 + n / 10) ∷ (48 + n % 10) ∷ []
 decimal_of_two n least most =
-    let tens : n / 10 ≡ n / 10 % 10 = omega (arith, most) in
     decimal_step n least (omega (arith, most))
-    ∙ ap (λ ds. ds ++ (48 + n % 10) ∷ []) (ap decimal tens ∙ decimal_digit (n / 10 % 10) (omega arith))
+    ∙ ap (λ ds. ds ++ (48 + n % 10) ∷ []) (decimal_digit (n / 10) (omega (arith, most)))
 
-pub decimal_of_three : (n : ℕ) → 100 ≤ n → n < 1000 → decimal n ≡ (48 + n / 100) ∷ (48 + n / 10 % 10) ∷ (48 + n % 10) ∷ []
+pub decimal_of_three : (n : ℕ) → 100 ≤ n → n < 1000 → decimal n ≡ (48 + n / 100 % 10) ∷ (48 + n / 10 % 10) ∷ (48 + n % 10) ∷ []
 decimal_of_three n least most =
-    let hundreds : n / 10 / 10 ≡ n / 100 = omega arith in
+    let hundreds : n / 10 / 10 ≡ n / 100 % 10 = omega (arith, most) in
     decimal_step n (omega (arith, least)) (omega (arith, most))
     ∙ ap (λ ds. ds ++ (48 + n % 10) ∷ [])
     (decimal_step (n / 10) (omega (arith, least)) (omega (arith, most))
-    ∙ ap (λ ds. ds ++ (48 + n / 10 % 10) ∷ []) (ap decimal hundreds ∙ decimal_digit (n / 100) (omega (arith, most))))
+    ∙ ap (λ ds. ds ++ (48 + n / 10 % 10) ∷ []) (ap decimal hundreds ∙ decimal_digit (n / 100 % 10) (omega arith)))
 
 -- bytes put one by one
 pub two_behind : (from last : List ℕ) (a b : ℕ) → last ≡ (from ++ a ∷ []) ++ b ∷ [] → last ≡ from ++ a ∷ b ∷ []

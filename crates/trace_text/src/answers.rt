@@ -1,30 +1,14 @@
 // What calls are answered.
-ghost use Rattle.std.specs.Prelude.{◌≡◌, ◌++◌, ◌∷◌, [], OnOk, codes};
-ghost use Rattle.std.specs.Fmt.{signed_decimal};
+ghost use Rattle.std.specs.Prelude.{◌≡◌, ◌≤◌, ◌+◌, ◌++◌, ◌∷◌, [], OnOk, codes, length, take};
+ghost use Rattle.std.specs.Fmt.{decimal};
 ghost use Rattle.std.specs.List.{flat_map};
-ghost use Rattle.trace_text.specs.Lines.{id_text, error_text, ids_text, answer_text};
+ghost use Rattle.trace_text.specs.Lines.{ended_line, id_text, ids_text, answer_text};
 
-use crate::words::{
-    add_number, add_spaced_text, add_word, add_word_id, add_word_number, add_word_text, func_word,
-};
+use crate::calls::{end_line, put_word_id, put_word_number};
+use crate::rows::{put_error, put_func, put_number, put_word};
+use crate::words::{add_byte, add_spaced_text, add_word, add_word_id};
 use itoa::Buffer;
 use lwp_types::{Answer, Func, IdKind, IdList, LwpErr, NoMemory, Text, Tid};
-
-fn error_name(error: LwpErr) -> &'static [u8]
-    ensures { result.now ≡ error_text error }
-{
-    match error {
-        LwpErr::NoError => b"LE_NOERROR",
-        LwpErr::NonExist => b"LE_NONEXIST",
-        LwpErr::Timeout => b"LE_TIMEOUT",
-        LwpErr::InUse => b"LE_INUSE",
-        LwpErr::InvalidArg => b"LE_INVALIDARG",
-        LwpErr::NoRoom => b"LE_NOROOM",
-        LwpErr::NotOwned => b"LE_NOTOWNED",
-        LwpErr::IllPrio => b"LE_ILLPRIO",
-        LwpErr::NoWait => b"LE_NOWAIT",
-    }
-}
 
 // The numbers of a list, each behind a space and a letter.
 fn add_ids(out: &mut Vec<u8>, letter: u8, list: &IdList) -> Result<(), NoMemory>
@@ -47,77 +31,148 @@ fn add_id_list(out: &mut Vec<u8>, kind: IdKind, list: &IdList) -> Result<(), NoM
     }
 }
 
-fn add_letter(out: &mut Vec<u8>, from: Tid, text: &Text, room: u8) -> Result<(), NoMemory>
-    ensures { OnOk result (out.new.items ≡ out.old.items ++ answer_text (Answer.Letter from text.now room)) }
+#[inline(never)]
+fn add_letter(
+    out: &mut Vec<u8>,
+    at: usize,
+    from: Tid,
+    text: &Text,
+    room: u8,
+) -> Result<(), NoMemory>
+    requires { at + 64 ≤ length out.old.items }
+    ensures { OnOk result (out.new.items ≡ take at out.old.items ++ ended_line (answer_text (Answer.Letter from text.now room))) }
 {
-    add_word_id(out, b" = letter ", b't', from.number)?;
-    add_word_number(out, b" ", u32::from(room))?;
-    add_spaced_text(out, text)
+    let row = out.as_mut_slice();
+    let next = put_word_id(row, at, b" = letter ", b't', from.number);
+    let end = put_word_number(row, next, b" ", u32::from(room));
+    out.truncate(end);
+    add_spaced_text(out, text)?;
+    add_byte(out, b'\n')
 }
 
-fn add_bound(out: &mut Vec<u8>, func: Func, arg: u32) -> Result<(), NoMemory>
-    ensures { OnOk result (out.new.items ≡ out.old.items ++ answer_text (Answer.Bound func arg)) }
+fn add_bound(out: &mut Vec<u8>, at: usize, func: Func, arg: u32) -> Result<(), NoMemory>
+    requires { at + 64 ≤ length out.old.items }
+    ensures { OnOk result (out.new.items ≡ take at out.old.items ++ ended_line (answer_text (Answer.Bound func arg))) }
 {
-    add_word(out, b" = bound ")?;
-    add_word(out, func_word(func))?;
-    add_word_number(out, b" ", arg)
+    let row = out.as_mut_slice();
+    let word = put_word(row, at, b" = bound ");
+    let next = put_func(row, word, func);
+    let end = put_word_number(row, next, b" ", arg);
+    end_line(out, end);
+    Ok(())
 }
 
 #[inline(never)]
-fn add_negative(out: &mut Vec<u8>, value: i64) -> Result<(), NoMemory>
-    ensures { OnOk result (out.new.items ≡ out.old.items ++ signed_decimal value) }
+fn add_ids_line(out: &mut Vec<u8>, at: usize, kind: IdKind, list: &IdList) -> Result<(), NoMemory>
+    requires { at + 64 ≤ length out.old.items }
+    ensures { OnOk result (out.new.items ≡ take at out.old.items ++ ended_line (answer_text (Answer.Ids kind list.now))) }
+{
+    out.truncate(at);
+    add_id_list(out, kind, list)?;
+    add_byte(out, b'\n')
+}
+
+#[inline(never)]
+fn add_negative(out: &mut Vec<u8>, at: usize, value: i64) -> Result<(), NoMemory>
+    requires { at + 64 ≤ length out.old.items }
+    ensures { OnOk result (out.new.items ≡ take at out.old.items ++ ended_line (answer_text (Answer.Value value))) }
 {
     let mut buffer = Buffer::new();
-    add_word(out, buffer.format(value).as_bytes())
+    out.truncate(at);
+    add_word(out, b" = ")?;
+    add_word(out, buffer.format(value).as_bytes())?;
+    add_byte(out, b'\n')
 }
 
 #[inline(always)]
-fn add_value(out: &mut Vec<u8>, value: i64) -> Result<(), NoMemory>
-    ensures { OnOk result (out.new.items ≡ out.old.items ++ answer_text (Answer.Value value)) }
+fn add_value(out: &mut Vec<u8>, at: usize, value: i64) -> Result<(), NoMemory>
+    requires { at + 64 ≤ length out.old.items }
+    ensures { OnOk result (out.new.items ≡ take at out.old.items ++ ended_line (answer_text (Answer.Value value))) }
 {
-    add_word(out, b" = ")?;
     if value < 0 {
-        return add_negative(out, value);
+        return add_negative(out, at, value);
     }
-    add_number(out, value as u64)
+    let row = out.as_mut_slice();
+    let next = put_word(row, at, b" = ");
+    let end = put_number(row, next, value as u64);
+    end_line(out, end);
+    Ok(())
 }
 
-fn add_refusal(out: &mut Vec<u8>, error: LwpErr) -> Result<(), NoMemory>
-    ensures { OnOk result (out.new.items ≡ out.old.items ++ answer_text (Answer.Refused error)) }
+#[inline(always)]
+fn add_one(out: &mut Vec<u8>, at: usize, letter: u8, n: u64) -> Result<(), NoMemory>
+    requires { at + 64 ≤ length out.old.items }
+    ensures { OnOk result (out.new.items ≡ take at out.old.items ++ ended_line (codes " = " ++ id_text (letter ∷ []) n)) }
 {
-    add_word(out, b" ! ")?;
-    add_word(out, error_name(error))
+    let end = put_word_id(out.as_mut_slice(), at, b" = ", letter, n);
+    end_line(out, end);
+    Ok(())
+}
+
+#[inline(always)]
+fn add_caught(out: &mut Vec<u8>, at: usize, pattern: u32) -> Result<(), NoMemory>
+    requires { at + 64 ≤ length out.old.items }
+    ensures { OnOk result (out.new.items ≡ take at out.old.items ++ ended_line (codes " caught " ++ decimal pattern)) }
+{
+    let end = put_word_number(out.as_mut_slice(), at, b" caught ", pattern);
+    end_line(out, end);
+    Ok(())
+}
+
+fn add_refusal(out: &mut Vec<u8>, at: usize, error: LwpErr) -> Result<(), NoMemory>
+    requires { at + 64 ≤ length out.old.items }
+    ensures { OnOk result (out.new.items ≡ take at out.old.items ++ ended_line (answer_text (Answer.Refused error))) }
+{
+    let row = out.as_mut_slice();
+    let next = put_word(row, at, b" ! ");
+    let end = put_error(row, next, error);
+    end_line(out, end);
+    Ok(())
+}
+
+#[inline(never)]
+fn add_reply(out: &mut Vec<u8>, at: usize, reply: &Text) -> Result<(), NoMemory>
+    requires { at + 64 ≤ length out.old.items }
+    ensures { OnOk result (out.new.items ≡ take at out.old.items ++ ended_line (answer_text (Answer.Reply reply.now))) }
+{
+    let end = put_word(out.as_mut_slice(), at, b" = reply");
+    out.truncate(end);
+    add_spaced_text(out, reply)?;
+    add_byte(out, b'\n')
 }
 
 // An answer of whatever kind. It stands apart, so that a number, which is what most calls are answered, saves and restores nothing.
 #[inline(never)]
-fn add_any_answer(out: &mut Vec<u8>, answer: &Answer) -> Result<(), NoMemory>
-    ensures { OnOk result (out.new.items ≡ out.old.items ++ answer_text answer.now) }
+fn add_any_answer(out: &mut Vec<u8>, at: usize, answer: &Answer) -> Result<(), NoMemory>
+    requires { at + 64 ≤ length out.old.items }
+    ensures { OnOk result (out.new.items ≡ take at out.old.items ++ ended_line (answer_text answer.now)) }
 {
     match answer {
-        Answer::Value(value) => add_value(out, *value),
-        Answer::Thread(tid) => add_word_id(out, b" = ", b't', tid.number),
-        Answer::Monitor(mon) => add_word_id(out, b" = ", b'm', mon.number),
-        Answer::Cond(cond) => add_word_id(out, b" = ", b'c', cond.number),
-        Answer::Letter { from, text, room } => add_letter(out, *from, text, *room),
-        Answer::Reply(text) => add_word_text(out, b" = reply", text),
-        Answer::Bound { func, arg } => add_bound(out, *func, *arg),
+        Answer::Value(value) => add_value(out, at, *value),
+        Answer::Thread(tid) => add_one(out, at, b't', tid.number),
+        Answer::Monitor(mon) => add_one(out, at, b'm', mon.number),
+        Answer::Cond(cond) => add_one(out, at, b'c', cond.number),
+        Answer::Letter { from, text, room } => add_letter(out, at, *from, text, *room),
+        Answer::Reply(text) => add_reply(out, at, text),
+        Answer::Bound { func, arg } => add_bound(out, at, *func, *arg),
         Answer::Caught {
             depth: _,
             mark: _,
             pattern,
-        } => add_word_number(out, b" caught ", *pattern),
-        Answer::Ids { kind, list } => add_id_list(out, *kind, list),
-        Answer::Refused(error) => add_refusal(out, *error),
+        } => add_caught(out, at, *pattern),
+        Answer::Ids { kind, list } => add_ids_line(out, at, *kind, list),
+        Answer::Refused(error) => add_refusal(out, at, *error),
     }
 }
 
+// An answer and a newline from `at` on. What stands behind that goes.
 #[inline(always)]
-pub(crate) fn add_answer(out: &mut Vec<u8>, answer: &Answer) -> Result<(), NoMemory>
-    ensures { OnOk result (out.new.items ≡ out.old.items ++ answer_text answer.now) }
+pub(crate) fn add_answer(out: &mut Vec<u8>, at: usize, answer: &Answer) -> Result<(), NoMemory>
+    requires { at + 64 ≤ length out.old.items }
+    ensures { OnOk result (out.new.items ≡ take at out.old.items ++ ended_line (answer_text answer.now)) }
 {
     match answer {
-        Answer::Value(value) => add_value(out, *value),
-        _ => add_any_answer(out, answer),
+        Answer::Value(value) => add_value(out, at, *value),
+        _ => add_any_answer(out, at, answer),
     }
 }

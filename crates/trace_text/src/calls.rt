@@ -1,26 +1,21 @@
 // What threads call, and what exit procedures do.
-ghost use Rattle.std.specs.Prelude.{◌≡◌, ◌++◌, [], OnOk, Some, None};
+ghost use Rattle.std.specs.Prelude.{◌≡◌, ◌≤◌, ◌+◌, ◌++◌, ◌∷◌, [], OnOk, Some, None, length, take};
+ghost use Rattle.std.specs.Fmt.{decimal};
 ghost use Rattle.lwp_types.specs.Families.{agent_call, letter_call, life_call, lock_call, mark_call, number_call, turn_call, wait_call};
-ghost use Rattle.trace_text.specs.Lines.{source_text, exit_text, call_text};
+ghost use Rattle.trace_text.specs.Lines.{ended_line, exit_text, call_text, id_text, who_text};
 
+use crate::rows::{
+    put_byte, put_func, put_id, put_mode, put_number, put_pattern, put_source, put_who, put_word,
+};
 use crate::words::{
-    add_flags, add_mode, add_pattern, add_proc, add_spaced_text, add_who, add_word, add_word_id,
-    add_word_number, add_word_text, add_word_who, add_word_who_text, func_word,
+    add_byte, add_flags, add_proc, add_spaced_text, add_word, add_word_id, add_word_number,
+    add_word_text, add_word_who, add_word_who_text,
 };
 use lwp_types::{
     AgentCall, Call, ExitCall, Family, Flags, Func, LetterCall, LifeCall, LockCall, MarkCall, Mode,
     NoMemory, NumberCall, Pattern, Text, Tid, TurnCall, WaitCall,
 };
 use text_list::TextList;
-
-fn add_source(out: &mut Vec<u8>, me: Option<Tid>, from: Option<Tid>) -> Result<(), NoMemory>
-    ensures { OnOk result (out.new.items ≡ out.old.items ++ source_text me from) }
-{
-    match from {
-        None => add_word(out, b"any"),
-        Some(tid) => add_who(out, me, tid),
-    }
-}
 
 pub(crate) fn add_exit(out: &mut Vec<u8>, me: Option<Tid>, call: &ExitCall) -> Result<(), NoMemory>
     ensures { OnOk result (out.new.items ≡ out.old.items ++ exit_text me call.now) }
@@ -37,222 +32,477 @@ pub(crate) fn add_exit(out: &mut Vec<u8>, me: Option<Tid>, call: &ExitCall) -> R
     }
 }
 
-fn add_on_exit(out: &mut Vec<u8>, me: Option<Tid>, call: &ExitCall) -> Result<(), NoMemory>
-    ensures { OnOk result (out.new.items ≡ out.old.items ++ call_text [] me (Call.OnExit call.now)) }
+// Ends a line whose last word ends at `at`.
+#[inline(always)]
+pub(crate) fn end_line(out: &mut Vec<u8>, at: usize)
+    requires { at + 1 ≤ length out.old.items }
+    ensures { out.new.items ≡ take at out.old.items ++ 10 ∷ [] }
 {
-    add_word(out, b"onexit ")?;
-    add_exit(out, me, call)
+    let end = put_byte(out.as_mut_slice(), at, b'\n');
+    out.truncate(end);
 }
 
+// A word and a thread.
+#[inline(always)]
+pub(crate) fn put_word_who(
+    row: &mut [u8],
+    at: usize,
+    word: &[u8],
+    me: Option<Tid>,
+    tid: Tid,
+) -> usize
+    requires { at + (length word.now + 21) ≤ length row.old }
+    ensures len { length row.new ≡ length row.old }
+    ensures end { result ≤ at + (length word.now + 21) }
+    ensures text { take result row.new ≡ take at row.old ++ (word.now ++ who_text me tid) }
+{
+    let next = put_word(row, at, word);
+    put_who(row, next, me, tid)
+}
+
+// A word and a number of a kind.
+#[inline(always)]
+pub(crate) fn put_word_id(row: &mut [u8], at: usize, word: &[u8], letter: u8, n: u64) -> usize
+    requires { at + (length word.now + 21) ≤ length row.old }
+    ensures len { length row.new ≡ length row.old }
+    ensures end { result ≤ at + (length word.now + 21) }
+    ensures text { take result row.new ≡ take at row.old ++ (word.now ++ id_text (letter ∷ []) n) }
+{
+    let next = put_word(row, at, word);
+    put_id(row, next, letter, n)
+}
+
+// A word and a number.
+#[inline(always)]
+pub(crate) fn put_word_number(row: &mut [u8], at: usize, word: &[u8], n: u32) -> usize
+    requires { at + (length word.now + 20) ≤ length row.old }
+    ensures len { length row.new ≡ length row.old }
+    ensures end { result ≤ at + (length word.now + 20) }
+    ensures text { take result row.new ≡ take at row.old ++ (word.now ++ decimal n) }
+{
+    let next = put_word(row, at, word);
+    put_number(row, next, u64::from(n))
+}
+
+#[inline(always)]
+fn put_set_priority(row: &mut [u8], at: usize, me: Option<Tid>, tid: Tid, prio: u32) -> usize
+    requires { at + 60 ≤ length row.old }
+    ensures len { length row.new ≡ length row.old }
+    ensures end { result ≤ at + 60 }
+    ensures text { take result row.new ≡ take at row.old ++ call_text [] me (Call.SetPri tid prio) }
+{
+    let next = put_word_who(row, at, b"setpri ", me, tid);
+    put_word_number(row, next, b" ", prio)
+}
+
+#[inline(always)]
+fn put_receive(row: &mut [u8], at: usize, me: Option<Tid>, from: Option<Tid>, mode: Mode) -> usize
+    requires { at + 60 ≤ length row.old }
+    ensures len { length row.new ≡ length row.old }
+    ensures end { result ≤ at + 60 }
+    ensures text { take result row.new ≡ take at row.old ++ call_text [] me (Call.Recv from mode) }
+{
+    let whom = put_word(row, at, b"recv ");
+    let next = put_source(row, whom, me, from);
+    let how = put_word(row, next, b" ");
+    put_mode(row, how, mode)
+}
+
+#[inline(always)]
+fn put_cond_send(row: &mut [u8], at: usize, me: Option<Tid>, cond: u64, tid: Tid) -> usize
+    requires { at + 60 ≤ length row.old }
+    ensures len { length row.new ≡ length row.old }
+    ensures end { result ≤ at + 60 }
+    ensures text { take result row.new ≡ take at row.old ++ call_text [] me (Call.CvSend cond tid) }
+{
+    let next = put_word_id(row, at, b"cvsend ", b'c', cond);
+    put_word_who(row, next, b" ", me, tid)
+}
+
+#[inline(always)]
+fn put_turn(row: &mut [u8], at: usize, me: Option<Tid>, call: TurnCall) -> usize
+    requires { at + 60 ≤ length row.old }
+    ensures len { length row.new ≡ length row.old }
+    ensures end { result ≤ at + 60 }
+    ensures text { take result row.new ≡ take at row.old ++ call_text [] me (turn_call call) }
+{
+    match call {
+        TurnCall::Yield(tid) => put_word_who(row, at, b"yield ", me, tid),
+        TurnCall::Resched(prio) => put_word_number(row, at, b"resched ", prio),
+        TurnCall::SetPri(tid, prio) => put_set_priority(row, at, me, tid, prio),
+        TurnCall::Suspend(tid) => put_word_who(row, at, b"suspend ", me, tid),
+        TurnCall::Resume(tid) => put_word_who(row, at, b"resume ", me, tid),
+    }
+}
+
+#[inline(always)]
+fn put_lock(row: &mut [u8], at: usize, call: LockCall) -> usize
+    requires { at + 60 ≤ length row.old }
+    ensures len { length row.new ≡ length row.old }
+    ensures end { result ≤ at + 60 }
+    ensures text { take result row.new ≡ take at row.old ++ call_text [] None (lock_call call) }
+{
+    match call {
+        LockCall::Create => put_word(row, at, b"moncreate"),
+        LockCall::Destroy(mon) => put_word_id(row, at, b"mondestroy ", b'm', mon.number),
+        LockCall::Enter(mon) => put_word_id(row, at, b"enter ", b'm', mon.number),
+        LockCall::CondEnter(mon) => put_word_id(row, at, b"condenter ", b'm', mon.number),
+        LockCall::Exit(mon) => put_word_id(row, at, b"monexit ", b'm', mon.number),
+        LockCall::Break(mon) => put_word_id(row, at, b"monbreak ", b'm', mon.number),
+        LockCall::List => put_word(row, at, b"monitors"),
+        LockCall::Waiters(mon) => put_word_id(row, at, b"monwaiters ", b'm', mon.number),
+    }
+}
+
+#[inline(always)]
+fn put_wait(row: &mut [u8], at: usize, me: Option<Tid>, call: WaitCall) -> usize
+    requires { at + 60 ≤ length row.old }
+    ensures len { length row.new ≡ length row.old }
+    ensures end { result ≤ at + 60 }
+    ensures text { take result row.new ≡ take at row.old ++ call_text [] me (wait_call call) }
+{
+    match call {
+        WaitCall::Create(mon) => put_word_id(row, at, b"cvcreate ", b'm', mon.number),
+        WaitCall::Destroy(cond) => put_word_id(row, at, b"cvdestroy ", b'c', cond.number),
+        WaitCall::Wait(cond) => put_word_id(row, at, b"wait ", b'c', cond.number),
+        WaitCall::Notify(cond) => put_word_id(row, at, b"notify ", b'c', cond.number),
+        WaitCall::Broadcast(cond) => put_word_id(row, at, b"broadcast ", b'c', cond.number),
+        WaitCall::Send(cond, tid) => put_cond_send(row, at, me, cond.number, tid),
+        WaitCall::List => put_word(row, at, b"conditions"),
+        WaitCall::Waiters(cond) => put_word_id(row, at, b"cvwaiters ", b'c', cond.number),
+    }
+}
+
+#[inline(always)]
+fn put_agent_call(row: &mut [u8], at: usize, call: AgentCall) -> usize
+    requires { at + 60 ≤ length row.old }
+    ensures len { length row.new ≡ length row.old }
+    ensures end { result ≤ at + 60 }
+    ensures text { take result row.new ≡ take at row.old ++ call_text [] None (agent_call call) }
+{
+    match call {
+        AgentCall::Create(event) => put_word_number(row, at, b"agent ", event),
+        AgentCall::List => put_word(row, at, b"agents"),
+        AgentCall::Trap(event) => put_word_number(row, at, b"trap ", event),
+    }
+}
+
+// A name or a text may be long, so such a part goes behind the bytes so far. These lines stand apart, so that the others save and
+// restore fewer registers.
+#[inline(never)]
 fn add_create(
     out: &mut Vec<u8>,
+    at: usize,
     procs: &TextList,
     number: u32,
     prio: u32,
     flags: Flags,
 ) -> Result<(), NoMemory>
-    ensures { OnOk result (out.new.items ≡ out.old.items ++ call_text procs.now None (Call.Create number prio flags)) }
+    requires { at + 64 ≤ length out.old.items }
+    ensures { OnOk result (out.new.items ≡ take at out.old.items ++ ended_line (call_text procs.now None (Call.Create number prio flags))) }
 {
+    out.truncate(at);
     add_word(out, b"create ")?;
     add_proc(out, procs, number)?;
     add_word_number(out, b" ", prio)?;
     add_word(out, b" ")?;
-    add_flags(out, flags)
+    add_flags(out, flags)?;
+    add_byte(out, b'\n')
 }
 
-fn add_set_priority(out: &mut Vec<u8>, me: Option<Tid>, tid: Tid, prio: u32) -> Result<(), NoMemory>
-    ensures { OnOk result (out.new.items ≡ out.old.items ++ call_text [] me (Call.SetPri tid prio)) }
-{
-    add_word_who(out, b"setpri ", me, tid)?;
-    add_word_number(out, b" ", prio)
-}
-
+#[inline(never)]
 fn add_send(
     out: &mut Vec<u8>,
+    at: usize,
     me: Option<Tid>,
     to: Tid,
     room: u8,
     text: &Text,
 ) -> Result<(), NoMemory>
-    ensures { OnOk result (out.new.items ≡ out.old.items ++ call_text [] me (Call.Send to room text.now)) }
+    requires { at + 64 ≤ length out.old.items }
+    ensures { OnOk result (out.new.items ≡ take at out.old.items ++ ended_line (call_text [] me (Call.Send to room text.now))) }
 {
-    add_word_who(out, b"send ", me, to)?;
-    add_word_number(out, b" ", u32::from(room))?;
-    add_spaced_text(out, text)
+    let row = out.as_mut_slice();
+    let next = put_word_who(row, at, b"send ", me, to);
+    let end = put_word_number(row, next, b" ", u32::from(room));
+    out.truncate(end);
+    add_spaced_text(out, text)?;
+    add_byte(out, b'\n')
 }
 
-fn add_receive(
+#[inline(never)]
+fn add_reply(
     out: &mut Vec<u8>,
+    at: usize,
     me: Option<Tid>,
-    from: Option<Tid>,
-    mode: Mode,
+    to: Tid,
+    text: &Text,
 ) -> Result<(), NoMemory>
-    ensures { OnOk result (out.new.items ≡ out.old.items ++ call_text [] me (Call.Recv from mode)) }
+    requires { at + 64 ≤ length out.old.items }
+    ensures { OnOk result (out.new.items ≡ take at out.old.items ++ ended_line (call_text [] me (Call.Reply to text.now))) }
 {
-    add_word(out, b"recv ")?;
-    add_source(out, me, from)?;
-    add_word(out, b" ")?;
-    add_mode(out, mode)
+    let end = put_word_who(out.as_mut_slice(), at, b"reply ", me, to);
+    out.truncate(end);
+    add_spaced_text(out, text)?;
+    add_byte(out, b'\n')
 }
 
-fn add_cond_send(out: &mut Vec<u8>, me: Option<Tid>, cond: u64, tid: Tid) -> Result<(), NoMemory>
-    ensures { OnOk result (out.new.items ≡ out.old.items ++ call_text [] me (Call.CvSend cond tid)) }
+#[inline(never)]
+fn add_say(out: &mut Vec<u8>, at: usize, text: &Text) -> Result<(), NoMemory>
+    requires { at + 64 ≤ length out.old.items }
+    ensures { OnOk result (out.new.items ≡ take at out.old.items ++ ended_line (call_text [] None (Call.Say text.now))) }
 {
-    add_word_id(out, b"cvsend ", b'c', cond)?;
-    add_word_who(out, b" ", me, tid)
+    out.truncate(at);
+    add_word_text(out, b"say", text)?;
+    add_byte(out, b'\n')
 }
 
-fn add_handle(out: &mut Vec<u8>, pattern: Pattern, func: Func, arg: u32) -> Result<(), NoMemory>
-    ensures { OnOk result (out.new.items ≡ out.old.items ++ call_text [] None (Call.Handle pattern func arg)) }
+fn add_handle(
+    out: &mut Vec<u8>,
+    at: usize,
+    pattern: Pattern,
+    func: Func,
+    arg: u32,
+) -> Result<(), NoMemory>
+    requires { at + 64 ≤ length out.old.items }
+    ensures { OnOk result (out.new.items ≡ take at out.old.items ++ ended_line (call_text [] None (Call.Handle pattern func arg))) }
 {
-    add_word(out, b"handle ")?;
-    add_pattern(out, pattern)?;
-    add_word(out, b" ")?;
-    add_word(out, func_word(func))?;
-    add_word_number(out, b" ", arg)
+    let row = out.as_mut_slice();
+    let word = put_word(row, at, b"handle ");
+    let next = put_pattern(row, word, pattern);
+    let word = put_word(row, next, b" ");
+    let next = put_func(row, word, func);
+    let end = put_word_number(row, next, b" ", arg);
+    end_line(out, end);
+    Ok(())
 }
 
-fn add_call_procedure(out: &mut Vec<u8>, procs: &TextList, number: u32) -> Result<(), NoMemory>
-    ensures { OnOk result (out.new.items ≡ out.old.items ++ call_text procs.now None (Call.CallProc number)) }
+#[inline(never)]
+fn add_call_procedure(
+    out: &mut Vec<u8>,
+    at: usize,
+    procs: &TextList,
+    number: u32,
+) -> Result<(), NoMemory>
+    requires { at + 64 ≤ length out.old.items }
+    ensures { OnOk result (out.new.items ≡ take at out.old.items ++ ended_line (call_text procs.now None (Call.CallProc number))) }
 {
+    out.truncate(at);
     add_word(out, b"call ")?;
-    add_proc(out, procs, number)
+    add_proc(out, procs, number)?;
+    add_byte(out, b'\n')
 }
 
+#[inline(never)]
+fn add_on_exit(
+    out: &mut Vec<u8>,
+    at: usize,
+    me: Option<Tid>,
+    call: &ExitCall,
+) -> Result<(), NoMemory>
+    requires { at + 64 ≤ length out.old.items }
+    ensures { OnOk result (out.new.items ≡ take at out.old.items ++ ended_line (call_text [] me (Call.OnExit call.now))) }
+{
+    out.truncate(at);
+    add_word(out, b"onexit ")?;
+    add_exit(out, me, call)?;
+    add_byte(out, b'\n')
+}
+
+#[inline(always)]
+fn add_plain(out: &mut Vec<u8>, at: usize, word: &[u8]) -> Result<(), NoMemory>
+    requires room { at + 64 ≤ length out.old.items }
+    requires short { length word.now ≤ 12 }
+    ensures { OnOk result (out.new.items ≡ take at out.old.items ++ ended_line (word.now)) }
+{
+    let end = put_word(out.as_mut_slice(), at, word);
+    end_line(out, end);
+    Ok(())
+}
+
+#[inline(always)]
+fn add_named(
+    out: &mut Vec<u8>,
+    at: usize,
+    word: &[u8],
+    me: Option<Tid>,
+    tid: Tid,
+) -> Result<(), NoMemory>
+    requires room { at + 64 ≤ length out.old.items }
+    requires short { length word.now ≤ 12 }
+    ensures { OnOk result (out.new.items ≡ take at out.old.items ++ ended_line (word.now ++ who_text me tid)) }
+{
+    let end = put_word_who(out.as_mut_slice(), at, word, me, tid);
+    end_line(out, end);
+    Ok(())
+}
+
+#[inline(always)]
+fn add_numbered(out: &mut Vec<u8>, at: usize, word: &[u8], n: u32) -> Result<(), NoMemory>
+    requires room { at + 64 ≤ length out.old.items }
+    requires short { length word.now ≤ 12 }
+    ensures { OnOk result (out.new.items ≡ take at out.old.items ++ ended_line (word.now ++ decimal n)) }
+{
+    let end = put_word_number(out.as_mut_slice(), at, word, n);
+    end_line(out, end);
+    Ok(())
+}
+
+#[inline(always)]
 fn add_life(
     out: &mut Vec<u8>,
+    at: usize,
     procs: &TextList,
     me: Option<Tid>,
     call: LifeCall,
 ) -> Result<(), NoMemory>
-    ensures { OnOk result (out.new.items ≡ out.old.items ++ call_text procs.now me (life_call call)) }
+    requires { at + 64 ≤ length out.old.items }
+    ensures { OnOk result (out.new.items ≡ take at out.old.items ++ ended_line (call_text procs.now me (life_call call))) }
 {
     match call {
-        LifeCall::Create(number, prio, flags) => add_create(out, procs, number, prio, flags),
-        LifeCall::Destroy(tid) => add_word_who(out, b"destroy ", me, tid),
-        LifeCall::Ping(tid) => add_word_who(out, b"ping ", me, tid),
-        LifeCall::Join(tid) => add_word_who(out, b"join ", me, tid),
-        LifeCall::Sleep(ticks) => add_word_number(out, b"sleep ", ticks),
-        LifeCall::Threads => add_word(out, b"threads"),
+        LifeCall::Create(number, prio, flags) => add_create(out, at, procs, number, prio, flags),
+        LifeCall::Destroy(tid) => add_named(out, at, b"destroy ", me, tid),
+        LifeCall::Ping(tid) => add_named(out, at, b"ping ", me, tid),
+        LifeCall::Join(tid) => add_named(out, at, b"join ", me, tid),
+        LifeCall::Sleep(ticks) => add_numbered(out, at, b"sleep ", ticks),
+        LifeCall::Threads => add_plain(out, at, b"threads"),
     }
 }
 
-fn add_turn(out: &mut Vec<u8>, me: Option<Tid>, call: TurnCall) -> Result<(), NoMemory>
-    ensures { OnOk result (out.new.items ≡ out.old.items ++ call_text [] me (turn_call call)) }
+#[inline(always)]
+fn add_number_call(out: &mut Vec<u8>, at: usize, call: &NumberCall) -> Result<(), NoMemory>
+    requires { at + 64 ≤ length out.old.items }
+    ensures { OnOk result (out.new.items ≡ take at out.old.items ++ ended_line (call_text [] None (number_call call.now))) }
 {
     match call {
-        TurnCall::Yield(tid) => add_word_who(out, b"yield ", me, tid),
-        TurnCall::Resched(prio) => add_word_number(out, b"resched ", prio),
-        TurnCall::SetPri(tid, prio) => add_set_priority(out, me, tid, prio),
-        TurnCall::Suspend(tid) => add_word_who(out, b"suspend ", me, tid),
-        TurnCall::Resume(tid) => add_word_who(out, b"resume ", me, tid),
+        NumberCall::Me => add_plain(out, at, b"self"),
+        NumberCall::SetMaxPri(prio) => add_numbered(out, at, b"setmaxpri ", *prio),
+        NumberCall::SetExit(code) => add_numbered(out, at, b"setexit ", *code),
+        NumberCall::GetExit => add_plain(out, at, b"getexit"),
+        NumberCall::PodExit(code) => add_numbered(out, at, b"podexit ", *code),
+        NumberCall::Say(text) => add_say(out, at, text),
     }
 }
 
-fn add_number_call(out: &mut Vec<u8>, call: &NumberCall) -> Result<(), NoMemory>
-    ensures { OnOk result (out.new.items ≡ out.old.items ++ call_text [] None (number_call call.now)) }
+#[inline(always)]
+fn add_receive(
+    out: &mut Vec<u8>,
+    at: usize,
+    me: Option<Tid>,
+    from: Option<Tid>,
+    mode: Mode,
+) -> Result<(), NoMemory>
+    requires { at + 64 ≤ length out.old.items }
+    ensures { OnOk result (out.new.items ≡ take at out.old.items ++ ended_line (call_text [] me (Call.Recv from mode))) }
+{
+    let end = put_receive(out.as_mut_slice(), at, me, from, mode);
+    end_line(out, end);
+    Ok(())
+}
+
+#[inline(always)]
+fn add_letter_call(
+    out: &mut Vec<u8>,
+    at: usize,
+    me: Option<Tid>,
+    call: &LetterCall,
+) -> Result<(), NoMemory>
+    requires { at + 64 ≤ length out.old.items }
+    ensures { OnOk result (out.new.items ≡ take at out.old.items ++ ended_line (call_text [] me (letter_call call.now))) }
 {
     match call {
-        NumberCall::Me => add_word(out, b"self"),
-        NumberCall::SetMaxPri(prio) => add_word_number(out, b"setmaxpri ", *prio),
-        NumberCall::SetExit(code) => add_word_number(out, b"setexit ", *code),
-        NumberCall::GetExit => add_word(out, b"getexit"),
-        NumberCall::PodExit(code) => add_word_number(out, b"podexit ", *code),
-        NumberCall::Say(text) => add_word_text(out, b"say", text),
+        LetterCall::Send(to, room, text) => add_send(out, at, me, *to, *room, text),
+        LetterCall::Recv(from, mode) => add_receive(out, at, me, *from, *mode),
+        LetterCall::Reply(to, text) => add_reply(out, at, me, *to, text),
+        LetterCall::Senders => add_plain(out, at, b"senders"),
+        LetterCall::Receivers => add_plain(out, at, b"receivers"),
     }
 }
 
-fn add_letter_call(out: &mut Vec<u8>, me: Option<Tid>, call: &LetterCall) -> Result<(), NoMemory>
-    ensures { OnOk result (out.new.items ≡ out.old.items ++ call_text [] me (letter_call call.now)) }
-{
-    match call {
-        LetterCall::Send(to, room, text) => add_send(out, me, *to, *room, text),
-        LetterCall::Recv(from, mode) => add_receive(out, me, *from, *mode),
-        LetterCall::Reply(to, text) => add_word_who_text(out, b"reply ", me, *to, text),
-        LetterCall::Senders => add_word(out, b"senders"),
-        LetterCall::Receivers => add_word(out, b"receivers"),
-    }
-}
-
-fn add_lock(out: &mut Vec<u8>, call: LockCall) -> Result<(), NoMemory>
-    ensures { OnOk result (out.new.items ≡ out.old.items ++ call_text [] None (lock_call call)) }
-{
-    match call {
-        LockCall::Create => add_word(out, b"moncreate"),
-        LockCall::Destroy(mon) => add_word_id(out, b"mondestroy ", b'm', mon.number),
-        LockCall::Enter(mon) => add_word_id(out, b"enter ", b'm', mon.number),
-        LockCall::CondEnter(mon) => add_word_id(out, b"condenter ", b'm', mon.number),
-        LockCall::Exit(mon) => add_word_id(out, b"monexit ", b'm', mon.number),
-        LockCall::Break(mon) => add_word_id(out, b"monbreak ", b'm', mon.number),
-        LockCall::List => add_word(out, b"monitors"),
-        LockCall::Waiters(mon) => add_word_id(out, b"monwaiters ", b'm', mon.number),
-    }
-}
-
-fn add_wait(out: &mut Vec<u8>, me: Option<Tid>, call: WaitCall) -> Result<(), NoMemory>
-    ensures { OnOk result (out.new.items ≡ out.old.items ++ call_text [] me (wait_call call)) }
-{
-    match call {
-        WaitCall::Create(mon) => add_word_id(out, b"cvcreate ", b'm', mon.number),
-        WaitCall::Destroy(cond) => add_word_id(out, b"cvdestroy ", b'c', cond.number),
-        WaitCall::Wait(cond) => add_word_id(out, b"wait ", b'c', cond.number),
-        WaitCall::Notify(cond) => add_word_id(out, b"notify ", b'c', cond.number),
-        WaitCall::Broadcast(cond) => add_word_id(out, b"broadcast ", b'c', cond.number),
-        WaitCall::Send(cond, tid) => add_cond_send(out, me, cond.number, tid),
-        WaitCall::List => add_word(out, b"conditions"),
-        WaitCall::Waiters(cond) => add_word_id(out, b"cvwaiters ", b'c', cond.number),
-    }
-}
-
+#[inline(always)]
 fn add_mark(
     out: &mut Vec<u8>,
+    at: usize,
     procs: &TextList,
     me: Option<Tid>,
     call: &MarkCall,
 ) -> Result<(), NoMemory>
-    ensures { OnOk result (out.new.items ≡ out.old.items ++ call_text procs.now me (mark_call call.now)) }
+    requires { at + 64 ≤ length out.old.items }
+    ensures { OnOk result (out.new.items ≡ take at out.old.items ++ ended_line (call_text procs.now me (mark_call call.now))) }
 {
     match call {
-        MarkCall::CallProc(number) => add_call_procedure(out, procs, *number),
-        MarkCall::Return => add_word(out, b"return"),
-        MarkCall::Handle(pattern, func, arg) => add_handle(out, *pattern, *func, *arg),
-        MarkCall::Unhandle => add_word(out, b"unhandle"),
-        MarkCall::OnExit(call) => add_on_exit(out, me, call),
-        MarkCall::Raise(pattern) => add_word_number(out, b"raise ", *pattern),
-        MarkCall::ExcNotify(pattern) => add_word_number(out, b"excnotify ", *pattern),
-        MarkCall::Bound(pattern) => add_word_number(out, b"bound ", *pattern),
-        MarkCall::UniqPatt => add_word(out, b"uniqpatt"),
+        MarkCall::CallProc(number) => add_call_procedure(out, at, procs, *number),
+        MarkCall::Return => add_plain(out, at, b"return"),
+        MarkCall::Handle(pattern, func, arg) => add_handle(out, at, *pattern, *func, *arg),
+        MarkCall::Unhandle => add_plain(out, at, b"unhandle"),
+        MarkCall::OnExit(call) => add_on_exit(out, at, me, call),
+        MarkCall::Raise(pattern) => add_numbered(out, at, b"raise ", *pattern),
+        MarkCall::ExcNotify(pattern) => add_numbered(out, at, b"excnotify ", *pattern),
+        MarkCall::Bound(pattern) => add_numbered(out, at, b"bound ", *pattern),
+        MarkCall::UniqPatt => add_plain(out, at, b"uniqpatt"),
     }
 }
 
-fn add_agent_call(out: &mut Vec<u8>, call: AgentCall) -> Result<(), NoMemory>
-    ensures { OnOk result (out.new.items ≡ out.old.items ++ call_text [] None (agent_call call)) }
+#[inline(always)]
+fn add_turn(out: &mut Vec<u8>, at: usize, me: Option<Tid>, call: TurnCall) -> Result<(), NoMemory>
+    requires { at + 64 ≤ length out.old.items }
+    ensures { OnOk result (out.new.items ≡ take at out.old.items ++ ended_line (call_text [] me (turn_call call))) }
 {
-    match call {
-        AgentCall::Create(event) => add_word_number(out, b"agent ", event),
-        AgentCall::List => add_word(out, b"agents"),
-        AgentCall::Trap(event) => add_word_number(out, b"trap ", event),
-    }
+    let end = put_turn(out.as_mut_slice(), at, me, call);
+    end_line(out, end);
+    Ok(())
 }
 
-// A call, in what thread `me` calls.
+#[inline(always)]
+fn add_lock(out: &mut Vec<u8>, at: usize, call: LockCall) -> Result<(), NoMemory>
+    requires { at + 64 ≤ length out.old.items }
+    ensures { OnOk result (out.new.items ≡ take at out.old.items ++ ended_line (call_text [] None (lock_call call))) }
+{
+    let end = put_lock(out.as_mut_slice(), at, call);
+    end_line(out, end);
+    Ok(())
+}
+
+#[inline(always)]
+fn add_wait(out: &mut Vec<u8>, at: usize, me: Option<Tid>, call: WaitCall) -> Result<(), NoMemory>
+    requires { at + 64 ≤ length out.old.items }
+    ensures { OnOk result (out.new.items ≡ take at out.old.items ++ ended_line (call_text [] me (wait_call call))) }
+{
+    let end = put_wait(out.as_mut_slice(), at, me, call);
+    end_line(out, end);
+    Ok(())
+}
+
+#[inline(always)]
+fn add_agent_call(out: &mut Vec<u8>, at: usize, call: AgentCall) -> Result<(), NoMemory>
+    requires { at + 64 ≤ length out.old.items }
+    ensures { OnOk result (out.new.items ≡ take at out.old.items ++ ended_line (call_text [] None (agent_call call))) }
+{
+    let end = put_agent_call(out.as_mut_slice(), at, call);
+    end_line(out, end);
+    Ok(())
+}
+
+// A call and a newline from `at` on, in what thread `me` calls. What stands behind that goes.
 pub(crate) fn add_call(
     out: &mut Vec<u8>,
+    at: usize,
     procs: &TextList,
     me: Tid,
     call: &Call,
 ) -> Result<(), NoMemory>
-    ensures { OnOk result (out.new.items ≡ out.old.items ++ call_text procs.now (Some me) call.now) }
+    requires { at + 64 ≤ length out.old.items }
+    ensures { OnOk result (out.new.items ≡ take at out.old.items ++ ended_line (call_text procs.now (Some me) call.now)) }
 {
     let caller = Some(me);
     match call.family() {
-        Family::Lives(call) => add_life(out, procs, caller, call),
-        Family::Turns(call) => add_turn(out, caller, call),
-        Family::Numbers(call) => add_number_call(out, &call),
-        Family::Letters(call) => add_letter_call(out, caller, &call),
-        Family::Locks(call) => add_lock(out, call),
-        Family::Waits(call) => add_wait(out, caller, call),
-        Family::Marks(call) => add_mark(out, procs, caller, &call),
-        Family::Agents(call) => add_agent_call(out, call),
+        Family::Lives(call) => add_life(out, at, procs, caller, call),
+        Family::Turns(call) => add_turn(out, at, caller, call),
+        Family::Numbers(call) => add_number_call(out, at, &call),
+        Family::Letters(call) => add_letter_call(out, at, caller, &call),
+        Family::Locks(call) => add_lock(out, at, call),
+        Family::Waits(call) => add_wait(out, at, caller, call),
+        Family::Marks(call) => add_mark(out, at, procs, caller, &call),
+        Family::Agents(call) => add_agent_call(out, at, call),
     }
 }

@@ -1,9 +1,9 @@
 // The words that lines are made of. Each function but those that answer a word puts its part at the end of the bytes so far.
-ghost use Rattle.std.specs.Prelude.{◌≡◌, ◌<◌, ◌≤◌, ◌+◌, ◌++◌, ◌∷◌, [], OnOk};
+ghost use Rattle.std.specs.Prelude.{◌≡◌, ◌≤◌, ◌+◌, ◌++◌, ◌∷◌, [], IfOk, OnOk, length, take};
 ghost use Rattle.std.specs.Fmt.{decimal};
 ghost use Rattle.trace_text.specs.Lines.{spaced, id_text, who_text, proc_text, flags_text, letter_if, mode_text, pattern_text, func_text};
 
-use itoa::Buffer;
+use crate::rows::{put_id, put_mode, put_number, put_pattern, put_who};
 use lwp_types::{Flags, Func, Mode, NoMemory, Pattern, Text, Tid};
 use text_list::TextList;
 
@@ -73,120 +73,49 @@ pub fn add_spaced_text(out: &mut Vec<u8>, text: &Text) -> Result<(), NoMemory>
     Ok(())
 }
 
-// A number of any length. It stands apart, so that a shorter one makes no room for so many digits.
-#[inline(never)]
-fn add_digits(out: &mut Vec<u8>, n: u64) -> Result<(), NoMemory>
-    ensures { OnOk result (out.new.items ≡ out.old.items ++ decimal n) }
-{
-    let mut buffer = Buffer::new();
-    add_word(out, buffer.format(n).as_bytes())
-}
+// How many bytes the short words of a line take at most.
+const ROOM: usize = 96;
 
-// The digit of a number below 10.
-fn digit(n: u64) -> u8
-    requires { n < 10 }
-    ensures { result ≡ 48 + n }
-{
-    b'0' + n as u8
-}
-
-// A number of two digits or of three; digit by digit, which costs less than to write them elsewhere and copy them.
-fn add_two_or_three(out: &mut Vec<u8>, n: u64) -> Result<(), NoMemory>
-    requires least { 10 ≤ n }
-    requires most { n < 1000 }
-    ensures { OnOk result (out.new.items ≡ out.old.items ++ decimal n) }
-{
-    if out.capacity() - out.len() < 3 {
-        return add_digits(out, n);
-    }
-    if n >= 100 {
-        out.push_reserved(digit(n / 100));
-    }
-    out.push_reserved(digit(n / 10 % 10));
-    out.push_reserved(digit(n % 10));
-    Ok(())
-}
-
-// A number of one digit, of two or of three.
-#[tactic(auto, using(std::proofs::lemmas::Fmt::decimal_digit))]
-fn add_up_to_three(out: &mut Vec<u8>, n: u64) -> Result<(), NoMemory>
-    requires { n < 1000 }
-    ensures { OnOk result (out.new.items ≡ out.old.items ++ decimal n) }
-{
-    if n < 10 {
-        return add_byte(out, digit(n));
-    }
-    add_two_or_three(out, n)
-}
-
-// A number of four digits, of five or of six: how many thousands it has, and three digits behind them.
-#[inline(never)]
-fn add_thousands(out: &mut Vec<u8>, n: u64) -> Result<(), NoMemory>
-    requires least { 1000 ≤ n }
-    requires most { n < 1000000 }
-    ensures { OnOk result (out.new.items ≡ out.old.items ++ decimal n) }
-{
-    add_up_to_three(out, n / 1000)?;
-    out.reserve(3)?;
-    out.push_reserved(digit(n / 100 % 10));
-    out.push_reserved(digit(n / 10 % 10));
-    out.push_reserved(digit(n % 10));
-    Ok(())
-}
-
-// A number of two digits or more.
-#[inline(never)]
-fn add_longer(out: &mut Vec<u8>, n: u64) -> Result<(), NoMemory>
-    requires { 10 ≤ n }
-    ensures { OnOk result (out.new.items ≡ out.old.items ++ decimal n) }
-{
-    if n < 1000 {
-        add_two_or_three(out, n)
-    } else if n < 1_000_000 {
-        add_thousands(out, n)
-    } else {
-        add_digits(out, n)
-    }
-}
-
-/// A number in decimal. It needs no memory but for the bytes so far.
-#[tactic(auto, using(std::proofs::lemmas::Fmt::decimal_digit))]
+// Opens room for the short words of a line, and answers where it begins. They are put there one by one, which can't fail, and
+// `truncate` takes away the rest.
 #[inline(always)]
+pub(crate) fn open(out: &mut Vec<u8>) -> Result<usize, NoMemory>
+    ensures from { IfOk result (λ from. take from out.new.items ≡ out.old.items) }
+    ensures room { IfOk result (λ from. from + 96 ≤ length out.new.items) }
+{
+    let from = out.len();
+    out.resize(from + ROOM, 0)?;
+    Ok(from)
+}
+
+/// A number in decimal. It needs no memory but for the bytes so far and a row behind them.
 pub fn add_number(out: &mut Vec<u8>, n: u64) -> Result<(), NoMemory>
     ensures { OnOk result (out.new.items ≡ out.old.items ++ decimal n) }
 {
-    if n < 10 {
-        return add_byte(out, b'0' + n as u8);
-    }
-    add_longer(out, n)
+    let from = open(out)?;
+    let end = put_number(out.as_mut_slice(), from, n);
+    out.truncate(end);
+    Ok(())
 }
 
 // A number behind its letter, or `none` for the number that nobody has.
-#[inline(always)]
 pub(crate) fn add_id(out: &mut Vec<u8>, letter: u8, n: u64) -> Result<(), NoMemory>
     ensures { OnOk result (out.new.items ≡ out.old.items ++ id_text (letter ∷ []) n) }
 {
-    if n == u64::MAX {
-        return add_word(out, b"none");
-    }
-    add_byte(out, letter)?;
-    add_number(out, n)
+    let from = open(out)?;
+    let end = put_id(out.as_mut_slice(), from, letter, n);
+    out.truncate(end);
+    Ok(())
 }
 
 // A thread, in what `me` calls.
 pub(crate) fn add_who(out: &mut Vec<u8>, me: Option<Tid>, tid: Tid) -> Result<(), NoMemory>
     ensures { OnOk result (out.new.items ≡ out.old.items ++ who_text me tid) }
 {
-    match me {
-        Some(caller) => {
-            if caller.number == tid.number {
-                add_word(out, b"self")
-            } else {
-                add_id(out, b't', tid.number)
-            }
-        }
-        None => add_id(out, b't', tid.number),
-    }
+    let from = open(out)?;
+    let end = put_who(out.as_mut_slice(), from, me, tid);
+    out.truncate(end);
+    Ok(())
 }
 
 pub(crate) fn add_proc(out: &mut Vec<u8>, procs: &TextList, number: u32) -> Result<(), NoMemory>
@@ -226,11 +155,10 @@ pub fn add_flags(out: &mut Vec<u8>, flags: Flags) -> Result<(), NoMemory>
 pub fn add_mode(out: &mut Vec<u8>, mode: Mode) -> Result<(), NoMemory>
     ensures { OnOk result (out.new.items ≡ out.old.items ++ mode_text mode) }
 {
-    match mode {
-        Mode::Poll => add_word(out, b"poll"),
-        Mode::Block => add_word(out, b"wait"),
-        Mode::Until { ticks } => add_number(out, u64::from(ticks)),
-    }
+    let from = open(out)?;
+    let end = put_mode(out.as_mut_slice(), from, mode);
+    out.truncate(end);
+    Ok(())
 }
 
 pub fn func_word(func: Func) -> &'static [u8]
@@ -247,10 +175,10 @@ pub fn func_word(func: Func) -> &'static [u8]
 pub fn add_pattern(out: &mut Vec<u8>, pattern: Pattern) -> Result<(), NoMemory>
     ensures { OnOk result (out.new.items ≡ out.old.items ++ pattern_text pattern) }
 {
-    match pattern {
-        Pattern::All => add_word(out, b"all"),
-        Pattern::Num(number) => add_number(out, u64::from(number)),
-    }
+    let from = open(out)?;
+    let end = put_pattern(out.as_mut_slice(), from, pattern);
+    out.truncate(end);
+    Ok(())
 }
 
 // A word and a thread.
