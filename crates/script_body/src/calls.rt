@@ -148,6 +148,7 @@ fn set_lock_call<'s>(texts: &'s TextList, sender: Tid, env: &Env, stmt: &Stmt, c
     }
 }
 
+#[inline(always)]
 fn source_of(sender: Tid, env: &Env, from: &Option<Who>) -> Option<Tid>
     ensures { result ≡ option_map (who_id sender env.now) from.now }
 {
