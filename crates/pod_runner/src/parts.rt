@@ -1,9 +1,12 @@
 // What a run moves: the pod with its own events, each live thread's body, and the names.
-ghost use Rattle.std.specs.Prelude.{◌≡◌, ◌<◌, ◌≤◌, ◌^◌, IfNone, IfOk, IfSome, OnOk, IsSome, IsTrue, None, Some, [], slice_get, length};
+ghost use Rattle.std.specs.Prelude.{◌≡◌, ◌++◌, ◌<◌, ◌≤◌, ◌^◌, IfNone, IfOk, IfSome, OnOk, IsSome, IsTrue, None, Some, [], slice_get, length};
 ghost use Rattle.std.specs.Slice.Scan.{HoldsNowhere, IsFirstPlace};
 ghost use Rattle.lwp_types.specs.State.{opening};
 ghost use Rattle.pod_events.specs.Events.{is_takeable, quiet_events};
 ghost use Rattle.pod_events.specs.Machine.{current_of};
+ghost use Rattle.pod_events.specs.Step.{event_step, leads};
+ghost use Rattle.pod_events.specs.Traps.{lead};
+ghost use Rattle.trace_text.specs.Lines.{step_lines};
 ghost use Rattle.pod_runner.specs.Calls.{caller_of, made_in};
 ghost use Rattle.pod_runner.specs.Phase.{phase_of};
 ghost use Rattle.pod_runner.specs.Polls.{place_of};
@@ -20,14 +23,52 @@ use pod_events::EventPod;
 use std::alloc::Global;
 use text_list::TextList;
 
-// Whose call stands before the effects of a turn: where a trap was raised, they tell it themselves, if it was made.
-#[inline(always)]
-fn caller_of(trap: Option<u8>, tid: Tid) -> Option<Tid>
-    ensures { result ≡ caller_of trap tid }
+// A call before which a trap is raised, and `out` has the lines of what that did: the effects tell the call themselves, if it was
+// made. It stands apart from the way of most calls.
+#[inline(never)]
+fn call_behind_trap<'s>(
+    pod: &mut EventPod<'s, Pod<'s>>,
+    call: &Call<'s>,
+    effects: &mut Effects<'s>,
+    names: &TextList,
+    out: &mut Vec<u8>,
+) -> Result<(), NoMemory>
+    requires { IsSome (current_of pod.old.state) }
+    ensures after { OnOk result (pod.new ≡ (event_step pod.old call.now).after) }
+    ensures effects { OnOk result (leads pod.old call.now ++ effects.new ≡ (event_step pod.old call.now).effects) }
+    ensures lines { OnOk result (out.new.items ≡ step_lines names.now None effects.new) }
 {
-    match trap {
-        None => Some(tid),
-        Some(_) => None,
+    pod.call(call, effects)?;
+    set_lines(out, effects, None, names)?;
+    Ok(())
+}
+
+// A call, and `out` has the lines of what that did. Answers whose call stands before the effects.
+#[inline(always)]
+fn carry_out<'s>(
+    tid: Tid,
+    pod: &mut EventPod<'s, Pod<'s>>,
+    call: &Call<'s>,
+    effects: &mut Effects<'s>,
+    names: &TextList,
+    out: &mut Vec<u8>,
+) -> Result<Option<Tid>, NoMemory>
+    requires { IsSome (current_of pod.old.state) }
+    ensures after { OnOk result (pod.new ≡ (event_step pod.old call.now).after) }
+    ensures effects { OnOk result (leads pod.old call.now ++ effects.new ≡ (event_step pod.old call.now).effects) }
+    ensures lines { OnOk result (out.new.items ≡ step_lines names.now None (lead pod.old.pending tid call.now ++ effects.new)) }
+    ensures caller { IfOk result (λ caller. caller ≡ caller_of pod.old.pending tid) }
+{
+    match pod.pending() {
+        None => {
+            pod.call(call, effects)?;
+            set_turn_lines(out, None, tid, call, effects, names)?;
+            Ok(Some(tid))
+        }
+        Some(_) => {
+            call_behind_trap(pod, call, effects, names, out)?;
+            Ok(None)
+        }
     }
 }
 
@@ -188,10 +229,15 @@ impl<'s, B: Polled<'s>> Parts<'s, B> {
     {
         self.env.set_me(tid);
         self.rows.poll_at(i, &mut self.env, &mut self.call)?;
-        let trap = self.pod.pending();
-        self.pod.call(&self.call, &mut self.effects)?;
-        self.caller = caller_of(trap, tid);
-        set_turn_lines(out, trap, tid, &self.call, &self.effects, names)?;
+        let caller = carry_out(
+            tid,
+            &mut self.pod,
+            &self.call,
+            &mut self.effects,
+            names,
+            out,
+        )?;
+        self.caller = caller;
         let born = proc_of(&self.call);
         settle(&mut self.rows, program, born, &self.effects)?;
         Ok(())

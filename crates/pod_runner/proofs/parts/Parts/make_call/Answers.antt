@@ -31,11 +31,9 @@ returns g c =
     let es = c.args.self.now.pod in
     let chosen = chosen_from es.state c.args.tid c.requires.current in
     let call = c.poll_at.new.call in
-    let told = first_told es c.args.tid call c.call.new.effects chosen c.in_ok-call.ensures.effects in
-    let effects = lead es.pending c.args.tid call ++ c.call.new.effects in
-    let rows = c.in_ok-settle.ensures ∙ settled-lead (g.P.Program.bodies c.args.program.now) c.proc_of-born.result es.pending c.args.tid call c.call.new.effects c.poll_at.new.self in
-    let lines = rw c.pending-trap.ensures at c.in_ok-set_turn_lines.ensures in
-    let caller = c.caller_of-self.ensures ∙ ap (λ trap. caller_of trap c.args.tid) c.pending-trap.ensures in
-    let m = moves_at g.B.Body.next (g.P.Program.bodies c.args.program.now) c.args.names.now (live_of c.args.self.now) c.args.tid c.args.i c.set_me.new.self call c.call.new.self effects c.poll_at.new.self c.settle.new.rows c.poll_at.new.env c.set_turn_lines.new.out.items c.proc_of-born.result
-    chosen c.requires.place c.requires.within c.set_me.ensures c.in_ok-poll_at.ensures c.in_ok-call.ensures.after told c.proc_of-born.ensures rows lines in
-    record { live = m.live; effects = ap (λ who. with_call_by who call c.call.new.effects) caller ∙ led es.pending c.args.tid call c.call.new.effects ∙ m.effects; lines = m.lines }
+    let told = first_told es c.args.tid call c.carry_out.new.effects chosen c.in_ok-caller.ensures.effects in
+    let effects = lead es.pending c.args.tid call ++ c.carry_out.new.effects in
+    let rows = c.in_ok-settle.ensures ∙ settled-lead (g.P.Program.bodies c.args.program.now) c.proc_of-born.result es.pending c.args.tid call c.carry_out.new.effects c.poll_at.new.self in
+    let m = moves_at g.B.Body.next (g.P.Program.bodies c.args.program.now) c.args.names.now (live_of c.args.self.now) c.args.tid c.args.i c.set_me.new.self call c.carry_out.new.pod effects c.poll_at.new.self c.settle.new.rows c.poll_at.new.env c.carry_out.new.out.items c.proc_of-born.result
+    chosen c.requires.place c.requires.within c.set_me.ensures c.in_ok-poll_at.ensures c.in_ok-caller.ensures.after told c.proc_of-born.ensures rows c.in_ok-caller.ensures.lines in
+    record { live = m.live; effects = ap (λ who. with_call_by who call c.carry_out.new.effects) c.in_ok-caller.ensures.caller ∙ led es.pending c.args.tid call c.carry_out.new.effects ∙ m.effects; lines = m.lines }
