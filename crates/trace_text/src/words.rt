@@ -48,13 +48,28 @@ pub(crate) fn add_word(out: &mut Vec<u8>, word: &[u8]) -> Result<(), NoMemory>
     Ok(())
 }
 
+// Up to so many bytes are pushed one by one, which costs less than to have them copied.
+const FEW: usize = 6;
+
+// A text, which mostly is short.
+#[inline(always)]
+fn add_bytes(out: &mut Vec<u8>, text: &[u8]) -> Result<(), NoMemory>
+    ensures { OnOk result (out.new.items ≡ out.old.items ++ text.now) }
+{
+    if text.len() <= FEW {
+        add_word(out, text)
+    } else {
+        add_text(out, text)
+    }
+}
+
 /// A text behind a space; nothing, where it is empty.
 pub fn add_spaced(out: &mut Vec<u8>, text: &[u8]) -> Result<(), NoMemory>
     ensures { OnOk result (out.new.items ≡ out.old.items ++ spaced text.now) }
 {
     if !text.is_empty() {
         add_byte(out, b' ')?;
-        out.extend_from_slice(text)?;
+        add_bytes(out, text)?;
     }
     Ok(())
 }
@@ -69,8 +84,7 @@ pub fn add_spaced_text(out: &mut Vec<u8>, text: &Text) -> Result<(), NoMemory>
     }
     add_byte(out, b' ')?;
     add_word(out, lead)?;
-    out.extend_from_slice(rest)?;
-    Ok(())
+    add_bytes(out, rest)
 }
 
 // How many bytes the short words of a line take at most.
