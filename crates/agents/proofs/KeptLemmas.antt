@@ -9,7 +9,7 @@ use Rattle.agents.specs.declared.board.Tally.{Tally}
 use Rattle.agents.specs.declared.index.Entry.{Entry}
 use Rattle.lwp_types.specs.Agents.{belongs_to, is_armed, is_for, new_agent, without_agent}
 use Rattle.lwp_types.specs.CountLaws.{count-cons, count-push, count_found_by, count_not_found, one}
-use Rattle.lwp_types.specs.Letters.{holding_set, with_holding}
+use Rattle.lwp_types.specs.Messages.{holding_set, with_holding}
 use Rattle.lwp_types.specs.State.{agent_numbers, agent_of, all_below, is_agent_row, is_empty, member, passes, rises, without}
 use Rattle.lwp_types.specs.declared.rows.AgentRow.{AgentRow}
 use Rattle.std.proofs.Common.{Bool, IfNone, IfSome, List, None, Option, Some, [], ap, arith, cond, count_by, eqb, false, inl, inr, is_some, length, ltb, not, option_map, refl, replicate, set, slice_get, sym, true, ℕ, ◌&&◌, ◌++◌, ◌+◌, ◌-◌, ◌<◌, ◌∙◌, ◌∷◌, ◌≡◌, ◌≢◌, ◌≤◌, ◌⊎◌}

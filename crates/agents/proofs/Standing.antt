@@ -2,7 +2,7 @@
 use Rattle.agents.specs.Kept.{IsAgentAt}
 use Rattle.lwp_types.specs.Agents.{without_agent}
 use Rattle.lwp_types.specs.CountLaws.{count-cons, one}
-use Rattle.lwp_types.specs.Letters.{holding_set, with_holding}
+use Rattle.lwp_types.specs.Messages.{holding_set, with_holding}
 use Rattle.lwp_types.specs.State.{agent_numbers, agent_of, is_agent_row, member, rises, without}
 use Rattle.lwp_types.specs.declared.rows.AgentRow.{AgentRow}
 use Rattle.std.proofs.Common.{Bool, Err, IfNone, IfSome, List, None, Ok, Result, Some, [], ap, arith, cond, count_by, eqb, false, get_or, inl, inr, length, ltb, not, refl, set, suc, sym, true, zero, ℕ, ◌++◌, ◌+◌, ◌<◌, ◌∙◌, ◌∷◌, ◌≡◌, ◌≢◌, ◌≤◌}

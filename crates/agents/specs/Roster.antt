@@ -1,6 +1,6 @@
 -- The agents of a pod as a plain list, and what each call makes of it.
 use Rattle.lwp_types.specs.Agents.{belongs_to, event_agents, new_agent, without_agent}
-use Rattle.lwp_types.specs.Letters.{with_holding}
+use Rattle.lwp_types.specs.Messages.{with_holding}
 use Rattle.lwp_types.specs.State.{agent_numbers, agent_of, passes, rises}
 use Rattle.lwp_types.specs.declared.rows.AgentRow.{AgentRow}
 use Rattle.std.specs.List.{find}

@@ -132,7 +132,8 @@ impl Agents {
     pub fn next_armed(&self, from: u8) -> Option<u8>
         ensures none { IfNone result (HoldsNowhere (is_armed self.now.agents) from 32) }
         ensures below { IfSome result (λ event. event < 32) }
-        ensures first { IfSome result (λ event. IsFirstPlace (is_armed self.now.agents) from 32 event) }
+        ensures first { IfSome result
+            (λ event. IsFirstPlace (is_armed self.now.agents) from 32 event) }
     {
         self.board.next_ready(from)
     }

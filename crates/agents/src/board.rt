@@ -95,7 +95,8 @@ impl Board {
     pub fn next_ready(&self, from: u8) -> Option<u8>
         ensures none { IfNone result (HoldsNowhere (λ e. is_ready (tally_at self.now e)) from 32) }
         ensures below { IfSome result (λ event. event < 32) }
-        ensures first { IfSome result (λ event. IsFirstPlace (λ e. is_ready (tally_at self.now e)) from 32 event) }
+        ensures first { IfSome result
+            (λ event. IsFirstPlace (λ e. is_ready (tally_at self.now e)) from 32 event) }
     {
         first_marked(self.armed, from)
     }

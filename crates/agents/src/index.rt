@@ -107,7 +107,8 @@ impl Index {
     pub fn add(&mut self, key: u64, number: u64)
         requires newest { IsTrue (all_below number (numbers_under key self.old.entries)) }
         requires room { length self.old.entries < self.old.room }
-        ensures puts { Puts self.old.entries self.new.entries key (numbers_under key self.old.entries ++ number ∷ []) }
+        ensures puts { Puts self.old.entries self.new.entries key
+            (numbers_under key self.old.entries ++ number ∷ []) }
         ensures len { length self.new.entries ≡ length self.old.entries + 1 }
         ensures room { self.new.room ≡ self.old.room }
     {
@@ -119,7 +120,8 @@ impl Index {
     /// Takes a number out that stands under the key.
     pub fn take(&mut self, key: u64, number: u64)
         requires { IsTrue (member number (numbers_under key self.old.entries)) }
-        ensures puts { Puts self.old.entries self.new.entries key (without number (numbers_under key self.old.entries)) }
+        ensures puts { Puts self.old.entries self.new.entries key
+            (without number (numbers_under key self.old.entries)) }
         ensures len { length self.new.entries + 1 ≡ length self.old.entries }
         ensures room { self.new.room ≡ self.old.room }
     {

@@ -1,7 +1,7 @@
 // The rows of the agents: which one is meant, and what becomes of it.
 ghost use Rattle.std.specs.Prelude.{◌≡◌, IfNone, IfOk, IfSome, IsTrue, None, vec_capacity};
 ghost use Rattle.lwp_types.specs.Agents.{without_agent};
-ghost use Rattle.lwp_types.specs.Letters.{with_holding};
+ghost use Rattle.lwp_types.specs.Messages.{with_holding};
 ghost use Rattle.lwp_types.specs.State.{agent_numbers, agent_of, rises};
 ghost use Rattle.agents.specs.Kept.{IsAgentAt};
 

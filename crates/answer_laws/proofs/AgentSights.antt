@@ -5,19 +5,19 @@ use Rattle.answer_laws.specs.Agents.{AgentSight, DestroyedAgentsAreGone, OthersL
 use Rattle.lwp_types.specs.Agents.{agent_gone, agents_of, belongs_to, end_agent, make_agent, new_agent}
 use Rattle.lwp_types.specs.Case.{Case, Check, refused, unanswered, unless, valued, with_zero}
 use Rattle.lwp_types.specs.Choice.{choice}
+use Rattle.lwp_types.specs.Conditions.{condition_of, waited, waking, woken, woken_all}
 use Rattle.lwp_types.specs.CountLaws.{count-cons, count-filter, count_agree, count_found_and, one}
 use Rattle.lwp_types.specs.Counts.{goes_well, is_owners}
 use Rattle.lwp_types.specs.Death.{answer_joiners, bury, death, destroyed, end_agents, refuse_receivers, refuse_sender, refuse_senders, release_all, return_from, run_all_exits, withdraw}
+use Rattle.lwp_types.specs.Exceptions.{caught_marks, exits_of, first_frames, found_in, frames, later_frames, searching, with_match}
 use Rattle.lwp_types.specs.Exits.{caught, exit_case, leave_frame, notified_by, run_exit, unwind}
 use Rattle.lwp_types.specs.Lawful.{Lawful, NineParts}
-use Rattle.lwp_types.specs.Letters.{as_received, holding_set, is_letter_of, is_open, is_to, post, receive_by, receivers_of, replied, senders_to, takes_from, unreceived, with_holding, without_letter}
-use Rattle.lwp_types.specs.Locks.{depth_in, entered, exited, is_owned_by_other, requested, with_depth}
-use Rattle.lwp_types.specs.Marks.{caught_marks, exits_of, first_frames, found_in, frames, later_frames, searching, with_match}
-use Rattle.lwp_types.specs.Release.{grant, last_lock, next_owner, release, without_lock}
+use Rattle.lwp_types.specs.Messages.{as_received, holding_set, is_letter_of, is_open, is_to, post, receive_by, receivers_of, replied, senders_to, takes_from, unreceived, with_holding, without_letter}
+use Rattle.lwp_types.specs.MonitorRelease.{grant, last_lock, next_owner, release, without_lock}
+use Rattle.lwp_types.specs.Monitors.{depth_in, entered, exited, is_owned_by_other, requested, with_depth}
 use Rattle.lwp_types.specs.State.{Outcome, State, and_then, for_each, in_order, is_agent, is_agent_row, is_id, is_thread, marks_in, passes, still, thread_of}
 use Rattle.lwp_types.specs.Step.{case_of, step, step_by, step_if}
 use Rattle.lwp_types.specs.Unblock.{blocked, blocked_for, nonexist, unblock, zero_answer}
-use Rattle.lwp_types.specs.Waits.{condition_of, waited, waking, woken, woken_all}
 use Rattle.lwp_types.specs.declared.call.Call.{Call}
 use Rattle.lwp_types.specs.declared.call.ExitCall.{ExitCall}
 use Rattle.lwp_types.specs.declared.call.Func.{Func}
@@ -402,7 +402,7 @@ module _ (a : ℕ) where
       kept_case (call.Notify c) h = kept_waking s t c _ _
       kept_case (call.Broadcast c) h = kept_waking s t c _ _
       kept_case (call.CvSend c v) h = kept_waking s t c _ _
-      kept_case call.Conds h = refl
+      kept_case call.Conditions h = refl
       kept_case (call.CvWaiters c) h = kept_unless s _ _ (λ passed. refl)
       kept_case (call.CallProc number) h = kept_unless s _ _ (λ passed. refl)
       kept_case call.Return h = kept_returned

@@ -9,7 +9,7 @@ use Rattle.lwp_types.specs.Agents.{deliver, deliver_to, event_agents, is_for, me
 use Rattle.lwp_types.specs.CountLaws.{count-append, count-cons, count-filter-le, one}
 use Rattle.lwp_types.specs.Counts.{has_owner_and_event, is_between, timers_of}
 use Rattle.lwp_types.specs.Lawful.{Lawful}
-use Rattle.lwp_types.specs.Letters.{as_answer, as_received, holding_set, is_letter_of, post, takes_from, with_holding}
+use Rattle.lwp_types.specs.Messages.{as_answer, as_received, holding_set, is_letter_of, post, takes_from, with_holding}
 use Rattle.lwp_types.specs.State.{Outcome, State, ThreadRow, agent_of, and_then, block_set, for_each, is_agent_row, is_number, is_thread, passes, still, thread_of, with_block}
 use Rattle.lwp_types.specs.Time.{due_threads, is_due, tick, ticked, time_out}
 use Rattle.lwp_types.specs.Unblock.{is_timer_of, unblock}

@@ -24,7 +24,7 @@ use Rattle.lwp_types.specs.Choice.{choice}
 use Rattle.lwp_types.specs.CountLaws.{count-append, count_not_found}
 use Rattle.lwp_types.specs.Counts.{timers_of}
 use Rattle.lwp_types.specs.Lawful.{Lawful}
-use Rattle.lwp_types.specs.Letters.{as_answer, is_letter_of, is_open, is_to, received_from, replied, unreceived}
+use Rattle.lwp_types.specs.Messages.{as_answer, is_letter_of, is_open, is_to, received_from, replied, unreceived}
 use Rattle.lwp_types.specs.Names.{Names}
 use Rattle.lwp_types.specs.State.{Outcome, State, agent_of, is_agent, is_agent_row, is_thread, marks_in, passes}
 use Rattle.lwp_types.specs.Step.{step}

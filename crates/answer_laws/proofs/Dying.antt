@@ -7,7 +7,7 @@ use Rattle.lwp_types.specs.Death.{death}
 use Rattle.lwp_types.specs.Exits.{leave_frame, notified_by}
 use Rattle.lwp_types.specs.Lawful.{Lawful}
 use Rattle.lwp_types.specs.Agents.{armed, end_agent}
-use Rattle.lwp_types.specs.Marks.{found_in, frames, with_match}
+use Rattle.lwp_types.specs.Exceptions.{found_in, frames, with_match}
 use Rattle.lwp_types.specs.declared.call.Answer.{Answer}
 use Rattle.lwp_types.specs.State.{State, ThreadRow, is_agent, is_number, is_thread, marks_in, numbers, passes}
 use Rattle.lwp_types.specs.Step.{case_of, step, step_by, step_if}

@@ -11,7 +11,7 @@ use Rattle.lwp_types.specs.Choice.{choice}
 use Rattle.lwp_types.specs.CountLaws.{count-append}
 use Rattle.lwp_types.specs.Counts.{timers_of}
 use Rattle.lwp_types.specs.Lawful.{Lawful}
-use Rattle.lwp_types.specs.Letters.{takes_from}
+use Rattle.lwp_types.specs.Messages.{takes_from}
 use Rattle.lwp_types.specs.State.{Outcome, State, and_then, is_thread, passes}
 use Rattle.lwp_types.specs.Step.{step, step_by, step_if}
 use Rattle.lwp_types.specs.Unblock.{is_timer_of}

@@ -230,7 +230,7 @@ module _ (n : ℕ) where
   stmt_kept a (stmt.CvCreate name mon) names below all = condition_kept a
     where
       condition_kept : (a : Answer) → AllKnown n (condition_named_by name a names)
-      condition_kept (answer.Cond c) = all
+      condition_kept (answer.Condition c) = all
       condition_kept _ = all
   stmt_kept a _ names below all = all
 

@@ -3,17 +3,17 @@ use Rattle.answer_laws.proofs.Sights.{Attends, Away, Turn, Turn.Left, Turn.Woken
 use Rattle.answer_laws.specs.Sights.{answer_for, going_on, is_attentive, Hears, sight, sight_by}
 use Rattle.lwp_types.specs.Agents.{agent_gone, agents_of, belongs_to, end_agent}
 use Rattle.lwp_types.specs.Case.{Case, Check, refused, unless}
+use Rattle.lwp_types.specs.Conditions.{condition_of, is_lock_of, waking, woken, woken_all}
 use Rattle.lwp_types.specs.CountLaws.{count-cons, one}
 use Rattle.lwp_types.specs.Death.{answer_joiners, bury, death, end_agents, joins, refuse_receivers, refuse_sender, refuse_senders, release_all, run_all_exits, withdraw}
+use Rattle.lwp_types.specs.Exceptions.{exits_of}
 use Rattle.lwp_types.specs.Exits.{exit_case, run_exit, unwind}
 use Rattle.lwp_types.specs.Lawful.{NineParts}
-use Rattle.lwp_types.specs.Letters.{as_answer, as_received, awaits, post, takes_from, is_letter_of, receivers_of, replied, senders_to, with_holding, without_letter}
-use Rattle.lwp_types.specs.Locks.{depth_in, exited, with_depth}
-use Rattle.lwp_types.specs.Marks.{exits_of}
-use Rattle.lwp_types.specs.Release.{grant, last_lock, next_owner, release, without_lock}
+use Rattle.lwp_types.specs.Messages.{as_answer, as_received, awaits, post, takes_from, is_letter_of, receivers_of, replied, senders_to, with_holding, without_letter}
+use Rattle.lwp_types.specs.MonitorRelease.{grant, last_lock, next_owner, release, without_lock}
+use Rattle.lwp_types.specs.Monitors.{depth_in, exited, with_depth}
 use Rattle.lwp_types.specs.State.{Outcome, State, ThreadRow, for_each, in_order, is_agent, is_agent_row, is_number, marked, marks_in, marks_set, passes, still, suspension_set, thread_of, times_in, with_block, with_suspension}
 use Rattle.lwp_types.specs.Unblock.{nonexist, unblock, zero_answer}
-use Rattle.lwp_types.specs.Waits.{condition_of, is_lock_of, waking, woken, woken_all}
 use Rattle.lwp_types.specs.declared.call.Answer.{Answer}
 use Rattle.lwp_types.specs.declared.call.Effect.{Effect}
 use Rattle.lwp_types.specs.declared.call.ExitCall.{ExitCall}
@@ -27,6 +27,7 @@ use Rattle.lwp_types.specs.declared.rows.Request.{Request}
 use Rattle.lwp_types.specs.declared.rows.WaitRow.{WaitRow}
 use Rattle.pod_laws.proofs.AgentEnds.{awaits_alone}
 use Rattle.pod_laws.proofs.Checks.{Passed}
+use Rattle.pod_laws.proofs.ConditionCalls.{Among, all_among, best_among, waking_begins}
 use Rattle.pod_laws.proofs.DeathLoops.{Lonely, Unowning, end_first, refuse_first, refused_all}
 use Rattle.pod_laws.proofs.Deaths.{joins_alone, lonely, nine_unwound, nine_withdrawn, unmarked_nine, unowning}
 use Rattle.pod_laws.proofs.Drains.{Waked, first_waiter, keys_times, wake_all, wake_first, waiters_by}
@@ -36,7 +37,6 @@ use Rattle.pod_laws.proofs.LetterMoves.{is_alone, no_rows}
 use Rattle.pod_laws.proofs.LockMoves.{NineParts-released, next, requester}
 use Rattle.pod_laws.proofs.OnceExits.{of_case}
 use Rattle.pod_laws.proofs.Rows.{find_rowed, number_known}
-use Rattle.pod_laws.proofs.WaitCalls.{Among, all_among, best_among, waking_begins}
 use Rattle.pod_laws.proofs.Waking.{Waking, first_waits, waiter, waking_next}
 use Rattle.std.proofs.Common.{Bool, List, None, Option, Some, [], ap, arith, cond, eqb, false, inl, inr, not, refl, sym, true, ℕ, ◌++◌, ◌-◌, ◌∙◌, ◌∷◌, ◌≡◌, ◌≢◌}
 use Rattle.std.proofs.lemmas.Bool.{eq-eqb, eqb-true, ne_eqb}

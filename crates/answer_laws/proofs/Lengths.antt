@@ -1,7 +1,7 @@
 -- The answers to lines that are short are short.
 use Rattle.answer_laws.specs.Lengths.{ShortLinesHaveShortAnswers, is_short}
 use Rattle.line_server.specs.Commands.{Command, Del, Get, Put, alone, asked_by, command_of, is_key_length, key_len, put_of}
-use Rattle.line_server.specs.Tables.{Table, Told, at_key, is_quit, key_cmp, replies, shown, told, told_command, told_value}
+use Rattle.line_server.specs.Tables.{Table, Told, at_key, is_quit, key_cmp, replies, shown, told_command, told_text, told_value}
 use Rattle.std.proofs.Common.{Bool, List, None, Option, Some, [], arith, cond, drop, false, length, refl, suc, take, true, zero, ℕ, ◌&&◌, ◌∙◌, ◌∷◌, ◌≡◌, ◌≤◌}
 use Rattle.std.proofs.lemmas.Bool.{and_from, and_parts, le-leb, leb-true}
 use Rattle.std.proofs.lemmas.List.{length-drop}
@@ -125,7 +125,7 @@ replies_short [] table all h = refl
 replies_short (text ∷ texts) table all h =
     let parts = and_parts (is_short text) (list_all is_short texts) all in
     let now = command_told (command_of text) (command_few text parts.0) table h in
-    and_from _ _ now.0 (replies_short texts (told text table).table parts.1 now.1)
+    and_from _ _ now.0 (replies_short texts (told_text text table).table parts.1 now.1)
 
 taken_all : (n : ℕ) (texts : List (List ℕ)) → list_all is_short texts ≡ true → list_all is_short (take n texts) ≡ true
 taken_all zero texts all = refl

@@ -18,7 +18,7 @@ use Rattle.lwp_types.specs.Agents.{agent_born, armed, deliver, deliver_to, event
 use Rattle.lwp_types.specs.Case.{answered, is_at_limit, is_full, refused}
 use Rattle.lwp_types.specs.Choice.{choice}
 use Rattle.lwp_types.specs.Lawful.{Lawful}
-use Rattle.lwp_types.specs.Letters.{as_answer, as_received, takes_from, with_holding}
+use Rattle.lwp_types.specs.Messages.{as_answer, as_received, takes_from, with_holding}
 use Rattle.lwp_types.specs.Names.{Names}
 use Rattle.lwp_types.specs.State.{Outcome, State, ThreadRow, and_then, for_each, is_thread, marks_in, passes, still, thread_of}
 use Rattle.lwp_types.specs.Step.{case_of, end_effects, ends, finished, step, step_by, step_if}
@@ -35,7 +35,7 @@ use Rattle.pod_events.specs.Step.{event_step}
 use Rattle.pod_events.specs.Traps.{Trapping, but_call, called, is_catch, is_given, made, notice, stepped}
 use Rattle.pod_laws.proofs.Absent.{the_absent_are_refused}
 use Rattle.pod_laws.specs.Forgotten.{IsGone}
-use Rattle.pod_laws.specs.Waiters.{is_zero, told}
+use Rattle.pod_laws.specs.Waiters.{is_told, is_zero}
 use Rattle.std.proofs.Common.{Bool, List, None, Option, Some, [], ap, append-nil, cond, drop, eqb, false, refl, subst, sym, true, ℕ, ◌&&◌, ◌++◌, ◌||◌, ◌∙◌, ◌∷◌, ◌≡◌}
 use Rattle.std.proofs.lemmas.Bool.{eq-eqb}
 use Rattle.std.proofs.lemmas.List.Folds.{list_any-append}
@@ -99,7 +99,7 @@ module _ (body : SessionBody) (names : Names) (past : is_late body.place ≡ tru
   late_received (answer.Thread b) = late_stop
   late_received (answer.Value v) = late_stop
   late_received (answer.Monitor t) = late_stop
-  late_received (answer.Cond t) = late_stop
+  late_received (answer.Condition t) = late_stop
   late_received (answer.Reply text) = late_stop
   late_received (answer.Bound f arg) = late_stop
   late_received (answer.Caught d m p) = late_stop
@@ -112,7 +112,7 @@ module _ (body : SessionBody) (names : Names) (past : is_late body.place ≡ tru
   late_told (answer.Thread b) = late_stop
   late_told (answer.Value v) = late_stop
   late_told (answer.Monitor t) = late_stop
-  late_told (answer.Cond t) = late_stop
+  late_told (answer.Condition t) = late_stop
   late_told (answer.Bound f arg) = late_stop
   late_told (answer.Caught d m p) = late_stop
   late_told (answer.Ids n ns) = late_stop
@@ -132,26 +132,26 @@ and_never : (b : Bool) → (b && false) ≡ false
 and_never true = refl
 and_never false = refl
 
-no_zero_deliver : (s : ℕ) (st : State) (e : ℕ) (text : List ℕ) → eqb e 0 ≡ false → list_any (told s is_zero) (deliver st e text).effects ≡ false
+no_zero_deliver : (s : ℕ) (st : State) (e : ℕ) (text : List ℕ) → eqb e 0 ≡ false → list_any (is_told s is_zero) (deliver st e text).effects ≡ false
 unfolding deliver for_each and_then
 no_zero_deliver s st e text other = by_clock (eqb e 0) other
   where
-    by_handed : (letter : Letter) (b : Bool) (st : State) → list_any (told s is_zero) (cond b (unblock (as_answer letter) letter.to (record st { letters = st.letters ++ as_received letter ∷ [] })) (still (record st { letters = st.letters ++ letter ∷ [] }))).effects ≡ false
+    by_handed : (letter : Letter) (b : Bool) (st : State) → list_any (is_told s is_zero) (cond b (unblock (as_answer letter) letter.to (record st { letters = st.letters ++ as_received letter ∷ [] })) (still (record st { letters = st.letters ++ letter ∷ [] }))).effects ≡ false
     by_handed letter true st = ap (λ b. b || false) (and_never (eqb letter.to s))
     by_handed letter false st = refl
 
-    one : (row : AgentRow) (st : State) → list_any (told s is_zero) (deliver_to text row st).effects ≡ false
+    one : (row : AgentRow) (st : State) → list_any (is_told s is_zero) (deliver_to text row st).effects ≡ false
     one row st = by_handed (message text row) (passes (λ (other : ThreadRow). takes_from row.number other.block) (thread_of st row.owner)) (record st { agents = with_holding row.number true st.agents })
 
-    each : (rows : List AgentRow) (st : State) → list_any (told s is_zero) (for_each (deliver_to text) rows st).effects ≡ false
+    each : (rows : List AgentRow) (st : State) → list_any (is_told s is_zero) (for_each (deliver_to text) rows st).effects ≡ false
     each [] st = refl
-    each (row ∷ rows) st = list_any-append (told s is_zero) (deliver_to text row st).effects (for_each (deliver_to text) rows (deliver_to text row st).after).effects ∙ (λ i. one row st i || each rows (deliver_to text row st).after i)
+    each (row ∷ rows) st = list_any-append (is_told s is_zero) (deliver_to text row st).effects (for_each (deliver_to text) rows (deliver_to text row st).after).effects ∙ (λ i. one row st i || each rows (deliver_to text row st).after i)
 
-    by_clock : (b : Bool) → b ≡ false → list_any (told s is_zero) (cond b (tick st) (for_each (deliver_to text) (event_agents st.agents e) st)).effects ≡ false
+    by_clock : (b : Bool) → b ≡ false → list_any (is_told s is_zero) (cond b (tick st) (for_each (deliver_to text) (event_agents st.agents e) st)).effects ≡ false
     by_clock true f = absurd (cc)
     by_clock false f = each (event_agents st.agents e) st
 
-no_zero_said : (s dead : ℕ) (after : State) → list_any (told s is_zero) (map (as_rites dead) (deliver after rites_event (report_text dead)).effects) ≡ false
+no_zero_said : (s dead : ℕ) (after : State) → list_any (is_told s is_zero) (map (as_rites dead) (deliver after rites_event (report_text dead)).effects) ≡ false
 no_zero_said s dead after = told_any s (map (as_rites dead) (deliver after rites_event (report_text dead)).effects) ∙ ap (list_any is_zero) (rites_same s dead (deliver after rites_event (report_text dead)).effects)
     ∙ sym (told_any s (deliver after rites_event (report_text dead)).effects) ∙ no_zero_deliver s after rites_event (report_text dead) refl
 
@@ -160,7 +160,7 @@ no_zero_said s dead after = told_any s (map (as_rites dead) (deliver after rites
 module _ (s b : ℕ) where
   -- whatever is told behind these effects, but no zero for s, a reply of s isn't among them
   abbrev Unheard : List Effect → Type 0
-  Unheard es = (ys : List Effect) → list_any (told s is_zero) ys ≡ false → replied_in s b ys ≡ [] → replied_in s b (es ++ ys) ≡ []
+  Unheard es = (ys : List Effect) → list_any (is_told s is_zero) ys ≡ false → replied_in s b ys ≡ [] → replied_in s b (es ++ ys) ≡ []
 
   unheard_said : (after : State) (es : List Effect) (reports : List ℕ) → Unheard es → replied_in s b (rites_said after es reports).effects ≡ []
   unheard_said after es reports quiet = by_armed (armed after rites_event) reports
@@ -189,11 +189,11 @@ module _ (s b : ℕ) where
         by_never true = refl
         by_never false = refl
 
-        by_end : (d : Bool) → list_any (told s is_zero) (cond d (effect.Ended es.state.status ∷ []) [] ++ ys) ≡ false
+        by_end : (d : Bool) → list_any (is_told s is_zero) (cond d (effect.Ended es.state.status ∷ []) [] ++ ys) ≡ false
         by_end true = none
         by_end false = none
 
-        rest : list_any (told s is_zero) ((effect.Answered s (answer.Refused error.NonExist) ∷ end_effects es.state) ++ ys) ≡ false
+        rest : list_any (is_told s is_zero) ((effect.Answered s (answer.Refused error.NonExist) ∷ end_effects es.state) ++ ys) ≡ false
         rest = (λ i. and_never (eqb s s) i || by_end (ends es.state) i)
 
     reply_unheard : replied_in s b (event_step es reply).effects ≡ []

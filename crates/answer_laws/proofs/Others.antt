@@ -13,16 +13,16 @@ use Rattle.lwp_types.specs.FirstLaws.{finds_best}
 use Rattle.lwp_types.specs.First.{IsFirstBest}
 use Rattle.lwp_types.specs.Exits.{caught, leave_frame, notified_by}
 use Rattle.lwp_types.specs.Lawful.{Lawful, NineParts, is_same_option}
-use Rattle.lwp_types.specs.Letters.{as_answer, is_letter_of, is_open, marked_received, post, receive_by, takes_from, unreceived, with_holding}
-use Rattle.lwp_types.specs.Locks.{entered, is_owned_by_other, requested}
-use Rattle.lwp_types.specs.Marks.{caught_marks, first_frames, found_in, frames, later_frames, searching, with_match}
-use Rattle.lwp_types.specs.Release.{grant, last_lock, next_owner, requests_of, without_lock}
+use Rattle.lwp_types.specs.Messages.{as_answer, is_letter_of, is_open, marked_received, post, receive_by, takes_from, unreceived, with_holding}
+use Rattle.lwp_types.specs.Monitors.{entered, is_owned_by_other, requested}
+use Rattle.lwp_types.specs.Exceptions.{caught_marks, first_frames, found_in, frames, later_frames, searching, with_match}
+use Rattle.lwp_types.specs.MonitorRelease.{grant, last_lock, next_owner, requests_of, without_lock}
 use Rattle.lwp_types.specs.State.{Outcome, State, ThreadRow, for_each, is_agent, is_agent_row, is_id, is_number, is_thread, marks_in, marks_set, passes, priority_in, priority_set, still, thread_of, with_block, with_marks}
 use Rattle.lwp_types.specs.Step.{case_of, end_effects, ends, finished, own_effects, step, step_by, step_if}
 use Rattle.lwp_types.specs.Threads.{born}
 use Rattle.lwp_types.specs.Time.{due_threads, is_due, tick, ticked, time_out}
 use Rattle.lwp_types.specs.Unblock.{blocked, blocked_for, is_timer_of, zero_answer}
-use Rattle.lwp_types.specs.Waits.{wait_of, waited, waits_on}
+use Rattle.lwp_types.specs.Conditions.{wait_of, waited, waits_on}
 use Rattle.lwp_types.specs.declared.call.Answer.{Answer}
 use Rattle.lwp_types.specs.declared.call.Call.{Call}
 use Rattle.lwp_types.specs.declared.call.Flags.{Flags}
@@ -45,7 +45,7 @@ use Rattle.pod_laws.proofs.MarkLists.{caught_based, caught_fewer, first_based, f
 use Rattle.pod_laws.proofs.MarkMoves.{NineParts-fewer}
 use Rattle.pod_laws.proofs.OnceExits.{of_case}
 use Rattle.pod_laws.proofs.Rows.{find_rowed, number_known}
-use Rattle.pod_laws.proofs.WaitCalls.{Among, all_among, best_among}
+use Rattle.pod_laws.proofs.ConditionCalls.{Among, all_among, best_among}
 use Rattle.std.proofs.Common.{Bool, List, None, Option, Some, [], ap, append-nil, arith, cond, eqb, false, inl, inr, not, refl, subst, sym, true, ℕ, ◌&&◌, ◌++◌, ◌+◌, ◌-◌, ◌||◌, ◌∙◌, ◌∷◌, ◌≡◌, ◌≢◌, ◌≤◌, ◌⊎◌}
 use Rattle.std.proofs.lemmas.Bool.{and_from, and_parts, eq-eqb, leb-true, ne_eqb}
 use Rattle.std.specs.List.{count_by, filter, find, list_all}
@@ -252,7 +252,7 @@ module _ (u t : ℕ) (Fits : Option ℕ → Answer → Type 0) (s : State) (nine
   case_turn (call.Notify c) h fits = waking_turn u Fits s None nine was t c _ _ (best_among s None nine c)
   case_turn (call.Broadcast c) h fits = waking_turn u Fits s None nine was t c _ _ (all_among s None nine c)
   case_turn (call.CvSend c v) h fits = waking_turn u Fits s None nine was t c _ _ (one_among c v)
-  case_turn call.Conds h fits = still_now _ refl refl refl
+  case_turn call.Conditions h fits = still_now _ refl refl refl
   case_turn (call.CvWaiters c) h fits = unless_turn u Fits s _ _ (λ passed. still_now _ refl refl refl)
   case_turn (call.CallProc number) h fits = unless_turn u Fits s _ _ (λ passed. marked_now _ _ refl refl refl)
   case_turn call.Return h fits = returned_now

@@ -40,7 +40,7 @@ use Rattle.pod_events.specs.Traps.{Trapping, agent_event_of, but_call, called, i
 use Rattle.pod_laws.proofs.Elements.{differ}
 use Rattle.pod_laws.proofs.EveryStep.{Lawful-step}
 use Rattle.pod_laws.specs.Forgotten.{IsGone}
-use Rattle.pod_laws.specs.Waiters.{is_zero, told}
+use Rattle.pod_laws.specs.Waiters.{is_told, is_zero}
 use Rattle.std.proofs.Common.{Bool, List, None, Option, Some, [], ap, append-nil, append_assoc, arith, cond, drop, eqb, false, inl, inr, refl, subst, sym, true, ℕ, ◌&&◌, ◌++◌, ◌∙◌, ◌∷◌, ◌≡◌, ◌≤◌, ◌||◌, ◌⊎◌}
 use Rattle.std.proofs.lemmas.Bool.{eq-eqb}
 use Rattle.std.specs.List.{list_all, list_any}
@@ -176,7 +176,7 @@ module _ (s a : ℕ) where
 
   -- nor is a call of s that is no reply to a
   pub mute_unreplied : (c : Call) → reply_to a c ≡ [] → (es : List Effect) → Mute (effect.Called s c ∷ es)
-  mute_unreplied c none es ys rest = ap (λ xs. cond (eqb s s && list_any (told s is_zero) (es ++ ys)) xs []) none ∙ by_test (eqb s s && list_any (told s is_zero) (es ++ ys))
+  mute_unreplied c none es ys rest = ap (λ xs. cond (eqb s s && list_any (is_told s is_zero) (es ++ ys)) xs []) none ∙ by_test (eqb s s && list_any (is_told s is_zero) (es ++ ys))
     where
       by_test : (b : Bool) → cond {A = List (List ℕ)} b [] [] ≡ []
       by_test true = refl
@@ -297,7 +297,7 @@ module _ (body : SessionBody) (names : Names) (place : SessionPlace) where
   plain_opened (answer.Letter from text room) = plain_stop _ refl
   plain_opened (answer.Value v) = plain_stop _ refl
   plain_opened (answer.Monitor t) = plain_stop _ refl
-  plain_opened (answer.Cond t) = plain_stop _ refl
+  plain_opened (answer.Condition t) = plain_stop _ refl
   plain_opened (answer.Reply text) = plain_stop _ refl
   plain_opened (answer.Bound f arg) = plain_stop _ refl
   plain_opened (answer.Caught d m p) = plain_stop _ refl
@@ -309,7 +309,7 @@ module _ (body : SessionBody) (names : Names) (place : SessionPlace) where
   plain_received (answer.Thread b) = plain_stop _ refl
   plain_received (answer.Value v) = plain_stop _ refl
   plain_received (answer.Monitor t) = plain_stop _ refl
-  plain_received (answer.Cond t) = plain_stop _ refl
+  plain_received (answer.Condition t) = plain_stop _ refl
   plain_received (answer.Reply text) = plain_stop _ refl
   plain_received (answer.Bound f arg) = plain_stop _ refl
   plain_received (answer.Caught d m p) = plain_stop _ refl
@@ -322,7 +322,7 @@ module _ (body : SessionBody) (names : Names) (place : SessionPlace) where
   plain_told (answer.Thread b) = plain_stop _ refl
   plain_told (answer.Value v) = plain_stop _ refl
   plain_told (answer.Monitor t) = plain_stop _ refl
-  plain_told (answer.Cond t) = plain_stop _ refl
+  plain_told (answer.Condition t) = plain_stop _ refl
   plain_told (answer.Bound f arg) = plain_stop _ refl
   plain_told (answer.Caught d m p) = plain_stop _ refl
   plain_told (answer.Ids n ns) = plain_stop _ refl
@@ -338,7 +338,7 @@ session_calls_by body names x at.End = plain_stop body names at.End _ refl
 
 -- what a report tells s isn't 0
 no_zero_said : (s dead : ℕ) (after : State) → Lawful after None → (b : Block) → (sight after s).waits ≡ Some b → is_attentive b ≡ true → timers_of after.timers s ≡ 0
-    → list_any (told s is_zero) (map (as_rites dead) (deliver after rites_event (report_text dead)).effects) ≡ false
+    → list_any (is_told s is_zero) (map (as_rites dead) (deliver after rites_event (report_text dead)).effects) ≡ false
 no_zero_said s dead after was b seen attentive none = told_any s (map (as_rites dead) (deliver after rites_event (report_text dead)).effects) ∙ ap (list_any is_zero) (rites_same s dead (deliver after rites_event (report_text dead)).effects)
     ∙ by_fate (deliveries_leave_it after was s (attends_seen after s b seen attentive) none rites_event (report_text dead))
   where
@@ -358,10 +358,10 @@ any_append p [] ys none = none
 any_append p (x ∷ xs) ys none = ap (λ b. p x || b) (any_append p xs ys none)
 
 module _ (s a : ℕ) where
-  replied_more : (st : State) (c : Call) → choice st ≡ Some s → (ys : List Effect) → list_any (told s is_zero) ys ≡ false → replied_in s a ((step st c).effects ++ ys) ≡ replied_in s a (step st c).effects
+  replied_more : (st : State) (c : Call) → choice st ≡ Some s → (ys : List Effect) → list_any (is_told s is_zero) ys ≡ false → replied_in s a ((step st c).effects ++ ys) ≡ replied_in s a (step st c).effects
   unfolding step step_by
   replied_more st c turn ys none = subst (λ o. replied_in s a ((step_if st c o).effects ++ ys) ≡ replied_in s a (step_if st c o).effects) (sym turn)
-      (ap (λ b. cond (eqb s s && b) (reply_to a c) []) (any_append (told s is_zero) (drop 1 (step_by st s c).effects) ys none))
+      (ap (λ b. cond (eqb s s && b) (reply_to a c) []) (any_append (is_told s is_zero) (drop 1 (step_by st s c).effects) ys none))
 
   -- so a reply is told of behind a report as before it
   replied_said : (st : State) (c : Call) → choice st ≡ Some s → Lawful (step st c).after None → (b : Block) → (sight (step st c).after s).waits ≡ Some b → is_attentive b ≡ true → timers_of (step st c).after.timers s ≡ 0 → (reports : List ℕ)

@@ -10,7 +10,7 @@ use Rattle.lwp_types.specs.Case.{Case, answered, refused, unanswered, with_zero}
 use Rattle.lwp_types.specs.Counts.{goes_well, has_owner_and_event, is_owners}
 use Rattle.lwp_types.specs.FirstLaws.{find-filter}
 use Rattle.lwp_types.specs.Lawful.{Lawful}
-use Rattle.lwp_types.specs.Letters.{as_answer, as_received, holding_set, is_letter_of, is_to, marked_received, post, receive_by, received_from, reception_set, replied, takes_from, with_holding, without_letter}
+use Rattle.lwp_types.specs.Messages.{as_answer, as_received, holding_set, is_letter_of, is_to, marked_received, post, receive_by, received_from, reception_set, replied, takes_from, with_holding, without_letter}
 use Rattle.lwp_types.specs.State.{State, ThreadRow, block_set, is_agent, is_agent_row, is_id, is_number, is_thread, passes, still, thread_of, with_block}
 use Rattle.lwp_types.specs.Step.{case_of, end_effects, ends, finished, own_effects, step, step_by, step_if}
 use Rattle.lwp_types.specs.Unblock.{blocked, unblock, zero_answer}

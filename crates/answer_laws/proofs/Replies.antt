@@ -7,7 +7,7 @@ use Rattle.lwp_types.specs.Case.{Case, Check, answered, is_no_id, refused, unans
 use Rattle.lwp_types.specs.CountLaws.{one-le}
 use Rattle.lwp_types.specs.FirstLaws.{find-filter}
 use Rattle.lwp_types.specs.Lawful.{Lawful}
-use Rattle.lwp_types.specs.Letters.{as_answer, as_received, is_from, is_letter_of, is_no_source, is_open, is_to, marked_received, receive_by, received_from, reception_set, replied, unreceived, with_holding, without_letter}
+use Rattle.lwp_types.specs.Messages.{as_answer, as_received, is_from, is_letter_of, is_no_source, is_open, is_to, marked_received, receive_by, received_from, reception_set, replied, unreceived, with_holding, without_letter}
 use Rattle.lwp_types.specs.State.{State, ThreadRow, block_set, is_agent, is_id, is_number, is_thread, passes, still, thread_of, with_block}
 use Rattle.lwp_types.specs.Step.{case_of, end_effects, ends, finished, step, step_by, step_if}
 use Rattle.lwp_types.specs.Unblock.{blocked, blocked_for, unblock}

@@ -25,7 +25,7 @@ use Rattle.lwp_types.specs.CountLaws.{count_found_and, one}
 use Rattle.lwp_types.specs.Counts.{is_timed, timers_of}
 use Rattle.lwp_types.specs.Agents.{armed, deliver}
 use Rattle.lwp_types.specs.Lawful.{Lawful}
-use Rattle.lwp_types.specs.Letters.{is_to}
+use Rattle.lwp_types.specs.Messages.{is_to}
 use Rattle.lwp_types.specs.Unblock.{zero_answer}
 use Rattle.lwp_types.specs.Names.{Names, null_id, polled_as}
 use Rattle.lwp_types.specs.Poll.{Polled}

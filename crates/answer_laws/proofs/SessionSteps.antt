@@ -25,7 +25,7 @@ use Rattle.lwp_types.specs.Choice.{choice}
 use Rattle.lwp_types.specs.CountLaws.{count-append}
 use Rattle.lwp_types.specs.Counts.{timers_of}
 use Rattle.lwp_types.specs.Lawful.{Lawful}
-use Rattle.lwp_types.specs.Letters.{as_received, is_letter_of, is_to, post, takes_from}
+use Rattle.lwp_types.specs.Messages.{as_received, is_letter_of, is_to, post, takes_from}
 use Rattle.lwp_types.specs.Names.{Names, id_at}
 use Rattle.lwp_types.specs.State.{Outcome, State, ThreadRow, agent_of, is_agent, is_agent_row, is_id, is_thread, passes, thread_of}
 use Rattle.lwp_types.specs.Step.{case_of, finished, step, step_by, step_if}
@@ -40,7 +40,7 @@ use Rattle.pod_laws.proofs.Holding.{no_thread}
 use Rattle.pod_laws.proofs.Fading.{step_fades}
 use Rattle.pod_laws.proofs.TimerMoves.{no_timer_comes_unasked}
 use Rattle.pod_laws.specs.Timers.{timers_asked}
-use Rattle.pod_laws.specs.Waiters.{is_zero, told}
+use Rattle.pod_laws.specs.Waiters.{is_told, is_zero}
 use Rattle.std.proofs.Common.{Bool, List, None, Option, Some, [], ap, append-nil, arith, cond, count_by, eqb, false, inl, inr, length, refl, subst, sym, true, ℕ, ◌&&◌, ◌++◌, ◌<◌, ◌||◌, ◌∙◌, ◌∷◌, ◌≡◌, ◌≢◌, ◌≤◌, ◌⊎◌}
 use Rattle.std.proofs.lemmas.Bool.{eq-eqb, eqb-true, leb-true, ne_eqb}
 use Rattle.std.specs.List.{filter, list_all, list_any}
@@ -105,7 +105,7 @@ module _ (a : ℕ) (body : SessionBody) (names : Names) where
   does_opened (answer.Letter from text room) k = DoesStop refl
   does_opened (answer.Value v) k = DoesStop refl
   does_opened (answer.Monitor t) k = DoesStop refl
-  does_opened (answer.Cond t) k = DoesStop refl
+  does_opened (answer.Condition t) k = DoesStop refl
   does_opened (answer.Reply text) k = DoesStop refl
   does_opened (answer.Bound f arg) k = DoesStop refl
   does_opened (answer.Caught d m p) k = DoesStop refl
@@ -117,7 +117,7 @@ module _ (a : ℕ) (body : SessionBody) (names : Names) where
   does_received (answer.Thread b) k = DoesStop refl
   does_received (answer.Value v) k = DoesStop refl
   does_received (answer.Monitor t) k = DoesStop refl
-  does_received (answer.Cond t) k = DoesStop refl
+  does_received (answer.Condition t) k = DoesStop refl
   does_received (answer.Reply text) k = DoesStop refl
   does_received (answer.Bound f arg) k = DoesStop refl
   does_received (answer.Caught d m p) k = DoesStop refl
@@ -130,7 +130,7 @@ module _ (a : ℕ) (body : SessionBody) (names : Names) where
   does_told (answer.Thread b) k = DoesStop refl
   does_told (answer.Value v) k = DoesStop refl
   does_told (answer.Monitor t) k = DoesStop refl
-  does_told (answer.Cond t) k = DoesStop refl
+  does_told (answer.Condition t) k = DoesStop refl
   does_told (answer.Bound f arg) k = DoesStop refl
   does_told (answer.Caught d m p) k = DoesStop refl
   does_told (answer.Ids n ns) k = DoesStop refl
@@ -150,7 +150,7 @@ hears_no_mail x (Sent text) h = absurd (cc)
 hears_no_mail x (Received text) h = absurd (cc)
 
 -- a zero is told exactly if it is among the answers
-pub told_any : (s : ℕ) (es : List Effect) → list_any (told s is_zero) es ≡ list_any is_zero (answers_to s es)
+pub told_any : (s : ℕ) (es : List Effect) → list_any (is_told s is_zero) es ≡ list_any is_zero (answers_to s es)
 told_any s [] = refl
 told_any s (effect.Answered t a ∷ es) = by_test (eqb t s) (told_any s es)
   where
@@ -158,7 +158,7 @@ told_any s (effect.Answered t a ∷ es) = by_test (eqb t s) (told_any s es)
     push None rest = rest
     push (Some a) rest = a ∷ rest
 
-    by_test : (b : Bool) → list_any (told s is_zero) es ≡ list_any is_zero (answers_to s es) → ((b && is_zero a) || list_any (told s is_zero) es) ≡ list_any is_zero (push (cond b (Some a) None) (answers_to s es))
+    by_test : (b : Bool) → list_any (is_told s is_zero) es ≡ list_any is_zero (answers_to s es) → ((b && is_zero a) || list_any (is_told s is_zero) es) ≡ list_any is_zero (push (cond b (Some a) None) (answers_to s es))
     by_test true rest = ap (λ y. is_zero a || y) rest
     by_test false rest = rest
 told_any s (effect.Called t c ∷ es) = told_any s es
@@ -204,11 +204,11 @@ module _ (s k a : ℕ) (st : State) (was : Lawful st None) (talk : Talk) (waitin
 
   -- ---- its replies
 
-  replied_by : (c : Call) → replied_in s a (step st c).effects ≡ cond (eqb s s && list_any (told s is_zero) (step st c).effects) (reply_to a c) []
-  replied_by c = ap (λ out. replied_in s a out.effects) (step_is c) ∙ sym (ap (λ out. cond (eqb s s && list_any (told s is_zero) out.effects) (reply_to a c) []) (step_is c))
+  replied_by : (c : Call) → replied_in s a (step st c).effects ≡ cond (eqb s s && list_any (is_told s is_zero) (step st c).effects) (reply_to a c) []
+  replied_by c = ap (λ out. replied_in s a out.effects) (step_is c) ∙ sym (ap (λ out. cond (eqb s s && list_any (is_told s is_zero) out.effects) (reply_to a c) []) (step_is c))
 
   replied_none : (c : Call) → reply_to a c ≡ [] → replied_in s a (step st c).effects ≡ []
-  replied_none c none = replied_by c ∙ ap (λ xs. cond (eqb s s && list_any (told s is_zero) (step st c).effects) xs []) none ∙ by_test (eqb s s && list_any (told s is_zero) (step st c).effects)
+  replied_none c none = replied_by c ∙ ap (λ xs. cond (eqb s s && list_any (is_told s is_zero) (step st c).effects) xs []) none ∙ by_test (eqb s s && list_any (is_told s is_zero) (step st c).effects)
     where
       by_test : (b : Bool) → cond {A = List (List ℕ)} b [] [] ≡ []
       by_test true = refl

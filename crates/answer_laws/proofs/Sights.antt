@@ -1,7 +1,7 @@
 -- Single changes, as another thread sees them.
 use Rattle.answer_laws.specs.Sights.{IsLeft, IsWoken, answer_for, answers_to, going_on, is_attentive, Hears, sight, sight_by, written_to}
 use Rattle.lwp_types.specs.CountLaws.{count-filter, count_agree, count_found_by}
-use Rattle.lwp_types.specs.Letters.{is_letter_of, is_to, marked_received, received_from, reception_set, senders_to, without_letter}
+use Rattle.lwp_types.specs.Messages.{is_letter_of, is_to, marked_received, received_from, reception_set, senders_to, without_letter}
 use Rattle.lwp_types.specs.State.{Outcome, State, ThreadRow, and_then, block_set, is_number, still, thread_of, with_block}
 use Rattle.lwp_types.specs.declared.call.Answer.{Answer}
 use Rattle.lwp_types.specs.declared.call.Effect.{Effect}

@@ -24,7 +24,7 @@ use Rattle.lwp_types.specs.CountLaws.{count-append}
 use Rattle.lwp_types.specs.Counts.{timers_of}
 use Rattle.lwp_types.specs.FirstLaws.{find-filter}
 use Rattle.lwp_types.specs.Lawful.{Lawful}
-use Rattle.lwp_types.specs.Letters.{as_answer, is_letter_of, is_open, is_to, marked_received, receive_by, received_from, replied, unreceived, with_holding, without_letter}
+use Rattle.lwp_types.specs.Messages.{as_answer, is_letter_of, is_open, is_to, marked_received, receive_by, received_from, replied, unreceived, with_holding, without_letter}
 use Rattle.lwp_types.specs.Names.{Names}
 use Rattle.lwp_types.specs.State.{Outcome, State, is_agent, is_id, is_thread, passes, still, thread_of}
 use Rattle.lwp_types.specs.Step.{case_of, finished, step, step_by, step_if}
@@ -76,7 +76,7 @@ module _ (body : StoreBody) where
   does_received (answer.Value v) = DoesStop refl
   does_received (answer.Thread t) = DoesStop refl
   does_received (answer.Monitor t) = DoesStop refl
-  does_received (answer.Cond t) = DoesStop refl
+  does_received (answer.Condition t) = DoesStop refl
   does_received (answer.Reply text) = DoesStop refl
   does_received (answer.Bound f arg) = DoesStop refl
   does_received (answer.Caught d m p) = DoesStop refl

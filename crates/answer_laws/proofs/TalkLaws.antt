@@ -5,7 +5,7 @@ use Rattle.line_server.proofs.ApartLaws.{other-table, own-table}
 use Rattle.line_server.specs.Commands.{Command, command_of}
 use Rattle.line_server.specs.Sessions.{SessionBody, session_at, session_by, session_next, session_opened, session_received, session_receives, session_replies, session_returns, session_sends}
 use Rattle.line_server.specs.Stores.{StoreBody, is_invalid, store_by, store_next, store_received, store_receives, store_tells, table_of, tables_after, told_sender}
-use Rattle.line_server.specs.Tables.{Table, is_quit, line_answers, replies, told, told_command}
+use Rattle.line_server.specs.Tables.{Table, is_quit, line_answers, replies, told_command, told_text}
 use Rattle.line_server.specs.Turns.{Turn, is_replied, stops}
 use Rattle.line_server.specs.declared.session.SessionPlace.{SessionPlace}
 use Rattle.line_server.specs.declared.session.SessionPlace.TheVariants as at
@@ -79,7 +79,7 @@ pub data Phase (said lines : Texts) (table : Table) (mail : Mail) (place : Sessi
   Reads : (done : Texts) (text : List ℕ) (from room : ℕ) → Known said table done → lines ≡ done ++ text ∷ [] → mail ≡ Nothing → place ≡ at.Recv → client ≡ Hears (answer.Letter from text room) → Phase said lines table mail place client
   Asks : (done : Texts) (text : List ℕ) → Known said table done → lines ≡ done ++ text ∷ [] → is_quit text ≡ false → mail ≡ Sent text → place ≡ at.Send → client ≡ AwaitsReply → Phase said lines table mail place client
   Learns : (done : Texts) (text : List ℕ) → said ≡ replies [] done → table ≡ table_after [] (done ++ text ∷ []) → list_any is_quit done ≡ false → is_quit text ≡ false → lines ≡ done ++ text ∷ [] → mail ≡ Nothing → place ≡ at.Send
-      → client ≡ Hears (answer.Reply (told text (table_after [] done)).reply) → Phase said lines table mail place client
+      → client ≡ Hears (answer.Reply (told_text text (table_after [] done)).reply) → Phase said lines table mail place client
 
 -- nothing more is said, and nothing more comes
 pub data Closing (lives : Bool) (mail : Mail) (place : SessionPlace) (client : Stand) : Type 0 where
@@ -172,7 +172,7 @@ module _ (s : ℕ) (refusal : Option LwpErr) (talk : Talk) where
   apart_recv free (answer.Value v) h = apart_stops
   apart_recv free (answer.Thread t) h = apart_stops
   apart_recv free (answer.Monitor t) h = apart_stops
-  apart_recv free (answer.Cond t) h = apart_stops
+  apart_recv free (answer.Condition t) h = apart_stops
   apart_recv free (answer.Reply text) h = apart_stops
   apart_recv free (answer.Bound f arg) h = apart_stops
   apart_recv free (answer.Caught d m p) h = apart_stops
@@ -228,8 +228,8 @@ module _ (s : ℕ) (refusal : Option LwpErr) (names : Names) (talk : Talk) where
       → talk.store.place ≡ kept_at.Recv → talk.keeper ≡ Hears (answer.Letter s text 240) → Inv s (store_turn s refusal names talk talk.keeper)
   inv_told done text known l q m p sp k =
       subst (Inv s) (sym (told_now text m sp k))
-      (Goes (Learns done text known.replied (own-table s text talk.store.tables ∙ ap (λ t. (told text t).table) known.kept ∙ sym (table_push done text [])) known.clean q l refl p
-      (ap (λ t. Hears (answer.Reply (told text t).reply)) known.kept)) refl)
+      (Goes (Learns done text known.replied (own-table s text talk.store.tables ∙ ap (λ t. (told_text text t).table) known.kept ∙ sym (table_push done text [])) known.clean q l refl p
+      (ap (λ t. Hears (answer.Reply (told_text text t).reply)) known.kept)) refl)
 
   -- where the session is done
   done_told : (m : Mail) → m ≡ Nothing → (body : StoreBody) (text : List ℕ) → session_told (record talk { store = body }) text m ≡ record talk { store = body; keeper = Hears (answer.Refused error.NoWait) }
@@ -265,7 +265,7 @@ module _ (s a : ℕ) (names : Names) (talk : Talk) where
         by_lives false = Goes (Idle done known l m refl) stand
 
     -- it replies to the line
-    replies_so : (text : List ℕ) → talk.lines ≡ done ++ text ∷ [] → is_quit text ≡ false → (reply : List ℕ) → reply ≡ (told text (table_after [] done)).reply → table_of s talk.store.tables ≡ table_after [] (done ++ text ∷ []) → Comes_to (session_replies talk.session reply)
+    replies_so : (text : List ℕ) → talk.lines ≡ done ++ text ∷ [] → is_quit text ≡ false → (reply : List ℕ) → reply ≡ (told_text text (table_after [] done)).reply → table_of s talk.store.tables ≡ table_after [] (done ++ text ∷ []) → Comes_to (session_replies talk.session reply)
     replies_so text l q reply r t = by_lives talk.agent_lives refl
       where
         now : Talk
@@ -294,7 +294,7 @@ module _ (s a : ℕ) (names : Names) (talk : Talk) where
       opened (answer.Letter from text room) = stops_over first m talk.session
       opened (answer.Value v) = stops_over first m talk.session
       opened (answer.Monitor t) = stops_over first m talk.session
-      opened (answer.Cond t) = stops_over first m talk.session
+      opened (answer.Condition t) = stops_over first m talk.session
       opened (answer.Reply text) = stops_over first m talk.session
       opened (answer.Bound f arg) = stops_over first m talk.session
       opened (answer.Caught d k p) = stops_over first m talk.session
@@ -306,7 +306,7 @@ module _ (s a : ℕ) (names : Names) (talk : Talk) where
       received_none (answer.Thread b) h = stops_over first m talk.session
       received_none (answer.Value v) h = stops_over first m talk.session
       received_none (answer.Monitor t) h = stops_over first m talk.session
-      received_none (answer.Cond t) h = stops_over first m talk.session
+      received_none (answer.Condition t) h = stops_over first m talk.session
       received_none (answer.Reply text) h = stops_over first m talk.session
       received_none (answer.Bound f arg) h = stops_over first m talk.session
       received_none (answer.Caught d k p) h = stops_over first m talk.session
@@ -359,7 +359,7 @@ module _ (s a : ℕ) (names : Names) (talk : Talk) where
   phase_turn (Learns done text r t clean q l m p c) stand was = turn_as at.Send _ p c (learns talk.agent_lives refl)
     where
       reply : List ℕ
-      reply = (told text (table_after [] done)).reply
+      reply = (told_text text (table_after [] done)).reply
 
       now : Talk
       now = record talk { session = session_at talk.session at.Reply }

@@ -11,7 +11,7 @@ use Rattle.lwp_types.specs.Choice.{choice}
 use Rattle.lwp_types.specs.CountLaws.{count-append, one}
 use Rattle.lwp_types.specs.Counts.{has_its_block, is_block_of, timers_of}
 use Rattle.lwp_types.specs.Lawful.{Lawful}
-use Rattle.lwp_types.specs.Letters.{is_to, unreceived}
+use Rattle.lwp_types.specs.Messages.{is_to, unreceived}
 use Rattle.lwp_types.specs.State.{Outcome, State, ThreadRow, agent_numbers, agent_of, all_below, is_agent, is_agent_row, is_id, is_number, is_thread, numbers, passes, thread_of}
 use Rattle.lwp_types.specs.Step.{step}
 use Rattle.lwp_types.specs.Unblock.{is_timer_of, nonexist}
@@ -76,7 +76,7 @@ ends_of (call.Wait c) = Spared (λ st u. tt) (λ a u. refl)
 ends_of (call.Notify c) = Spared (λ st u. tt) (λ a u. refl)
 ends_of (call.Broadcast c) = Spared (λ st u. tt) (λ a u. refl)
 ends_of (call.CvSend c v) = Spared (λ st u. tt) (λ a u. refl)
-ends_of call.Conds = Spared (λ st u. tt) (λ a u. refl)
+ends_of call.Conditions = Spared (λ st u. tt) (λ a u. refl)
 ends_of (call.CvWaiters c) = Spared (λ st u. tt) (λ a u. refl)
 ends_of (call.CallProc number) = Spared (λ st u. tt) (λ a u. refl)
 ends_of call.Return = Spared (λ st u. tt) (λ a u. refl)

@@ -15,7 +15,7 @@ use Rattle.lwp_types.specs.Agents.{armed, deliver, deliver_to, event_agents, is_
 use Rattle.lwp_types.specs.CountLaws.{count-cons, count_and-le, count_not_found, one}
 use Rattle.lwp_types.specs.Counts.{has_owner_and_event, is_between, is_sending, timers_of}
 use Rattle.lwp_types.specs.Lawful.{Lawful}
-use Rattle.lwp_types.specs.Letters.{as_answer, as_received, is_letter_of, post, takes_from, with_holding}
+use Rattle.lwp_types.specs.Messages.{as_answer, as_received, is_letter_of, post, takes_from, with_holding}
 use Rattle.lwp_types.specs.State.{Outcome, State, ThreadRow, agent_of, and_then, for_each, is_agent, is_agent_row, is_empty, is_id, is_number, is_thread, passes, still, thread_of}
 use Rattle.lwp_types.specs.Time.{due_threads, may_tick, tick, ticked, time_out}
 use Rattle.lwp_types.specs.Unblock.{is_timer_of, nonexist, unblock}

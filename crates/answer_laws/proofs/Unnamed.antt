@@ -2,17 +2,17 @@
 use Rattle.lwp_types.specs.Agents.{agent_gone, agents_of, deliver, deliver_to, end_agent, event_agents, message}
 use Rattle.lwp_types.specs.Case.{Case, Check, refused, unanswered, unless, valued, with_zero}
 use Rattle.lwp_types.specs.Choice.{choice}
+use Rattle.lwp_types.specs.Conditions.{waited}
 use Rattle.lwp_types.specs.Death.{answer_joiners, bury, death, destroy, end_agents, refuse_receivers, refuse_sender, refuse_senders, release_all, return_from, run_all_exits, withdraw}
+use Rattle.lwp_types.specs.Exceptions.{caught_marks, exits_of, first_frames, found, frames, later_frames, with_match}
 use Rattle.lwp_types.specs.Exits.{caught, exit_case, leave_frame, notified_by, run_exit, unwind}
-use Rattle.lwp_types.specs.Letters.{as_answer, as_received, post, receive_by, receivers_of, replied, senders_to, takes_from, unreceived, with_holding, without_letter}
-use Rattle.lwp_types.specs.Locks.{depth_in, entered, exited, is_owned_by_other, requested, with_depth}
-use Rattle.lwp_types.specs.Marks.{caught_marks, exits_of, first_frames, found, frames, later_frames, with_match}
-use Rattle.lwp_types.specs.Release.{grant, last_lock, next_owner, release, without_lock}
+use Rattle.lwp_types.specs.Messages.{as_answer, as_received, post, receive_by, receivers_of, replied, senders_to, takes_from, unreceived, with_holding, without_letter}
+use Rattle.lwp_types.specs.MonitorRelease.{grant, last_lock, next_owner, release, without_lock}
+use Rattle.lwp_types.specs.Monitors.{depth_in, entered, exited, is_owned_by_other, requested, with_depth}
 use Rattle.lwp_types.specs.State.{Outcome, State, ThreadRow, and_then, for_each, in_order, is_agent, marked, marks_in, passes, still, thread_of}
 use Rattle.lwp_types.specs.Step.{case_of, end_effects, ends, finished, own_effects, step, step_by, step_if}
 use Rattle.lwp_types.specs.Time.{due_threads, is_asleep_in, tick, ticked, time_out}
 use Rattle.lwp_types.specs.Unblock.{blocked, blocked_for, nonexist, timed_out, unblock, zero_answer}
-use Rattle.lwp_types.specs.Waits.{waited}
 use Rattle.lwp_types.specs.declared.call.Answer.{Answer}
 use Rattle.lwp_types.specs.declared.call.Call.{Call}
 use Rattle.lwp_types.specs.declared.call.Effect.{Effect}
@@ -306,7 +306,7 @@ case_names s t born (call.Wait c) = checked s _ _ (quiet (λ m. named_waited m t
 case_names s t born (call.Notify c) = checked s _ _ (quiet (λ m. tt) refl)
 case_names s t born (call.Broadcast c) = checked s _ _ (quiet (λ m. tt) refl)
 case_names s t born (call.CvSend c u) = checked s _ _ (quiet (λ m. tt) refl)
-case_names s t born call.Conds = quiet (λ m. tt) refl
+case_names s t born call.Conditions = quiet (λ m. tt) refl
 case_names s t born (call.CvWaiters c) = checked s _ _ (quiet (λ m. tt) refl)
 case_names s t born (call.CallProc number) = checked s _ _ (quiet (λ m. tt) refl)
 case_names s t born call.Return = return_names s t

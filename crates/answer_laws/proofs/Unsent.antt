@@ -23,7 +23,7 @@ use Rattle.line_server.specs.declared.session.SessionPlace.TheVariants as at
 use Rattle.lwp_types.specs.Agents.{armed, deliver}
 use Rattle.lwp_types.specs.Choice.{choice}
 use Rattle.lwp_types.specs.Lawful.{Lawful}
-use Rattle.lwp_types.specs.Letters.{is_to}
+use Rattle.lwp_types.specs.Messages.{is_to}
 use Rattle.lwp_types.specs.Names.{null_id, polled_as}
 use Rattle.lwp_types.specs.Poll.{Polled}
 use Rattle.lwp_types.specs.State.{Outcome, State, is_thread, passes}
@@ -96,7 +96,7 @@ sent_of (call.Wait c) = IsNone refl
 sent_of (call.Notify c) = IsNone refl
 sent_of (call.Broadcast c) = IsNone refl
 sent_of (call.CvSend c v) = IsNone refl
-sent_of call.Conds = IsNone refl
+sent_of call.Conditions = IsNone refl
 sent_of (call.CvWaiters c) = IsNone refl
 sent_of (call.CallProc number) = IsNone refl
 sent_of call.Return = IsNone refl

@@ -38,7 +38,7 @@ use Rattle.lwp_types.specs.Choice.{choice}
 use Rattle.lwp_types.specs.CountLaws.{count_found_and, one}
 use Rattle.lwp_types.specs.Counts.{is_timed, timers_of}
 use Rattle.lwp_types.specs.Lawful.{Lawful}
-use Rattle.lwp_types.specs.Letters.{received_from, replied, without_letter, with_holding}
+use Rattle.lwp_types.specs.Messages.{received_from, replied, without_letter, with_holding}
 use Rattle.lwp_types.specs.State.{Outcome, State, ThreadRow, is_agent, is_id, is_not_blocked, is_number, passes, still, thread_of}
 use Rattle.lwp_types.specs.Step.{case_of, end_effects, ends, finished, own_effects, step, step_by, step_if}
 use Rattle.lwp_types.specs.Unblock.{unblock, zero_answer}
@@ -57,7 +57,7 @@ use Rattle.pod_laws.proofs.Chosen.{chosen}
 use Rattle.pod_laws.proofs.Elements.{differ}
 use Rattle.pod_laws.proofs.EveryStep.{Lawful-step}
 use Rattle.pod_laws.proofs.Rowed.{once_threads}
-use Rattle.pod_laws.specs.Waiters.{is_zero, told}
+use Rattle.pod_laws.specs.Waiters.{is_told, is_zero}
 use Rattle.pod_runner.specs.Calls.{answered_by, made_answered, made_by, made_in, made_now}
 use Rattle.pod_runner.specs.Calls.{is_zero as made_zero}
 use Rattle.pod_runner.specs.Session.{thread_in}
@@ -490,7 +490,7 @@ kind_of (call.Wait c) = IsOther (λ agents. refl) (λ a. refl) refl
 kind_of (call.Notify c) = IsOther (λ agents. refl) (λ a. refl) refl
 kind_of (call.Broadcast c) = IsOther (λ agents. refl) (λ a. refl) refl
 kind_of (call.CvSend c v) = IsOther (λ agents. refl) (λ a. refl) refl
-kind_of call.Conds = IsOther (λ agents. refl) (λ a. refl) refl
+kind_of call.Conditions = IsOther (λ agents. refl) (λ a. refl) refl
 kind_of (call.CvWaiters c) = IsOther (λ agents. refl) (λ a. refl) refl
 kind_of (call.CallProc number) = IsOther (λ agents. refl) (λ a. refl) refl
 kind_of call.Return = IsOther (λ agents. refl) (λ a. refl) refl
@@ -565,7 +565,7 @@ module _ (s e a : ℕ) (st : State) (was : Lawful st None) (t : ℕ) where
         of_is : is_reply_of s a (Some m) ≡ (not (is_reply_to a c && z) || eqb t s)
         of_is = λ i. not (is_reply_to a (call_is i) && zero_is i) || eqb (tid_is i) s
 
-        any_is : (v : ℕ) (text : List ℕ) → c ≡ call.Reply v text → eqb t s ≡ true → list_any (told s is_zero) rest ≡ z
+        any_is : (v : ℕ) (text : List ℕ) → c ≡ call.Reply v text → eqb t s ≡ true → list_any (is_told s is_zero) rest ≡ z
         any_is v text is same = told_any s rest ∙ ap (λ n. list_any is_zero (answers_to n rest)) (sym (eqb-true t s same)) ∙ sym (heard.reply v text is).0
 
         asked_is : asked (Some e) (Some m) ≡ cond (is_event (Some e) (agent_event c)) (last_thread None (answers_to t rest)) None
@@ -576,14 +576,14 @@ module _ (s e a : ℕ) (st : State) (was : Lawful st None) (t : ℕ) where
 
         by_kind : Kind c → Facts s e a st (Some m) (replied_in s a (effect.Called t c ∷ rest))
         by_kind (IsOther lines replies asks) = record {
-          written = λ of. told_is (a ∷ []) ∙ none_of z (reply_line (a ∷ []) c) (lines (a ∷ [])) ∙ ap spelled (sym (no_line a (eqb t s && list_any (told s is_zero) rest) c (replies a)));
-          unborn = λ low. no_line a (eqb t s && list_any (told s is_zero) rest) c (replies a);
+          written = λ of. told_is (a ∷ []) ∙ none_of z (reply_line (a ∷ []) c) (lines (a ∷ [])) ∙ ap spelled (sym (no_line a (eqb t s && list_any (is_told s is_zero) rest) c (replies a)));
+          unborn = λ low. no_line a (eqb t s && list_any (is_told s is_zero) rest) c (replies a);
           new = λ b given. never None refl b given asks;
           untold = told_is [] ∙ none_of z (reply_line [] c) (lines []);
         }
         by_kind (IsAgent n is) = record {
-          written = λ of. told_is (a ∷ []) ∙ none_of z (reply_line (a ∷ []) c) (ap (reply_line (a ∷ [])) is) ∙ ap spelled (sym (no_line a (eqb t s && list_any (told s is_zero) rest) c (ap (reply_to a) is)));
-          unborn = λ low. no_line a (eqb t s && list_any (told s is_zero) rest) c (ap (reply_to a) is);
+          written = λ of. told_is (a ∷ []) ∙ none_of z (reply_line (a ∷ []) c) (ap (reply_line (a ∷ [])) is) ∙ ap spelled (sym (no_line a (eqb t s && list_any (is_told s is_zero) rest) c (ap (reply_to a) is)));
+          unborn = λ low. no_line a (eqb t s && list_any (is_told s is_zero) rest) c (ap (reply_to a) is);
           new = λ b given. by_event b (eqb n e) (sym (ap (λ o. cond (is_event (Some e) o) (last_thread None (answers_to t rest)) None) (ap agent_event is)) ∙ sym asked_is ∙ given);
           untold = told_is [] ∙ none_of z (reply_line [] c) (ap (reply_line []) is);
         }
@@ -593,14 +593,14 @@ module _ (s e a : ℕ) (st : State) (was : Lawful st None) (t : ℕ) where
             by_event b false given = absurd (cc)
         by_kind (IsReply v text is) = record {
           written = λ of. told_is (a ∷ []) ∙ ap (λ c. cond z (reply_line (a ∷ []) c) []) is
-              ∙ one_line text z (eqb a v) (eqb v a) (eqb t s) (list_any (told s is_zero) rest) (eqb_turned a v) (any_is v text is) (sym (ap (λ c. not (is_reply_to a c && z) || eqb t s) is) ∙ sym of_is ∙ of)
-              ∙ ap (λ c. spelled (cond (eqb t s && list_any (told s is_zero) rest) (reply_to a c) [])) (sym is);
-          unborn = λ low. ap (λ c. cond (eqb t s && list_any (told s is_zero) rest) (reply_to a c) []) is ∙ by_tests low (eqb t s) (list_any (told s is_zero) rest) (eqb v a) refl refl refl;
+              ∙ one_line text z (eqb a v) (eqb v a) (eqb t s) (list_any (is_told s is_zero) rest) (eqb_turned a v) (any_is v text is) (sym (ap (λ c. not (is_reply_to a c && z) || eqb t s) is) ∙ sym of_is ∙ of)
+              ∙ ap (λ c. spelled (cond (eqb t s && list_any (is_told s is_zero) rest) (reply_to a c) [])) (sym is);
+          unborn = λ low. ap (λ c. cond (eqb t s && list_any (is_told s is_zero) rest) (reply_to a c) []) is ∙ by_tests low (eqb t s) (list_any (is_told s is_zero) rest) (eqb v a) refl refl refl;
           new = λ b given. never None refl b given (ap agent_event is);
           untold = told_is [] ∙ none_of z (reply_line [] c) (ap (reply_line []) is);
         }
           where
-            by_tests : st.births ≤ a → (d any q : Bool) → eqb t s ≡ d → list_any (told s is_zero) rest ≡ any → eqb v a ≡ q → cond (d && any) (cond q (text ∷ []) []) [] ≡ []
+            by_tests : st.births ≤ a → (d any q : Bool) → eqb t s ≡ d → list_any (is_told s is_zero) rest ≡ any → eqb v a ≡ q → cond (d && any) (cond q (text ∷ []) []) [] ≡ []
             by_tests low false any q e f g = refl
             by_tests low true false q e f g = refl
             by_tests low true true false e f g = refl

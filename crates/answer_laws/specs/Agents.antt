@@ -3,7 +3,7 @@ use Rattle.answer_laws.specs.Sights.{IsLeft, answers_to, going_on, sight}
 use Rattle.lwp_types.specs.Agents.{deliver, is_for, message}
 use Rattle.lwp_types.specs.Choice.{choice}
 use Rattle.lwp_types.specs.Lawful.{Lawful}
-use Rattle.lwp_types.specs.Letters.{is_letter_of}
+use Rattle.lwp_types.specs.Messages.{is_letter_of}
 use Rattle.lwp_types.specs.State.{Outcome, State, agent_of, passes}
 use Rattle.lwp_types.specs.Step.{step}
 use Rattle.lwp_types.specs.declared.call.Call.{Call}

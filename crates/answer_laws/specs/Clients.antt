@@ -4,7 +4,7 @@ use Rattle.line_server.specs.Tables.{line_answers}
 use Rattle.lwp_types.specs.declared.call.Call.{Call}
 use Rattle.lwp_types.specs.declared.call.Effect.{Effect}
 use Rattle.pod_events.specs.Rites.{report_text}
-use Rattle.pod_laws.specs.Waiters.{is_zero, told}
+use Rattle.pod_laws.specs.Waiters.{is_told, is_zero}
 use Rattle.std.specs.List.{flat_map, list_all, list_any}
 use Rattle.std.specs.Option.{option_to_list}
 use Rattle.std.specs.Prelude.{Bool, List, Option, [], false, if◌then◌else◌, not, true, ℕ, ◌&&◌, ◌==◌, ◌||◌, ◌∷◌}
@@ -37,7 +37,7 @@ reply_to a _ = []
 
 -- of the effects of a step, which are a call or a trap and then a call: the reply of s to a, if it was accepted, which is to say answered 0
 abbrev pub replied_in : ℕ → ℕ → List Effect → List (List ℕ)
-replied_in s a (effect.Called t c ∷ es) = if (t == s) && list_any (told s is_zero) es then reply_to a c else []
+replied_in s a (effect.Called t c ∷ es) = if (t == s) && list_any (is_told s is_zero) es then reply_to a c else []
 replied_in s a (effect.Trapped t e ∷ es) = replied_in s a es
 replied_in s a _ = []
 

@@ -3,7 +3,7 @@ use Rattle.answer_laws.specs.Agents.{AgentSight, agent_sight}
 use Rattle.answer_laws.specs.Sights.{Sight, answers_to, going_on, sight}
 use Rattle.lwp_types.specs.Choice.{choice}
 use Rattle.lwp_types.specs.Lawful.{Lawful}
-use Rattle.lwp_types.specs.Letters.{as_received, takes_from}
+use Rattle.lwp_types.specs.Messages.{as_received, takes_from}
 use Rattle.lwp_types.specs.State.{Outcome, State, agent_of, is_id, is_thread, passes, thread_of}
 use Rattle.lwp_types.specs.Step.{step}
 use Rattle.lwp_types.specs.Unblock.{nonexist, zero_answer}

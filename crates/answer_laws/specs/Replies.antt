@@ -2,7 +2,7 @@
 use Rattle.answer_laws.specs.Sights.{IsLeft, answers_to, attends, going_on, sight}
 use Rattle.lwp_types.specs.Choice.{choice}
 use Rattle.lwp_types.specs.Lawful.{Lawful}
-use Rattle.lwp_types.specs.Letters.{as_answer, as_received, is_letter_of, unreceived}
+use Rattle.lwp_types.specs.Messages.{as_answer, as_received, is_letter_of, unreceived}
 use Rattle.lwp_types.specs.State.{Outcome, State, is_thread, passes}
 use Rattle.lwp_types.specs.Step.{step}
 use Rattle.lwp_types.specs.declared.call.Mode.{Mode}

@@ -3,7 +3,7 @@ use Rattle.lwp_types.specs.Agents.{deliver}
 use Rattle.lwp_types.specs.Choice.{choice}
 use Rattle.lwp_types.specs.Counts.{timers_of}
 use Rattle.lwp_types.specs.Lawful.{Lawful}
-use Rattle.lwp_types.specs.Letters.{is_letter_of, is_to, takes_from}
+use Rattle.lwp_types.specs.Messages.{is_letter_of, is_to, takes_from}
 use Rattle.lwp_types.specs.State.{Outcome, State, ThreadRow, passes, thread_of}
 use Rattle.lwp_types.specs.Step.{step}
 use Rattle.lwp_types.specs.Unblock.{nonexist}

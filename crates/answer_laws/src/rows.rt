@@ -17,7 +17,8 @@ pub fn cut_short()
 /// A client that asks for a key and quits.
 pub fn steps_of_a_client()
     ensures in_turn { IsAnsweredInTurn 2 4 asked_and_quit }
-    ensures tells { Tells asked_and_quit (codes "get k" ∷ codes "quit" ∷ []) (codes "none" ∷ codes "bye" ∷ []) true }
+    ensures tells { Tells asked_and_quit (codes "get k" ∷ codes "quit" ∷ [])
+        (codes "none" ∷ codes "bye" ∷ []) true }
 {}
 
 /// A report is a text delivered to the agent, and a trapped line is none; a reply counts behind a trap, and not where it is refused.

@@ -14,7 +14,8 @@ use std::alloc::Global;
 /// So many slots, all empty.
 pub(crate) fn empty_slots(alloc: Global, count: usize) -> Result<Vec<Option<Vec<u8>>>, NoMemory>
     ensures len { IfOk result (λ slots. length slots.items ≡ count) }
-    ensures fit { IfOk result (λ slots. (wanted : List (List ℕ)) → length wanted ≡ count → Fit wanted slots.items) }
+    ensures fit { IfOk result
+        (λ slots. (wanted : List (List ℕ)) → length wanted ≡ count → Fit wanted slots.items) }
 {
     let mut slots = Vec::with_capacity(alloc, count)?;
     for _ in 0..count {
@@ -27,7 +28,8 @@ pub(crate) fn empty_slots(alloc: Global, count: usize) -> Result<Vec<Option<Vec<
 fn put(slots: &mut Vec<Option<Vec<u8>>>, number: usize, answer: Vec<u8>)
     requires { number < length slots.old.items }
     ensures len { length slots.new.items ≡ length slots.old.items }
-    ensures fit { (wanted : List (List ℕ)) → Fit wanted slots.old.items → slice_get wanted number ≡ Some answer.items → Fit wanted slots.new.items }
+    ensures fit { (wanted : List (List ℕ)) → Fit wanted slots.old.items →
+        slice_get wanted number ≡ Some answer.items → Fit wanted slots.new.items }
 {
     slots[number] = Some(answer);
 }
@@ -36,7 +38,8 @@ fn put(slots: &mut Vec<Option<Vec<u8>>>, number: usize, answer: Vec<u8>)
 fn fill(slots: &mut Vec<Option<Vec<u8>>>, done: Vec<Done>)
     requires { All (IsBelow (length slots.old.items)) done.items }
     ensures len { length slots.new.items ≡ length slots.old.items }
-    ensures fit { (wanted : List (List ℕ)) → Fit wanted slots.old.items → All (IsOf wanted) done.items → Fit wanted slots.new.items }
+    ensures fit { (wanted : List (List ℕ)) → Fit wanted slots.old.items →
+        All (IsOf wanted) done.items → Fit wanted slots.new.items }
 {
     let mut left = done;
     while let Some(done) = left.pop() {
@@ -50,9 +53,12 @@ pub(crate) fn fill_all(
     slots: &mut Vec<Option<Vec<u8>>>,
     brought: Vec<Result<Vec<Done>, NoMemory>>,
 ) -> Result<(), NoMemory>
-    requires { All (λ done. IfOk done (λ all. All (IsBelow (length slots.old.items)) all.items)) brought.items }
+    requires { All (λ done. IfOk done (λ all. All (IsBelow (length slots.old.items)) all.items))
+        brought.items }
     ensures len { OnOk result (length slots.new.items ≡ length slots.old.items) }
-    ensures fit { (wanted : List (List ℕ)) → Fit wanted slots.old.items → All (λ done. IfOk done (λ all. All (IsOf wanted) all.items)) brought.items → OnOk result (Fit wanted slots.new.items) }
+    ensures fit { (wanted : List (List ℕ)) → Fit wanted slots.old.items →
+        All (λ done. IfOk done (λ all. All (IsOf wanted) all.items)) brought.items →
+        OnOk result (Fit wanted slots.new.items) }
 {
     let mut left = brought;
     while let Some(done) = left.pop() {
@@ -76,7 +82,9 @@ fn answer_in<J: Job>(
     requires many { length slots.old.items ≡ length parts.now }
     ensures fit { Fit (answers_to (J.means job.now) bytes.now parts.now) slots.new.items }
     ensures many { length slots.new.items ≡ length slots.old.items }
-    ensures answer { IfOk result (λ answer. slice_get (answers_to (J.means job.now) bytes.now parts.now) number ≡ Some answer.items) }
+    ensures answer { IfOk result
+        (λ answer.
+        slice_get (answers_to (J.means job.now) bytes.now parts.now) number ≡ Some answer.items) }
 {
     match slots[number].take() {
         Some(answer) => Ok(answer),
@@ -95,7 +103,8 @@ pub(crate) fn answers_of<J: Job>(
     requires within { All (LiesIn bytes.now) parts.now }
     requires fit { Fit (answers_to (J.means job.now) bytes.now parts.now) slots.items }
     requires many { length slots.items ≡ length parts.now }
-    ensures { IfOk result (λ answers. map vec_items answers.items ≡ answers_to (J.means job.now) bytes.now parts.now) }
+    ensures { IfOk result
+        (λ answers. map vec_items answers.items ≡ answers_to (J.means job.now) bytes.now parts.now) }
 {
     let mut slots = slots;
     let mut answers = Vec::with_capacity(alloc, parts.len())?;

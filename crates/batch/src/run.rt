@@ -26,13 +26,26 @@ fn brought_back<J: Job, R: Threads + Sync>(
     parts: &[Part],
 ) -> Result<Vec<Result<Vec<Done>, NoMemory>>, NoMemory>
     requires { All (LiesIn bytes.now) parts.now }
-    ensures of { IfOk result (λ brought. All (λ done. IfOk done (λ all. All (IsOf (answers_to (J.means job.now) bytes.now parts.now)) all.items)) brought.items) }
-    ensures below { IfOk result (λ brought. All (λ done. IfOk done (λ all. All (IsBelow (length parts.now)) all.items)) brought.items) }
+    ensures of { IfOk result
+        (λ brought.
+        All
+        (λ done.
+        IfOk done
+        (λ all. All (IsOf (answers_to (J.means job.now) bytes.now parts.now)) all.items))
+        brought.items) }
+    ensures below { IfOk result
+        (λ brought.
+        All (λ done. IfOk done (λ all. All (IsBelow (length parts.now)) all.items))
+        brought.items) }
 {
     let next = AtomicU64::new(0);
     let worker = |_: usize| -> Result<Vec<Done>, NoMemory>
         requires { All (LiesIn bytes.now) parts.now }
-        ensures { IfOk result (λ all. All (IsOf (answers_to (J.means job.entry.now) bytes.entry.now parts.entry.now)) all.items × All (IsBelow (length parts.entry.now)) all.items) }
+        ensures { IfOk result
+            (λ all.
+            All (IsOf (answers_to (J.means job.entry.now) bytes.entry.now parts.entry.now))
+            all.items
+            × All (IsBelow (length parts.entry.now)) all.items) }
     { work(alloc, &next, job, bytes, parts) };
     Ok(thread::map_indices(rt, alloc, threads, &worker)?)
 }
@@ -51,7 +64,8 @@ pub fn run_parts<J: Job, R: Threads + Sync>(
     requires least { 1 ≤ threads }
     requires most { threads ≤ 16 }
     requires within { All (LiesIn bytes.now) parts.now }
-    ensures { IfOk result (λ answers. map vec_items answers.items ≡ answers_to (J.means job.now) bytes.now parts.now) }
+    ensures { IfOk result
+        (λ answers. map vec_items answers.items ≡ answers_to (J.means job.now) bytes.now parts.now) }
 {
     let threads = parts.len().min(threads as usize);
     let brought = brought_back(rt, alloc, threads, job, bytes, parts)?;

@@ -27,7 +27,9 @@ pub(crate) fn answer_to<J: Job>(
 ) -> Result<Vec<u8>, NoMemory>
     requires within { All (LiesIn bytes.now) parts.now }
     requires there { number < length parts.now }
-    ensures { IfOk result (λ answer. slice_get (answers_to (J.means job.now) bytes.now parts.now) number ≡ Some answer.items) }
+    ensures { IfOk result
+        (λ answer.
+        slice_get (answers_to (J.means job.now) bytes.now parts.now) number ≡ Some answer.items) }
 {
     let Part { from, to } = parts[number];
     job.answer(alloc, &bytes[from..to])
@@ -42,7 +44,8 @@ pub(crate) fn work<J: Job>(
     parts: &[Part],
 ) -> Result<Vec<Done>, NoMemory>
     requires { All (LiesIn bytes.now) parts.now }
-    ensures of { IfOk result (λ all. All (IsOf (answers_to (J.means job.now) bytes.now parts.now)) all.items) }
+    ensures of { IfOk result
+        (λ all. All (IsOf (answers_to (J.means job.now) bytes.now parts.now)) all.items) }
     ensures below { IfOk result (λ all. All (IsBelow (length parts.now)) all.items) }
 {
     let mut all = Vec::new(alloc);

@@ -56,7 +56,8 @@ pub trait Looks<L: Ledger, K> {
     /// Whether the lists from 64 times the place on have anybody, a bit for each.
     fn word(&self, at: usize, steps: &mut Steps<L>) -> u64
         requires { at < 4 }
-        ensures value { (i : ℕ) → i < 64 → bit_at result i ≡ cond (is_some (firsts self.now (64 * at + i))) 1 0 }
+        ensures value { (i : ℕ) → i < 64 →
+            bit_at result i ≡ cond (is_some (firsts self.now (64 * at + i))) 1 0 }
         ensures cost { steps.new ≡ steps.old + 1 };
 
     /// The first of a list.

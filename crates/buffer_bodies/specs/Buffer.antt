@@ -81,9 +81,9 @@ lettered from [] buffer = get from buffer
 lettered from (byte ∷ bytes) buffer = put from (byte ∷ bytes) buffer
 
 -- what it makes of an answer: only letters tell it something
-abbrev pub told : Answer → Buffer → Buffer
-told (answer.Letter from text room) buffer = lettered from text buffer
-told _ buffer = buffer
+abbrev pub after_answer : Answer → Buffer → Buffer
+after_answer (answer.Letter from text room) buffer = lettered from text buffer
+after_answer _ buffer = buffer
 
 -- ---- what it calls
 
@@ -108,7 +108,7 @@ calls buffer = if nat_lt buffer.created buffer.crew
 
 -- its next call, and what it holds then
 abbrev pub buffer_next : Buffer → Answer → Call × Buffer
-buffer_next buffer got = calls (told got buffer)
+buffer_next buffer got = calls (after_answer got buffer)
 
 -- before its first call: it is to create so many threads, holds at most `room` items, and hands out `left` in all
 abbrev pub opening : ℕ → ℕ → ℕ → Buffer

@@ -1,5 +1,5 @@
 // The thread that keeps items.
-ghost use Rattle.buffer_bodies.specs.Buffer.{buffer_next, calls, get, handed, kept, lettered, opening, put, refilled, replied, rests, speaks, stored, thanked, told};
+ghost use Rattle.buffer_bodies.specs.Buffer.{after_answer, buffer_next, calls, get, handed, kept, lettered, opening, put, refilled, replied, rests, speaks, stored, thanked};
 ghost use Rattle.std.specs.Prelude.{◌≡◌, OnOk};
 
 use lwp_types::{Answer, Call, Flags, Mode, NoMemory, Text, Tid};
@@ -147,7 +147,7 @@ impl<'s> Buffer<'s> {
     }
 
     fn hear(&mut self, got: &Answer<'s>) -> Result<(), NoMemory>
-        ensures { OnOk result (self.new ≡ told got.now self.old) }
+        ensures { OnOk result (self.new ≡ after_answer got.now self.old) }
     {
         match got {
             Answer::Letter { from, text, .. } => self.take_letter(*from, text.again()),

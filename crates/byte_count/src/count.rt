@@ -56,7 +56,8 @@ impl Sink for CountSink {
     fn write(&mut self, bytes: &[u8]) -> Result<usize, Failed>
         ensures bound { IfOk result (λ n. n ≤ length bytes.now) }
         ensures some { IfOk result (λ n. 0 < length bytes.now → 0 < n) }
-        ensures ok { IfOk result (λ n. Some self.new.bytes ≡ appended (Some self.old.bytes) (take n bytes.now)) }
+        ensures ok { IfOk result
+            (λ n. Some self.new.bytes ≡ appended (Some self.old.bytes) (take n bytes.now)) }
         ensures err { OnErr result (Some self.new.bytes ≡ Some self.old.bytes) }
         ensures cause { HasCause self.old.faults self.new.faults result }
         // It takes all that it is given.

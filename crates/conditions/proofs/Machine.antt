@@ -7,9 +7,9 @@ use Rattle.conditions.specs.declared.waits.WaitRec.{WaitRec}
 use Rattle.lwp_types.specs.Choice.{best_by}
 use Rattle.lwp_types.specs.CountLaws.{count-cons, count-filter-le, one}
 use Rattle.lwp_types.specs.ListLaws.{All-push, All-weaker}
-use Rattle.lwp_types.specs.Locks as locks
+use Rattle.lwp_types.specs.Monitors as locks
 use Rattle.lwp_types.specs.State.{priority_in}
-use Rattle.lwp_types.specs.Waits as machine
+use Rattle.lwp_types.specs.Conditions as machine
 use Rattle.lwp_types.specs.declared.rows.CondRow.{CondRow}
 use Rattle.lwp_types.specs.declared.rows.WaitRow.{WaitRow}
 use Rattle.std.proofs.Common.{Bool, List, None, Option, Some, [], ap, arith, cond, count_by, eqb, false, inl, inr, length, map, not, refl, sym, true, ℕ, ◌&&◌, ◌+◌, ◌∙◌, ◌∷◌, ◌≡◌, ◌≢◌, ◌≤◌, ◌||◌}

@@ -1,9 +1,9 @@
 -- Conditions whose numbers rise: where one stands, and that they go on rising.
 use Rattle.conditions.specs.Kept.{AreRising, IsAt, IsKept}
 use Rattle.lwp_types.specs.CountLaws.{count-cons, one}
-use Rattle.lwp_types.specs.Locks.{is_of_monitor, without_conditions_of}
+use Rattle.lwp_types.specs.Monitors.{is_of_monitor, without_conditions_of}
 use Rattle.lwp_types.specs.OnlyLaws.{filter_none, remove_only}
-use Rattle.lwp_types.specs.Waits.{is_condition, without_condition}
+use Rattle.lwp_types.specs.Conditions.{is_condition, without_condition}
 use Rattle.lwp_types.specs.declared.rows.CondRow.{CondRow}
 use Rattle.std.proofs.Common.{Bool, List, Some, [], ap, arith, cond, count_by, false, get_or, inl, inr, length, not, refl, suc, true, zero, ℕ, ◌++◌, ◌<◌, ◌∷◌, ◌≡◌, ◌≤◌}
 use Rattle.std.proofs.lemmas.Bool.{cases_eq, eq-eqb, ne_eqb}

@@ -1,8 +1,8 @@
 -- The conditions of a pod as plain lists, and what each call on them makes of the lists.
 use Rattle.conditions.specs.declared.waits.WaitRec.{WaitRec}
 use Rattle.lwp_types.specs.Choice.{best_by}
-use Rattle.lwp_types.specs.Locks.{is_of_monitor, without_conditions_of}
-use Rattle.lwp_types.specs.Waits.{condition_of, without_condition}
+use Rattle.lwp_types.specs.Conditions.{condition_of, without_condition}
+use Rattle.lwp_types.specs.Monitors.{is_of_monitor, without_conditions_of}
 use Rattle.lwp_types.specs.declared.rows.CondRow.{CondRow}
 use Rattle.lwp_types.specs.declared.rows.WaitRow.{WaitRow}
 use Rattle.std.specs.List.{filter, find, list_any}

@@ -4,9 +4,9 @@ use Rattle.conditions.specs.ConditionTable as table
 use Rattle.conditions.specs.ConditionTable.{ConditionTable, is_on, is_wait_of, machine_row}
 use Rattle.conditions.specs.declared.waits.WaitRec.{WaitRec}
 use Rattle.lwp_types.specs.Choice.{best_by}
-use Rattle.lwp_types.specs.Locks as locks
+use Rattle.lwp_types.specs.Conditions as machine
+use Rattle.lwp_types.specs.Monitors as locks
 use Rattle.lwp_types.specs.State.{State, priority_in}
-use Rattle.lwp_types.specs.Waits as machine
 use Rattle.std.specs.List.{AllByRecursion, count_by}
 use Rattle.std.specs.Prelude.{List, None, Option, Some, [], length, map, option_map, option_to_list, ℕ, suc, zero, ◌&&◌, ◌++◌, ◌∷◌, ◌≡◌, ◌≢◌, ◌≤◌}
 

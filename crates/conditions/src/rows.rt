@@ -1,8 +1,8 @@
 // The live conditions, in birth order.
 ghost use Rattle.std.specs.Prelude.{◌≡◌, count_by, IfNone, IfOk, IfSome};
 ghost use Rattle.conditions.specs.Kept.{AreRising, IsAt};
-ghost use Rattle.lwp_types.specs.Locks.{without_conditions_of};
-ghost use Rattle.lwp_types.specs.Waits.{condition_numbers, condition_of, is_condition, without_condition};
+ghost use Rattle.lwp_types.specs.Monitors.{without_conditions_of};
+ghost use Rattle.lwp_types.specs.Conditions.{condition_numbers, condition_of, is_condition, without_condition};
 
 use lwp_types::{Cid, CondRow, IdList, Mid, NoMemory};
 use std::alloc::Global;

@@ -17,7 +17,7 @@ use Rattle.lwp_types.specs.Agents.{agents_of, belongs_to, end_agent, without_age
 use Rattle.lwp_types.specs.CountLaws.{count-cons, count_not_found, one}
 use Rattle.lwp_types.specs.Death.{end_agents}
 use Rattle.lwp_types.specs.Lawful.{is_same_option}
-use Rattle.lwp_types.specs.Letters.{receivers_of, without_letter}
+use Rattle.lwp_types.specs.Messages.{receivers_of, without_letter}
 use Rattle.lwp_types.specs.State as machine
 use Rattle.lwp_types.specs.State.{Outcome, State, ThreadRow, agent_of, and_then, for_each, is_agent, is_agent_row, is_not_blocked, is_number, is_thread, passes, still, times_in, with_block}
 use Rattle.lwp_types.specs.Unblock.{nonexist, unblock}
@@ -27,7 +27,7 @@ use Rattle.lwp_types.specs.declared.rows.AgentRow.{AgentRow}
 use Rattle.lwp_types.specs.declared.rows.Block.TheVariants as block
 use Rattle.pod_laws.proofs.DeathLoops.{Unowning, end_first}
 use Rattle.pod_laws.proofs.Drains.{keys_times}
-use Rattle.rendezvous.specs.Mailbag.{forgotten}
+use Rattle.messages.specs.MessageTable.{forgotten}
 use Rattle.stale_ids.specs.Register.{removed, without}
 use Rattle.std.proofs.Common.{Bool, List, None, Option, Some, [], ap, arith, cond, eqb, false, length, length-append, not, refl, sym, true, ℕ, ◌&&◌, ◌++◌, ◌<◌, ◌∙◌, ◌∷◌, ◌≡◌, ◌≤◌}
 use Rattle.std.proofs.lemmas.Bool.{eq-eqb}
@@ -76,14 +76,14 @@ others-same a (row ∷ rows) none = by_test (is_number a row) (others-same a row
 module _ (parts : Parts) (a : ℕ) (no_thread : is_thread (state_of parts) a ≡ false) where
   -- the parts without the agent's letter and its number
   abbrev pub cleared : Parts
-  cleared = record parts { mail = forgotten parts.mail a; ids = removed parts.ids a }
+  cleared = record parts { messages = forgotten parts.messages a; ids = removed parts.ids a }
 
   rows-same : rows_of parts.last_prio parts.sched.threads (without a parts.ids.live) ≡ (state_of parts).threads
   rows-same = rows-removed parts.last_prio a parts.sched.threads parts.ids.live ∙ others-same a (state_of parts).threads no_thread
 
-  pub came_cleared : (effects : List Effect) → InStep parts → CameTo parts cleared effects effects (still (record (state_of parts) { letters = without_letter a parts.mail.letters }))
+  pub came_cleared : (effects : List Effect) → InStep parts → CameTo parts cleared effects effects (still (record (state_of parts) { letters = without_letter a parts.messages.letters }))
   came_cleared effects step = record {
-    state = ap (λ rows. record (state_of parts) { threads = rows; letters = without_letter a parts.mail.letters }) rows-same;
+    state = ap (λ rows. record (state_of parts) { threads = rows; letters = without_letter a parts.messages.letters }) rows-same;
     effects = sym (append-nil effects);
     step = record {
       tied = record {

@@ -16,10 +16,10 @@ use Rattle.death_cleanup.specs.declared.rows.Kind.TheVariants as kind
 use Rattle.lwp_types.specs.CountLaws.{count-cons, count_and-le, count_not_found, one, one-le}
 use Rattle.lwp_types.specs.Counts.{is_depth, is_entering, is_waiting, waits_by}
 use Rattle.lwp_types.specs.Lawful.{NineParts, is_same_option}
-use Rattle.lwp_types.specs.Locks.{is_owned_by_other}
+use Rattle.lwp_types.specs.Monitors.{is_owned_by_other}
 use Rattle.lwp_types.specs.State as machine
 use Rattle.lwp_types.specs.State.{State, ThreadRow, is_not_blocked, is_number, member, passes}
-use Rattle.lwp_types.specs.Waits.{woken}
+use Rattle.lwp_types.specs.Conditions.{woken}
 use Rattle.lwp_types.specs.declared.rows.Block.{Block}
 use Rattle.lwp_types.specs.declared.rows.Block.TheVariants as block
 use Rattle.lwp_types.specs.declared.rows.CondRow.{CondRow}

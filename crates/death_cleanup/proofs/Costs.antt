@@ -8,13 +8,13 @@ use Rattle.lwp_types.specs.Counts.{has_its_marks}
 use Rattle.lwp_types.specs.Death.{answer_joiners, bury, death, end_agents, joins, refuse_receivers, refuse_sender, refuse_senders, release_all, run_all_exits, withdraw}
 use Rattle.lwp_types.specs.Exits.{exit_case, run_exit}
 use Rattle.lwp_types.specs.Lawful.{NineParts}
-use Rattle.lwp_types.specs.Letters.{awaits, letters_of, replied, senders_to, with_holding, without_letter}
-use Rattle.lwp_types.specs.Locks.{depth_in, exited, with_depth}
-use Rattle.lwp_types.specs.Marks.{exit_of, exits_of, is_exit, is_frame}
-use Rattle.lwp_types.specs.Release.{grant, last_lock, next_owner, release, without_lock}
+use Rattle.lwp_types.specs.Messages.{awaits, letters_of, replied, senders_to, with_holding, without_letter}
+use Rattle.lwp_types.specs.Monitors.{depth_in, exited, with_depth}
+use Rattle.lwp_types.specs.Exceptions.{exit_of, exits_of, is_exit, is_frame}
+use Rattle.lwp_types.specs.MonitorRelease.{grant, last_lock, next_owner, release, without_lock}
 use Rattle.lwp_types.specs.State.{Outcome, State, ThreadRow, and_then, block_set, for_each, in_order, is_agent, is_id, is_not_blocked, is_number, is_thread, marked, marks_in, marks_set, passes, still, suspension_set, thread_of, with_block, with_marks, with_suspension}
 use Rattle.lwp_types.specs.Unblock.{nonexist, unblock, zero_answer}
-use Rattle.lwp_types.specs.Waits.{condition_of, is_lock_of, waking, woken, woken_all}
+use Rattle.lwp_types.specs.Conditions.{condition_of, is_lock_of, waking, woken, woken_all}
 use Rattle.lwp_types.specs.declared.call.Answer.{Answer}
 use Rattle.lwp_types.specs.declared.call.Answer.TheVariants as answer
 use Rattle.lwp_types.specs.declared.call.ExitCall.{ExitCall}
@@ -37,13 +37,13 @@ use Rattle.pod_laws.proofs.Deaths.{dying_living, joins_alone, lonely, nine_unwou
 use Rattle.pod_laws.proofs.Drains.{first_waiter, wake_all, wake_first, waiters_by}
 use Rattle.pod_laws.proofs.Elements.{all_found, true_of}
 use Rattle.pod_laws.proofs.ExitCalls.{run_exit_keeps}
-use Rattle.pod_laws.proofs.LetterCalls.{reply_sends, sender_row}
+use Rattle.pod_laws.proofs.MessageCalls.{reply_sends, sender_row}
 use Rattle.pod_laws.proofs.LetterMoves.{is_alone}
 use Rattle.pod_laws.proofs.LockMoves.{next, requester}
 use Rattle.pod_laws.proofs.OnceExits.{of_case}
 use Rattle.pod_laws.proofs.Rowed.{once_threads}
 use Rattle.pod_laws.proofs.Rows.{number_known}
-use Rattle.pod_laws.proofs.WaitCalls.{Among, all_among, best_among, waking_begins}
+use Rattle.pod_laws.proofs.ConditionCalls.{Among, all_among, best_among, waking_begins}
 use Rattle.pod_laws.proofs.Waking.{Waking, first_waits as wait_listed, waiter, waking_next}
 use Rattle.std.proofs.Common.{Bool, List, None, Option, Some, [], ap, arith, cond, count_by, false, length, length-append, not, refl, reverse, sum_by, sym, true, ℕ, ◌+◌, ◌-◌, ◌||◌, ◌∙◌, ◌∷◌, ◌≡◌, ◌≤◌}
 use Rattle.std.proofs.lemmas.Bool.{and_parts, eq-eqb, leb-true}

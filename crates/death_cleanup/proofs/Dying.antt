@@ -16,7 +16,7 @@ use Rattle.pod_laws.proofs.DeathEnds.{Forgotten}
 use Rattle.pod_laws.proofs.DeathLoops.{Lonely, Unowning, refused_all}
 use Rattle.pod_laws.proofs.Deaths.{NineParts-death, forgotten, lonely, nine_unwound, nine_withdrawn, unowning}
 use Rattle.pod_laws.proofs.Drains.{wake_all}
-use Rattle.lwp_types.specs.Letters.{awaits}
+use Rattle.lwp_types.specs.Messages.{awaits}
 use Rattle.lwp_types.specs.Unblock.{nonexist}
 use Rattle.std.proofs.Common.{List, None, Some, [], ap, arith, length, length-append, sym, true, ℕ, ◌++◌, ◌+◌, ◌<◌, ◌∙◌, ◌∷◌, ◌≡◌, ◌≤◌}
 use Rattle.std.proofs.lemmas.List.{append-nil, append_assoc}

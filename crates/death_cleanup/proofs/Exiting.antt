@@ -5,9 +5,9 @@ use Rattle.death_cleanup.specs.View.{state_of}
 use Rattle.death_cleanup.specs.declared.parts.Parts.{Parts}
 use Rattle.lwp_types.specs.Case.{Case, Check, unless}
 use Rattle.lwp_types.specs.Exits.{exit_case, run_exit}
-use Rattle.lwp_types.specs.Letters.{replied, with_holding, without_letter}
-use Rattle.lwp_types.specs.Locks.{depth_in, exited, with_depth}
-use Rattle.lwp_types.specs.Release.{grant, next_owner, release, without_lock}
+use Rattle.lwp_types.specs.Messages.{replied, with_holding, without_letter}
+use Rattle.lwp_types.specs.Monitors.{depth_in, exited, with_depth}
+use Rattle.lwp_types.specs.MonitorRelease.{grant, next_owner, release, without_lock}
 use Rattle.lwp_types.specs.State.{State, is_agent, still}
 use Rattle.lwp_types.specs.Unblock.{unblock, zero_answer}
 use Rattle.lwp_types.specs.declared.call.Answer.{Answer}

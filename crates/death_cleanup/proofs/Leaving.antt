@@ -7,12 +7,12 @@ use Rattle.death_cleanup.specs.Ties.{LawfulParts}
 use Rattle.death_cleanup.specs.View.{state_of}
 use Rattle.death_cleanup.specs.declared.parts.Parts.{Parts}
 use Rattle.death_cleanup.specs.declared.rows.Kind.{Kind}
-use Rattle.exc_stack.specs.Stack.{UnwindsTo, below_last_exit, unwound_to}
+use Rattle.exceptions.specs.Stack.{UnwindsTo, below_last_exit, unwound_to}
 use Rattle.lwp_types.specs.CountLaws.{count-append}
 use Rattle.lwp_types.specs.Counts.{has_its_marks}
+use Rattle.lwp_types.specs.Exceptions.{exits_of, first_frames, frames, later_frames}
 use Rattle.lwp_types.specs.Exits.{run_exit, unwind}
 use Rattle.lwp_types.specs.Lawful.{is_same_option}
-use Rattle.lwp_types.specs.Marks.{exits_of, first_frames, frames, later_frames}
 use Rattle.lwp_types.specs.State.{State, ThreadRow, is_number, is_thread, marks_in, thread_of}
 use Rattle.lwp_types.specs.declared.call.Effect.{Effect}
 use Rattle.lwp_types.specs.declared.rows.ExitMark.{ExitMark}

@@ -3,8 +3,8 @@ use Rattle.death_cleanup.specs.Ties.{InStep, LawfulParts}
 use Rattle.death_cleanup.specs.View.{state_of}
 use Rattle.death_cleanup.specs.declared.parts.Parts.{Parts}
 use Rattle.lwp_types.specs.Case.{refused, unless, with_zero}
-use Rattle.lwp_types.specs.Locks.{depth_in, exited, is_owner, monitor_break, monitor_exit, with_depth}
-use Rattle.lwp_types.specs.Release.{lock_of, next_owner, release}
+use Rattle.lwp_types.specs.Monitors.{depth_in, exited, is_owner, monitor_break, monitor_exit, with_depth}
+use Rattle.lwp_types.specs.MonitorRelease.{lock_of, next_owner, release}
 use Rattle.lwp_types.specs.State.{State, is_blocked_in, is_not_blocked, member, passes, priority_in}
 use Rattle.lwp_types.specs.declared.rows.Lock.{Lock}
 use Rattle.lwp_types.specs.declared.call.LwpErr.TheVariants as error

@@ -14,15 +14,15 @@ use Rattle.lwp_types.specs.CountLaws.{count-filter-le}
 use Rattle.lwp_types.specs.Choice.{best_by}
 use Rattle.lwp_types.specs.First.{IsFirstBest}
 use Rattle.lwp_types.specs.FirstLaws.{finds_best}
-use Rattle.lwp_types.specs.Release.{last_lock}
+use Rattle.lwp_types.specs.MonitorRelease.{last_lock}
 use Rattle.lwp_types.specs.State.{State, is_empty, is_thread, passes, priority_in}
-use Rattle.lwp_types.specs.Waits as machine
-use Rattle.lwp_types.specs.Waits.{broadcast, cond_send, condition_of, is_condition, notify, waking, woken, woken_all}
+use Rattle.lwp_types.specs.Conditions as machine
+use Rattle.lwp_types.specs.Conditions.{broadcast, cond_send, condition_of, is_condition, notify, waking, woken, woken_all}
 use Rattle.lwp_types.specs.declared.call.LwpErr.TheVariants as error
 use Rattle.lwp_types.specs.declared.rows.CondRow.{CondRow}
 use Rattle.lwp_types.specs.declared.rows.WaitRow.{WaitRow}
 use Rattle.pod_laws.proofs.Elements.{all_filter, find_passes}
-use Rattle.pod_laws.proofs.WaitCalls.{Among, all_among, best_among, waking_begins}
+use Rattle.pod_laws.proofs.ConditionCalls.{Among, all_among, best_among, waking_begins}
 use Rattle.std.proofs.Common.{Bool, List, None, Option, Some, [], ap, arith, eqb, false, length, map, refl, sym, true, ℕ, ◌&&◌, ◌++◌, ◌<◌, ◌∙◌, ◌∷◌, ◌≡◌}
 use Rattle.std.proofs.lemmas.Bool.{eqb-true}
 use Rattle.std.specs.List.{AllByRecursion, find, fold}

@@ -7,7 +7,7 @@ use Rattle.death_cleanup.specs.View.{state_of}
 use Rattle.death_cleanup.specs.declared.parts.Parts.{Parts}
 use Rattle.lwp_types.specs.CountLaws.{count-cons, count_found_by, count_not_found, one}
 use Rattle.lwp_types.specs.Counts.{is_entering, is_sending, is_waiting}
-use Rattle.lwp_types.specs.Letters.{is_letter_of, letters_of, without_letter}
+use Rattle.lwp_types.specs.Messages.{is_letter_of, letters_of, without_letter}
 use Rattle.lwp_types.specs.OnlyLaws.{filter_none}
 use Rattle.lwp_types.specs.State.{ThreadRow, is_blocked_in, is_not_blocked, is_thread, passes, thread_of}
 use Rattle.lwp_types.specs.declared.rows.Block.{Block}
@@ -49,7 +49,7 @@ count-seen f p (x ∷ xs) = omega (arith, count-cons (λ x. p (f x)) x xs, count
 
 module _ (parts : Parts) (t : ℕ) (lawful : LawfulParts parts) (lives : is_thread (state_of parts) t ≡ true) (idle : sched.is_blocked_in parts.sched t ≡ false) where
   abbrev Idle : Type 0
-  Idle = (letters_of parts.mail.letters t ≡ 0) × (count_by (mon_table.is_request_of t) parts.mons.requests ≡ 0) × (count_by (cond_table.is_wait_of t) parts.conds.waits ≡ 0)
+  Idle = (letters_of parts.messages.letters t ≡ 0) × (count_by (mon_table.is_request_of t) parts.mons.requests ≡ 0) × (count_by (cond_table.is_wait_of t) parts.conds.waits ≡ 0)
 
   waits_not : is_blocked_in (state_of parts) t ≡ false
   waits_not = sym (lawful.step.tied.waits t) ∙ idle
@@ -76,7 +76,7 @@ module _ (parts : Parts) (t : ℕ) (lawful : LawfulParts parts) (lives : is_thre
     last_prio = sched.priority_in parts.sched t;
   }
   withdrawn-idle =
-      let letters : without_letter t parts.mail.letters ≡ parts.mail.letters = filter_none (is_letter_of t) parts.mail.letters none.0 in
+      let letters : without_letter t parts.messages.letters ≡ parts.messages.letters = filter_none (is_letter_of t) parts.messages.letters none.0 in
       let requests : mon_table.without_request t parts.mons.requests ≡ parts.mons.requests = filter_none (mon_table.is_request_of t) parts.mons.requests none.1 in
       let waits : cond_table.without_wait t parts.conds.waits ≡ parts.conds.waits = filter_none (cond_table.is_wait_of t) parts.conds.waits none.2 in
       rw (letters, requests, waits) refl

@@ -8,7 +8,7 @@ use Rattle.death_cleanup.specs.declared.parts.Parts.{Parts}
 use Rattle.lwp_types.specs.CountLaws.{count-cons, count-reverse, count_not_found, one}
 use Rattle.lwp_types.specs.Death.{release_all}
 use Rattle.lwp_types.specs.Lawful.{NineParts}
-use Rattle.lwp_types.specs.Release.{is_lock, is_owned_by, last_lock, lock_of, release}
+use Rattle.lwp_types.specs.MonitorRelease.{is_lock, is_owned_by, last_lock, lock_of, release}
 use Rattle.lwp_types.specs.State.{State, times_in}
 use Rattle.lwp_types.specs.declared.call.Effect.{Effect}
 use Rattle.lwp_types.specs.declared.rows.Lock.{Lock}

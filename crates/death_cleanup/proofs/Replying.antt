@@ -1,12 +1,12 @@
 -- A letter is replied to.
 use Rattle.agents.specs.Roster as roster
-use Rattle.death_cleanup.proofs.Keeping.{InStep-agents, InStep-mail}
+use Rattle.death_cleanup.proofs.Keeping.{InStep-agents, InStep-messages}
 use Rattle.death_cleanup.specs.Ties.{InStep, LawfulParts}
 use Rattle.death_cleanup.specs.View.{state_of}
 use Rattle.death_cleanup.specs.declared.parts.Parts.{Parts}
 use Rattle.lwp_types.specs.Case.{refused, unless, with_zero}
 use Rattle.lwp_types.specs.Counts.{is_one_kind}
-use Rattle.lwp_types.specs.Letters.{received_from, replied, reply, with_holding}
+use Rattle.lwp_types.specs.Messages.{received_from, replied, reply, with_holding}
 use Rattle.lwp_types.specs.State.{State, agent_of, is_agent, is_blocked_in, is_id, is_not_blocked, is_thread, passes, still, thread_of}
 use Rattle.lwp_types.specs.Unblock.{unblock}
 use Rattle.lwp_types.specs.declared.call.LwpErr.{LwpErr}
@@ -14,9 +14,9 @@ use Rattle.lwp_types.specs.declared.call.Answer.TheVariants as answer
 use Rattle.lwp_types.specs.declared.call.LwpErr.TheVariants as error
 use Rattle.lwp_types.specs.declared.rows.AgentRow.{AgentRow}
 use Rattle.lwp_types.specs.declared.rows.Letter.{Letter}
-use Rattle.pod_laws.proofs.LetterCalls.{reply_sends, sender_row}
-use Rattle.rendezvous.specs.Mailbag as mail
-use Rattle.rendezvous.specs.Mailbag.{refusal}
+use Rattle.pod_laws.proofs.MessageCalls.{reply_sends, sender_row}
+use Rattle.messages.specs.MessageTable as messages
+use Rattle.messages.specs.MessageTable.{refusal}
 use Rattle.std.proofs.Common.{Bool, List, None, Option, Some, [], ap, arith, cond, false, length, not, refl, sym, true, ℕ, ◌&&◌, ◌∙◌, ◌∷◌, ◌≡◌, ◌||◌}
 use Rattle.std.specs.Prelude.{IsTrue, is_none, is_some, nat_lt, option_map}
 
@@ -51,7 +51,7 @@ module _ (s : State) (t u : ℕ) (text : List ℕ) where
   unfolding unless
   reply-absent none = rw none refl
 
-  -- the refusals of the mail are those of the call
+  -- the refusals of the messages are those of the call
   pub reply-refused : is_id s u ≡ true → (e : LwpErr) → refusal (received_from s.letters t u) (length text) ≡ Some e → reply s t u text ≡ refused s e
   unfolding unless
   reply-refused lives e cause = rw lives (by_letter (received_from s.letters t u) cause)
@@ -93,10 +93,10 @@ length-holding a b (row ∷ rows) = omega (arith, length-holding a b rows)
 module _ (parts : Parts) (u : ℕ) where
   -- the parts without the letter of u
   abbrev pub lighter : Parts
-  lighter = record parts { mail = mail.forgotten parts.mail u }
+  lighter = record parts { messages = messages.forgotten parts.messages u }
 
   pub InStep-lighter : InStep parts → InStep lighter
-  InStep-lighter step = InStep-mail parts step (mail.forgotten parts.mail u) refl
+  InStep-lighter step = InStep-messages parts step (messages.forgotten parts.messages u) refl
 
   -- an agent can take the next event
   abbrev pub rearmed : Parts
@@ -112,7 +112,7 @@ module _ (parts : Parts) (u : ℕ) where
   replied-thread text none = rw none refl
 
   -- a thread that sent a letter waits for the reply
-  pub sender-waits : LawfulParts parts → (t : ℕ) → is_none (received_from parts.mail.letters t u) ≡ false → is_thread (state_of parts) u ≡ true → is_blocked_in (state_of parts) u ≡ true
+  pub sender-waits : LawfulParts parts → (t : ℕ) → is_none (received_from parts.messages.letters t u) ≡ false → is_thread (state_of parts) u ≡ true → is_blocked_in (state_of parts) u ≡ true
   sender-waits lawful t some lives = by_row (thread_of (state_of parts) u) refl lives
     where
       by_row : (o : Option _) → thread_of (state_of parts) u ≡ o → is_some o ≡ true → is_blocked_in (state_of parts) u ≡ true

@@ -2,13 +2,13 @@
 use Rattle.death_cleanup.proofs.Looks.{find-row, same-some}
 use Rattle.lwp_types.specs.Case.{Case, Check, refused, unless, valued, with_zero}
 use Rattle.lwp_types.specs.Exits.{exit_case, exit_outcome, run_exit}
-use Rattle.lwp_types.specs.Letters.{received_from, replied, with_holding, without_letter}
-use Rattle.lwp_types.specs.Locks.{depth_in, exited, is_owner, with_depth}
-use Rattle.lwp_types.specs.Release.{grant, lock_of, next_owner, release, requests_of, without_lock, without_request}
+use Rattle.lwp_types.specs.Messages.{received_from, replied, with_holding, without_letter}
+use Rattle.lwp_types.specs.Monitors.{depth_in, exited, is_owner, with_depth}
+use Rattle.lwp_types.specs.MonitorRelease.{grant, lock_of, next_owner, release, requests_of, without_lock, without_request}
 use Rattle.lwp_types.specs.State.{Outcome, State, ThreadRow, is_agent, is_blocked_in, is_id, is_not_blocked, is_number, is_suspended_in, is_thread, marked, marks_in, marks_set, member, passes, priority_in, still, with_block, with_marks, with_suspension}
 use Rattle.lwp_types.specs.Threads.{resumed}
 use Rattle.lwp_types.specs.Unblock.{unblock, unblocked, zero_answer}
-use Rattle.lwp_types.specs.Waits.{condition_of, is_no_condition, is_not_last, waits_on, woken, woken_all}
+use Rattle.lwp_types.specs.Conditions.{condition_of, is_no_condition, is_not_last, waits_on, woken, woken_all}
 use Rattle.lwp_types.specs.Choice.{best_by}
 use Rattle.lwp_types.specs.declared.call.Answer.{Answer}
 use Rattle.lwp_types.specs.declared.call.Answer.TheVariants as answer

@@ -14,8 +14,8 @@ use Rattle.lwp_types.specs.Lawful.{is_same_option}
 use Rattle.lwp_types.specs.State as machine
 use Rattle.lwp_types.specs.State.{State, is_thread, passes, suspension_set, ThreadRow, is_number, with_block, with_suspension}
 use Rattle.lwp_types.specs.declared.rows.Block.TheVariants as block
-use Rattle.lwp_types.specs.Release as release
-use Rattle.lwp_types.specs.Waits as machine_waits
+use Rattle.lwp_types.specs.MonitorRelease as release
+use Rattle.lwp_types.specs.Conditions as machine_waits
 use Rattle.monitors.specs.MonitorTable as mon_table
 use Rattle.monitors.specs.declared.requests.EntryRequest.{EntryRequest}
 use Rattle.conditions.specs.declared.waits.WaitRec.{WaitRec}

@@ -21,7 +21,7 @@ use Rattle.conditions.specs.ConditionTable.{ConditionTable}
 use Rattle.monitors.specs.MonitorTable.{MonitorTable}
 use Rattle.pod_sched.specs.Schedule.{Schedule}
 use Rattle.pod_sched.specs.declared.rows.Known.{Known}
-use Rattle.rendezvous.specs.Mailbag.{Mailbag}
+use Rattle.messages.specs.MessageTable.{MessageTable}
 use Rattle.stale_ids.specs.Register.{Register}
 use Rattle.std.specs.List.{fold}
 use Rattle.std.specs.Prelude.{List, None, Some, [], false, true, ℕ, ◌∷◌}
@@ -105,8 +105,8 @@ known t p = record { tid = t; prio = p; suspended = false; blocked = true }
 abbrev pub sched : Schedule
 sched = record { threads = known 0 1 ∷ known 1 5 ∷ known 2 5 ∷ known 3 5 ∷ known 4 5 ∷ known 5 5 ∷ known 6 5 ∷ known 7 5 ∷ []; order = []; timers = []; now = 0; maxpri = 9; places = 8 }
 
-abbrev pub mail : Mailbag
-mail = record {
+abbrev pub messages : MessageTable
+messages = record {
   letters = record { from = 1; to = 0; text = []; room = 9; received = true }
       ∷ record { from = 2; to = 0; text = []; room = 9; received = false }
       ∷ record { from = 8; to = 0; text = []; room = 240; received = false }
@@ -137,7 +137,7 @@ abbrev pub parts : Parts
 parts = record {
   ids = ids;
   sched = sched;
-  mail = mail;
+  messages = messages;
   mons = mons;
   conds = conds;
   agents = agents;

@@ -4,8 +4,8 @@ use Rattle.conditions.specs.declared.waits.WaitRec.{WaitRec}
 use Rattle.death_cleanup.specs.declared.parts.Parts.{Parts}
 use Rattle.death_cleanup.specs.declared.rows.Kind.{Kind}
 use Rattle.death_cleanup.specs.declared.rows.Kind.TheVariants as kind
-use Rattle.lwp_types.specs.Letters.{receivers_of, without_letter}
-use Rattle.lwp_types.specs.Locks.{is_owned_by_other}
+use Rattle.lwp_types.specs.Messages.{receivers_of, without_letter}
+use Rattle.lwp_types.specs.Monitors.{is_owned_by_other}
 use Rattle.lwp_types.specs.State.{Outcome, State, and_then, for_each, still}
 use Rattle.lwp_types.specs.Unblock.{nonexist, unblock}
 use Rattle.lwp_types.specs.declared.rows.Block.{Block}
@@ -14,7 +14,7 @@ use Rattle.lwp_types.specs.declared.rows.Block.TheVariants as block
 use Rattle.monitors.specs.MonitorTable as mon
 use Rattle.monitors.specs.MonitorTable.{MonitorTable}
 use Rattle.pod_sched.specs.Schedule as sched
-use Rattle.rendezvous.specs.Mailbag as mail
+use Rattle.messages.specs.MessageTable as messages
 use Rattle.stale_ids.specs.Register.{removed}
 use Rattle.stale_ids.specs.Register.{value_of}
 use Rattle.std.specs.Prelude.{IsTrue, List, None, Option, Some, [], false, if◌then◌else◌, length, map, ℕ, ◌<◌, ◌==◌, ◌≡◌, ◌≤◌}
@@ -42,7 +42,7 @@ withdrawn parts t = record parts {
   sched = sched.left parts.sched t;
   conds = cond.forgotten parts.conds t;
   mons = mon.forgotten parts.mons t;
-  mail = mail.forgotten parts.mail t;
+  messages = messages.forgotten parts.messages t;
   dying = Some t;
   last_prio = sched.priority_in parts.sched t;
 }

@@ -4,7 +4,7 @@ use Rattle.death_cleanup.specs.declared.rows.Awaited.TheVariants as awaited
 use Rattle.death_cleanup.specs.declared.rows.Kind.{Kind}
 use Rattle.death_cleanup.specs.declared.rows.Kind.TheVariants as kind
 use Rattle.lwp_types.specs.Death.{joins}
-use Rattle.lwp_types.specs.Letters.{awaits}
+use Rattle.lwp_types.specs.Messages.{awaits}
 use Rattle.lwp_types.specs.State.{Outcome, State, ThreadRow, for_each, numbers}
 use Rattle.lwp_types.specs.Unblock.{nonexist, unblock, zero_answer}
 use Rattle.lwp_types.specs.declared.call.Answer.{Answer}

@@ -31,7 +31,7 @@ fn withdraw(parts: &mut Parts, tid: Tid)
     if waits {
         parts.conds.forget(tid);
         parts.mons.forget(tid);
-        parts.mail.forget(tid);
+        parts.messages.forget(tid);
     }
 }
 
@@ -65,7 +65,8 @@ pub fn die<'s>(parts: &mut Parts<'s>, tid: Tid, effects: &mut Effects<'s>)
     requires alone { parts.old.dying ≡ None }
     requires lives { IsTrue (is_thread (state_of parts.old) tid) }
     requires room { length effects.old + 1279 ≤ 2048 }
-    ensures came { CameTo parts.old parts.new effects.old effects.new (death tid (state_of parts.old)) }
+    ensures came { CameTo parts.old parts.new effects.old effects.new
+        (death tid (state_of parts.old)) }
     ensures lawful { LawfulParts parts.new }
     ensures most { length effects.new ≤ length effects.old + 1279 }
 {

@@ -2,22 +2,23 @@
 ghost use Rattle.std.specs.Prelude.{◌≡◌, ◌<◌, ◌≤◌, ◌+◌, ◌++◌, ◌∷◌, [], length};
 ghost use Rattle.lwp_types.specs.Case.{answer_by};
 ghost use Rattle.lwp_types.specs.Exits.{exit_case, run_exit};
-ghost use Rattle.lwp_types.specs.Letters.{reply};
+ghost use Rattle.lwp_types.specs.Messages.{reply};
 ghost use Rattle.lwp_types.specs.State.{is_id, is_thread};
 ghost use Rattle.lwp_types.specs.Threads.{resume, set_exit};
 ghost use Rattle.death_cleanup.specs.Comes.{Answers, CameTo};
 ghost use Rattle.death_cleanup.specs.Ties.{InStep, LawfulParts};
 ghost use Rattle.death_cleanup.specs.View.{state_of};
 
-use crate::locks::{monitor_break, monitor_exit};
+use crate::condition_wakes::{broadcast, notify};
+use crate::monitor_releases::{monitor_break, monitor_exit};
 use crate::parts::{Parts, is_agent, is_thread, wake_replied};
-use crate::signals::{broadcast, notify};
 use lwp_types::{Answer, Effect, Effects, ExitCall, ExitMark, LwpErr, Text, Tid};
 
 /// The exit status is set; it is at most 99.
 pub fn set_exit(parts: &mut Parts, code: u32) -> Result<i64, LwpErr>
     requires step { InStep parts.old }
-    ensures answers { Answers parts.old parts.new [] [] (set_exit (state_of parts.old) code) (answer_by result) }
+    ensures answers { Answers parts.old parts.new [] [] (set_exit (state_of parts.old) code)
+        (answer_by result) }
 {
     if code > 99 {
         return Err(LwpErr::InvalidArg);
@@ -29,7 +30,8 @@ pub fn set_exit(parts: &mut Parts, code: u32) -> Result<i64, LwpErr>
 /// A suspended thread may run again, unless it waits. A dying one isn't suspended, and nothing happens.
 pub fn resume(parts: &mut Parts, tid: Tid) -> Result<i64, LwpErr>
     requires step { InStep parts.old }
-    ensures answers { Answers parts.old parts.new [] [] (resume (state_of parts.old) tid) (answer_by result) }
+    ensures answers { Answers parts.old parts.new [] [] (resume (state_of parts.old) tid)
+        (answer_by result) }
 {
     if !is_thread(parts, tid) {
         return Err(LwpErr::NonExist);
@@ -61,14 +63,15 @@ pub fn reply<'s>(
 ) -> Result<i64, LwpErr>
     requires lawful { LawfulParts parts.old }
     requires room { length effects.old < 2048 }
-    ensures answers { Answers parts.old parts.new effects.old effects.new (reply (state_of parts.old) tid to text.now) (answer_by result) }
+    ensures answers { Answers parts.old parts.new effects.old effects.new
+        (reply (state_of parts.old) tid to text.now) (answer_by result) }
 {
     let is_one = is_thread(parts, to);
     if !lives(parts, is_one, to) {
         return Err(LwpErr::NonExist);
     }
     let len = text.len();
-    if let Err(err) = parts.mail.reply(tid, to, len) {
+    if let Err(err) = parts.messages.reply(tid, to, len) {
         return Err(err);
     }
     if is_one {
@@ -88,7 +91,8 @@ fn perform<'s>(
 ) -> Result<i64, LwpErr>
     requires lawful { LawfulParts parts.old }
     requires room { length effects.old < 2048 }
-    ensures answers { Answers parts.old parts.new effects.old effects.new (exit_case (state_of parts.old) tid call.now) (answer_by result) }
+    ensures answers { Answers parts.old parts.new effects.old effects.new
+        (exit_case (state_of parts.old) tid call.now) (answer_by result) }
 {
     match call {
         ExitCall::MonExit { mon } => monitor_exit(parts, tid, *mon, effects),
@@ -110,7 +114,8 @@ fn tell_exit<'s>(
     effects: &mut Effects<'s>,
 )
     requires { length effects.old < 2048 }
-    ensures { effects.new ≡ effects.old ++ Effect.Exited tid mark.now.reg mark.now.call (answer_by done) ∷ [] }
+    ensures { effects.new
+        ≡ effects.old ++ Effect.Exited tid mark.now.reg mark.now.call (answer_by done) ∷ [] }
 {
     effects.push(Effect::Exited {
         tid,
@@ -129,7 +134,8 @@ pub fn exit_call<'s>(
 )
     requires lawful { LawfulParts parts.old }
     requires room { length effects.old + 2 ≤ 2048 }
-    ensures came { CameTo parts.old parts.new effects.old effects.new (run_exit tid mark.now (state_of parts.old)) }
+    ensures came { CameTo parts.old parts.new effects.old effects.new
+        (run_exit tid mark.now (state_of parts.old)) }
     ensures lawful { LawfulParts parts.new }
     ensures most { length effects.new ≤ length effects.old + 2 }
 {

@@ -1,9 +1,9 @@
 // Frames go, and the exit procedures that they have set are run.
 ghost use Rattle.std.specs.Prelude.{◌≡◌, ◌≤◌, IsTrue, Some, map};
-ghost use Rattle.exc_stack.specs.Stack.{UnwindsAll, UnwindsTo, unwound_all, unwound_to};
+ghost use Rattle.exceptions.specs.Stack.{UnwindsAll, UnwindsTo, unwound_all, unwound_to};
 ghost use Rattle.lwp_types.specs.Death.{run_all_exits};
 ghost use Rattle.lwp_types.specs.Exits.{unwind};
-ghost use Rattle.lwp_types.specs.Marks.{first_frames, frames, later_frames};
+ghost use Rattle.lwp_types.specs.Exceptions.{first_frames, frames, later_frames};
 ghost use Rattle.lwp_types.specs.State.{marks_in};
 ghost use Rattle.death_cleanup.specs.Comes.{CameTo, HasRoom};
 ghost use Rattle.death_cleanup.specs.Moves.{stack_of, stack_set, stacked};
@@ -19,8 +19,11 @@ use stale_ids::Registry;
 
 // The next exit procedure that a dying thread has to run, the last set first; its mark and those above it are gone.
 fn next_exit<'s>(ids: &mut Registry<Kind<'s>>, tid: Tid) -> Option<ExitMark<'s>>
-    ensures left { ids.new ≡ record ids.old { live = map (stack_set tid (unwound_all (stack_of tid ids.old.live)).left) ids.old.live } }
-    ensures next { UnwindsAll (stack_of tid ids.old.live) (unwound_all (stack_of tid ids.old.live)).left result }
+    ensures left { ids.new
+        ≡ record ids.old
+        { live = map (stack_set tid (unwound_all (stack_of tid ids.old.live)).left) ids.old.live } }
+    ensures next { UnwindsAll (stack_of tid ids.old.live)
+        (unwound_all (stack_of tid ids.old.live)).left result }
     ensures rising { AreRising ids.old.live }
 {
     let Some(kind) = ids.get_mut(tid.number) else {
@@ -33,8 +36,10 @@ fn next_exit<'s>(ids: &mut Registry<Kind<'s>>, tid: Tid) -> Option<ExitMark<'s>>
 fn next_exit_above<'s>(parts: &mut Parts<'s>, tid: Tid, depth: u32) -> Option<ExitMark<'s>>
     requires least { 1 ≤ depth }
     requires most { depth ≤ frames (marks_in (state_of parts.old) tid) }
-    ensures left { parts.new ≡ stacked parts.old tid (unwound_to depth (marks_in (state_of parts.old) tid)).left }
-    ensures next { UnwindsTo depth (marks_in (state_of parts.old) tid) (unwound_to depth (marks_in (state_of parts.old) tid)).left result }
+    ensures left { parts.new
+        ≡ stacked parts.old tid (unwound_to depth (marks_in (state_of parts.old) tid)).left }
+    ensures next { UnwindsTo depth (marks_in (state_of parts.old) tid)
+        (unwound_to depth (marks_in (state_of parts.old) tid)).left result }
 {
     let Some(kind) = parts.ids.get_mut(tid.number) else {
         return None;
@@ -47,7 +52,8 @@ pub fn run_all_exits<'s>(parts: &mut Parts<'s>, tid: Tid, effects: &mut Effects<
     requires lawful { LawfulParts parts.old }
     requires dying { parts.old.dying ≡ Some tid }
     requires room { HasRoom effects.old (run_all_exits tid (state_of parts.old)) 1 }
-    ensures came { CameTo parts.old parts.new effects.old effects.new (run_all_exits tid (state_of parts.old)) }
+    ensures came { CameTo parts.old parts.new effects.old effects.new
+        (run_all_exits tid (state_of parts.old)) }
 {
     while let Some(mark) = next_exit(&mut parts.ids, tid) {
         exit_call(parts, tid, &mark, effects);
@@ -59,8 +65,13 @@ pub fn leave_frames<'s>(parts: &mut Parts<'s>, tid: Tid, depth: u32, effects: &m
     requires lawful { LawfulParts parts.old }
     requires least { 1 ≤ depth }
     requires most { depth ≤ frames (marks_in (state_of parts.old) tid) }
-    requires room { HasRoom effects.old (unwind tid (first_frames depth (marks_in (state_of parts.old) tid)) (later_frames depth (marks_in (state_of parts.old) tid)) (state_of parts.old)) 1 }
-    ensures came { CameTo parts.old parts.new effects.old effects.new (unwind tid (first_frames depth (marks_in (state_of parts.old) tid)) (later_frames depth (marks_in (state_of parts.old) tid)) (state_of parts.old)) }
+    requires room { HasRoom effects.old
+        (unwind tid (first_frames depth (marks_in (state_of parts.old) tid))
+        (later_frames depth (marks_in (state_of parts.old) tid)) (state_of parts.old))
+        1 }
+    ensures came { CameTo parts.old parts.new effects.old effects.new
+        (unwind tid (first_frames depth (marks_in (state_of parts.old) tid))
+        (later_frames depth (marks_in (state_of parts.old) tid)) (state_of parts.old)) }
 {
     while let Some(mark) = next_exit_above(parts, tid, depth) {
         exit_call(parts, tid, &mark, effects);

@@ -21,24 +21,24 @@
 //! and the priority that it had. It stands on the crates of the single parts, and on `pod_laws`.
 #![tactic(auto)]
 
+mod condition_wakes;
 mod death;
 mod exits;
 mod frames;
-mod locks;
+mod monitor_releases;
 mod named;
 mod parts;
 mod rows;
-mod signals;
 mod waiters;
 
+pub use condition_wakes::{ask_again, broadcast, cond_send, is_last, notify};
 pub use death::die;
 pub use exits::{exit_call, reply, resume, set_exit};
 pub use frames::leave_frames;
-pub use locks::{monitor_break, monitor_exit, release};
+pub use monitor_releases::{monitor_break, monitor_exit, release};
 pub use named::{Named, note};
 pub use parts::{
     Parts, is_agent, is_id, is_thread, set_block, wake_done, wake_lettered, wake_replied,
 };
 pub use rows::{Awaited, Kind, NamedWait, ThreadRec};
-pub use signals::{ask_again, broadcast, cond_send, is_last, notify};
 pub use waiters::{end_agent, nth_of};

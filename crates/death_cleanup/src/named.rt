@@ -91,8 +91,10 @@ fn gap_of(waits: &[NamedWait], wait: &NamedWait) -> usize
 
 // Whether the wait stands there.
 fn is_at(waits: &Vec<NamedWait>, at: usize, wait: &NamedWait) -> bool
-    ensures there { IsTrue result → IsTrue (list_any (is_wait (run_of wait.now) wait.now.tid) waits.now.items) }
-    ensures away { IsFalse result → (d : _) → at < length waits.now.items → is_wait (run_of wait.now) wait.now.tid (slice_index_or waits.now.items at d) ≡ false }
+    ensures there { IsTrue result →
+        IsTrue (list_any (is_wait (run_of wait.now) wait.now.tid) waits.now.items) }
+    ensures away { IsFalse result → (d : _) → at < length waits.now.items →
+        is_wait (run_of wait.now) wait.now.tid (slice_index_or waits.now.items at d) ≡ false }
 {
     match waits.get(at) {
         Some(other) => other.tid == wait.tid && are_alike(other, wait),
@@ -162,7 +164,8 @@ fn put_in(waits: &mut Vec<NamedWait>, wait: &NamedWait)
     requires ordered { AreOrdered waits.old.items }
     requires room { length waits.old.items < vec_capacity waits.old }
     ensures ordered { AreOrdered waits.new.items }
-    ensures kept { (r n : ℕ) → IsTrue (list_any (is_wait r n) waits.old.items) → IsTrue (list_any (is_wait r n) waits.new.items) }
+    ensures kept { (r n : ℕ) → IsTrue (list_any (is_wait r n) waits.old.items) →
+        IsTrue (list_any (is_wait r n) waits.new.items) }
     ensures noted { IsTrue (list_any (is_wait (run_of wait.now) wait.now.tid) waits.new.items) }
     ensures capacity { vec_capacity waits.new ≡ vec_capacity waits.old }
 {
@@ -222,7 +225,8 @@ impl Named {
     // A thread waits for something of another one, or of an agent.
     fn add(&mut self, wait: &NamedWait)
         requires { length self.old.waits < self.old.places }
-        ensures kept { (r n : ℕ) → IsTrue (list_any (is_wait r n) self.old.waits) → IsTrue (list_any (is_wait r n) self.new.waits) }
+        ensures kept { (r n : ℕ) → IsTrue (list_any (is_wait r n) self.old.waits) →
+            IsTrue (list_any (is_wait r n) self.new.waits) }
         ensures noted { IsTrue (list_any (is_wait (run_of wait.now) wait.now.tid) self.new.waits) }
         ensures places { self.new.places ≡ self.old.places }
     {

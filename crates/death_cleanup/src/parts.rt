@@ -14,20 +14,20 @@ ghost use Rattle.death_cleanup.specs.View.{rows_of, state_of};
 use crate::named::Named;
 use crate::rows::Kind;
 use agents::Agents;
-use conditions::Conds;
+use conditions::Conditions;
 use lwp_types::{Block, Effects, Letter, LwpErr, Text, Tid};
+use messages::Messages;
 use monitors::Monitors;
 use pod_sched::Sched;
-use rendezvous::Mail;
 use stale_ids::Registry;
 
 /// All that a pod holds.
 pub struct Parts<'s> {
     pub ids: Registry<Kind<'s>>,
     pub sched: Sched,
-    pub mail: Mail<'s>,
+    pub messages: Messages<'s>,
     pub mons: Monitors,
-    pub conds: Conds,
+    pub conds: Conditions,
     pub agents: Agents,
     /// The exit status.
     pub exit: u32,
@@ -52,7 +52,7 @@ impl<'s> Drop for Parts<'s> {
         let Parts {
             ids: _,
             sched: _,
-            mail: _,
+            messages: _,
             mons: _,
             conds: _,
             agents: _,
@@ -128,7 +128,8 @@ pub fn wake_done<'s>(
     requires step { InStep parts.old }
     requires waits { IsTrue (is_blocked_in (state_of parts.old) tid) }
     requires room { length effects.old < 2048 }
-    ensures came { CameTo parts.old parts.new effects.old effects.new (unblock (answer_by done) tid (state_of parts.old)) }
+    ensures came { CameTo parts.old parts.new effects.old effects.new
+        (unblock (answer_by done) tid (state_of parts.old)) }
 {
     unblock(parts, tid);
     effects.done(tid, done);
@@ -144,7 +145,9 @@ pub fn wake_lettered<'s>(
     requires step { InStep parts.old }
     requires waits { IsTrue (is_blocked_in (state_of parts.old) tid) }
     requires room { length effects.old < 2048 }
-    ensures came { CameTo parts.old parts.new effects.old effects.new (unblock (answer.Letter letter.now.from letter.now.text letter.now.room) tid (state_of parts.old)) }
+    ensures came { CameTo parts.old parts.new effects.old effects.new
+        (unblock (answer.Letter letter.now.from letter.now.text letter.now.room) tid
+        (state_of parts.old)) }
 {
     unblock(parts, tid);
     effects.lettered(tid, letter);
@@ -155,7 +158,8 @@ pub fn wake_replied<'s>(parts: &mut Parts<'s>, tid: Tid, text: &Text<'s>, effect
     requires step { InStep parts.old }
     requires waits { IsTrue (is_blocked_in (state_of parts.old) tid) }
     requires room { length effects.old < 2048 }
-    ensures came { CameTo parts.old parts.new effects.old effects.new (unblock (answer.Reply text.now) tid (state_of parts.old)) }
+    ensures came { CameTo parts.old parts.new effects.old effects.new
+        (unblock (answer.Reply text.now) tid (state_of parts.old)) }
 {
     unblock(parts, tid);
     effects.replied(tid, text);

@@ -1,13 +1,13 @@
 // What the registry keeps under a number, and whom a thread waits for.
 ghost use Rattle.std.specs.Prelude.{◌≡◌, ◌≤◌, Some};
 ghost use Rattle.death_cleanup.specs.Moves.{kind_marked, kind_marks};
-ghost use Rattle.exc_stack.specs.Stack.{UnwindsAll, UnwindsTo, unwound_all, unwound_to};
+ghost use Rattle.exceptions.specs.Stack.{UnwindsAll, UnwindsTo, unwound_all, unwound_to};
 ghost use Rattle.lwp_types.specs.Case.{answer_by};
-ghost use Rattle.lwp_types.specs.Marks.{frames};
+ghost use Rattle.lwp_types.specs.Exceptions.{frames};
 ghost use Rattle.death_cleanup.specs.Named.{block_name, named_wait, rank};
 ghost use Rattle.death_cleanup.specs.Waits.{last_answer, waits_for};
 
-use exc_stack::ExcStack;
+use exceptions::ExceptionStack;
 use lwp_types::{Block, ExitMark, Flags, LwpErr, Tid};
 
 /// What is kept of a thread, but for what the scheduler keeps.
@@ -15,7 +15,7 @@ use lwp_types::{Block, ExitMark, Flags, LwpErr, Tid};
 pub struct ThreadRec<'s> {
     pub flags: Flags,
     pub block: Block,
-    pub stack: ExcStack<'s>,
+    pub stack: ExceptionStack<'s>,
 }
 
 /// Who lives under a number: a thread, or an agent.
@@ -94,8 +94,10 @@ impl<'s> Kind<'s> {
 
     /// Takes marks from the top of a thread's stack until one of them was an exit procedure, which is given.
     pub fn unwind_all(&mut self) -> Option<ExitMark<'s>>
-        ensures left { self.new ≡ kind_marked (unwound_all (kind_marks (Some self.old))).left self.old }
-        ensures next { UnwindsAll (kind_marks (Some self.old)) (unwound_all (kind_marks (Some self.old))).left result }
+        ensures left { self.new
+            ≡ kind_marked (unwound_all (kind_marks (Some self.old))).left self.old }
+        ensures next { UnwindsAll (kind_marks (Some self.old))
+            (unwound_all (kind_marks (Some self.old))).left result }
     {
         match self {
             Kind::Thread(rec) => rec.stack.unwind_all(),
@@ -107,8 +109,10 @@ impl<'s> Kind<'s> {
     pub fn unwind_to(&mut self, depth: u32) -> Option<ExitMark<'s>>
         requires least { 1 ≤ depth }
         requires most { depth ≤ frames (kind_marks (Some self.old)) }
-        ensures left { self.new ≡ kind_marked (unwound_to depth (kind_marks (Some self.old))).left self.old }
-        ensures next { UnwindsTo depth (kind_marks (Some self.old)) (unwound_to depth (kind_marks (Some self.old))).left result }
+        ensures left { self.new
+            ≡ kind_marked (unwound_to depth (kind_marks (Some self.old))).left self.old }
+        ensures next { UnwindsTo depth (kind_marks (Some self.old))
+            (unwound_to depth (kind_marks (Some self.old))).left result }
     {
         match self {
             Kind::Thread(rec) => rec.stack.unwind_to(depth),

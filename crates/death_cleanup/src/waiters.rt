@@ -11,7 +11,7 @@ ghost use Rattle.death_cleanup.specs.View.{state_of};
 ghost use Rattle.death_cleanup.specs.Waits.{dismissed};
 ghost use Rattle.pod_laws.proofs.DeathLoops.{Lonely, Unowning};
 
-use crate::locks::release;
+use crate::monitor_releases::release;
 use crate::parts::{Parts, wake_done};
 use crate::rows::{Awaited, Kind};
 use lwp_types::{Effects, LwpErr, Tid};
@@ -32,7 +32,8 @@ pub fn dismiss<'s>(parts: &mut Parts<'s>, what: Awaited, tid: Tid, effects: &mut
     requires threads { HasLawfulThreads (state_of parts.old) }
     requires step { InStep parts.old }
     requires room { HasRoom effects.old (dismissed what tid (state_of parts.old)) 0 }
-    ensures came { CameTo parts.old parts.new effects.old effects.new (dismissed what tid (state_of parts.old)) }
+    ensures came { CameTo parts.old parts.new effects.old effects.new
+        (dismissed what tid (state_of parts.old)) }
 {
     while let Some(other) = parts.named.first(&parts.ids, what, tid) {
         wake_done(parts, other, what.answer(), effects);
@@ -44,7 +45,8 @@ pub fn release_all<'s>(parts: &mut Parts<'s>, tid: Tid, effects: &mut Effects<'s
     requires lawful { LawfulParts parts.old }
     requires dying { parts.old.dying ≡ Some tid }
     requires room { HasRoom effects.old (release_all tid (state_of parts.old)) 1 }
-    ensures came { CameTo parts.old parts.new effects.old effects.new (release_all tid (state_of parts.old)) }
+    ensures came { CameTo parts.old parts.new effects.old effects.new
+        (release_all tid (state_of parts.old)) }
 {
     while let Some(mon) = parts.mons.last_held(tid) {
         release(parts, mon, effects);
@@ -56,9 +58,10 @@ pub fn refuse_senders<'s>(parts: &mut Parts<'s>, tid: Tid, effects: &mut Effects
     requires lonely { Lonely tid (state_of parts.old) }
     requires step { InStep parts.old }
     requires room { HasRoom effects.old (refuse_senders tid (state_of parts.old)) 0 }
-    ensures came { CameTo parts.old parts.new effects.old effects.new (refuse_senders tid (state_of parts.old)) }
+    ensures came { CameTo parts.old parts.new effects.old effects.new
+        (refuse_senders tid (state_of parts.old)) }
 {
-    while let Some(sender) = parts.mail.pop_to(tid) {
+    while let Some(sender) = parts.messages.pop_to(tid) {
         wake_done(parts, sender, Err(LwpErr::NonExist), effects);
     }
 }
@@ -69,10 +72,11 @@ fn clear_agent<'s>(parts: &mut Parts<'s>, agent: Tid, effects: &mut Effects<'s>)
     requires step { InStep parts.old }
     requires no_thread { is_thread (state_of parts.old) agent ≡ false }
     requires room { HasRoom effects.old (agent_over agent (state_of parts.old)) 0 }
-    ensures came { CameTo parts.old parts.new effects.old effects.new (agent_over agent (state_of parts.old)) }
+    ensures came { CameTo parts.old parts.new effects.old effects.new
+        (agent_over agent (state_of parts.old)) }
 {
     dismiss(parts, Awaited::Letter, agent, effects);
-    parts.mail.forget(agent);
+    parts.messages.forget(agent);
     parts.ids.remove(agent.number);
 }
 
@@ -81,7 +85,8 @@ pub fn end_agent<'s>(parts: &mut Parts<'s>, agent: Tid, effects: &mut Effects<'s
     requires lawful { LawfulParts parts.old }
     requires lives { IsTrue (is_agent (state_of parts.old) agent) }
     requires room { HasRoom effects.old (end_agent agent (state_of parts.old)) 0 }
-    ensures came { CameTo parts.old parts.new effects.old effects.new (end_agent agent (state_of parts.old)) }
+    ensures came { CameTo parts.old parts.new effects.old effects.new
+        (end_agent agent (state_of parts.old)) }
 {
     parts.agents.destroy(agent);
     clear_agent(parts, agent, effects);
@@ -92,7 +97,8 @@ pub fn end_agents<'s>(parts: &mut Parts<'s>, tid: Tid, effects: &mut Effects<'s>
     requires unowning { Unowning tid (state_of parts.old) }
     requires step { InStep parts.old }
     requires room { HasRoom effects.old (end_agents tid (state_of parts.old)) 0 }
-    ensures came { CameTo parts.old parts.new effects.old effects.new (end_agents tid (state_of parts.old)) }
+    ensures came { CameTo parts.old parts.new effects.old effects.new
+        (end_agents tid (state_of parts.old)) }
 {
     while let Some(agent) = parts.agents.forget_owner(tid) {
         clear_agent(parts, agent, effects);

@@ -4,7 +4,7 @@ ghost use Rattle.std.specs.Arc.{arc_value};
 ghost use Rattle.crossbeam_queue.specs.SegTies.{IsSegPassOf};
 ghost use Rattle.event_gate.specs.Port.{is_noted, starting, unnamed, with_next};
 ghost use Rattle.event_gate.specs.Gauge.{IsAtGauge};
-ghost use Rattle.event_gate.specs.Ends.{IsOpen, IsOpenGauge, opened, port_id, posting};
+ghost use Rattle.event_gate.specs.Ends.{IsOpen, IsOpenGauge, opened_port, port_id, posting};
 
 use crate::gauge::{GaugeSeat, another_seat, enroll, open_gauge};
 use crate::port::{Pass, Port};
@@ -76,8 +76,12 @@ fn open_poster<'s>(
     requires new { is_noted client pass.old.me.view.client.noted ≡ false }
     ensures gauge { seat.new.table_id ≡ seat.old.table_id }
     ensures queue { IsSegPassOf (arc_value port.now).queue pass.new × (pass.new.web ≡ pass.old.web) }
-    ensures view { IfOk result (λ p. IsOpen seat.old.table_id (pass.old.me.view.client.noted ++ client ∷ []) pass.new.me.view.client) }
-    ensures seats { IfOk result (λ p. IsOpenGauge (pass.old.me.view.client.noted ++ client ∷ []) seat.new.me.0) }
+    ensures view { IfOk result
+        (λ p.
+        IsOpen seat.old.table_id (pass.old.me.view.client.noted ++ client ∷ [])
+        pass.new.me.view.client) }
+    ensures seats { IfOk result
+        (λ p. IsOpenGauge (pass.old.me.view.client.noted ++ client ∷ []) seat.new.me.0) }
     ensures poster { IfOk result (λ p. p ≡ posting (port_id pass.old.web seat.old.table_id) client) }
 {
     let port = Arc::try_clone(port)?;
@@ -104,7 +108,8 @@ fn open_posters<'s>(
     ensures queue { IsSegPassOf (arc_value port.now).queue pass.new × (pass.new.web ≡ pass.old.web) }
     ensures view { IfOk result (λ v. IsOpen seat.old.table_id clients.now pass.new.me.view.client) }
     ensures seats { IfOk result (λ v. IsOpenGauge clients.now seat.new.me.0) }
-    ensures posters { IfOk result (λ v. v.items ≡ map (posting (port_id pass.old.web seat.old.table_id)) clients.now) }
+    ensures posters { IfOk result
+        (λ v. v.items ≡ map (posting (port_id pass.old.web seat.old.table_id)) clients.now) }
 {
     let mut posters = Vec::new(alloc);
     for client in clients {
@@ -123,7 +128,7 @@ pub fn open_port<'s, R: Wait>(
     clients: &[u8],
 ) -> Result<(Taker<'s>, Vec<Poster<'s>>), NoMemory>
     requires { AllPairs (λ a b. a ≢ b) clients.now }
-    ensures taker { IfOk result (λ r. r.0 ≡ opened r.0.port event clients.now) }
+    ensures taker { IfOk result (λ r. r.0 ≡ opened_port r.0.port event clients.now) }
     ensures posters { IfOk result (λ r. r.1.items ≡ map (posting r.0.port) clients.now) }
 {
     let (gauge, mut seat) = open_gauge(alloc)?;

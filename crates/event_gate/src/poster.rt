@@ -68,7 +68,8 @@ impl<'s> Poster<'s> {
     ) -> Poster<'s>
         requires queue { IsSegPassOf (arc_value port).queue pass }
         requires view { pass.me.view.client ≡ poster (name_of seat.table_id) client [] }
-        requires gauge { IsAtGauge (arc_value port).gauge.shared.table_id seat.table_id × (seat.me ≡ (posting_seat client, [])) }
+        requires gauge { IsAtGauge (arc_value port).gauge.shared.table_id seat.table_id
+            × (seat.me ≡ (posting_seat client, [])) }
         ensures { result ≡ posting (port_id pass.entry.web seat.entry.table_id) client }
     {
         Poster {
@@ -143,10 +144,13 @@ fn push_announced<'s, R: Wait>(
     requires queue { IsSegPassOf port.now.queue pass.old }
     requires ticket { IsTicketed pass.old.me.view.client.gauge.table sent }
     requires view { pass.old.me.view.client.posts ≡ true }
-    requires line { (sent.line.client ≡ pass.old.me.view.client.client) × (sent.line.seq ≡ length pass.old.me.view.client.posted) × (sent.line.seq < 4294967295) }
+    requires line { (sent.line.client ≡ pass.old.me.view.client.client)
+        × (sent.line.seq ≡ length pass.old.me.view.client.posted) × (sent.line.seq < 4294967295) }
     ensures queue { IsSegPassOf port.now.queue pass.new × (pass.new.web ≡ pass.old.web) }
-    ensures posted { OnOk result (pass.new.me.view.client ≡ after_post pass.old.me.view.client sent.entry.line) }
-    ensures refused { IfErr result (λ x. (x ≡ sent.entry) × (pass.new.me.view.client ≡ pass.old.me.view.client)) }
+    ensures posted { OnOk result
+        (pass.new.me.view.client ≡ after_post pass.old.me.view.client sent.entry.line) }
+    ensures refused { IfErr result
+        (λ x. (x ≡ sent.entry) × (pass.new.me.view.client ≡ pass.old.me.view.client)) }
 {
     port.queue.push_as::<Post, R>(rt, pass, sent)
 }

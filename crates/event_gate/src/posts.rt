@@ -44,7 +44,8 @@ fn post_texts<'s, G: PostGate, R: Wait>(
 ) -> bool
     requires { length poster.old.posted + length texts.now ≤ 4294967295 }
     ensures posts { PostsSome poster.old texts.now result poster.new }
-    ensures gate { gate.new ≡ asked_each G.asked gate.old (lines_asked poster.old texts.now result poster.new) }
+    ensures gate { gate.new
+        ≡ asked_each G.asked gate.old (lines_asked poster.old texts.now result poster.new) }
 {
     let client = poster.client();
     for text in texts {
@@ -74,7 +75,8 @@ pub fn post_all<'s, G: PostGate, R: Wait>(
 ) -> PostEnd<'s>
     requires { length poster.posted + length texts.now ≤ 4294967295 }
     ensures posts { PostsSome poster.entry texts.now result.all result.pass }
-    ensures gate { gate.new ≡ asked_each G.asked gate.old (lines_asked poster.entry texts.now result.all result.pass) }
+    ensures gate { gate.new
+        ≡ asked_each G.asked gate.old (lines_asked poster.entry texts.now result.all result.pass) }
 {
     let all = post_texts(rt, &mut poster, gate, texts, bell);
     bell.leave(rt);

@@ -1,6 +1,6 @@
 // The end of a port that the runner takes from.
 ghost use Rattle.std.specs.Prelude.{true, ◌≡◌, ◌↔◌, ◌%◌, ◌^◌, ◌∷◌, [], List, IfOk, IfSome, IfNone, IsTrue, IsNone};
-ghost use Rattle.event_gate.specs.Ends.{TakesLine, FindsNothing, TakesIn, IsTold, IsAllTaken, IsOpen, IsOpenGauge, opened, left_of, port_id};
+ghost use Rattle.event_gate.specs.Ends.{TakesLine, FindsNothing, TakesIn, IsTold, IsAllTaken, IsOpen, IsOpenGauge, opened_port, left_of, port_id};
 ghost use Rattle.std.specs.Arc.{arc_value};
 ghost use Rattle.crossbeam_queue.specs.SegTies.{IsSegPassOf};
 ghost use Rattle.event_gate.specs.Gauge.{Glimpse, IsAtGauge, after_find, after_redeem};
@@ -82,8 +82,10 @@ impl<'s> Taker<'s> {
     ) -> Result<Taker<'s>, AllocError>
         requires queue { IsSegPassOf (arc_value port).queue pass }
         requires view { IsOpen seat.table_id clients.now pass.me.view.client }
-        requires gauge { IsAtGauge (arc_value port).gauge.shared.table_id seat.table_id × IsOpenGauge clients.now seat.me.0 }
-        ensures { IfOk result (λ t. t ≡ opened (port_id pass.entry.web seat.entry.table_id) event clients.now) }
+        requires gauge { IsAtGauge (arc_value port).gauge.shared.table_id seat.table_id
+            × IsOpenGauge clients.now seat.me.0 }
+        ensures { IfOk result
+            (λ t. t ≡ opened_port (port_id pass.entry.web seat.entry.table_id) event clients.now) }
     {
         let clients = Vec::from_slice(alloc, clients)?;
         let taken = Vec::from_elem(alloc, 0, 256)?;
@@ -103,7 +105,7 @@ impl<'s> Taker<'s> {
     }
 
     /// Whether all passes came back.
-    pub fn told(&self) -> bool
+    pub fn is_told(&self) -> bool
         ensures { IsTrue result ↔ IsTold self.now }
     {
         for client in &self.clients {
@@ -178,8 +180,13 @@ fn next_line<'s, R: Wait>(
     requires own { count ≡ seat.old.me.0.tickets % 2 ^ 64 }
     ensures queue { IsSegPassOf port.now.queue pass.new × (pass.new.web ≡ pass.old.web) }
     ensures gauge { seat.new.table_id ≡ seat.old.table_id }
-    ensures line { IfSome result (λ x. Takes pass.old.me.view.client x pass.new.me.view.client × (seat.new.me.0 ≡ after_redeem seat.old.me.0 x)) }
-    ensures nothing { IfNone result ((pass.new.me.view.client ≡ pass.old.me.view.client) × Sees pass.old.me.view.client [] × (seat.new.me.0 ≡ after_find seat.old.me.0 count) × Glimpse count seat.old.me.0) }
+    ensures line { IfSome result
+        (λ x.
+        Takes pass.old.me.view.client x pass.new.me.view.client
+        × (seat.new.me.0 ≡ after_redeem seat.old.me.0 x)) }
+    ensures nothing { IfNone result
+        ((pass.new.me.view.client ≡ pass.old.me.view.client) × Sees pass.old.me.view.client []
+        × (seat.new.me.0 ≡ after_find seat.old.me.0 count) × Glimpse count seat.old.me.0) }
 {
     for _ in rt.forever() {
         if let Some(sent) = port.queue.pop_as::<Take, R>(rt, pass) {

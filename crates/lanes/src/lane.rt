@@ -200,7 +200,7 @@ impl<'s> LaneTaker<'s> {
     }
 
     /// Whether the pass came back.
-    pub fn told(&self) -> bool
+    pub fn is_told(&self) -> bool
         ensures { IsTrue result ↔ IsLaneTold self.now }
     {
         self.told
@@ -245,7 +245,8 @@ fn take_in_lane<'s>(lane: &Lane<'s>, seat: &mut LaneEnd<'s>, known: u32) -> Opti
 fn take_in_seat<'s>(lane: &Lane<'s>, seat: &mut LaneEnd<'s>, theirs: LaneEnd<'s>)
     requires seat { IsAtLane lane.now.shared.table_id seat.old.table_id }
     requires view { seat.old.me.0.takes ≡ true }
-    requires theirs { (theirs.table_id ≡ seat.old.table_id) × (theirs.me.1 ≡ []) × (theirs.me.0.posts ≡ true) × (theirs.me.0.holds ≡ false) }
+    requires theirs { (theirs.table_id ≡ seat.old.table_id) × (theirs.me.1 ≡ [])
+        × (theirs.me.0.posts ≡ true) × (theirs.me.0.holds ≡ false) }
     ensures seat { seat.new.table_id ≡ seat.old.table_id }
     ensures view { TakesInSeat seat.old.me.0 theirs.entry.me.0 seat.new.me.0 }
 {

@@ -19,7 +19,9 @@ pub fn lane_post_all<'s, G: PostGate, R: Wait>(
 ) -> LanePass<'s>
     requires { length poster.posted + length texts.now ≤ poster.lines }
     ensures posts { result ≡ lane_posted poster.entry texts.now }
-    ensures gate { gate.new ≡ asked_each G.asked gate.old (lines_from poster.entry.client (length poster.entry.posted) texts.now) }
+    ensures gate { gate.new
+        ≡ asked_each G.asked gate.old
+        (lines_from poster.entry.client (length poster.entry.posted) texts.now) }
 {
     let client = poster.client();
     for text in texts {

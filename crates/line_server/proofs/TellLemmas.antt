@@ -2,7 +2,7 @@
 use Rattle.line_server.specs.Commands.{Command, Del, Get, Put, alone, asked_by, command_of, is_key_length, key_len, put_of}
 use Rattle.line_server.specs.Read.{read}
 use Rattle.line_server.specs.Stores.{Tables, tables_after}
-use Rattle.line_server.specs.Tables.{Table, told}
+use Rattle.line_server.specs.Tables.{Table, told_text}
 use Rattle.line_server.specs.declared.command.Asked.{Asked}
 use Rattle.line_server.specs.declared.command.Asked.TheVariants as asked
 use Rattle.lwp_types.specs.TextFields.{is_printable, is_text}
@@ -111,10 +111,10 @@ set-is-insert {V} (e ∷ es) x new sorted there = by (nat_cmp x e.0) refl (set-i
 
 -- a table that was there was told through a reference: it was put there
 pub told-after : (es written : Tables) (x : ℕ) (text : List ℕ) (old new : Table) → IsStrictlySortedBy nat_cmp (keys_of es) → lookup (is_at (nat_cmp x)) es ≡ Some old
-    → written ≡ set_value (is_at (nat_cmp x)) es new → new ≡ (told text old).table → written ≡ tables_after x text es
+    → written ≡ set_value (is_at (nat_cmp x)) es new → new ≡ (told_text text old).table → written ≡ tables_after x text es
 told-after es written x text old new sorted there w n =
-    w ∙ ap (set_value (is_at (nat_cmp x)) es) n ∙ set-is-insert es x (told text old).table sorted (ap is_some there)
-    ∙ ap (λ o. insert_entry nat_cmp es x (told text (unwrap_or o [])).table) (sym there)
+    w ∙ ap (set_value (is_at (nat_cmp x)) es) n ∙ set-is-insert es x (told_text text old).table sorted (ap is_some there)
+    ∙ ap (λ o. insert_entry nat_cmp es x (told_text text (unwrap_or o [])).table) (sym there)
 
 pub if-done : {A E : Type 0} (r : Result A E) (P Q : Type 0) → (P → Q) → OnOk r P → OnOk r Q
 if-done (Ok x) P Q f h = f h

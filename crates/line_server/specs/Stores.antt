@@ -1,5 +1,5 @@
 -- A store keeps a table for each thread that sends to it.
-use Rattle.line_server.specs.Tables.{Table, Told, replies, told}
+use Rattle.line_server.specs.Tables.{Table, Told, replies, told_text}
 use Rattle.line_server.specs.Turns.{Turn, after_reply, kept-lengths, stops, with_names}
 use Rattle.line_server.specs.declared.store.StorePlace.{StorePlace}
 use Rattle.line_server.specs.declared.store.StorePlace.TheVariants as at
@@ -37,7 +37,7 @@ table_of x tables = unwrap_or (lookup (is_at (nat_cmp x)) tables) []
 
 -- what a sender's text is told, and its table then
 abbrev pub told_sender : ℕ → List ℕ → Tables → Told
-told_sender x text tables = told text (table_of x tables)
+told_sender x text tables = told_text text (table_of x tables)
 
 -- the tables then: no other sender's has changed
 abbrev pub tables_after : ℕ → List ℕ → Tables → Tables

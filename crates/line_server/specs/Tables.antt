@@ -57,15 +57,15 @@ told_command (Some (Get key)) table = record { reply = told_value (at_key key ta
 told_command (Some (Del key)) table = told_del key table
 
 -- a text, read and done on a table
-abbrev pub told : List ℕ → Table → Told
-told text table = told_command (command_of text) table
+abbrev pub told_text : List ℕ → Table → Told
+told_text text table = told_command (command_of text) table
 
 -- ---- a client's lines in turn
 
 -- what texts are told in turn, with this table at first
 abbrev pub replies : Table → List (List ℕ) → List (List ℕ)
 replies table [] = []
-replies table (text ∷ texts) = (told text table).reply ∷ replies (told text table).table texts
+replies table (text ∷ texts) = (told_text text table).reply ∷ replies (told_text text table).table texts
 
 -- the line by which a client ends
 abbrev pub is_quit : List ℕ → Bool

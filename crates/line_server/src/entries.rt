@@ -76,7 +76,9 @@ pub fn put<'s>(
     requires order { AreInOrder entries.old.items }
     requires place { IsPlace fresh.0 entries.old.items place }
     ensures order { AreInOrder entries.new.items }
-    ensures items { entries.new.items ≡ (if is_ok result then insert_entry key_cmp entries.old.items fresh.entry.0 fresh.entry.1 else entries.old.items) }
+    ensures items { entries.new.items
+        ≡ (if is_ok result then insert_entry key_cmp entries.old.items fresh.entry.0 fresh.entry.1
+        else entries.old.items) }
 {
     match place {
         Ok(at) => entries[at] = fresh,

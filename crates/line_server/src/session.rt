@@ -105,7 +105,13 @@ impl SessionBody {
     // calls that are made here.
     #[inline(never)]
     fn read_other(&mut self, text: &Text, call: &mut Call)
-        ensures { (call.new, self.new) ≡ (if is_quit text.now then (call_kind.Reply self.old.agent (codes "bye"), session_at self.old place_kind.Bye) else session_replies self.old (codes "bad")) }
+        ensures { (call.new, self.new)
+            ≡ (if is_quit text.now then (
+              call_kind.Reply self.old.agent (codes "bye"),
+              session_at self.old
+                  place_kind.Bye,
+            )
+            else session_replies self.old (codes "bad")) }
     {
         if is_quit(text) {
             self.place = SessionPlace::Bye;

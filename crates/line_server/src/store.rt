@@ -55,7 +55,8 @@ fn tell<'s>(
     from: u64,
     text: &Text<'s>,
 ) -> Result<Text<'s>, NoMemory>
-    ensures reply { IfOk result (λ reply. reply ≡ (told_sender from text.now tables.old.entries).reply) }
+    ensures reply { IfOk result
+        (λ reply. reply ≡ (told_sender from text.now tables.old.entries).reply) }
     ensures after { OnOk result (tables.new.entries ≡ tables_after from text.now tables.old.entries) }
 {
     if let Some(table) = tables.get_mut(&from) {

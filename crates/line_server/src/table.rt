@@ -1,6 +1,6 @@
 // What one client has put into a store.
 ghost use Rattle.line_server.specs.Commands.{command_of};
-ghost use Rattle.line_server.specs.Tables.{at_key, told, told_put, told_del, told_value};
+ghost use Rattle.line_server.specs.Tables.{at_key, told_text, told_put, told_del, told_value};
 ghost use Rattle.lwp_types.specs.TextFields.{is_printable, is_text};
 ghost use Rattle.std.specs.Prelude.{◌≡◌, ◌≤◌, [], length, IfOk, IsTrue, OnOk};
 
@@ -79,8 +79,8 @@ impl<'s> Table<'s> {
     /// What a text is replied to. After `NoMemory` the table may be anything.
     #[inline(always)]
     pub fn tell(&mut self, text: &Text<'s>) -> Result<Text<'s>, NoMemory>
-        ensures reply { IfOk result (λ reply. reply ≡ (told text.now self.old).reply) }
-        ensures after { OnOk result (self.new ≡ (told text.now self.old).table) }
+        ensures reply { IfOk result (λ reply. reply ≡ (told_text text.now self.old).reply) }
+        ensures after { OnOk result (self.new ≡ (told_text text.now self.old).table) }
     {
         match command_of(text) {
             Some(Asked::Put { key, value }) => self.put(key, value),

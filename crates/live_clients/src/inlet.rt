@@ -62,10 +62,10 @@ impl<'s> Inlet<'s> for AnyInlet<'s> {
         }
     }
 
-    fn told(&self) -> bool {
+    fn is_told(&self) -> bool {
         match &self.end {
-            RunnerEnd::Lane(lane) => Inlet::told(lane),
-            RunnerEnd::Port(port) => Inlet::told(port),
+            RunnerEnd::Lane(lane) => Inlet::is_told(lane),
+            RunnerEnd::Port(port) => Inlet::is_told(port),
         }
     }
 

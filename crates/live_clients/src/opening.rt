@@ -66,7 +66,10 @@ fn open_for_one<'s>(
     requires seats { client < vec_len seats.old }
     ensures inlet { IfOk result (λ r. any_intake r ≡ fresh (any_intake r).place event (client ∷ [])) }
     ensures lane { IfOk result (λ r. is_lane (any_intake r).place ≡ true) }
-    ensures seats { IfOk result (λ r. AreSeated (map (λ v. v.items) texts.now) index (any_intake r).place (client ∷ []) seats.old.items seats.new.items) }
+    ensures seats { IfOk result
+        (λ r.
+        AreSeated (map (λ v. v.items) texts.now) index (any_intake r).place (client ∷ [])
+        seats.old.items seats.new.items) }
 {
     let lines = texts[usize::from(client)].len() as u32;
     let (lane, poster) = open_lane(alloc, event, client, lines)?;
@@ -96,7 +99,10 @@ fn open_for_many<'s, R: Wait>(
     requires seats { All (λ c. c < vec_len seats.old) clients.now }
     ensures inlet { IfOk result (λ r. any_intake r ≡ fresh (any_intake r).place event clients.now) }
     ensures port { IfOk result (λ r. is_lane (any_intake r).place ≡ false) }
-    ensures seats { IfOk result (λ r. AreSeated (map (λ v. v.items) texts.now) index (any_intake r).place clients.now seats.old.items seats.new.items) }
+    ensures seats { IfOk result
+        (λ r.
+        AreSeated (map (λ v. v.items) texts.now) index (any_intake r).place clients.now
+        seats.old.items seats.new.items) }
 {
     let (port, posters) = open_port(rt, alloc, event, clients)?;
     for poster in posters {
@@ -139,7 +145,10 @@ fn open_inlet<'s, R: Wait>(
     requires seats { vec_len seats.old ≡ length texts.now }
     ensures inlet { IfOk result (λ r. any_intake r ≡ fresh (any_intake r).place event clients.now) }
     ensures lane { IfOk result (λ r. is_lane (any_intake r).place ≡ eqb (length clients.now) 1) }
-    ensures seats { IfOk result (λ r. AreSeated (map (λ v. v.items) texts.now) index (any_intake r).place clients.now seats.old.items seats.new.items) }
+    ensures seats { IfOk result
+        (λ r.
+        AreSeated (map (λ v. v.items) texts.now) index (any_intake r).place clients.now
+        seats.old.items seats.new.items) }
 {
     if let Some(client) = sole_client(clients) {
         open_for_one(alloc, event, client, texts, index, seats)
@@ -173,8 +182,11 @@ fn open_event<'s, R: Wait>(
     requires clients { length events.now ≤ 16 }
     requires texts { length texts.now ≡ length events.now }
     requires few { All (λ ts. length ts.items ≤ 20000) texts.now }
-    requires before { AreOpen events.now (map (λ v. v.items) texts.now) event (map any_intake inlets.old.items) seats.old.items }
-    ensures { OnOk result (AreOpen events.now (map (λ v. v.items) texts.now) (event + 1) (map any_intake inlets.new.items) seats.new.items) }
+    requires before { AreOpen events.now (map (λ v. v.items) texts.now) event
+        (map any_intake inlets.old.items) seats.old.items }
+    ensures { OnOk result
+        (AreOpen events.now (map (λ v. v.items) texts.now) (event + 1)
+        (map any_intake inlets.new.items) seats.new.items) }
 {
     let clients = clients_of(alloc, events, event)?;
     if clients.is_empty() {
@@ -196,7 +208,10 @@ pub(crate) fn open_all<'s, R: Wait>(
     requires events { All (λ e. e ≤ 31) events.now }
     requires texts { length texts.now ≡ length events.now }
     requires few { All (λ ts. length ts.items ≤ 20000) texts.now }
-    ensures { IfOk result (λ o. AreOpen events.now (map (λ v. v.items) texts.now) 32 (map any_intake o.inlets.items) o.seats.items) }
+    ensures { IfOk result
+        (λ o.
+        AreOpen events.now (map (λ v. v.items) texts.now) 32 (map any_intake o.inlets.items)
+        o.seats.items) }
 {
     let mut inlets = Vec::new(alloc);
     let mut seats = vacant_seats(alloc, events.len())?;

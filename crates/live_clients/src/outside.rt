@@ -66,7 +66,8 @@ impl<'s> Work<'s> {
 
     // What came of it, once its thread has ended.
     fn end<R: Threads>(self, rt: &R) -> AnyEnd<'s>
-        ensures { (place : List ℕ) (client : ℕ) (texts : List (List ℕ)) → IsWork place client texts self.entry → IsEnd place client texts result }
+        ensures { (place : List ℕ) (client : ℕ) (texts : List (List ℕ)) →
+            IsWork place client texts self.entry → IsEnd place client texts result }
     {
         match self {
             Work::There(handle) => join(rt, handle),
@@ -89,8 +90,10 @@ fn start_posts<'s, E, G: PostGate + Send + 's, R: Threads + Wait + Sync>(
     rt: &'s R,
     posts: Posts<'s, G>,
 ) -> Work<'s>
-    requires { IsReady (posting_of posts.poster).place (posting_of posts.poster).client posts.texts.now.items (posting_of posts.poster) }
-    ensures { IsWork (posting_of posts.entry.poster).place (posting_of posts.entry.poster).client posts.entry.texts.now.items result }
+    requires { IsReady (posting_of posts.poster).place (posting_of posts.poster).client
+        posts.texts.now.items (posting_of posts.poster) }
+    ensures { IsWork (posting_of posts.entry.poster).place (posting_of posts.entry.poster).client
+        posts.entry.texts.now.items result }
 {
     let promise = Owes {
         poster: Snapshot::of(&posts.poster),
@@ -111,9 +114,11 @@ fn start_client<'s, E, G: PostGate + Send + 's, R: Threads + Wait + Sync>(
     texts: &'s Vec<Text<'s>>,
     bell: &'s Bell,
 ) -> Client<'s>
-    requires { IsReady (posting_of seat.poster).place (posting_of seat.poster).client texts.now.items (posting_of seat.poster) }
+    requires { IsReady (posting_of seat.poster).place (posting_of seat.poster).client
+        texts.now.items (posting_of seat.poster) }
     ensures inlet { result.inlet ≡ seat.entry.inlet }
-    ensures work { IsWork (posting_of seat.entry.poster).place (posting_of seat.entry.poster).client texts.now.items result.work }
+    ensures work { IsWork (posting_of seat.entry.poster).place (posting_of seat.entry.poster).client
+        texts.now.items result.work }
 {
     let Seat { inlet, poster } = seat;
     let posts = Posts {
@@ -247,7 +252,8 @@ impl<'s> Outside<'s> {
         ensures same { IsSameOutside self.old self.new }
         ensures inlets { EachInlet Hears (intakes self.old) (intakes self.new) }
         ensures closed { IsClosed self.new }
-        ensures served { AreServed (events_of self.new) (all_texts self.new) (is_some result) (intakes self.new) }
+        ensures served { AreServed (events_of self.new) (all_texts self.new) (is_some result)
+            (intakes self.new) }
         ensures lines { IfSome result (λ lines. lines ≡ lines_in_all (all_texts self.new)) }
     {
         self.join_all(rt);
@@ -266,7 +272,8 @@ impl<'s> Outside<'s> {
         ensures same { IsSameOutside self.old self.new }
         ensures inlets { EachInlet Hears (intakes self.old) (intakes self.new) }
         ensures closed { IsClosed self.new }
-        ensures served { AreServed (events_of self.new) (all_texts self.new) self.new.all (intakes self.new) }
+        ensures served { AreServed (events_of self.new) (all_texts self.new) self.new.all
+            (intakes self.new) }
     {
         while let Some(client) = self.out.pop() {
             self.take_back(rt, client);
@@ -275,7 +282,8 @@ impl<'s> Outside<'s> {
 
     // Takes in the pass of the client behind all that are out, when its thread has ended.
     fn take_back<R: Threads>(&mut self, rt: &R, client: Client<'s>)
-        requires { AreTied (events_of self.old) (all_texts self.old) self.old.all (self.old.out.items ++ client ∷ []) (intakes self.old) }
+        requires { AreTied (events_of self.old) (all_texts self.old) self.old.all
+            (self.old.out.items ++ client ∷ []) (intakes self.old) }
         ensures tied { IsTied self.new }
         ensures same { IsSameOutside self.old self.new }
         ensures out { self.new.out.items ≡ self.old.out.items }

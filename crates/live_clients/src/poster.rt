@@ -38,9 +38,13 @@ pub(crate) fn post_any<'s, G: PostGate, R: Wait>(
     texts: &[Text<'s>],
     bell: &Bell,
 ) -> AnyEnd<'s>
-    requires { IsReady (posting_of poster).place (posting_of poster).client texts.now (posting_of poster) }
-    ensures end { IsEnd (posting_of poster.entry).place (posting_of poster.entry).client texts.now result }
-    ensures gate { gate.new ≡ asked_each G.asked gate.old (lines_tried (posting_of poster.entry).client texts.now result) }
+    requires { IsReady (posting_of poster).place (posting_of poster).client texts.now
+        (posting_of poster) }
+    ensures end { IsEnd (posting_of poster.entry).place (posting_of poster.entry).client texts.now
+        result }
+    ensures gate { gate.new
+        ≡ asked_each G.asked gate.old
+        (lines_tried (posting_of poster.entry).client texts.now result) }
 {
     match poster {
         AnyPoster::Lane(poster) => AnyEnd {

@@ -8,7 +8,7 @@ use Rattle.death_cleanup.specs.declared.parts.Parts.{Parts}
 use Rattle.death_cleanup.specs.declared.rows.Kind.TheVariants as kind
 use Rattle.agents.specs.Roster as roster
 use Rattle.death_cleanup.proofs.Looks.{waits}
-use Rattle.lwp_calls.proofs.Newcomers.{rows-agent}
+use Rattle.lwp_calls.proofs.ThreadAndAgentBirths.{rows-agent}
 use Rattle.lwp_calls.specs.Asks.{HasAgentPlaces}
 use Rattle.lwp_types.specs.Agents.{agent_born, new_agent}
 use Rattle.lwp_types.specs.Lawful.{is_same_option}

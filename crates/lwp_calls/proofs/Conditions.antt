@@ -1,9 +1,9 @@
 -- Calls on conditions, by what they ask first.
 use Rattle.lwp_types.specs.Case.{listed, refused, unless, valued}
-use Rattle.lwp_types.specs.Locks.{is_waited_in}
-use Rattle.lwp_types.specs.Release.{last_lock}
+use Rattle.lwp_types.specs.Conditions.{condition_destroy, condition_of, condition_waiters, wait, waits_on, without_condition}
+use Rattle.lwp_types.specs.MonitorRelease.{last_lock}
+use Rattle.lwp_types.specs.Monitors.{is_waited_in}
 use Rattle.lwp_types.specs.State.{State, passes}
-use Rattle.lwp_types.specs.Waits.{condition_destroy, condition_of, condition_waiters, wait, waits_on, without_condition}
 use Rattle.lwp_types.specs.declared.call.IdKind.TheVariants as kind
 use Rattle.lwp_types.specs.declared.call.LwpErr.TheVariants as error
 use Rattle.lwp_types.specs.declared.rows.CondRow.{CondRow}

@@ -7,10 +7,10 @@ use Rattle.death_cleanup.specs.Comes.{CameTo}
 use Rattle.death_cleanup.specs.Ties.{InStep, LawfulParts}
 use Rattle.death_cleanup.specs.View.{state_of}
 use Rattle.death_cleanup.specs.declared.parts.Parts.{Parts}
-use Rattle.lwp_calls.specs.Messages.{deliver_found, waits_for}
+use Rattle.lwp_calls.specs.Deliveries.{deliver_found, waits_for}
 use Rattle.lwp_types.specs.Agents.{deliver_to, event_agents, is_armed, is_for, message}
 use Rattle.lwp_types.specs.Lawful.{NineParts}
-use Rattle.lwp_types.specs.Letters.{post, with_holding}
+use Rattle.lwp_types.specs.Messages.{post, with_holding}
 use Rattle.lwp_types.specs.State.{Outcome, State, agent_numbers, agent_of, and_then, for_each, is_agent_row, passes}
 use Rattle.lwp_types.specs.declared.call.Effect.{Effect}
 use Rattle.lwp_types.specs.declared.call.Effect.TheVariants as effect

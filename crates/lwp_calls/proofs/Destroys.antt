@@ -3,7 +3,7 @@ use Rattle.lwp_types.specs.Agents.{end_agent}
 use Rattle.lwp_types.specs.Case.{refused, unanswered, unless, with_zero}
 use Rattle.lwp_types.specs.Death.{death, destroy}
 use Rattle.lwp_types.specs.Lawful.{NineParts}
-use Rattle.lwp_types.specs.Letters.{awaits, receivers_of}
+use Rattle.lwp_types.specs.Messages.{awaits, receivers_of}
 use Rattle.lwp_types.specs.State.{State, ThreadRow, and_then, for_each, is_agent, is_thread, numbers}
 use Rattle.lwp_types.specs.Unblock.{nonexist, unblock}
 use Rattle.lwp_types.specs.declared.call.Answer.{Answer}

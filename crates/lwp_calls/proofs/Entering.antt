@@ -8,8 +8,8 @@ use Rattle.lwp_types.specs.Case.{refused, unanswered, unless, valued}
 use Rattle.lwp_types.specs.Choice.{is_eligible, is_eligible_in}
 use Rattle.lwp_types.specs.CountLaws.{count-cons}
 use Rattle.lwp_types.specs.Counts.{is_depth}
-use Rattle.lwp_types.specs.Locks.{cond_enter, depth_in, enter, entered, has_waits, is_deepest, is_owned_by_other, monitor_destroy, monitor_destroyed, requested}
-use Rattle.lwp_types.specs.Release.{is_owned_by, lock_of}
+use Rattle.lwp_types.specs.Monitors.{cond_enter, depth_in, enter, entered, has_waits, is_deepest, is_owned_by_other, monitor_destroy, monitor_destroyed, requested}
+use Rattle.lwp_types.specs.MonitorRelease.{is_owned_by, lock_of}
 use Rattle.lwp_types.specs.State.{State, ThreadRow, is_not_blocked, member, passes, still, thread_of}
 use Rattle.lwp_types.specs.declared.call.LwpErr.TheVariants as error
 use Rattle.lwp_types.specs.declared.rows.Block.{Block}

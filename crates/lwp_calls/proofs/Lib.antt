@@ -11,9 +11,9 @@ pub mod Entering
 pub mod Levels
 pub mod Lists
 pub mod Made
-pub mod Mailing
-pub mod Newborns
-pub mod Newcomers
+pub mod Messaging
+pub mod MonitorAndConditionBirths
+pub mod ThreadAndAgentBirths
 pub mod Places
 pub mod Pods
 pub mod Ranks

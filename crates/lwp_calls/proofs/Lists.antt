@@ -7,7 +7,7 @@ use Rattle.death_cleanup.specs.declared.rows.Kind.{Kind}
 use Rattle.death_cleanup.specs.declared.rows.Kind.TheVariants as kind
 use Rattle.death_cleanup.specs.declared.rows.ThreadRec.{ThreadRec}
 use Rattle.lwp_calls.specs.Asks.{serves}
-use Rattle.lwp_types.specs.Letters.{awaits}
+use Rattle.lwp_types.specs.Messages.{awaits}
 use Rattle.lwp_types.specs.State.{ThreadRow, numbers}
 use Rattle.pod_sched.specs.declared.rows.Known.{Known}
 use Rattle.std.proofs.Common.{Bool, List, Some, [], ap, append_assoc, cond, drop, false, refl, sym, true, ℕ, ◌&&◌, ◌+◌, ◌++◌, ◌∙◌, ◌∷◌, ◌≡◌}

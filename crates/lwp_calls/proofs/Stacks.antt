@@ -10,15 +10,15 @@ use Rattle.death_cleanup.specs.View.{state_of}
 use Rattle.death_cleanup.specs.declared.parts.Parts.{Parts}
 use Rattle.death_cleanup.specs.declared.rows.Kind.{Kind}
 use Rattle.death_cleanup.specs.declared.rows.Kind.TheVariants as kind
-use Rattle.exc_stack.specs.Stack as stack
-use Rattle.exc_stack.specs.Stack.{has_all_frames, refusal_on, unhandled, with_frame}
+use Rattle.exceptions.specs.Stack as stack
+use Rattle.exceptions.specs.Stack.{has_all_frames, refusal_on, unhandled, with_frame}
 use Rattle.lwp_calls.proofs.Entering.{free_row}
 use Rattle.lwp_calls.specs.Comes.{IsAsBefore}
 use Rattle.lwp_types.specs.Case.{Case, answered, refused, unless, valued}
 use Rattle.lwp_types.specs.Choice.{is_eligible_in}
 use Rattle.lwp_types.specs.Counts.{has_its_marks}
 use Rattle.lwp_types.specs.Lawful.{is_same_option}
-use Rattle.lwp_types.specs.Marks.{call_procedure, check_pattern, found, frames, handle, is_exit, is_frame, is_no_pattern, last_mark, on_exit, searching, unhandle, with_mark, with_match, without_last}
+use Rattle.lwp_types.specs.Exceptions.{call_procedure, check_pattern, found, frames, handle, is_exit, is_frame, is_no_pattern, last_mark, on_exit, searching, unhandle, with_mark, with_match, without_last}
 use Rattle.lwp_types.specs.State.{State, ThreadRow, is_number, is_thread, marked, marks_in, passes, still}
 use Rattle.lwp_types.specs.declared.call.Answer.{Answer}
 use Rattle.lwp_types.specs.declared.call.Answer.TheVariants as answer

@@ -10,13 +10,13 @@ use Rattle.death_cleanup.specs.Ties.{LawfulParts}
 use Rattle.death_cleanup.specs.View.{state_of}
 use Rattle.death_cleanup.specs.declared.parts.Parts.{Parts}
 use Rattle.death_cleanup.specs.declared.rows.Kind.{Kind}
-use Rattle.exc_stack.specs.Stack.{IsInReach, handlers_on_top, settled_at}
+use Rattle.exceptions.specs.Stack.{IsInReach, handlers_on_top, settled_at}
 use Rattle.lwp_calls.proofs.Stacks.{stack-fine}
 use Rattle.lwp_types.specs.Case.{Case}
 use Rattle.lwp_types.specs.Choice.{is_eligible_in}
 use Rattle.lwp_types.specs.CountLaws.{count-cons}
 use Rattle.lwp_types.specs.Exits.{caught, exit_case, run_exit, unwind}
-use Rattle.lwp_types.specs.Marks.{caught_marks, exit_of, exits_of, first_frames, frames, is_frame, later_frames, settled}
+use Rattle.lwp_types.specs.Exceptions.{caught_marks, exit_of, exits_of, first_frames, frames, is_frame, later_frames, settled}
 use Rattle.lwp_types.specs.State.{Outcome, State, and_then, for_each, is_thread, marked, marks_in}
 use Rattle.lwp_types.specs.Unblock.{zero_answer}
 use Rattle.lwp_types.specs.declared.call.Answer.TheVariants as answer

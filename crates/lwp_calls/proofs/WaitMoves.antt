@@ -15,11 +15,11 @@ use Rattle.lwp_types.specs.Choice.{is_eligible, is_eligible_in}
 use Rattle.lwp_types.specs.CountLaws.{count-cons, count-reverse, count_and-le, count_found_and, count_found_by, count_not_found, one}
 use Rattle.lwp_types.specs.Counts.{is_waiting, requests_by}
 use Rattle.lwp_types.specs.Lawful.{NineParts}
-use Rattle.lwp_types.specs.Locks.{depth_in}
-use Rattle.lwp_types.specs.Release.{grant, is_lock, is_owned_by, last_lock, lock_of, locks_on, next_owner, release, without_lock}
+use Rattle.lwp_types.specs.Monitors.{depth_in}
+use Rattle.lwp_types.specs.MonitorRelease.{grant, is_lock, is_owned_by, last_lock, lock_of, locks_on, next_owner, release, without_lock}
 use Rattle.lwp_types.specs.State.{Outcome, State, ThreadRow, block_set, is_not_blocked, is_number, member, passes, priority_in, still, thread_of, with_block}
 use Rattle.lwp_types.specs.Unblock.{blocked, zero_answer}
-use Rattle.lwp_types.specs.Waits.{condition_of, is_condition, wait, waited}
+use Rattle.lwp_types.specs.Conditions.{condition_of, is_condition, wait, waited}
 use Rattle.lwp_types.specs.declared.call.Effect.{Effect}
 use Rattle.lwp_types.specs.declared.call.Effect.TheVariants as effect
 use Rattle.lwp_types.specs.declared.rows.Block.{Block}

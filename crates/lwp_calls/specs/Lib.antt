@@ -1,5 +1,5 @@
 pub mod Asks
 pub mod Comes
-pub mod Messages
+pub mod Deliveries
 pub mod Opening
 pub mod Pod

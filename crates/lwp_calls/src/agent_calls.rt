@@ -34,7 +34,9 @@ pub fn carry_out<'s>(
     requires lawful { LawfulParts parts.old }
     requires alone { parts.old.dying ≡ None }
     requires room { effects.old ≡ [] }
-    ensures ok { OnOk result (Told parts.old parts.new effects.old effects.new tid (case_of (state_of parts.old) tid (agent_call call))) }
+    ensures ok { OnOk result
+        (Told parts.old parts.new effects.old effects.new tid
+        (case_of (state_of parts.old) tid (agent_call call))) }
     ensures most { length effects.new ≤ 1280 }
     ensures err { OnErr result (IsAsBefore parts.old parts.new) }
     ensures memory { IsErr result → IsTrue (asks_memory (agent_call call)) }
@@ -60,7 +62,9 @@ fn create<'s>(
     requires lawful { LawfulParts parts.old }
     requires alone { parts.old.dying ≡ None }
     requires room { effects.old ≡ [] }
-    ensures ok { OnOk result (Told parts.old parts.new effects.old effects.new caller (make_agent (state_of parts.old) caller event)) }
+    ensures ok { OnOk result
+        (Told parts.old parts.new effects.old effects.new caller
+        (make_agent (state_of parts.old) caller event)) }
     ensures most { length effects.new ≤ 1 }
     ensures err { OnErr result (IsAsBefore parts.old parts.new) }
 {
@@ -87,7 +91,8 @@ fn begin(parts: &mut Parts, caller: Tid, event: u8) -> Tid
     requires least { 1 ≤ event }
     requires most { event ≤ 32 }
     ensures number { result ≡ parts.old.ids.births }
-    ensures came { CameTo parts.old parts.new [] [] (still (agent_born (state_of parts.old) caller event)) }
+    ensures came { CameTo parts.old parts.new [] []
+        (still (agent_born (state_of parts.old) caller event)) }
 {
     let number = parts.ids.births();
     let tid = Tid { number };
@@ -112,14 +117,15 @@ fn make_places(parts: &mut Parts) -> Result<(), NoMemory>
     let living = next_count(&parts.ids);
     parts.ids.reserve(living)?;
     parts.agents.reserve(agents)?;
-    parts.mail.reserve(threads + agents)
+    parts.messages.reserve(threads + agents)
 }
 
 // A Trap is for whoever keeps the pod's own events, and never asked of the machine.
 fn refuse_trap<'s>(parts: &Parts<'s>, tid: Tid, effects: &mut Effects<'s>)
     requires step { InStep parts.now }
     requires room { effects.old ≡ [] }
-    ensures told { Told parts.now parts.now effects.old effects.new tid (refused (state_of parts.now) error.InvalidArg) }
+    ensures told { Told parts.now parts.now effects.old effects.new tid
+        (refused (state_of parts.now) error.InvalidArg) }
     ensures most { length effects.new ≤ 1 }
 {
     effects.done(tid, Err(LwpErr::InvalidArg));
@@ -129,7 +135,9 @@ fn refuse_trap<'s>(parts: &Parts<'s>, tid: Tid, effects: &mut Effects<'s>)
 fn list<'s>(parts: &Parts<'s>, tid: Tid, effects: &mut Effects<'s>) -> Result<(), NoMemory>
     requires step { InStep parts.now }
     requires room { effects.old ≡ [] }
-    ensures ok { OnOk result (Told parts.now parts.now effects.old effects.new tid (listed (state_of parts.now) kind.Thread (agent_numbers (state_of parts.now).agents))) }
+    ensures ok { OnOk result
+        (Told parts.now parts.now effects.old effects.new tid
+        (listed (state_of parts.now) kind.Thread (agent_numbers (state_of parts.now).agents))) }
     ensures most { length effects.new ≤ 1 }
 {
     let list = parts.agents.list()?;

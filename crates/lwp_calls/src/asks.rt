@@ -5,7 +5,7 @@ ghost use Rattle.death_cleanup.specs.Comes.{CameTo};
 ghost use Rattle.death_cleanup.specs.Ties.{InStep, LawfulParts};
 ghost use Rattle.death_cleanup.specs.View.{state_of};
 ghost use Rattle.lwp_types.specs.Choice.{is_eligible_in};
-ghost use Rattle.lwp_types.specs.Letters.{receivers_of};
+ghost use Rattle.lwp_types.specs.Messages.{receivers_of};
 ghost use Rattle.lwp_types.specs.State.{is_not_blocked, is_thread, numbers, priority_in, still};
 ghost use Rattle.lwp_types.specs.Unblock.{blocked, blocked_for};
 ghost use Rattle.lwp_types.specs.declared.call.Answer.TheVariants as answer;
@@ -67,7 +67,8 @@ pub fn block_for(parts: &mut Parts, tid: Tid, why: Block, ticks: u32)
     requires may_run { IsTrue (is_eligible_in (state_of parts.old) tid) }
     requires waits { is_not_blocked why ≡ false }
     requires some { 1 ≤ ticks }
-    ensures { CameTo parts.old parts.new [] [] (still (blocked_for (state_of parts.old) tid why ticks)) }
+    ensures { CameTo parts.old parts.new [] []
+        (still (blocked_for (state_of parts.old) tid why ticks)) }
 {
     block(parts, tid, why);
     let due = parts.sched.now() + u64::from(ticks);

@@ -2,7 +2,7 @@
 ghost use Rattle.std.specs.Prelude.{◌≡◌, ◌≤◌, ◌<◌, ◌^◌, ◌+◌, ◌++◌, ◌∷◌, [], length, IfOk, OnOk, OnErr, IsErr, IsSome, IfNone, IfSome, IsTrue, None, Some};
 ghost use Rattle.std.specs.Slice.Scan.{HoldsNowhere, IsFirstPlace};
 ghost use Rattle.death_cleanup.specs.Comes.{CameTo};
-ghost use Rattle.exc_stack.specs.Stack.{one_frame};
+ghost use Rattle.exceptions.specs.Stack.{one_frame};
 ghost use Rattle.death_cleanup.specs.Ties.{InStep, LawfulParts};
 ghost use Rattle.death_cleanup.specs.View.{state_of};
 ghost use Rattle.lwp_types.specs.Agents.{armed, deliver};
@@ -20,19 +20,22 @@ ghost use Rattle.lwp_calls.specs.Opening.{no_thread};
 ghost use Rattle.lwp_calls.specs.Pod.{ForgetsTheDead, RunsExitsOnce, is_refusal};
 
 use crate::asks::{all_serve, flags_of, has_agent, thread_count};
-use crate::clock::{CLOCK, may_tick, tick};
-use crate::messages::deliver_to_agents;
-use crate::{agent_calls, letters, lives, locks, marks, numbers, turns, waits};
+use crate::deliveries::deliver_to_agents;
+use crate::time_calls::{CLOCK, may_tick, tick};
+use crate::{
+    agent_calls, condition_calls, exception_calls, message_calls, monitor_calls, pod_calls,
+    thread_calls, turn_calls,
+};
 use agents::Agents;
-use conditions::Conds;
+use conditions::Conditions;
 use death_cleanup::{Kind, Named, Parts, ThreadRec, is_id};
-use exc_stack::ExcStack;
+use exceptions::ExceptionStack;
 use lwp_types::{
     Block, Call, Effect, Effects, Family, Flags, NoMemory, PodEnd, PodParams, Text, Tid,
 };
+use messages::Messages;
 use monitors::Monitors;
 use pod_sched::Sched;
-use rendezvous::Mail;
 use stale_ids::Registry;
 use std::alloc::Global;
 use std::marker::Model;
@@ -76,9 +79,10 @@ impl<'s> Model for Pod<'s> {
 
 // What a thread has that begins.
 fn beginner<'s>(alloc: Global, flags: Flags) -> Result<ThreadRec<'s>, NoMemory>
-    ensures { IfOk result (λ rec. rec ≡ record { flags = flags; block = Block.Not; stack = one_frame }) }
+    ensures { IfOk result
+        (λ rec. rec ≡ record { flags = flags; block = Block.Not; stack = one_frame }) }
 {
-    let stack = ExcStack::new(alloc)?;
+    let stack = ExceptionStack::new(alloc)?;
     Ok(ThreadRec {
         flags,
         block: Block::Not,
@@ -97,9 +101,9 @@ fn no_thread<'s>(alloc: Global, params: PodParams) -> Result<Parts<'s>, NoMemory
     Ok(Parts {
         ids: Registry::new(alloc, params.births),
         sched,
-        mail: Mail::new(alloc),
+        messages: Messages::new(alloc),
         mons: Monitors::new(alloc, params.births),
-        conds: Conds::new(alloc, params.births),
+        conds: Conditions::new(alloc, params.births),
         agents: Agents::new(alloc),
         exit: 0,
         ended: false,
@@ -123,7 +127,7 @@ fn first_thread(parts: &mut Parts, alloc: Global, params: PodParams) -> Result<(
 {
     parts.ids.reserve(1)?;
     parts.sched.reserve(1)?;
-    parts.mail.reserve(1)?;
+    parts.messages.reserve(1)?;
     parts.mons.reserve(1)?;
     parts.conds.reserve(1)?;
     let flags = Flags {
@@ -264,7 +268,9 @@ impl<'s> Pod<'s> {
     pub fn call(&mut self, call: &Call<'s>, effects: &mut Effects<'s>) -> Result<(), NoMemory>
         requires { IsSome (current_of self.old) }
         ensures after { OnOk result (self.new ≡ (step self.old call.now).after) }
-        ensures effects { OnOk result (called_by (current_of self.old) call.now ++ effects.new ≡ (step self.old call.now).effects) }
+        ensures effects { OnOk result
+            (called_by (current_of self.old) call.now ++ effects.new
+            ≡ (step self.old call.now).effects) }
         ensures err { OnErr result (self.new ≡ self.old) }
         ensures err_effects { OnErr result (effects.new ≡ []) }
         ensures most { length effects.new ≤ 1281 }
@@ -309,7 +315,8 @@ fn deliver<'s>(parts: &mut Parts<'s>, event: u8, text: Text<'s>, effects: &mut E
     requires alone { parts.old.dying ≡ None }
     requires armed { IsTrue (armed (state_of parts.old) event) }
     requires room { effects.old ≡ [] }
-    ensures { CameTo parts.old parts.new effects.old effects.new (deliver (state_of parts.old) event text.entry) }
+    ensures { CameTo parts.old parts.new effects.old effects.new
+        (deliver (state_of parts.old) event text.entry) }
 {
     if event == CLOCK {
         tick(parts, effects);
@@ -332,25 +339,29 @@ fn carry_out<'s>(
     requires alone { parts.old.dying ≡ None }
     requires may_run { IsTrue (is_eligible_in (state_of parts.old) tid) }
     requires room { effects.old ≡ [] }
-    ensures ok { OnOk result (Told parts.old parts.new effects.old effects.new tid (case_of (state_of parts.old) tid call.now)) }
+    ensures ok { OnOk result
+        (Told parts.old parts.new effects.old effects.new tid
+        (case_of (state_of parts.old) tid call.now)) }
     ensures most { length effects.new ≤ 1280 }
     ensures err { OnErr result (IsAsBefore parts.old parts.new) }
     ensures memory { IsErr result → IsTrue (asks_memory call.now) }
 {
     match call.family() {
-        Family::Lives(life) => lives::carry_out(parts, alloc, tid, life, effects),
+        Family::Threads(thread) => thread_calls::carry_out(parts, alloc, tid, thread, effects),
         Family::Turns(turn) => {
-            turns::carry_out(parts, tid, turn, effects);
+            turn_calls::carry_out(parts, tid, turn, effects);
             Ok(())
         }
-        Family::Numbers(number) => {
-            numbers::carry_out(parts, tid, &number, effects);
+        Family::Pod(pod) => {
+            pod_calls::carry_out(parts, tid, &pod, effects);
             Ok(())
         }
-        Family::Letters(letter) => letters::carry_out(parts, alloc, tid, &letter, effects),
-        Family::Locks(lock) => locks::carry_out(parts, tid, lock, effects),
-        Family::Waits(wait) => waits::carry_out(parts, tid, wait, effects),
-        Family::Marks(mark) => marks::carry_out(parts, tid, &mark, effects),
+        Family::Messages(message) => message_calls::carry_out(parts, alloc, tid, &message, effects),
+        Family::Monitors(monitor) => monitor_calls::carry_out(parts, tid, monitor, effects),
+        Family::Conditions(condition) => condition_calls::carry_out(parts, tid, condition, effects),
+        Family::Exceptions(exception) => exception_calls::carry_out(
+            parts, tid, &exception, effects,
+        ),
         Family::Agents(agent) => agent_calls::carry_out(parts, tid, agent, effects),
     }
 }
@@ -369,7 +380,8 @@ fn finish<'s>(parts: &mut Parts<'s>, effects: &mut Effects<'s>) -> Option<Tid>
     requires alone { parts.old.dying ≡ None }
     requires room { length effects.old < 2048 }
     requires status { parts.old.exit ≤ 99 }
-    ensures after { state_of parts.new ≡ record (state_of parts.old) { ended = ends (state_of parts.old) } }
+    ensures after { state_of parts.new
+        ≡ record (state_of parts.old) { ended = ends (state_of parts.old) } }
     ensures effects { effects.new ≡ effects.old ++ end_effects (state_of parts.old) }
     ensures most { length effects.new ≤ length effects.old + 1 }
     ensures step { InStep parts.new }

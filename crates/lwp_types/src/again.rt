@@ -1,23 +1,24 @@
 // A call once more, by its family.
 ghost use Rattle.std.specs.Prelude.{◌≡◌};
-ghost use Rattle.lwp_types.specs.Families.{agent_call, letter_call, life_call, lock_call, mark_call, number_call, turn_call, wait_call};
+ghost use Rattle.lwp_types.specs.Families.{agent_call, condition_call, exception_call, message_call, monitor_call, pod_call, thread_call, turn_call};
 
 use crate::Call;
 use crate::family::{
-    AgentCall, Family, LetterCall, LifeCall, LockCall, MarkCall, NumberCall, TurnCall, WaitCall,
+    AgentCall, ConditionCall, ExceptionCall, Family, MessageCall, MonitorCall, PodCall, ThreadCall,
+    TurnCall,
 };
 
 // A call by which threads come and go.
-fn life<'s>(call: LifeCall) -> Call<'s>
-    ensures { result ≡ life_call call }
+fn thread<'s>(call: ThreadCall) -> Call<'s>
+    ensures { result ≡ thread_call call }
 {
     match call {
-        LifeCall::Create(proc, prio, flags) => Call::Create { proc, prio, flags },
-        LifeCall::Destroy(tid) => Call::Destroy { tid },
-        LifeCall::Ping(tid) => Call::Ping { tid },
-        LifeCall::Join(tid) => Call::Join { tid },
-        LifeCall::Sleep(ticks) => Call::Sleep { ticks },
-        LifeCall::Threads => Call::Threads,
+        ThreadCall::Create(proc, prio, flags) => Call::Create { proc, prio, flags },
+        ThreadCall::Destroy(tid) => Call::Destroy { tid },
+        ThreadCall::Ping(tid) => Call::Ping { tid },
+        ThreadCall::Join(tid) => Call::Join { tid },
+        ThreadCall::Sleep(ticks) => Call::Sleep { ticks },
+        ThreadCall::Threads => Call::Threads,
     }
 }
 
@@ -34,93 +35,93 @@ fn turn<'s>(call: TurnCall) -> Call<'s>
     }
 }
 
-// A call on the pod's own numbers, or on nothing at all.
-fn number<'s>(call: &NumberCall<'_, 's>) -> Call<'s>
-    ensures { result ≡ number_call call.now }
+// A call on the pod itself: its own numbers, its end, a line of the trace.
+fn pod<'s>(call: &PodCall<'_, 's>) -> Call<'s>
+    ensures { result ≡ pod_call call.now }
 {
     match call {
-        NumberCall::Me => Call::Me,
-        NumberCall::SetMaxPri(prio) => Call::SetMaxPri { prio: *prio },
-        NumberCall::SetExit(code) => Call::SetExit { code: *code },
-        NumberCall::GetExit => Call::GetExit,
-        NumberCall::PodExit(code) => Call::PodExit { code: *code },
-        NumberCall::Say(text) => Call::Say { text: text.again() },
+        PodCall::Me => Call::Me,
+        PodCall::SetMaxPri(prio) => Call::SetMaxPri { prio: *prio },
+        PodCall::SetExit(code) => Call::SetExit { code: *code },
+        PodCall::GetExit => Call::GetExit,
+        PodCall::PodExit(code) => Call::PodExit { code: *code },
+        PodCall::Say(text) => Call::Say { text: text.again() },
     }
 }
 
-// A call on letters.
-fn letter<'s>(call: &LetterCall<'_, 's>) -> Call<'s>
-    ensures { result ≡ letter_call call.now }
+// A call on messages.
+fn message<'s>(call: &MessageCall<'_, 's>) -> Call<'s>
+    ensures { result ≡ message_call call.now }
 {
     match call {
-        LetterCall::Send(to, room, text) => Call::Send {
+        MessageCall::Send(to, room, text) => Call::Send {
             to: *to,
             room: *room,
             text: text.again(),
         },
-        LetterCall::Recv(from, mode) => Call::Recv {
+        MessageCall::Recv(from, mode) => Call::Recv {
             from: *from,
             mode: *mode,
         },
-        LetterCall::Reply(to, text) => Call::Reply {
+        MessageCall::Reply(to, text) => Call::Reply {
             to: *to,
             text: text.again(),
         },
-        LetterCall::Senders => Call::Senders,
-        LetterCall::Receivers => Call::Receivers,
+        MessageCall::Senders => Call::Senders,
+        MessageCall::Receivers => Call::Receivers,
     }
 }
 
 // A call on monitors.
-fn lock<'s>(call: LockCall) -> Call<'s>
-    ensures { result ≡ lock_call call }
+fn monitor<'s>(call: MonitorCall) -> Call<'s>
+    ensures { result ≡ monitor_call call }
 {
     match call {
-        LockCall::Create => Call::MonCreate,
-        LockCall::Destroy(mon) => Call::MonDestroy { mon },
-        LockCall::Enter(mon) => Call::Enter { mon },
-        LockCall::CondEnter(mon) => Call::CondEnter { mon },
-        LockCall::Exit(mon) => Call::MonExit { mon },
-        LockCall::Break(mon) => Call::MonBreak { mon },
-        LockCall::List => Call::Monitors,
-        LockCall::Waiters(mon) => Call::MonWaiters { mon },
+        MonitorCall::Create => Call::MonCreate,
+        MonitorCall::Destroy(mon) => Call::MonDestroy { mon },
+        MonitorCall::Enter(mon) => Call::Enter { mon },
+        MonitorCall::CondEnter(mon) => Call::CondEnter { mon },
+        MonitorCall::Exit(mon) => Call::MonExit { mon },
+        MonitorCall::Break(mon) => Call::MonBreak { mon },
+        MonitorCall::List => Call::Monitors,
+        MonitorCall::Waiters(mon) => Call::MonWaiters { mon },
     }
 }
 
 // A call on conditions.
-fn wait<'s>(call: WaitCall) -> Call<'s>
-    ensures { result ≡ wait_call call }
+fn condition<'s>(call: ConditionCall) -> Call<'s>
+    ensures { result ≡ condition_call call }
 {
     match call {
-        WaitCall::Create(mon) => Call::CvCreate { mon },
-        WaitCall::Destroy(cond) => Call::CvDestroy { cond },
-        WaitCall::Wait(cond) => Call::Wait { cond },
-        WaitCall::Notify(cond) => Call::Notify { cond },
-        WaitCall::Broadcast(cond) => Call::Broadcast { cond },
-        WaitCall::Send(cond, tid) => Call::CvSend { cond, tid },
-        WaitCall::List => Call::Conds,
-        WaitCall::Waiters(cond) => Call::CvWaiters { cond },
+        ConditionCall::Create(mon) => Call::CvCreate { mon },
+        ConditionCall::Destroy(cond) => Call::CvDestroy { cond },
+        ConditionCall::Wait(cond) => Call::Wait { cond },
+        ConditionCall::Notify(cond) => Call::Notify { cond },
+        ConditionCall::Broadcast(cond) => Call::Broadcast { cond },
+        ConditionCall::Send(cond, tid) => Call::CvSend { cond, tid },
+        ConditionCall::List => Call::Conditions,
+        ConditionCall::Waiters(cond) => Call::CvWaiters { cond },
     }
 }
 
 // A call on the caller's stack.
-fn mark<'s>(call: &MarkCall<'_, 's>) -> Call<'s>
-    ensures { result ≡ mark_call call.now }
+fn exception<'s>(call: &ExceptionCall<'_, 's>) -> Call<'s>
+    ensures { result ≡ exception_call call.now }
 {
     match call {
-        MarkCall::CallProc(proc) => Call::CallProc { proc: *proc },
-        MarkCall::Return => Call::Return,
-        MarkCall::Handle(pattern, func, arg) => Call::Handle {
+        ExceptionCall::CallProc(proc) => Call::CallProc { proc: *proc },
+        ExceptionCall::Return => Call::Return,
+        ExceptionCall::Handle(pattern, func, arg) => Call::Handle {
             pattern: *pattern,
             func: *func,
             arg: *arg,
         },
-        MarkCall::Unhandle => Call::Unhandle,
-        MarkCall::OnExit(exit) => Call::OnExit { call: exit.again() },
-        MarkCall::Raise(pattern) => Call::Raise { pattern: *pattern },
-        MarkCall::ExcNotify(pattern) => Call::ExcNotify { pattern: *pattern },
-        MarkCall::Bound(pattern) => Call::Bound { pattern: *pattern },
-        MarkCall::UniqPatt => Call::UniqPatt,
+        ExceptionCall::Unhandle => Call::Unhandle,
+        ExceptionCall::OnExit(exit) => Call::OnExit { call: exit.again() },
+        ExceptionCall::Raise(pattern) => Call::Raise { pattern: *pattern },
+        ExceptionCall::ExcNotify(pattern) => Call::ExcNotify { pattern: *pattern },
+        ExceptionCall::Bound(pattern) => Call::Bound { pattern: *pattern },
+        ExceptionCall::UniqPatt => Call::UniqPatt,
     }
 }
 
@@ -141,13 +142,13 @@ impl<'s> Call<'s> {
         ensures { result ≡ self.now }
     {
         match self.family() {
-            Family::Lives(call) => life(call),
+            Family::Threads(call) => thread(call),
             Family::Turns(call) => turn(call),
-            Family::Numbers(call) => number(&call),
-            Family::Letters(call) => letter(&call),
-            Family::Locks(call) => lock(call),
-            Family::Waits(call) => wait(call),
-            Family::Marks(call) => mark(&call),
+            Family::Pod(call) => pod(&call),
+            Family::Messages(call) => message(&call),
+            Family::Monitors(call) => monitor(call),
+            Family::Conditions(call) => condition(call),
+            Family::Exceptions(call) => exception(&call),
             Family::Agents(call) => agent(call),
         }
     }

@@ -55,7 +55,7 @@ pub enum Func {
 pub enum IdKind {
     Thread,
     Monitor,
-    Cond,
+    Condition,
 }
 
 /// The answer to a call.
@@ -64,7 +64,7 @@ pub enum Answer<'s> {
     Value(i64),
     Thread(Tid),
     Monitor(Mid),
-    Cond(Cid),
+    Condition(Cid),
     Letter { from: Tid, text: Text<'s>, room: u8 },
     Reply(Text<'s>),
     Bound { func: Func, arg: u32 },
@@ -232,7 +232,7 @@ pub enum Call<'s> {
         cond: Cid,
         tid: Tid,
     },
-    Conds,
+    Conditions,
     CvWaiters {
         cond: Cid,
     },

@@ -66,7 +66,8 @@ impl<'s> Effects<'s> {
 
     /// Takes the first, if there is one, and moves up the others.
     pub fn pop_front(&mut self) -> Option<Effect<'s>>
-        ensures { MatchOption result ((self.old ≡ []) × (self.new ≡ [])) (λ e. self.old ≡ e ∷ self.new) }
+        ensures { MatchOption result ((self.old ≡ []) × (self.new ≡ []))
+            (λ e. self.old ≡ e ∷ self.new) }
     {
         if self.places.is_empty() {
             return None;
@@ -108,7 +109,7 @@ impl<'s> Effects<'s> {
     }
 
     /// The same, if the thread has an answer now.
-    pub fn told(&mut self, tid: Tid, own: Option<Answer<'s>>)
+    pub fn answered_now(&mut self, tid: Tid, own: Option<Answer<'s>>)
         requires { length self.old < 2048 }
         ensures { self.new ≡ self.old ++ own_effects tid own.entry }
     {
@@ -139,7 +140,11 @@ impl<'s> Effects<'s> {
     /// The letter that a thread gets, at the end. It takes no memory.
     pub fn lettered(&mut self, tid: Tid, letter: &Letter<'s>)
         requires { length self.old < 2048 }
-        ensures { self.new ≡ self.old ++ effect.Answered tid (Answer.Letter letter.now.from letter.now.text letter.now.room) ∷ [] }
+        ensures { self.new
+            ≡ self.old
+            ++ effect.Answered tid
+            (Answer.Letter letter.now.from letter.now.text letter.now.room)
+            ∷ [] }
     {
         self.answered(tid, Answer::letter(letter));
     }

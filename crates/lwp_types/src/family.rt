@@ -6,7 +6,7 @@ use crate::{Call, Cid, ExitCall, Flags, Func, Mid, Mode, Pattern, Text, Tid};
 
 /// A call by which threads come and go, or wait for another or for the clock.
 #[derive(Clone, Copy)]
-pub enum LifeCall {
+pub enum ThreadCall {
     Create(u32, u32, Flags),
     Destroy(Tid),
     Ping(Tid),
@@ -25,9 +25,9 @@ pub enum TurnCall {
     Resume(Tid),
 }
 
-/// A call on the pod's own numbers, or on nothing at all.
+/// A call on the pod itself: its own numbers, its end, a line of the trace.
 #[derive(Clone, Copy)]
-pub enum NumberCall<'c, 's> {
+pub enum PodCall<'c, 's> {
     Me,
     SetMaxPri(u32),
     SetExit(u32),
@@ -36,9 +36,9 @@ pub enum NumberCall<'c, 's> {
     Say(&'c Text<'s>),
 }
 
-/// A call on letters.
+/// A call on messages.
 #[derive(Clone, Copy)]
-pub enum LetterCall<'c, 's> {
+pub enum MessageCall<'c, 's> {
     Send(Tid, u8, &'c Text<'s>),
     Recv(Option<Tid>, Mode),
     Reply(Tid, &'c Text<'s>),
@@ -48,7 +48,7 @@ pub enum LetterCall<'c, 's> {
 
 /// A call on monitors.
 #[derive(Clone, Copy)]
-pub enum LockCall {
+pub enum MonitorCall {
     Create,
     Destroy(Mid),
     Enter(Mid),
@@ -61,7 +61,7 @@ pub enum LockCall {
 
 /// A call on conditions.
 #[derive(Clone, Copy)]
-pub enum WaitCall {
+pub enum ConditionCall {
     Create(Mid),
     Destroy(Cid),
     Wait(Cid),
@@ -74,7 +74,7 @@ pub enum WaitCall {
 
 /// A call on the caller's stack: procedures, handlers, exit procedures.
 #[derive(Clone, Copy)]
-pub enum MarkCall<'c, 's> {
+pub enum ExceptionCall<'c, 's> {
     CallProc(u32),
     Return,
     Handle(Pattern, Func, u32),
@@ -97,13 +97,13 @@ pub enum AgentCall {
 /// A call, by its family. Each crate that tells calls apart has one module a family.
 #[derive(Clone, Copy)]
 pub enum Family<'c, 's> {
-    Lives(LifeCall),
+    Threads(ThreadCall),
     Turns(TurnCall),
-    Numbers(NumberCall<'c, 's>),
-    Letters(LetterCall<'c, 's>),
-    Locks(LockCall),
-    Waits(WaitCall),
-    Marks(MarkCall<'c, 's>),
+    Pod(PodCall<'c, 's>),
+    Messages(MessageCall<'c, 's>),
+    Monitors(MonitorCall),
+    Conditions(ConditionCall),
+    Exceptions(ExceptionCall<'c, 's>),
     Agents(AgentCall),
 }
 
@@ -114,57 +114,57 @@ impl<'s> Call<'s> {
         ensures { call_of result ≡ self.now }
     {
         match self {
-            Call::Create { proc, prio, flags } => Family::Lives(LifeCall::Create(
+            Call::Create { proc, prio, flags } => Family::Threads(ThreadCall::Create(
                 *proc, *prio, *flags,
             )),
-            Call::Destroy { tid } => Family::Lives(LifeCall::Destroy(*tid)),
-            Call::Ping { tid } => Family::Lives(LifeCall::Ping(*tid)),
-            Call::Join { tid } => Family::Lives(LifeCall::Join(*tid)),
-            Call::Sleep { ticks } => Family::Lives(LifeCall::Sleep(*ticks)),
-            Call::Threads => Family::Lives(LifeCall::Threads),
+            Call::Destroy { tid } => Family::Threads(ThreadCall::Destroy(*tid)),
+            Call::Ping { tid } => Family::Threads(ThreadCall::Ping(*tid)),
+            Call::Join { tid } => Family::Threads(ThreadCall::Join(*tid)),
+            Call::Sleep { ticks } => Family::Threads(ThreadCall::Sleep(*ticks)),
+            Call::Threads => Family::Threads(ThreadCall::Threads),
             Call::Yield { to } => Family::Turns(TurnCall::Yield(*to)),
             Call::Resched { prio } => Family::Turns(TurnCall::Resched(*prio)),
             Call::SetPri { tid, prio } => Family::Turns(TurnCall::SetPri(*tid, *prio)),
             Call::Suspend { tid } => Family::Turns(TurnCall::Suspend(*tid)),
             Call::Resume { tid } => Family::Turns(TurnCall::Resume(*tid)),
-            Call::Me => Family::Numbers(NumberCall::Me),
-            Call::SetMaxPri { prio } => Family::Numbers(NumberCall::SetMaxPri(*prio)),
-            Call::SetExit { code } => Family::Numbers(NumberCall::SetExit(*code)),
-            Call::GetExit => Family::Numbers(NumberCall::GetExit),
-            Call::PodExit { code } => Family::Numbers(NumberCall::PodExit(*code)),
-            Call::Say { text } => Family::Numbers(NumberCall::Say(text)),
-            Call::Send { to, room, text } => Family::Letters(LetterCall::Send(*to, *room, text)),
-            Call::Recv { from, mode } => Family::Letters(LetterCall::Recv(*from, *mode)),
-            Call::Reply { to, text } => Family::Letters(LetterCall::Reply(*to, text)),
-            Call::Senders => Family::Letters(LetterCall::Senders),
-            Call::Receivers => Family::Letters(LetterCall::Receivers),
-            Call::MonCreate => Family::Locks(LockCall::Create),
-            Call::MonDestroy { mon } => Family::Locks(LockCall::Destroy(*mon)),
-            Call::Enter { mon } => Family::Locks(LockCall::Enter(*mon)),
-            Call::CondEnter { mon } => Family::Locks(LockCall::CondEnter(*mon)),
-            Call::MonExit { mon } => Family::Locks(LockCall::Exit(*mon)),
-            Call::MonBreak { mon } => Family::Locks(LockCall::Break(*mon)),
-            Call::Monitors => Family::Locks(LockCall::List),
-            Call::MonWaiters { mon } => Family::Locks(LockCall::Waiters(*mon)),
-            Call::CvCreate { mon } => Family::Waits(WaitCall::Create(*mon)),
-            Call::CvDestroy { cond } => Family::Waits(WaitCall::Destroy(*cond)),
-            Call::Wait { cond } => Family::Waits(WaitCall::Wait(*cond)),
-            Call::Notify { cond } => Family::Waits(WaitCall::Notify(*cond)),
-            Call::Broadcast { cond } => Family::Waits(WaitCall::Broadcast(*cond)),
-            Call::CvSend { cond, tid } => Family::Waits(WaitCall::Send(*cond, *tid)),
-            Call::Conds => Family::Waits(WaitCall::List),
-            Call::CvWaiters { cond } => Family::Waits(WaitCall::Waiters(*cond)),
-            Call::CallProc { proc } => Family::Marks(MarkCall::CallProc(*proc)),
-            Call::Return => Family::Marks(MarkCall::Return),
-            Call::Handle { pattern, func, arg } => Family::Marks(MarkCall::Handle(
+            Call::Me => Family::Pod(PodCall::Me),
+            Call::SetMaxPri { prio } => Family::Pod(PodCall::SetMaxPri(*prio)),
+            Call::SetExit { code } => Family::Pod(PodCall::SetExit(*code)),
+            Call::GetExit => Family::Pod(PodCall::GetExit),
+            Call::PodExit { code } => Family::Pod(PodCall::PodExit(*code)),
+            Call::Say { text } => Family::Pod(PodCall::Say(text)),
+            Call::Send { to, room, text } => Family::Messages(MessageCall::Send(*to, *room, text)),
+            Call::Recv { from, mode } => Family::Messages(MessageCall::Recv(*from, *mode)),
+            Call::Reply { to, text } => Family::Messages(MessageCall::Reply(*to, text)),
+            Call::Senders => Family::Messages(MessageCall::Senders),
+            Call::Receivers => Family::Messages(MessageCall::Receivers),
+            Call::MonCreate => Family::Monitors(MonitorCall::Create),
+            Call::MonDestroy { mon } => Family::Monitors(MonitorCall::Destroy(*mon)),
+            Call::Enter { mon } => Family::Monitors(MonitorCall::Enter(*mon)),
+            Call::CondEnter { mon } => Family::Monitors(MonitorCall::CondEnter(*mon)),
+            Call::MonExit { mon } => Family::Monitors(MonitorCall::Exit(*mon)),
+            Call::MonBreak { mon } => Family::Monitors(MonitorCall::Break(*mon)),
+            Call::Monitors => Family::Monitors(MonitorCall::List),
+            Call::MonWaiters { mon } => Family::Monitors(MonitorCall::Waiters(*mon)),
+            Call::CvCreate { mon } => Family::Conditions(ConditionCall::Create(*mon)),
+            Call::CvDestroy { cond } => Family::Conditions(ConditionCall::Destroy(*cond)),
+            Call::Wait { cond } => Family::Conditions(ConditionCall::Wait(*cond)),
+            Call::Notify { cond } => Family::Conditions(ConditionCall::Notify(*cond)),
+            Call::Broadcast { cond } => Family::Conditions(ConditionCall::Broadcast(*cond)),
+            Call::CvSend { cond, tid } => Family::Conditions(ConditionCall::Send(*cond, *tid)),
+            Call::Conditions => Family::Conditions(ConditionCall::List),
+            Call::CvWaiters { cond } => Family::Conditions(ConditionCall::Waiters(*cond)),
+            Call::CallProc { proc } => Family::Exceptions(ExceptionCall::CallProc(*proc)),
+            Call::Return => Family::Exceptions(ExceptionCall::Return),
+            Call::Handle { pattern, func, arg } => Family::Exceptions(ExceptionCall::Handle(
                 *pattern, *func, *arg,
             )),
-            Call::Unhandle => Family::Marks(MarkCall::Unhandle),
-            Call::OnExit { call } => Family::Marks(MarkCall::OnExit(call)),
-            Call::Raise { pattern } => Family::Marks(MarkCall::Raise(*pattern)),
-            Call::ExcNotify { pattern } => Family::Marks(MarkCall::ExcNotify(*pattern)),
-            Call::Bound { pattern } => Family::Marks(MarkCall::Bound(*pattern)),
-            Call::UniqPatt => Family::Marks(MarkCall::UniqPatt),
+            Call::Unhandle => Family::Exceptions(ExceptionCall::Unhandle),
+            Call::OnExit { call } => Family::Exceptions(ExceptionCall::OnExit(call)),
+            Call::Raise { pattern } => Family::Exceptions(ExceptionCall::Raise(*pattern)),
+            Call::ExcNotify { pattern } => Family::Exceptions(ExceptionCall::ExcNotify(*pattern)),
+            Call::Bound { pattern } => Family::Exceptions(ExceptionCall::Bound(*pattern)),
+            Call::UniqPatt => Family::Exceptions(ExceptionCall::UniqPatt),
             Call::Agent { event } => Family::Agents(AgentCall::Create(*event)),
             Call::Agents => Family::Agents(AgentCall::List),
             Call::Trap { event } => Family::Agents(AgentCall::Trap(*event)),

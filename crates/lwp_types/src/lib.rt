@@ -27,7 +27,8 @@ pub use call::{
 pub use effects::{Effects, PLACES};
 pub use env::Env;
 pub use family::{
-    AgentCall, Family, LetterCall, LifeCall, LockCall, MarkCall, NumberCall, TurnCall, WaitCall,
+    AgentCall, ConditionCall, ExceptionCall, Family, MessageCall, MonitorCall, PodCall, ThreadCall,
+    TurnCall,
 };
 pub use ids::{Cid, Mid, NULL_CID, NULL_MID, NULL_TID, NoMemory, Tid, likely_place};
 pub use memory::{MemSink, MemSource};

@@ -134,7 +134,8 @@ impl<'s> Text<'s> {
     /// The bytes, if they are lent in one piece. Else they begin as a value does that is told, or as the name of a thread.
     pub fn plain(&self) -> Option<&'s [u8]>
         ensures same { IfSome result (λ bytes. bytes.now ≡ self.now) }
-        ensures none { IfNone result ((take 3 self.now ≡ codes "is ") ⊎ (take 1 self.now ≡ codes "t")) }
+        ensures none { IfNone result
+            ((take 3 self.now ≡ codes "is ") ⊎ (take 1 self.now ≡ codes "t")) }
         ensures is_text { IsTrue (is_text self.now) }
     {
         match self.words {

@@ -1,7 +1,7 @@
 -- Each call keeps both lists of locks the same.
 use Rattle.lwp_types.specs.CountLaws.{count_any, length-failed}
-use Rattle.lwp_types.specs.Locks.{depth_set, with_depth}
-use Rattle.lwp_types.specs.Release.{lock_of, locks_on, without_lock}
+use Rattle.lwp_types.specs.MonitorRelease.{lock_of, locks_on, without_lock}
+use Rattle.lwp_types.specs.Monitors.{depth_set, with_depth}
 use Rattle.lwp_types.specs.declared.rows.Lock.{Lock}
 use Rattle.monitors.proofs.KeptLemmas.{held_free}
 use Rattle.monitors.proofs.LockLaws.{as_many, at_most_once, lock_deep, lock_push, lock_without, no_lock_of, ordered_deep, ordered_without}

@@ -1,8 +1,8 @@
 -- Each call keeps what `Monitors` keeps of its fields, and has room for the lock that it adds.
 use Rattle.lwp_types.specs.CountLaws.{any_counted, count-failed, count-filter-le, count-map, count-push, count-reverse, count_any, count_found, count_found_by, count_not_found, find_none, length-failed, one, times-without_other}
 use Rattle.lwp_types.specs.FirstLaws.{best_passes}
-use Rattle.lwp_types.specs.Locks.{depth_set, with_depth}
-use Rattle.lwp_types.specs.Release.{is_lock, is_owned_by, last_lock, lock_of, locks_on, without_lock}
+use Rattle.lwp_types.specs.MonitorRelease.{is_lock, is_owned_by, last_lock, lock_of, locks_on, without_lock}
+use Rattle.lwp_types.specs.Monitors.{depth_set, with_depth}
 use Rattle.lwp_types.specs.State.{times_in}
 use Rattle.lwp_types.specs.declared.rows.Lock.{Lock}
 use Rattle.monitors.proofs.LiveLaws.{All-without, AreRising-push, AreRising-without, born-push}

@@ -1,8 +1,8 @@
 -- Locks by rising monitors, and the same in the order of acquisition.
 use Rattle.lwp_types.specs.CountLaws.{count-cons, count_found, count_not_found, find_none, one}
-use Rattle.lwp_types.specs.Locks.{depth_set, with_depth}
+use Rattle.lwp_types.specs.Monitors.{depth_set, with_depth}
 use Rattle.lwp_types.specs.OnlyLaws.{count_at, filter_none, map_none, remove_only, set_only}
-use Rattle.lwp_types.specs.Release.{is_lock, lock_of, locks_on, without_lock}
+use Rattle.lwp_types.specs.MonitorRelease.{is_lock, lock_of, locks_on, without_lock}
 use Rattle.lwp_types.specs.declared.rows.Lock.{Lock}
 use Rattle.monitors.specs.Held.{AreOrdered, IsGapAt, IsLockAt}
 use Rattle.std.proofs.Common.{Bool, List, None, Option, Some, [], ap, arith, cond, eqb, false, get_or, inl, inr, length, not, refl, set, suc, sym, take, true, zero, ℕ, ◌++◌, ◌+◌, ◌<◌, ◌∙◌, ◌∷◌, ◌≡◌, ◌≤◌}

@@ -2,9 +2,9 @@
 use Rattle.lwp_types.specs.Case.{Case, answered, refused, unless}
 use Rattle.lwp_types.specs.Choice.{best_by}
 use Rattle.lwp_types.specs.ListLaws.{All-push, All-weaker}
-use Rattle.lwp_types.specs.Locks as machine
-use Rattle.lwp_types.specs.Release as machine_release
-use Rattle.lwp_types.specs.Release.{grant, next_owner, release}
+use Rattle.lwp_types.specs.Monitors as machine
+use Rattle.lwp_types.specs.MonitorRelease as machine_release
+use Rattle.lwp_types.specs.MonitorRelease.{grant, next_owner, release}
 use Rattle.lwp_types.specs.State.{State, priority_in, still}
 use Rattle.lwp_types.specs.Unblock.{blocked, unblock, zero_answer}
 use Rattle.lwp_types.specs.declared.rows.Request.{Request}

@@ -1,8 +1,8 @@
 -- The locks are counted by their owners.
 use Rattle.lwp_types.specs.CountLaws.{count-cons, count_any, count-map, count-push, count-reverse, find_none, length-failed, one, one-le}
-use Rattle.lwp_types.specs.Locks.{depth_set, with_depth}
+use Rattle.lwp_types.specs.Monitors.{depth_set, with_depth}
 use Rattle.lwp_types.specs.OnlyLaws.{count_at}
-use Rattle.lwp_types.specs.Release.{is_owned_by, last_lock}
+use Rattle.lwp_types.specs.MonitorRelease.{is_owned_by, last_lock}
 use Rattle.lwp_types.specs.declared.rows.Lock.{Lock}
 use Rattle.monitors.specs.MonitorTable.{MonitorTable, destroyed, is_live}
 use Rattle.monitors.proofs.KeptLemmas.{length-kept_locks}

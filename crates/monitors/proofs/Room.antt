@@ -1,6 +1,6 @@
 -- There are no more held monitors than live ones, and fewer where a live one is free.
 use Rattle.lwp_types.specs.CountLaws.{count-cons, count-failed, count-filter-le, length-failed, one, times-without_other}
-use Rattle.lwp_types.specs.Release.{is_lock, locks_on, without_lock}
+use Rattle.lwp_types.specs.MonitorRelease.{is_lock, locks_on, without_lock}
 use Rattle.lwp_types.specs.State.{times_in, without}
 use Rattle.lwp_types.specs.declared.rows.Lock.{Lock}
 use Rattle.std.proofs.Common.{List, [], ap, arith, eqb, inl, inr, length, refl, ℕ, ◌<◌, ◌∷◌, ◌≡◌, ◌≤◌, sym}

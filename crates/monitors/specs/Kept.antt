@@ -1,5 +1,5 @@
 -- What `Monitors` keeps of its fields, for its own proofs: callers see the table alone.
-use Rattle.lwp_types.specs.Release.{locks_on}
+use Rattle.lwp_types.specs.MonitorRelease.{locks_on}
 use Rattle.lwp_types.specs.State.{times_in}
 use Rattle.monitors.specs.MonitorTable.{MonitorTable}
 use Rattle.std.specs.List.{AllByRecursion}

@@ -1,8 +1,8 @@
 -- The monitors of a pod as the machine has them. The machine looks up the priorities that requests keep here, and says beside
 -- what becomes of the monitors what becomes of the threads.
 use Rattle.lwp_types.specs.Case.{Case, answered, refused}
-use Rattle.lwp_types.specs.Locks as machine
-use Rattle.lwp_types.specs.Release.{next_owner, release, requests_of, without_request}
+use Rattle.lwp_types.specs.MonitorRelease.{next_owner, release, requests_of, without_request}
+use Rattle.lwp_types.specs.Monitors as machine
 use Rattle.lwp_types.specs.State.{Outcome, State, priority_in, still}
 use Rattle.lwp_types.specs.Unblock.{blocked, unblock, zero_answer}
 use Rattle.monitors.specs.MonitorTable as table

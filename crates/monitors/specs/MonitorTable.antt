@@ -1,7 +1,7 @@
 -- The monitors of a pod as plain lists, and what each call on them makes of the lists.
 use Rattle.lwp_types.specs.Choice.{best_by}
-use Rattle.lwp_types.specs.Locks.{depth_in, with_depth, with_entry}
-use Rattle.lwp_types.specs.Release.{is_owned_by, last_lock, lock_of, without_lock}
+use Rattle.lwp_types.specs.MonitorRelease.{is_owned_by, last_lock, lock_of, without_lock}
+use Rattle.lwp_types.specs.Monitors.{depth_in, with_depth, with_entry}
 use Rattle.lwp_types.specs.State.{member, without}
 use Rattle.lwp_types.specs.declared.rows.Lock.{Lock}
 use Rattle.lwp_types.specs.declared.rows.Request.{Request}

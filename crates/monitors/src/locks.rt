@@ -1,8 +1,8 @@
 // The locks of the held monitors: in the order in which they were acquired, and the same by rising monitors.
 ghost use Rattle.std.specs.Prelude.{[], ◌∷◌, ◌++◌, ◌≡◌, ◌<◌, ◌≤◌, if◌then◌else◌, ◌==◌, ℕ, IfNone, IfSome, Some, length, vec_capacity};
 ghost use Rattle.std.specs.List.{insert, remove};
-ghost use Rattle.lwp_types.specs.Locks.{depth_in, with_depth};
-ghost use Rattle.lwp_types.specs.Release.{last_lock, lock_of, locks_on, without_lock};
+ghost use Rattle.lwp_types.specs.Monitors.{depth_in, with_depth};
+ghost use Rattle.lwp_types.specs.MonitorRelease.{last_lock, lock_of, locks_on, without_lock};
 ghost use Rattle.monitors.specs.Held.{AreOrdered, IsGapAt, IsLockAt};
 ghost use Rattle.monitors.specs.Owners.{IsCounted};
 
@@ -154,7 +154,8 @@ fn hold(held: &mut Vec<Lock>, lock: Lock)
     requires free { locks_on held.old.items lock.mon ≡ 0 }
     requires room { length held.old.items < vec_capacity held.old }
     ensures ordered { AreOrdered held.new.items }
-    ensures locks { (m : ℕ) → lock_of held.new.items m ≡ (if lock.mon == m then Some lock else lock_of held.old.items m) }
+    ensures locks { (m : ℕ) →
+        lock_of held.new.items m ≡ (if lock.mon == m then Some lock else lock_of held.old.items m) }
     ensures capacity { vec_capacity held.new ≡ vec_capacity held.old }
 {
     let at = gap_for(held, lock.mon);
@@ -173,7 +174,9 @@ pub fn acquire(locks: &mut Vec<Lock>, held: &mut Vec<Lock>, owners: &mut Vec<u16
     ensures items { locks.new.items ≡ locks.old.items ++ lock.now ∷ [] }
     ensures capacity { vec_capacity locks.new ≡ vec_capacity locks.old }
     ensures ordered { AreOrdered held.new.items }
-    ensures held { (m : ℕ) → lock_of held.new.items m ≡ (if lock.now.mon == m then Some lock.now else lock_of held.old.items m) }
+    ensures held { (m : ℕ) →
+        lock_of held.new.items m
+        ≡ (if lock.now.mon == m then Some lock.now else lock_of held.old.items m) }
     ensures held_capacity { vec_capacity held.new ≡ vec_capacity held.old }
     ensures counted { IsCounted locks.new.items owners.new.items }
     ensures counters { length owners.new.items ≡ length owners.old.items }

@@ -1,8 +1,8 @@
 // The monitors.
 ghost use Rattle.std.specs.Prelude.{◌≡◌, ◌<◌, ◌≤◌, false, length, map, option_map, IsTrue, IsOk, IfOk, OnOk, OnErr, ℕ};
 ghost use Rattle.lwp_types.specs.First.{FindsBest};
-ghost use Rattle.lwp_types.specs.Locks.{depth_in, is_owned_by_other, is_owner};
-ghost use Rattle.lwp_types.specs.Release.{last_lock, lock_of, locks_on};
+ghost use Rattle.lwp_types.specs.Monitors.{depth_in, is_owned_by_other, is_owner};
+ghost use Rattle.lwp_types.specs.MonitorRelease.{last_lock, lock_of, locks_on};
 ghost use Rattle.monitors.specs.MonitorTable.{created, destroyed, empty_table, entered, exited, forgotten, freed, granted, has_request, is_free, is_live, is_unwanted, last_release, last_released, may_enter, newborn, next_owner, next_request, owner_after, owner_of, released, requested, requests_of, requeued, reserved};
 
 use crate::live::{has, list, take_out};
@@ -169,7 +169,8 @@ impl Monitors {
         requires least { 1 ≤ depth }
         requires most { depth ≤ 65535 }
         requires room { length self.old.requests < self.old.places }
-        ensures { self.new ≡ requested self.old (record { mon = mon; tid = tid; prio = prio; depth = depth }) }
+        ensures { self.new
+            ≡ requested self.old (record { mon = mon; tid = tid; prio = prio; depth = depth }) }
     {
         self.requests.join(Waiting {
             what: mon.number,
@@ -220,7 +221,8 @@ impl Monitors {
         requires free { IsTrue (is_free self.old mon) }
         ensures value { result ≡ next_owner self.old mon }
         ensures after { self.new ≡ granted self.old mon }
-        ensures first_best { FindsBest (λ r. r.prio) (requests_of self.old mon) (next_request self.old mon) }
+        ensures first_best { FindsBest (λ r. r.prio) (requests_of self.old mon)
+            (next_request self.old mon) }
     {
         let next = self.requests.best(mon.number)?;
         self.requests.leave(next.tid);

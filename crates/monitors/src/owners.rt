@@ -46,7 +46,8 @@ pub fn holds_none(counts: &[u16], owner: Tid) -> bool
 pub fn count_in(counts: &mut Vec<u16>, owner: Tid)
     requires there { 4096 ≤ length counts.old.items }
     requires few { count_at counts.old.items (owner % 4096) < 65535 }
-    ensures { counts.new.items ≡ slice_set counts.old.items (owner % 4096) (count_at counts.old.items (owner % 4096) + 1) }
+    ensures { counts.new.items
+        ≡ slice_set counts.old.items (owner % 4096) (count_at counts.old.items (owner % 4096) + 1) }
 {
     counts[counter_of(owner)] += 1;
 }
@@ -56,7 +57,8 @@ pub fn count_in(counts: &mut Vec<u16>, owner: Tid)
 pub fn count_out(counts: &mut Vec<u16>, owner: Tid)
     requires there { owner % 4096 < length counts.old.items }
     requires some { 1 ≤ count_at counts.old.items (owner % 4096) }
-    ensures { counts.new.items ≡ slice_set counts.old.items (owner % 4096) (count_at counts.old.items (owner % 4096) - 1) }
+    ensures { counts.new.items
+        ≡ slice_set counts.old.items (owner % 4096) (count_at counts.old.items (owner % 4096) - 1) }
 {
     counts[counter_of(owner)] -= 1;
 }

@@ -5,14 +5,14 @@ use Rattle.lwp_types.specs.Case.{Case, Check, refused, unless}
 use Rattle.lwp_types.specs.Choice.{best_by}
 use Rattle.lwp_types.specs.Death.{answer_joiners, end_agents, refuse_receivers, refuse_sender, refuse_senders, release_all, run_all_exits, withdraw}
 use Rattle.lwp_types.specs.Exits.{exit_case, run_exit, unwind}
-use Rattle.lwp_types.specs.Letters.{as_answer, as_received, post, receivers_of, replied, senders_to, takes_from, with_holding, without_letter}
-use Rattle.lwp_types.specs.Locks.{depth_in, exited, with_depth}
-use Rattle.lwp_types.specs.Marks.{exits_of}
-use Rattle.lwp_types.specs.Release.{grant, next_owner, release, without_lock}
+use Rattle.lwp_types.specs.Messages.{as_answer, as_received, post, receivers_of, replied, senders_to, takes_from, with_holding, without_letter}
+use Rattle.lwp_types.specs.Monitors.{depth_in, exited, with_depth}
+use Rattle.lwp_types.specs.Exceptions.{exits_of}
+use Rattle.lwp_types.specs.MonitorRelease.{grant, next_owner, release, without_lock}
 use Rattle.lwp_types.specs.State.{Outcome, State, ThreadRow, and_then, for_each, is_agent, marked, marks_in, numbers, passes, priority_in, still, thread_of, with_block, with_marks, with_priority, with_suspension}
 use Rattle.lwp_types.specs.Time.{due_threads, is_asleep_in, tick, ticked, time_out}
 use Rattle.lwp_types.specs.Unblock.{blocked, nonexist, timed_out, unblock, zero_answer}
-use Rattle.lwp_types.specs.Waits.{condition_of, waited, waits_on, waking, woken, woken_all}
+use Rattle.lwp_types.specs.Conditions.{condition_of, waited, waits_on, waking, woken, woken_all}
 use Rattle.lwp_types.specs.declared.call.Answer.{Answer}
 use Rattle.lwp_types.specs.declared.call.Effect.{Effect}
 use Rattle.lwp_types.specs.declared.call.ExitCall.{ExitCall}

@@ -4,10 +4,10 @@ use Rattle.lwp_types.specs.Case.{Case, Check, answered, is_no_id, refused, unans
 use Rattle.lwp_types.specs.CountLaws.{count-cons, count_found, one, length-failed}
 use Rattle.lwp_types.specs.Death.{answer_joiners, bury, death, destroy, end_agents, refuse_receivers, refuse_senders, release_all, return_from, run_all_exits, withdraw}
 use Rattle.lwp_types.specs.Exits.{caught, leave_frame, notified_by}
-use Rattle.lwp_types.specs.Letters.{post, receive_by, unreceived}
-use Rattle.lwp_types.specs.Locks.{entered, is_owned_by_other, requested}
-use Rattle.lwp_types.specs.Marks.{caught_marks, first_frames, found, frames, later_frames, with_match}
-use Rattle.lwp_types.specs.Release.{last_lock}
+use Rattle.lwp_types.specs.Messages.{post, receive_by, unreceived}
+use Rattle.lwp_types.specs.Monitors.{entered, is_owned_by_other, requested}
+use Rattle.lwp_types.specs.Exceptions.{caught_marks, first_frames, found, frames, later_frames, with_match}
+use Rattle.lwp_types.specs.MonitorRelease.{last_lock}
 use Rattle.lwp_types.specs.State.{Outcome, State, ThreadRow, and_then, in_order, is_agent, is_number, is_thread, marks_in, numbers, still, thread_of}
 use Rattle.lwp_types.specs.Step.{case_of}
 use Rattle.lwp_types.specs.Threads.{born, created}
@@ -294,7 +294,7 @@ case_toll s t (call.Wait c) = checked t _ _ (mild_waited t c (last_lock s.locks 
 case_toll s t (call.Notify c) = mild_toll t None 0 (mild_waking s t c [] _)
 case_toll s t (call.Broadcast c) = mild_toll t None 0 (mild_waking s t c [] _)
 case_toll s t (call.CvSend c u) = mild_toll t None 0 (mild_waking s t c _ _)
-case_toll s t call.Conds = mild_toll t None 0 (mild_quiet s s refl)
+case_toll s t call.Conditions = mild_toll t None 0 (mild_quiet s s refl)
 case_toll s t (call.CvWaiters c) = checked t _ _ (quiet refl)
 case_toll s t (call.CallProc number) = checked t _ _ (quiet (mark_numbers t _ s.threads))
 case_toll s t call.Return = return_toll s t

@@ -2,7 +2,7 @@
 use Rattle.lwp_types.specs.Agents.{armed, deliver, deliver_to, event_agents, is_armed, is_for, message}
 use Rattle.lwp_types.specs.Choice.{choice}
 use Rattle.lwp_types.specs.CountLaws.{count-cons, one}
-use Rattle.lwp_types.specs.Letters.{as_answer, as_received, post, takes_from, with_holding}
+use Rattle.lwp_types.specs.Messages.{as_answer, as_received, post, takes_from, with_holding}
 use Rattle.lwp_types.specs.State.{Outcome, State, and_then, for_each, is_agent_row, is_empty, passes, still, thread_of}
 use Rattle.lwp_types.specs.Unblock.{unblock}
 use Rattle.lwp_types.specs.declared.call.Call.{Call}

@@ -62,8 +62,11 @@ pub trait Driven<'s>: Machine {
     fn call(&mut self, call: &Call<'s>, effects: &mut Effects<'s>) -> Result<(), NoMemory>
         requires turn { IsSome (current_of (Self.state self.old)) }
         requires no_trap { trap_of call.now ≡ None }
-        ensures after { OnOk result (Self.state self.new ≡ (step (Self.state self.old) call.now).after) }
-        ensures effects { OnOk result (called_by (current_of (Self.state self.old)) call.now ++ effects.new ≡ (step (Self.state self.old) call.now).effects) }
+        ensures after { OnOk result
+            (Self.state self.new ≡ (step (Self.state self.old) call.now).after) }
+        ensures effects { OnOk result
+            (called_by (current_of (Self.state self.old)) call.now ++ effects.new
+            ≡ (step (Self.state self.old) call.now).effects) }
         ensures most { length effects.new ≤ 1281 }
         ensures err { OnErr result (Self.state self.new ≡ Self.state self.old) }
         ensures err_effects { OnErr result (effects.new ≡ []) }

@@ -2,7 +2,7 @@
 use Rattle.lwp_types.specs.Agents.{deliver, deliver_to, event_agents, message}
 use Rattle.lwp_types.specs.Case.{Case, Check, refused, unless}
 use Rattle.lwp_types.specs.CountLaws.{count-append}
-use Rattle.lwp_types.specs.Letters.{as_answer, as_received, post, takes_from, with_holding}
+use Rattle.lwp_types.specs.Messages.{as_answer, as_received, post, takes_from, with_holding}
 use Rattle.lwp_types.specs.State.{Outcome, State, ThreadRow, and_then, for_each, is_agent, is_id, is_thread, passes, still, thread_of}
 use Rattle.lwp_types.specs.Step.{case_of}
 use Rattle.lwp_types.specs.Unblock.{unblock}
@@ -77,7 +77,7 @@ module _ (s : State) (t n : ℕ) (absent : is_id s n ≡ false) where
   absent_refused (call.Notify c) asks = absurd (cc)
   absent_refused (call.Broadcast c) asks = absurd (cc)
   absent_refused (call.CvSend c u) asks = absurd (cc)
-  absent_refused call.Conds asks = absurd (cc)
+  absent_refused call.Conditions asks = absurd (cc)
   absent_refused (call.CvWaiters c) asks = absurd (cc)
   absent_refused (call.CallProc number) asks = absurd (cc)
   absent_refused call.Return asks = absurd (cc)

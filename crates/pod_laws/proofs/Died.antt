@@ -6,10 +6,10 @@ use Rattle.lwp_types.specs.CountLaws.{count-append, count-cons, count-push, one}
 use Rattle.lwp_types.specs.Death.{answer_joiners, bury, death, destroy, end_agents, refuse_receivers, refuse_sender, refuse_senders, release_all, return_from, run_all_exits, withdraw}
 use Rattle.lwp_types.specs.Exits.{caught, leave_frame, notified_by}
 use Rattle.lwp_types.specs.Lawful.{Lawful, NineParts}
-use Rattle.lwp_types.specs.Letters.{receive_by, unreceived, without_letter}
-use Rattle.lwp_types.specs.Locks.{entered, is_owned_by_other, requested}
-use Rattle.lwp_types.specs.Marks.{caught_marks, first_frames, found, frames, later_frames, with_match}
-use Rattle.lwp_types.specs.Release.{last_lock, release}
+use Rattle.lwp_types.specs.Messages.{receive_by, unreceived, without_letter}
+use Rattle.lwp_types.specs.Monitors.{entered, is_owned_by_other, requested}
+use Rattle.lwp_types.specs.Exceptions.{caught_marks, first_frames, found, frames, later_frames, with_match}
+use Rattle.lwp_types.specs.MonitorRelease.{last_lock, release}
 use Rattle.lwp_types.specs.State.{Outcome, State, ThreadRow, all_below, and_then, is_number, numbers, in_order, is_agent, is_id, is_thread, marks_in, still, thread_of}
 use Rattle.lwp_types.specs.Step.{case_of, end_effects, ends, finished, own_effects, step, step_by, step_if}
 use Rattle.lwp_types.specs.Unblock.{blocked, blocked_for, nonexist, unblock, zero_answer}
@@ -175,7 +175,7 @@ module _ (n : ℕ) where
   case_died s was t x known (call.Notify c) = absent (unless_deathless n s _ _ (deathless_nil n))
   case_died s was t x known (call.Broadcast c) = absent (unless_deathless n s _ _ (deathless_nil n))
   case_died s was t x known (call.CvSend c u) = absent (unless_deathless n s _ _ (deathless_nil n))
-  case_died s was t x known call.Conds = absent (deathless_nil n)
+  case_died s was t x known call.Conditions = absent (deathless_nil n)
   case_died s was t x known (call.CvWaiters c) = absent (unless_deathless n s _ _ (deathless_nil n))
   case_died s was t x known (call.CallProc number) = absent (unless_deathless n s _ _ (deathless_nil n))
   case_died s was t x known call.Return = return_died s was t x known

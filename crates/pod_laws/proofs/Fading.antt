@@ -4,16 +4,16 @@ use Rattle.lwp_types.specs.Case.{Case, Check, refused, unanswered, unless, value
 use Rattle.lwp_types.specs.Choice.{choice}
 use Rattle.lwp_types.specs.Death.{answer_joiners, bury, death, destroyed, end_agents, refuse_receivers, refuse_sender, refuse_senders, release_all, run_all_exits, withdraw}
 use Rattle.lwp_types.specs.Exits.{caught, exit_case, leave_frame, notified_by, run_exit, unwind}
-use Rattle.lwp_types.specs.Letters.{as_answer, as_received, holding_set, post, receive_by, receivers_of, replied, takes_from, unreceived, with_holding, without_letter}
-use Rattle.lwp_types.specs.Locks.{depth_in, entered, exited, is_owned_by_other, requested, with_depth}
-use Rattle.lwp_types.specs.Marks.{caught_marks, exits_of, first_frames, found, frames, later_frames, with_match}
-use Rattle.lwp_types.specs.Release.{grant, last_lock, next_owner, release, without_lock}
+use Rattle.lwp_types.specs.Messages.{as_answer, as_received, holding_set, post, receive_by, receivers_of, replied, takes_from, unreceived, with_holding, without_letter}
+use Rattle.lwp_types.specs.Monitors.{depth_in, entered, exited, is_owned_by_other, requested, with_depth}
+use Rattle.lwp_types.specs.Exceptions.{caught_marks, exits_of, first_frames, found, frames, later_frames, with_match}
+use Rattle.lwp_types.specs.MonitorRelease.{grant, last_lock, next_owner, release, without_lock}
 use Rattle.lwp_types.specs.State.{Outcome, State, ThreadRow, agent_of, and_then, block_set, for_each, in_order, is_agent, is_agent_row, is_number, is_thread, marked, marks_in, marks_set, passes, priority_set, still, suspension_set, thread_of, with_block, with_marks, with_suspension}
 use Rattle.lwp_types.specs.Step.{case_of, step, step_by, step_if}
 use Rattle.lwp_types.specs.Threads.{born, created}
 use Rattle.lwp_types.specs.Time.{due_threads, tick, ticked, time_out}
 use Rattle.lwp_types.specs.Unblock.{blocked, blocked_for, nonexist, unblock, zero_answer}
-use Rattle.lwp_types.specs.Waits.{condition_of, waited, woken, woken_all}
+use Rattle.lwp_types.specs.Conditions.{condition_of, waited, woken, woken_all}
 use Rattle.lwp_types.specs.declared.call.Answer.{Answer}
 use Rattle.lwp_types.specs.declared.call.Call.{Call}
 use Rattle.lwp_types.specs.declared.call.ExitCall.{ExitCall}
@@ -297,7 +297,7 @@ module _ (n : ℕ) where
   case_fades s t (call.Notify c) = unless_fades s _ _ (fades_woken_all (condition_of s.conditions c) _ s)
   case_fades s t (call.Broadcast c) = unless_fades s _ _ (fades_woken_all (condition_of s.conditions c) _ s)
   case_fades s t (call.CvSend c u) = unless_fades s _ _ (fades_woken_all (condition_of s.conditions c) _ s)
-  case_fades s t call.Conds = fades_still s
+  case_fades s t call.Conditions = fades_still s
   case_fades s t (call.CvWaiters c) = unless_fades s _ _ (fades_still s)
   case_fades s t (call.CallProc number) = unless_fades s _ _ (fades_marks s _ t _ refl refl refl)
   case_fades s t call.Return = cond_fades s (nat_le 2 (frames (marks_in s t))) (leave_frame s t) (unanswered (death t s)) (fades_unwind t (first_frames (frames (marks_in s t) - 1) (marks_in s t)) (later_frames (frames (marks_in s t) - 1) (marks_in s t)) s) (fades_death t s)

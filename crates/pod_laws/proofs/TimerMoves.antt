@@ -7,15 +7,15 @@ use Rattle.lwp_types.specs.Counts.{is_timed, timers_of}
 use Rattle.lwp_types.specs.Death.{answer_joiners, bury, death, destroyed, end_agents, refuse_receivers, refuse_sender, refuse_senders, release_all, run_all_exits, withdraw}
 use Rattle.lwp_types.specs.Exits.{caught, exit_case, leave_frame, notified_by, run_exit, unwind}
 use Rattle.lwp_types.specs.Lawful.{Lawful}
-use Rattle.lwp_types.specs.Letters.{as_answer, as_received, post, receive_by, receivers_of, replied, takes_from, unreceived, with_holding, without_letter}
-use Rattle.lwp_types.specs.Locks.{depth_in, entered, exited, is_owned_by_other, requested, with_depth}
-use Rattle.lwp_types.specs.Marks.{caught_marks, exits_of, first_frames, found, frames, later_frames, with_match}
-use Rattle.lwp_types.specs.Release.{grant, last_lock, next_owner, release, without_lock}
+use Rattle.lwp_types.specs.Messages.{as_answer, as_received, post, receive_by, receivers_of, replied, takes_from, unreceived, with_holding, without_letter}
+use Rattle.lwp_types.specs.Monitors.{depth_in, entered, exited, is_owned_by_other, requested, with_depth}
+use Rattle.lwp_types.specs.Exceptions.{caught_marks, exits_of, first_frames, found, frames, later_frames, with_match}
+use Rattle.lwp_types.specs.MonitorRelease.{grant, last_lock, next_owner, release, without_lock}
 use Rattle.lwp_types.specs.State.{Outcome, State, ThreadRow, and_then, for_each, in_order, is_agent, is_not_blocked, is_number, marked, marks_in, passes, still, thread_of}
 use Rattle.lwp_types.specs.Step.{case_of, step, step_by, step_if}
 use Rattle.lwp_types.specs.Time.{due_threads, tick, ticked, time_out}
 use Rattle.lwp_types.specs.Unblock.{blocked, blocked_for, is_timer_of, nonexist, timer_for, unblock, unblocked, zero_answer}
-use Rattle.lwp_types.specs.Waits.{condition_of, waited, woken, woken_all}
+use Rattle.lwp_types.specs.Conditions.{condition_of, waited, woken, woken_all}
 use Rattle.lwp_types.specs.declared.call.Answer.{Answer}
 use Rattle.lwp_types.specs.declared.call.Call.{Call}
 use Rattle.lwp_types.specs.declared.call.ExitCall.{ExitCall}
@@ -253,7 +253,7 @@ module _ (p : TimerRow → Bool) where
   case_quiet s t (call.Notify c) = none_asked s _ (unless_quiet s s.timers _ _ (omega arith) (quiet_woken_all (condition_of s.conditions c) _ s))
   case_quiet s t (call.Broadcast c) = none_asked s _ (unless_quiet s s.timers _ _ (omega arith) (quiet_woken_all (condition_of s.conditions c) _ s))
   case_quiet s t (call.CvSend c u) = none_asked s _ (unless_quiet s s.timers _ _ (omega arith) (quiet_woken_all (condition_of s.conditions c) _ s))
-  case_quiet s t call.Conds = none_asked s _ (quiet_still s)
+  case_quiet s t call.Conditions = none_asked s _ (quiet_still s)
   case_quiet s t (call.CvWaiters c) = none_asked s _ (unless_quiet s s.timers _ _ (omega arith) (quiet_still s))
   case_quiet s t (call.CallProc number) = none_asked s _ (unless_quiet s s.timers _ _ (omega arith) (quiet_same s _ refl))
   case_quiet s t call.Return = none_asked s _ (cond_quiet s.timers (nat_le 2 (frames (marks_in s t))) (leave_frame s t) (unanswered (death t s)) (quiet_unwind t (first_frames (frames (marks_in s t) - 1) (marks_in s t)) (later_frames (frames (marks_in s t) - 1) (marks_in s t)) s) (quiet_death t s))

@@ -5,7 +5,7 @@ use Rattle.lwp_types.specs.Lawful.{Lawful}
 use Rattle.lwp_types.specs.State.{Outcome, State, is_id}
 use Rattle.lwp_types.specs.Exits.{exit_case}
 use Rattle.lwp_types.specs.Step.{case_of, step}
-use Rattle.lwp_types.specs.Waits.{is_no_condition, is_not_last}
+use Rattle.lwp_types.specs.Conditions.{is_no_condition, is_not_last}
 use Rattle.lwp_types.specs.declared.call.ExitCall.{ExitCall}
 use Rattle.lwp_types.specs.declared.call.ExitCall.TheVariants as exit
 use Rattle.lwp_types.specs.declared.call.Call.{Call}

@@ -5,7 +5,7 @@ use Rattle.std.specs.Prelude.{is_none, nat_lt, not, ◌&&◌}
 use Rattle.pod_events.specs.Events.{EventState, has_turn, is_takeable, is_trapped, may_trap, passed_on, rites_event, take_event, trap_taken}
 use Rattle.std.specs.List.{list_all}
 use Rattle.lwp_types.specs.Agents.{armed, deliver, deliver_to, event_agents, is_armed, is_for, message}
-use Rattle.lwp_types.specs.Letters.{as_answer, as_received, holding_set, post, takes_from, with_holding}
+use Rattle.lwp_types.specs.Messages.{as_answer, as_received, holding_set, post, takes_from, with_holding}
 use Rattle.lwp_types.specs.State.{Outcome, State, and_then, for_each, is_agent_row, is_empty, passes, still, thread_of}
 use Rattle.lwp_types.specs.Time.{due_threads, may_tick, tick, ticked, time_out}
 use Rattle.lwp_types.specs.Unblock.{unblock}

@@ -6,7 +6,7 @@ use Rattle.event_gate.specs.Shelves.{first_left}
 use Rattle.pod_events.specs.Events.{EventState, has_turn, is_takeable, is_trapped, passed_on, take_event, trap_taken}
 use Rattle.lwp_types.specs.Agents.{deliver, deliver_to, event_agents, message}
 use Rattle.lwp_types.specs.Choice.{best_by, better_by, choice}
-use Rattle.lwp_types.specs.Letters.{as_answer, as_received, post, takes_from}
+use Rattle.lwp_types.specs.Messages.{as_answer, as_received, post, takes_from}
 use Rattle.lwp_types.specs.State.{Outcome, State, and_then, for_each, is_suspended_in, passes, priority_in, still, thread_of}
 use Rattle.lwp_types.specs.Time.{due_threads, tick, ticked, time_out}
 use Rattle.lwp_types.specs.Unblock.{unblock}

@@ -11,7 +11,7 @@ use Rattle.lwp_types.specs.State.{State}
 use Rattle.pod_events.specs.Step.{event_step}
 use Rattle.lwp_types.specs.declared.call.Call.{Call}
 use Rattle.lwp_types.specs.declared.call.Effect.{Effect}
-use Rattle.pod_runner.specs.Parts.{Moves}
+use Rattle.pod_runner.specs.RunParts.{Moves}
 use Rattle.trace_text.specs.Lines.{step_lines}
 use Rattle.pod_runner.specs.Polls.{Polls, place_of}
 use Rattle.pod_runner.specs.Session.{Live, called, move, polled, proc_of, row_of, settled, taken, unmoved}

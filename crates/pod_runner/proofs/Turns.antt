@@ -8,7 +8,7 @@ use Rattle.std.proofs.lemmas.List.Sums.{fold-append}
 use Rattle.lwp_types.specs.declared.call.Effect.{Effect}
 use Rattle.pod_runner.specs.Calls.{last_effects}
 use Rattle.pod_runner.specs.Due.{IsDefined, is_call_due}
-use Rattle.pod_runner.specs.Parts.{Moves}
+use Rattle.pod_runner.specs.RunParts.{Moves}
 use Rattle.pod_runner.specs.Phase.{phase_by, phase_of}
 use Rattle.pod_runner.specs.Play.{play}
 use Rattle.pod_runner.specs.Session.{Live, Made, Move, Session, Setting, extended, move, taken}

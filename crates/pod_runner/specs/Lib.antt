@@ -11,7 +11,7 @@ pub mod Run
 pub mod Does
 pub mod Keeps
 pub mod Takes
-pub mod Parts
+pub mod RunParts
 pub mod Live
 pub mod Inlets
 pub mod Laws

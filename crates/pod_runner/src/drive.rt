@@ -27,7 +27,9 @@ fn take_line<'s, B: Polled<'s>, P: Program<B>, G: Gate<'s>, K: Sink>(
     requires made { IsDefined (setting_of B.next P.bodies run.old) run.old.takes run.old.calls }
     requires room { run.old.calls ≤ run.old.turns }
     requires wanted { IsTrue (is_takeable (session_of B.next P.bodies run.old).live.pod event) }
-    ensures { Does B.next P.bodies P.proc_names (sides K.written K.faults sink.old sink.new) (λ planned plan. offered planned event plan) run.old run.new (G.stock gate.old) (G.stock gate.new) result }
+    ensures { Does B.next P.bodies P.proc_names (sides K.written K.faults sink.old sink.new)
+        (λ planned plan. offered planned event plan) run.old run.new (G.stock gate.old)
+        (G.stock gate.new) result }
 {
     match gate.take(event) {
         Some(line) => run.offer(event, line, sink),
@@ -42,9 +44,14 @@ fn next_due<'s, B: Polled<'s>, P: Program<B>, G: Gate<'s>>(
     from: u8,
 ) -> Option<u8>
     requires { run.now.failed ≡ false }
-    ensures none { IfNone result (HoldsNowhere (can_take (session_of B.next P.bodies run.now).live.pod (G.stock gate.now)) from 32) }
+    ensures none { IfNone result
+        (HoldsNowhere (can_take (session_of B.next P.bodies run.now).live.pod (G.stock gate.now))
+        from 32) }
     ensures below { IfSome result (λ event. event < 32) }
-    ensures first { IfSome result (λ event. IsFirstPlace (can_take (session_of B.next P.bodies run.now).live.pod (G.stock gate.now)) from 32 event) }
+    ensures first { IfSome result
+        (λ event.
+        IsFirstPlace (can_take (session_of B.next P.bodies run.now).live.pod (G.stock gate.now))
+        from 32 event) }
 {
     let mut from = from;
     while let Some(left) = gate.next_left(from) {
@@ -67,7 +74,9 @@ fn serve_each<'s, B: Polled<'s>, P: Program<B>, G: Gate<'s>, K: Sink>(
     requires sound { run.old.failed ≡ false }
     requires made { IsDefined (setting_of B.next P.bodies run.old) run.old.takes run.old.calls }
     requires room { run.old.calls ≤ run.old.turns }
-    ensures { Does B.next P.bodies P.proc_names (sides K.written K.faults sink.old sink.new) (λ planned plan. boundary planned plan) run.old run.new (G.stock gate.old) (G.stock gate.new) result }
+    ensures { Does B.next P.bodies P.proc_names (sides K.written K.faults sink.old sink.new)
+        (λ planned plan. boundary planned plan) run.old run.new (G.stock gate.old)
+        (G.stock gate.new) result }
 {
     let mut from = 0;
     while let Some(event) = next_due(run, gate, from) {
@@ -87,7 +96,9 @@ fn serve_all<'s, B: Polled<'s>, P: Program<B>, G: Gate<'s>, K: Sink>(
     requires sound { run.old.failed ≡ false }
     requires made { IsDefined (setting_of B.next P.bodies run.old) run.old.takes run.old.calls }
     requires room { run.old.calls ≤ run.old.turns }
-    ensures { Does B.next P.bodies P.proc_names (sides K.written K.faults sink.old sink.new) (λ planned plan. boundary planned plan) run.old run.new (G.stock gate.old) (G.stock gate.new) result }
+    ensures { Does B.next P.bodies P.proc_names (sides K.written K.faults sink.old sink.new)
+        (λ planned plan. boundary planned plan) run.old run.new (G.stock gate.old)
+        (G.stock gate.new) result }
 {
     match next_due(run, gate, 0) {
         Some(_) => serve_each(run, gate, sink),
@@ -103,8 +114,14 @@ pub fn go_round<'s, B: Polled<'s>, P: Program<B>, G: Gate<'s>, K: Sink>(
     sink: &mut K,
 ) -> Result<Option<Halt>, RunErr>
     requires { run.old.failed ≡ false }
-    ensures does { Does B.next P.bodies P.proc_names (sides K.written K.faults sink.old sink.new) (λ planned plan. round planned plan) run.old run.new (G.stock gate.old) (G.stock gate.new) result }
-    ensures over { IfOk result (λ halt. plan_over (planned_of B.next P.bodies run.old) (plan_now B.next P.bodies run.old (G.stock gate.old)) ≡ halt) }
+    ensures does { Does B.next P.bodies P.proc_names (sides K.written K.faults sink.old sink.new)
+        (λ planned plan. round planned plan) run.old run.new (G.stock gate.old) (G.stock gate.new)
+        result }
+    ensures over { IfOk result
+        (λ halt.
+        plan_over (planned_of B.next P.bodies run.old)
+        (plan_now B.next P.bodies run.old (G.stock gate.old))
+        ≡ halt) }
 {
     match run.phase() {
         Phase::Ended(status) => Ok(Some(Halt::Ended(status))),
@@ -136,17 +153,41 @@ pub fn run<'s, B: Polled<'s>, P: Program<B>, G: Gate<'s>, K: Sink>(
     requires sound { run.old.failed ≡ false }
     ensures same { GoesOn run.old run.new }
     ensures ends { IfOk result (EndsAt B.next P.bodies run.new (G.stock gate.new)) }
-    ensures finishes { OnOk result (plan_now B.next P.bodies run.new (G.stock gate.new) ≡ finished (planned_of B.next P.bodies run.old) (plan_now B.next P.bodies run.old (G.stock gate.old))) }
-    ensures first_part { OnErr result (IsFirstPart (plan_now B.next P.bodies run.new (G.stock gate.new)) (finished (planned_of B.next P.bodies run.old) (plan_now B.next P.bodies run.old (G.stock gate.old)))) }
-    ensures eager { IsNew run.old → OnOk result (plan_now B.next P.bodies run.new (G.stock gate.new) ≡ plan_whole (planned_of B.next P.bodies run.old) (G.stock gate.old)) }
-    ensures begun { IsNew run.old → IsFirstPart (plan_now B.next P.bodies run.new (G.stock gate.new)) (plan_whole (planned_of B.next P.bodies run.old) (G.stock gate.old)) }
+    ensures finishes { OnOk result
+        (plan_now B.next P.bodies run.new (G.stock gate.new)
+        ≡ finished (planned_of B.next P.bodies run.old)
+        (plan_now B.next P.bodies run.old (G.stock gate.old))) }
+    ensures first_part { OnErr result
+        (IsFirstPart (plan_now B.next P.bodies run.new (G.stock gate.new))
+        (finished (planned_of B.next P.bodies run.old)
+        (plan_now B.next P.bodies run.old (G.stock gate.old)))) }
+    ensures eager { IsNew run.old →
+        OnOk result
+        (plan_now B.next P.bodies run.new (G.stock gate.new)
+        ≡ plan_whole (planned_of B.next P.bodies run.old) (G.stock gate.old)) }
+    ensures begun { IsNew run.old →
+        IsFirstPart (plan_now B.next P.bodies run.new (G.stock gate.new))
+        (plan_whole (planned_of B.next P.bodies run.old) (G.stock gate.old)) }
     ensures calls { run.new.calls ≤ run.old.turns }
     ensures made { IsDefined (setting_of B.next P.bodies run.new) run.new.takes run.new.calls }
     ensures unfailed { OnOk result (run.new.failed ≡ false) }
-    ensures whole { OnOk result (Writes (K.written sink.old) (K.written sink.new) (trace_of B.next P.bodies P.proc_names run.old) (trace_of B.next P.bodies P.proc_names run.new)) }
-    ensures part { OnErr result (WritesPart (K.written sink.old) (K.written sink.new) (trace_of B.next P.bodies P.proc_names run.old) (trace_of B.next P.bodies P.proc_names run.new)) }
-    ensures stopped { IsErrOf result RunErr.NoMemory → Writes (K.written sink.old) (K.written sink.new) (trace_of B.next P.bodies P.proc_names run.old) (trace_of B.next P.bodies P.proc_names run.new) }
-    ensures cut { IsErrOf result RunErr.WriteFault → WritesCut (K.written sink.old) (K.written sink.new) (trace_of B.next P.bodies P.proc_names run.old) (trace_before B.next P.bodies P.proc_names run.new) (trace_of B.next P.bodies P.proc_names run.new) }
+    ensures whole { OnOk result
+        (Writes (K.written sink.old) (K.written sink.new)
+        (trace_of B.next P.bodies P.proc_names run.old)
+        (trace_of B.next P.bodies P.proc_names run.new)) }
+    ensures part { OnErr result
+        (WritesPart (K.written sink.old) (K.written sink.new)
+        (trace_of B.next P.bodies P.proc_names run.old)
+        (trace_of B.next P.bodies P.proc_names run.new)) }
+    ensures stopped { IsErrOf result RunErr.NoMemory →
+        Writes (K.written sink.old) (K.written sink.new)
+        (trace_of B.next P.bodies P.proc_names run.old)
+        (trace_of B.next P.bodies P.proc_names run.new) }
+    ensures cut { IsErrOf result RunErr.WriteFault →
+        WritesCut (K.written sink.old) (K.written sink.new)
+        (trace_of B.next P.bodies P.proc_names run.old)
+        (trace_before B.next P.bodies P.proc_names run.new)
+        (trace_of B.next P.bodies P.proc_names run.new) }
     ensures faults { OnOk result (K.faults sink.new ≡ K.faults sink.old) }
     ensures later { K.faults sink.old ≤ K.faults sink.new }
     ensures cause { IsErrOf result RunErr.WriteFault → Rose (K.faults sink.old) (K.faults sink.new) }

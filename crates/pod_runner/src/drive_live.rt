@@ -23,9 +23,15 @@ fn go_round<'s, B: Polled<'s>, P: Program<B>, I: Inlet<'s>, K: Sink, R: Wait>(
 ) -> Result<Option<Live>, RunErr>
     requires sound { run.old.failed ≡ false }
     requires rise { EventsRise (map I.intake inlets.old.items) }
-    ensures lives { LivesOn B.next P.bodies P.proc_names (sides K.written K.faults sink.old sink.new) run.old run.new (map I.intake inlets.old.items) (map I.intake inlets.new.items) result }
-    ensures looked { OnOk result (LooksAtAll B.next P.bodies run.old run.new (map I.intake inlets.old.items) (map I.intake inlets.new.items)) }
-    ensures answers { IfOk result (AnswersIf B.next P.bodies run.new (map I.intake inlets.old.items) (map I.intake inlets.new.items)) }
+    ensures lives { LivesOn B.next P.bodies P.proc_names
+        (sides K.written K.faults sink.old sink.new) run.old run.new (map I.intake inlets.old.items)
+        (map I.intake inlets.new.items) result }
+    ensures looked { OnOk result
+        (LooksAtAll B.next P.bodies run.old run.new (map I.intake inlets.old.items)
+        (map I.intake inlets.new.items)) }
+    ensures answers { IfOk result
+        (AnswersIf B.next P.bodies run.new (map I.intake inlets.old.items)
+        (map I.intake inlets.new.items)) }
 {
     match run.phase() {
         Phase::Ended(status) => Ok(Some(Live::Halt(Halt::Ended(status)))),
@@ -58,9 +64,15 @@ fn go_on<'s, B: Polled<'s>, P: Program<B>, I: Inlet<'s>, K: Sink, R: Wait>(
 ) -> Result<Live, RunErr>
     requires sound { run.old.failed ≡ false }
     requires rise { EventsRise (map I.intake inlets.old.items) }
-    ensures lives { LivesOn B.next P.bodies P.proc_names (sides K.written K.faults sink.old sink.new) run.old run.new (map I.intake inlets.old.items) (map I.intake inlets.new.items) result }
-    ensures looked { OnOk result (LooksAtAll B.next P.bodies run.old run.new (map I.intake inlets.old.items) (map I.intake inlets.new.items)) }
-    ensures answers { IfOk result (Answers B.next P.bodies run.new (map I.intake inlets.old.items) (map I.intake inlets.new.items)) }
+    ensures lives { LivesOn B.next P.bodies P.proc_names
+        (sides K.written K.faults sink.old sink.new) run.old run.new (map I.intake inlets.old.items)
+        (map I.intake inlets.new.items) result }
+    ensures looked { OnOk result
+        (LooksAtAll B.next P.bodies run.old run.new (map I.intake inlets.old.items)
+        (map I.intake inlets.new.items)) }
+    ensures answers { IfOk result
+        (Answers B.next P.bodies run.new (map I.intake inlets.old.items)
+        (map I.intake inlets.new.items)) }
 {
     for _ in rt.forever() {
         if let Some(answer) = go_round(rt, run, inlets, sink)? {
@@ -85,13 +97,31 @@ pub fn run_live<'s, B: Polled<'s>, P: Program<B>, I: Inlet<'s>, K: Sink, R: Wait
     ensures made { IsDefined (setting_of B.next P.bodies run.new) run.new.takes run.new.calls }
     ensures calls { run.new.calls ≤ run.old.turns }
     ensures unfailed { OnOk result (run.new.failed ≡ false) }
-    ensures draws { Draws B.next P.bodies run.old run.new (map I.intake inlets.old.items) (map I.intake inlets.new.items) (may_lose result) }
-    ensures looked { OnOk result (LooksAtAll B.next P.bodies run.old run.new (map I.intake inlets.old.items) (map I.intake inlets.new.items)) }
-    ensures answers { IfOk result (Answers B.next P.bodies run.new (map I.intake inlets.old.items) (map I.intake inlets.new.items)) }
-    ensures whole { OnOk result (Writes (K.written sink.old) (K.written sink.new) (trace_of B.next P.bodies P.proc_names run.old) (trace_of B.next P.bodies P.proc_names run.new)) }
-    ensures part { OnErr result (WritesPart (K.written sink.old) (K.written sink.new) (trace_of B.next P.bodies P.proc_names run.old) (trace_of B.next P.bodies P.proc_names run.new)) }
-    ensures stopped { IsErrOf result RunErr.NoMemory → Writes (K.written sink.old) (K.written sink.new) (trace_of B.next P.bodies P.proc_names run.old) (trace_of B.next P.bodies P.proc_names run.new) }
-    ensures cut { IsErrOf result RunErr.WriteFault → WritesCut (K.written sink.old) (K.written sink.new) (trace_of B.next P.bodies P.proc_names run.old) (trace_before B.next P.bodies P.proc_names run.new) (trace_of B.next P.bodies P.proc_names run.new) }
+    ensures draws { Draws B.next P.bodies run.old run.new (map I.intake inlets.old.items)
+        (map I.intake inlets.new.items) (may_lose result) }
+    ensures looked { OnOk result
+        (LooksAtAll B.next P.bodies run.old run.new (map I.intake inlets.old.items)
+        (map I.intake inlets.new.items)) }
+    ensures answers { IfOk result
+        (Answers B.next P.bodies run.new (map I.intake inlets.old.items)
+        (map I.intake inlets.new.items)) }
+    ensures whole { OnOk result
+        (Writes (K.written sink.old) (K.written sink.new)
+        (trace_of B.next P.bodies P.proc_names run.old)
+        (trace_of B.next P.bodies P.proc_names run.new)) }
+    ensures part { OnErr result
+        (WritesPart (K.written sink.old) (K.written sink.new)
+        (trace_of B.next P.bodies P.proc_names run.old)
+        (trace_of B.next P.bodies P.proc_names run.new)) }
+    ensures stopped { IsErrOf result RunErr.NoMemory →
+        Writes (K.written sink.old) (K.written sink.new)
+        (trace_of B.next P.bodies P.proc_names run.old)
+        (trace_of B.next P.bodies P.proc_names run.new) }
+    ensures cut { IsErrOf result RunErr.WriteFault →
+        WritesCut (K.written sink.old) (K.written sink.new)
+        (trace_of B.next P.bodies P.proc_names run.old)
+        (trace_before B.next P.bodies P.proc_names run.new)
+        (trace_of B.next P.bodies P.proc_names run.new) }
     ensures faults { OnOk result (K.faults sink.new ≡ K.faults sink.old) }
     ensures later { K.faults sink.old ≤ K.faults sink.new }
     ensures cause { IsErrOf result RunErr.WriteFault → Rose (K.faults sink.old) (K.faults sink.new) }

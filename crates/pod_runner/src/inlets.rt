@@ -17,7 +17,7 @@ pub(crate) fn all_told<'s, I: Inlet<'s>>(inlets: &[I]) -> bool
     ensures { IsTrue result ↔ AllTold (map I.intake inlets.now) }
 {
     for inlet in inlets {
-        if !inlet.told() {
+        if !inlet.is_told() {
             return false;
         }
     }
@@ -35,8 +35,12 @@ fn serve<'s, B: Polled<'s>, P: Program<B>, I: Inlet<'s>, K: Sink, R: Wait>(
     requires sound { run.old.failed ≡ false }
     requires rise { EventsRise (map I.intake inlets.old.items) }
     requires within { i < length inlets.old.items }
-    ensures lives { LivesOn B.next P.bodies P.proc_names (sides K.written K.faults sink.old sink.new) run.old run.new (map I.intake inlets.old.items) (map I.intake inlets.new.items) result }
-    ensures served { OnOk result (ServesAt B.next P.bodies i run.old run.new (map I.intake inlets.old.items) (map I.intake inlets.new.items)) }
+    ensures lives { LivesOn B.next P.bodies P.proc_names
+        (sides K.written K.faults sink.old sink.new) run.old run.new (map I.intake inlets.old.items)
+        (map I.intake inlets.new.items) result }
+    ensures served { OnOk result
+        (ServesAt B.next P.bodies i run.old run.new (map I.intake inlets.old.items)
+        (map I.intake inlets.new.items)) }
 {
     let inlet = &mut inlets[i];
     let event = inlet.event();
@@ -60,8 +64,12 @@ pub(crate) fn serve_all<'s, B: Polled<'s>, P: Program<B>, I: Inlet<'s>, K: Sink,
     requires made { IsDefined (setting_of B.next P.bodies run.old) run.old.takes run.old.calls }
     requires room { run.old.calls ≤ run.old.turns }
     requires rise { EventsRise (map I.intake inlets.old.items) }
-    ensures lives { LivesOn B.next P.bodies P.proc_names (sides K.written K.faults sink.old sink.new) run.old run.new (map I.intake inlets.old.items) (map I.intake inlets.new.items) result }
-    ensures served { OnOk result (Serves B.next P.bodies (length (map I.intake inlets.old.items)) run.old run.new (map I.intake inlets.old.items) (map I.intake inlets.new.items)) }
+    ensures lives { LivesOn B.next P.bodies P.proc_names
+        (sides K.written K.faults sink.old sink.new) run.old run.new (map I.intake inlets.old.items)
+        (map I.intake inlets.new.items) result }
+    ensures served { OnOk result
+        (Serves B.next P.bodies (length (map I.intake inlets.old.items)) run.old run.new
+        (map I.intake inlets.old.items) (map I.intake inlets.new.items)) }
 {
     for i in 0..inlets.len() {
         serve(rt, run, inlets, i, sink)?;

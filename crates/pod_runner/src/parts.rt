@@ -35,7 +35,8 @@ fn call_behind_trap<'s>(
 ) -> Result<(), NoMemory>
     requires { IsSome (current_of pod.old.state) }
     ensures after { OnOk result (pod.new ≡ (event_step pod.old call.now).after) }
-    ensures effects { OnOk result (leads pod.old call.now ++ effects.new ≡ (event_step pod.old call.now).effects) }
+    ensures effects { OnOk result
+        (leads pod.old call.now ++ effects.new ≡ (event_step pod.old call.now).effects) }
     ensures lines { OnOk result (out.new.items ≡ step_lines names.now None effects.new) }
 {
     pod.call(call, effects)?;
@@ -55,8 +56,11 @@ fn carry_out<'s>(
 ) -> Result<Option<Tid>, NoMemory>
     requires { IsSome (current_of pod.old.state) }
     ensures after { OnOk result (pod.new ≡ (event_step pod.old call.now).after) }
-    ensures effects { OnOk result (leads pod.old call.now ++ effects.new ≡ (event_step pod.old call.now).effects) }
-    ensures lines { OnOk result (out.new.items ≡ step_lines names.now None (lead pod.old.pending tid call.now ++ effects.new)) }
+    ensures effects { OnOk result
+        (leads pod.old call.now ++ effects.new ≡ (event_step pod.old call.now).effects) }
+    ensures lines { OnOk result
+        (out.new.items
+        ≡ step_lines names.now None (lead pod.old.pending tid call.now ++ effects.new)) }
     ensures caller { IfOk result (λ caller. caller ≡ caller_of pod.old.pending tid) }
 {
     match pod.pending() {
@@ -73,7 +77,7 @@ fn carry_out<'s>(
 }
 
 /// A pod with its threads' bodies.
-pub(crate) struct Parts<'s, B> {
+pub(crate) struct RunParts<'s, B> {
     pub(crate) pod: EventPod<'s, Pod<'s>>,
     pub(crate) rows: RowList<'s, B>,
     pub(crate) env: Env,
@@ -85,9 +89,9 @@ pub(crate) struct Parts<'s, B> {
 }
 
 // By hand, so that whoever drops one calls this.
-impl<'s, B: Drop> Drop for Parts<'s, B> {
+impl<'s, B: Drop> Drop for RunParts<'s, B> {
     fn drop(self) {
-        let Parts {
+        let RunParts {
             pod: _,
             rows: _,
             env: _,
@@ -98,8 +102,8 @@ impl<'s, B: Drop> Drop for Parts<'s, B> {
     }
 }
 
-impl<'s, B: Polled<'s>> Parts<'s, B> {
-    ghost use Rattle.pod_runner.specs.Parts.{live_of, told_of, Moves};
+impl<'s, B: Polled<'s>> RunParts<'s, B> {
+    ghost use Rattle.pod_runner.specs.RunParts.{live_of, told_of, Moves};
 
     /// The first thread, before its first call.
     pub(crate) fn new<P: Program<B>>(
@@ -107,20 +111,28 @@ impl<'s, B: Polled<'s>> Parts<'s, B> {
         params: PodParams,
         program: &P,
         env: Env,
-    ) -> Result<Parts<'s, B>, NoMemory>
+    ) -> Result<RunParts<'s, B>, NoMemory>
         requires least { 1 ≤ params.maxpri }
         requires most { params.maxpri ≤ 255 }
         requires births { 1 ≤ params.births }
         requires few_births { params.births < 2 ^ 32 }
         requires procs { 1 ≤ params.procs }
-        ensures live { IfOk result (λ parts. live_of parts ≡ record { pod = quiet_events (opening params); rows = row_opened 0 (slice_get (P.bodies program.now) 0); names = env }) }
+        ensures live { IfOk result
+            (λ parts.
+            live_of parts
+            ≡ record {
+              pod = quiet_events (opening params);
+              rows = row_opened 0
+                  (slice_get (P.bodies program.now) 0);
+              names = env;
+            }) }
         ensures effects { IfOk result (λ parts. told_of parts ≡ []) }
     {
         let mut rows = RowList::new(alloc);
         rows.open(program, 0, Tid { number: 0 })?;
         let effects = Effects::new(alloc)?;
         let pod = EventPod::new(alloc, Pod::new(alloc, params)?)?;
-        Ok(Parts {
+        Ok(RunParts {
             pod,
             rows,
             env,
@@ -165,7 +177,8 @@ impl<'s, B: Polled<'s>> Parts<'s, B> {
     pub(crate) fn next_wanted(&self, from: u8) -> Option<u8>
         ensures none { IfNone result (HoldsNowhere (is_takeable self.now.pod) from 32) }
         ensures below { IfSome result (λ event. event < 32) }
-        ensures first { IfSome result (λ event. IsFirstPlace (is_takeable self.now.pod) from 32 event) }
+        ensures first { IfSome result
+            (λ event. IsFirstPlace (is_takeable self.now.pod) from 32 event) }
     {
         self.pod.next_armed(from)
     }
@@ -179,7 +192,10 @@ impl<'s, B: Polled<'s>> Parts<'s, B> {
         out: &mut Vec<u8>,
     ) -> Result<(), NoMemory>
         requires { IsTrue (is_takeable self.old.pod took.now.event) }
-        ensures { OnOk result (Moves names.now (Some took.now.line) (taken (P.bodies program.now) took.now (live_of self.old)) (live_of self.new) (told_of self.new) out.new.items) }
+        ensures { OnOk result
+            (Moves names.now (Some took.now.line)
+            (taken (P.bodies program.now) took.now (live_of self.old)) (live_of self.new)
+            (told_of self.new) out.new.items) }
     {
         self.caller = None;
         self.pod
@@ -199,7 +215,9 @@ impl<'s, B: Polled<'s>> Parts<'s, B> {
         out: &mut Vec<u8>,
     ) -> Result<(), NoMemory>
         requires current { IsSome (current_of self.old.pod.state) }
-        ensures { OnOk result (Moves names.now None (move B.next (P.bodies program.now) (live_of self.old)) (live_of self.new) (told_of self.new) out.new.items) }
+        ensures { OnOk result
+            (Moves names.now None (move B.next (P.bodies program.now) (live_of self.old))
+            (live_of self.new) (told_of self.new) out.new.items) }
     {
         let tid = self.pod.current().unwrap();
         let i = self.rows.place(tid);
@@ -225,7 +243,9 @@ impl<'s, B: Polled<'s>> Parts<'s, B> {
         requires current { current_of self.old.pod.state ≡ Some tid }
         requires place { i ≡ place_of tid self.old.rows }
         requires within { i < length self.old.rows }
-        ensures { OnOk result (Moves names.now None (move B.next (P.bodies program.now) (live_of self.old)) (live_of self.new) (told_of self.new) out.new.items) }
+        ensures { OnOk result
+            (Moves names.now None (move B.next (P.bodies program.now) (live_of self.old))
+            (live_of self.new) (told_of self.new) out.new.items) }
     {
         self.env.set_me(tid);
         self.rows.poll_at(i, &mut self.env, &mut self.call)?;

@@ -8,7 +8,7 @@ ghost use Rattle.pod_runner.specs.Run.{setting_of, session_of, phase_now, trace_
 ghost use Rattle.pod_runner.specs.declared.phase.Phase.TheVariants as phase;
 ghost use Rattle.whole_streams.specs.Streams.{sides};
 
-use crate::parts::Parts;
+use crate::parts::RunParts;
 use crate::{Made, Phase, RunErr, TakeList, Took};
 use lwp_types::{Body, Env, Line, NoMemory, PodParams, Polled, Program, Sink};
 use std::alloc::Global;
@@ -18,7 +18,7 @@ use whole_streams::write_all;
 
 /// A run of a program, seen as what it plays and how far it is; its session is the definition's.
 pub struct Run<'s, B: Body, P: Program<B>> {
-    parts: Parts<'s, B>,
+    parts: RunParts<'s, B>,
     program: P,
     // The procedures' names, by number.
     procs: TextList,
@@ -58,7 +58,7 @@ impl<'s, B: Body, P: Program<B>> Model for Run<'s, B, P> {
     ghost use Rattle.std.specs.Prelude.{◌≡◌, false};
     ghost use Rattle.lwp_types.specs.Names.{null_names};
     ghost use Rattle.pod_runner.specs.Run.{Played};
-    ghost use Rattle.pod_runner.specs.Parts.{live_of, told_of};
+    ghost use Rattle.pod_runner.specs.RunParts.{live_of, told_of};
     ghost use Rattle.pod_runner.specs.Keeps.{Keeps};
 
     ghost Value = { Played P };
@@ -94,13 +94,24 @@ impl<'s, B: Polled<'s>, P: Program<B>> Run<'s, B, P> {
         requires few_births { params.births < 2 ^ 32 }
         requires procs { 1 ≤ params.procs }
         requires names { env ≡ names_like env }
-        ensures { IfOk result (λ run. run ≡ record { program = program; params = params; names = env; turns = turns; calls = 0; takes = []; failed = false }) }
+        ensures { IfOk result
+            (λ run.
+            run
+            ≡ record {
+              program = program;
+              params = params;
+              names = env;
+              turns = turns;
+              calls = 0;
+              takes = [];
+              failed = false;
+            }) }
     {
         let threads = env.thread_count();
         let mons = env.mon_count();
         let conds = env.cond_count();
         let procs = names_of(alloc, &program)?;
-        let parts = Parts::new(alloc, params, &program, env)?;
+        let parts = RunParts::new(alloc, params, &program, env)?;
         Ok(Run {
             parts,
             program,
@@ -191,9 +202,13 @@ impl<'s, B: Polled<'s>, P: Program<B>> Run<'s, B, P> {
     /// The first event from `from` on of which a line can be delivered, if there is one below 32.
     pub fn next_wanted(&self, from: u8) -> Option<u8>
         requires { self.now.failed ≡ false }
-        ensures none { IfNone result (HoldsNowhere (is_takeable (session_of B.next P.bodies self.now).live.pod) from 32) }
+        ensures none { IfNone result
+            (HoldsNowhere (is_takeable (session_of B.next P.bodies self.now).live.pod) from 32) }
         ensures below { IfSome result (λ event. event < 32) }
-        ensures first { IfSome result (λ event. IsFirstPlace (is_takeable (session_of B.next P.bodies self.now).live.pod) from 32 event) }
+        ensures first { IfSome result
+            (λ event.
+            IsFirstPlace (is_takeable (session_of B.next P.bodies self.now).live.pod) from 32
+            event) }
         ensures made { IsDefined (setting_of B.next P.bodies self.now) self.now.takes self.now.calls }
         ensures room { self.now.calls ≤ self.now.turns }
     {
@@ -206,7 +221,10 @@ impl<'s, B: Polled<'s>, P: Program<B>> Run<'s, B, P> {
         requires sound { self.old.failed ≡ false }
         requires wants { IsTrue (is_takeable (session_of B.next P.bodies self.old).live.pod event) }
         ensures after { self.new ≡ stepped self.old (with_took self.old event line.entry) result }
-        ensures told { Tells (sides K.written K.faults sink.old sink.new) (trace_of B.next P.bodies P.proc_names self.old) (trace_of B.next P.bodies P.proc_names self.old) (trace_of B.next P.bodies P.proc_names self.new) result }
+        ensures told { Tells (sides K.written K.faults sink.old sink.new)
+            (trace_of B.next P.bodies P.proc_names self.old)
+            (trace_of B.next P.bodies P.proc_names self.old)
+            (trace_of B.next P.bodies P.proc_names self.new) result }
         ensures made { IsDefined (setting_of B.next P.bodies self.new) self.new.takes self.new.calls }
         ensures room { self.new.calls ≤ self.new.turns }
     {
@@ -234,7 +252,10 @@ impl<'s, B: Polled<'s>, P: Program<B>> Run<'s, B, P> {
         requires sound { self.old.failed ≡ false }
         requires due { phase_now B.next P.bodies self.old ≡ phase.Turn }
         ensures after { self.new ≡ stepped self.old (with_call self.old) result }
-        ensures told { Tells (sides K.written K.faults sink.old sink.new) (trace_of B.next P.bodies P.proc_names self.old) (trace_of B.next P.bodies P.proc_names self.old) (trace_of B.next P.bodies P.proc_names self.new) result }
+        ensures told { Tells (sides K.written K.faults sink.old sink.new)
+            (trace_of B.next P.bodies P.proc_names self.old)
+            (trace_of B.next P.bodies P.proc_names self.old)
+            (trace_of B.next P.bodies P.proc_names self.new) result }
         ensures made { IsDefined (setting_of B.next P.bodies self.new) self.new.takes self.new.calls }
         ensures room { self.new.calls ≤ self.new.turns }
     {

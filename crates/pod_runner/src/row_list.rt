@@ -76,7 +76,7 @@ fn set_answer<'s, B>(
         Answer::Value(value) => row.answer = Answer::Value(*value),
         Answer::Thread(tid) => row.answer = Answer::Thread(*tid),
         Answer::Monitor(mon) => row.answer = Answer::Monitor(*mon),
-        Answer::Cond(cond) => row.answer = Answer::Cond(*cond),
+        Answer::Condition(cond) => row.answer = Answer::Condition(*cond),
         Answer::Letter { from, text, room } => {
             row.answer = Answer::Letter {
                 from: *from,
@@ -114,7 +114,9 @@ fn poll_row<'s, B: Polled<'s>>(
     env: &mut Env,
     call: &mut Call<'s>,
 ) -> Result<(), NoMemory>
-    ensures polls { OnOk result ((B.next row.old.body env.old row.old.answer ≡ (call.new, row.new.body, env.new)) × (row.new.answer ≡ row.old.answer)) }
+    ensures polls { OnOk result
+        ((B.next row.old.body env.old row.old.answer ≡ (call.new, row.new.body, env.new))
+        × (row.new.answer ≡ row.old.answer)) }
     ensures same { row.new.tid ≡ row.old.tid }
 {
     row.body.poll(env, &row.answer, call)
@@ -228,7 +230,9 @@ fn poll_in<'s, B: Polled<'s>>(
     call: &mut Call<'s>,
 ) -> Result<(), NoMemory>
     requires { i < length rows.old.items }
-    ensures polls { OnOk result ((row : Row B) → slice_get rows.old.items i ≡ Some row → Polls B.next row env.old call.new i rows.old.items rows.new.items env.new) }
+    ensures polls { OnOk result
+        ((row : Row B) → slice_get rows.old.items i ≡ Some row →
+        Polls B.next row env.old call.new i rows.old.items rows.new.items env.new) }
     ensures rising { AreRising rows.old.items → AreRising rows.new.items }
 {
     let row = &mut rows[i];
@@ -324,7 +328,9 @@ impl<'s, B> RowList<'s, B> {
     where
         B: Polled<'s>,
         requires { i < length self.old }
-        ensures { OnOk result ((row : Row B) → slice_get self.old i ≡ Some row → Polls B.next row env.old call.new i self.old self.new env.new) }
+        ensures { OnOk result
+            ((row : Row B) → slice_get self.old i ≡ Some row →
+            Polls B.next row env.old call.new i self.old self.new env.new) }
     {
         self.last = i;
         poll_in(&mut self.rows, i, env, call)
@@ -335,7 +341,8 @@ impl<'s, B> RowList<'s, B> {
     pub fn open<P: Program<B>>(&mut self, program: &P, proc: u32, tid: Tid) -> Result<(), NoMemory>
     where
         B: Body,
-        ensures { OnOk result (self.new ≡ self.old ++ row_opened tid (slice_get (P.bodies program.now) proc)) }
+        ensures { OnOk result
+            (self.new ≡ self.old ++ row_opened tid (slice_get (P.bodies program.now) proc)) }
     {
         if proc < program.procs() {
             let body = program.body_of(proc)?;

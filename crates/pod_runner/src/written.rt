@@ -17,7 +17,8 @@ pub(crate) fn set_lines(
     took: Option<&Line>,
     names: &TextList,
 ) -> Result<(), NoMemory>
-    ensures { OnOk result (out.new.items ≡ step_lines names.now (option_copied took.entry) effects.now) }
+    ensures { OnOk result
+        (out.new.items ≡ step_lines names.now (option_copied took.entry) effects.now) }
 {
     out.clear();
     add_step_lines(out, effects, took, names)
@@ -33,7 +34,8 @@ fn set_call_lines(
     effects: &Effects,
     names: &TextList,
 ) -> Result<(), NoMemory>
-    ensures { OnOk result (out.new.items ≡ step_lines names.now None (Effect.Called tid call.now ∷ effects.now)) }
+    ensures { OnOk result
+        (out.new.items ≡ step_lines names.now None (Effect.Called tid call.now ∷ effects.now)) }
 {
     out.clear();
     add_call_line(out, tid, call, names)?;
@@ -51,7 +53,8 @@ pub(crate) fn set_turn_lines(
     effects: &Effects,
     names: &TextList,
 ) -> Result<(), NoMemory>
-    ensures { OnOk result (out.new.items ≡ step_lines names.now None (lead trap tid call.now ++ effects.now)) }
+    ensures { OnOk result
+        (out.new.items ≡ step_lines names.now None (lead trap tid call.now ++ effects.now)) }
 {
     match trap {
         None => set_call_lines(out, tid, call, effects, names),
@@ -66,7 +69,8 @@ pub fn lines_of(
     took: Option<&Line>,
     names: &TextList,
 ) -> Result<Vec<u8>, NoMemory>
-    ensures { IfOk result (λ out. out.items ≡ step_lines names.now (option_copied took.entry) effects.now) }
+    ensures { IfOk result
+        (λ out. out.items ≡ step_lines names.now (option_copied took.entry) effects.now) }
 {
     let mut out = Vec::new(alloc);
     set_lines(&mut out, effects, took, names)?;

@@ -180,7 +180,9 @@ fn is_own(cells: &Vec<Option<Place>>, number: u64) -> bool
 // The cell of a number has this entry, or none, from now on.
 fn set_cell(cells: &mut Vec<Option<Place>>, number: u64, entry: Option<Place>)
     requires { length cells.old.items ≡ 4096 }
-    ensures items { (i : ℕ) → slice_index_or cells.new.items i None ≡ (if i == number % 4096 then entry else slice_index_or cells.old.items i None) }
+    ensures items { (i : ℕ) →
+        slice_index_or cells.new.items i None
+        ≡ (if i == number % 4096 then entry else slice_index_or cells.old.items i None) }
     ensures len { length cells.new.items ≡ length cells.old.items }
 {
     cells[number as usize % CELLS] = entry;

@@ -11,7 +11,8 @@ ghost use Rattle.pod_sched.specs.Schedule.{Schedule};
 
 /// What is asked of a thread is answered as the machine does.
 pub fn every_answer()
-    ensures { (dying : Option ℕ) (v : Schedule) (s : State) → Shows dying v s → (t : ℕ) → IsNotDying dying t → AnswersAlike v s t }
+    ensures { (dying : Option ℕ) (v : Schedule) (s : State) → Shows dying v s → (t : ℕ) →
+        IsNotDying dying t → AnswersAlike v s t }
 {}
 
 /// The machine's choice is the scheduler's, and so are yields and turns.

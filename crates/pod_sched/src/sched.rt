@@ -110,7 +110,8 @@ impl Sched {
 
     /// The first timer whose tick has come goes; the answer is whose it was. Called until None, it leaves none that is due.
     pub fn pop_due(&mut self) -> Option<Tid>
-        ensures value { result ≡ option_map (λ row. row.tid) (first_due self.old.timers self.old.now) }
+        ensures value { result
+            ≡ option_map (λ row. row.tid) (first_due self.old.timers self.old.now) }
         ensures after { self.new ≡ popped self.old }
     {
         self.timers.pop()

@@ -18,7 +18,7 @@ use Rattle.pod_runner.specs.Session as Sessions
 use Rattle.pod_runner.specs.Session.{Live, Session, Setting, move, move_by, move_row, row_of, taken}
 use Rattle.pod_runner.specs.declared.session.Row.{Row}
 use Rattle.replay.proofs.Moves.{IsAt-moved, reached}
-use Rattle.replay.specs.Walk.{Due, DueAll, IsAt, Moment, Move, gone, moved, opened, session_of, ticks_after, took_at}
+use Rattle.replay.specs.Walk.{Due, DueAll, IsAt, Moment, Move, first_moment, gone, moved, session_of, ticks_after, took_at}
 use Rattle.session_laws.proofs.Numbering.{deliveries_tick, steps_keep_clock}
 use Rattle.std.proofs.Common.{Bool, List, None, Some, [], ap, cond, false, refl, subst, suc, sym, true, zero, ℕ, ◌+◌, ◌<◌, ◌∙◌, ◌∷◌, ◌≡◌}
 use Rattle.std.specs.Prelude.{IsTrue, Option, nat_lt, not, slice_set, ◌&&◌, ◌==◌, ◌||◌}
@@ -185,7 +185,7 @@ module _ {B : Type 0} (setting : Setting B) where
   clock-free p made =
       let way = reached setting p made in
       ap (λ q. is_trapped (session_of setting q).live.pod.trapped 0) (sym way.comes)
-      ∙ free_moves way.moves opened (IsDefined-zero setting) way.due (ap (λ (s : Session B). is_trapped s.live.pod.trapped 0) (play-zero setting))
+      ∙ free_moves way.moves first_moment (IsDefined-zero setting) way.due (ap (λ (s : Session B). is_trapped s.live.pod.trapped 0) (play-zero setting))
 
   pub take-clock : (p : Moment) (t : ℕ × Line) → IsAt setting p → Due setting p (Some t) → (session_of setting (moved p (Some t))).live.pod.state.now ≡ ticks_after t.0 (session_of setting p).live.pod.state.now
   unfolding taken

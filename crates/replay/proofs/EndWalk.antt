@@ -21,7 +21,7 @@ use Rattle.replay.specs.Recorded.{Agree, is_ended, line_count, next_line}
 use Rattle.replay.specs.Replayed.{Says}
 use Rattle.replay.specs.Says.{DiffersBy, EndSays}
 use Rattle.replay.specs.Verdict.{IsSame, call_lines, first_given, lowest_take, next_lines, next_of, or_else, take_by, take_lines, take_of, tells_take}
-use Rattle.replay.specs.Walk.{ClientsLeft, Due, Going, IsFit, IsNext, Moment, Speaks, moment, move_lines, session_of, told}
+use Rattle.replay.specs.Walk.{ClientsLeft, Due, Going, IsFit, IsNext, Moment, Speaks, moment, move_lines, session_of, told_until}
 use Rattle.replay.specs.declared.verdict.Verdict.{Verdict}
 use Rattle.trace_text.specs.Lines.{end_text}
 use Rattle.trace_text.specs.declared.ends.Halt.{Halt}
@@ -211,7 +211,7 @@ module _ {B : Type 0} (asked : Asked B) (bytes : List ℕ) (fit : IsFit asked) (
       by_verdict : (v : Verdict) → EndSays (end_text asked.turns (counts_in lines) h) rest n v → Says asked bytes v p.takes p.calls
       by_verdict (verdict.Same l) says =
           let whole = same-end asked bytes fit speaks p lines at n ticks here h halted (end_text asked.turns (counts_in lines) h) (ap (λ cs. end_text asked.turns cs h) counts) says.0 in
-          let count : line_count bytes ≡ l = omega (arith, says.1, here.stands.count, ap line_count here.stands.begins, count-append (told asked.setting asked.procs p) rest, ap line_count says.0) in
+          let count : line_count bytes ≡ l = omega (arith, says.1, here.stands.count, ap line_count here.stands.begins, count-append (told_until asked.setting asked.procs p) rest, ap line_count says.0) in
           subst (λ k. IsSame asked bytes k p.takes p.calls) count whole
       by_verdict (verdict.Differs line want got ended) says =
           let text = end_text asked.turns (counts_in lines) h in

@@ -12,7 +12,7 @@ use Rattle.replay.proofs.Moves.{IsAt-moved, lines_on, told-gone, told-moved}
 use Rattle.replay.specs.Asked.{Asked, IsReached, Reach, end_by, halt_at, text_at, told_at}
 use Rattle.replay.specs.Recorded.{Agree, behind_lines, closes, first_lines, is_ended, line_count, next_line}
 use Rattle.replay.specs.Verdict.{IsBegun, IsFollowed, IsMost, IsOther, next_lines, or_else, want_at, want_between}
-use Rattle.replay.specs.Walk.{Due, DueAll, Forced, IsAt, IsFit, IsLast, IsNext, Moment, Move, Reaches, Speaks, Stands, gone, moment, move_lines, moved, session_of, told, took_at}
+use Rattle.replay.specs.Walk.{Due, DueAll, Forced, IsAt, IsFit, IsLast, IsNext, Moment, Move, Reaches, Speaks, Stands, gone, moment, move_lines, moved, session_of, told_until, took_at}
 use Rattle.trace_text.specs.declared.ends.Halt.{Halt}
 use Rattle.std.specs.Prelude.{Option}
 use Rattle.std.proofs.Common.{List, None, Some, [], ap, append_assoc, append-nil, arith, inl, inr, length, length-append, refl, subst, sym, take, true, ℕ, ◌++◌, ◌+◌, ◌<◌, ◌∙◌, ◌∷◌, ◌≡◌, ◌≤◌, ◌⊎◌}
@@ -31,7 +31,7 @@ steps-moved {B} asked p None made = (_, ap (λ (s : Session B). s.steps) (play-c
 steps-moved {B} asked p (Some t) made = (_, ap (λ (s : Session B). s.steps) (play-take asked.setting (took_at p t) p.takes p.calls refl))
 
 -- its first line is among those told
-pub last-moved : {B : Type 0} (asked : Asked B) (p : Moment) (m : Move) → IsAt asked.setting p → (n : ℕ) → line_count (told asked.setting asked.procs p) < n → IsLast asked (moved p m) n
+pub last-moved : {B : Type 0} (asked : Asked B) (p : Moment) (m : Move) → IsAt asked.setting p → (n : ℕ) → line_count (told_until asked.setting asked.procs p) < n → IsLast asked (moved p m) n
 last-moved asked p m made n low =
     let w = steps-moved asked p m made in
     inr (omega (arith, low, ap (λ l. line_count (lines asked.procs (but_last l))) w.1, ap (λ l. line_count (lines asked.procs l)) (but-last-push (session_of asked.setting p).steps w.0)))
@@ -41,7 +41,7 @@ module _ {B : Type 0} (asked : Asked B) (bytes : List ℕ) (fit : IsFit asked) (
   end_of at = end_by asked at (halt_at asked at)
 
   abbrev said : Moment → List ℕ
-  said p = told asked.setting asked.procs p
+  said p = told_until asked.setting asked.procs p
 
   -- no session goes on with one line more
   abbrev pub NoMore : ℕ → Type 0

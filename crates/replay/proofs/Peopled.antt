@@ -31,7 +31,7 @@ use Rattle.replay.proofs.Clock.{live-call, live-take}
 use Rattle.replay.proofs.Moves.{IsAt-moved, reached}
 use Rattle.replay.proofs.StepLines.{FirstSpoken, event-first}
 use Rattle.replay.specs.Asked.{Asked}
-use Rattle.replay.specs.Walk.{DueAll, IsAt, IsPeopled, Moment, Move, Speaks, gone, moved, opened, session_of, took_at}
+use Rattle.replay.specs.Walk.{DueAll, IsAt, IsPeopled, Moment, Move, Speaks, first_moment, gone, moved, session_of, took_at}
 use Rattle.session_laws.proofs.Numbering.{deliveries_bear_none, deliveries_keep_procs, steps_bear_none, steps_keep_procs}
 use Rattle.session_laws.proofs.Pods.{call_moved, take_moved}
 use Rattle.session_laws.specs.Numbers.{bears}
@@ -468,7 +468,7 @@ module _ {B : Type 0} (setting : Setting B) where
     peopled p made =
         let way = reached setting p made in
         subst (λ q. Peopled bodies (session_of setting q).live) way.comes
-        (peopled_moves way.moves opened (IsDefined-zero setting) way.due (subst (λ (s : Session B). Peopled bodies s.live) (sym (play-zero setting)) peopled_opened))
+        (peopled_moves way.moves first_moment (IsDefined-zero setting) way.due (subst (λ (s : Session B). Peopled bodies s.live) (sym (play-zero setting)) peopled_opened))
 
 -- whoever is chosen has a body, and speaks
 pub speaks : {B : Type 0} (asked : Asked B) → IsPeopled asked.setting → Speaks asked

@@ -1,7 +1,7 @@
 -- How the lines of a step begin, and those of an end.
 use Rattle.lwp_types.specs.Agents.{armed, deliver, deliver_to, event_agents, is_for, message}
 use Rattle.lwp_types.specs.Choice.{choice}
-use Rattle.lwp_types.specs.Letters.{post, with_holding}
+use Rattle.lwp_types.specs.Messages.{post, with_holding}
 use Rattle.lwp_types.specs.Names.{null_id}
 use Rattle.lwp_types.specs.State.{State, and_then, for_each, is_empty, passes}
 use Rattle.lwp_types.specs.Step.{case_of, end_effects, own_effects, step, step_by, step_if}

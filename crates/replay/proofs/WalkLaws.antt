@@ -24,7 +24,7 @@ use Rattle.replay.specs.Recorded.{Agree, IsCommon, closes, is_ended, is_newline,
 use Rattle.replay.specs.Replayed.{Says}
 use Rattle.replay.specs.Says.{ComparedBy, DiffersBy, IsDifference}
 use Rattle.replay.specs.Verdict.{IsOther, call_lines, first_given, lowest_take, next_lines, take_by, take_of, tells_take}
-use Rattle.replay.specs.Walk.{AreLeft, ClientsLeft, Due, Forced, Going, IsFit, IsNext, Moment, Move, Speaks, moment, move_effects, move_lines, moved, session_of, ticks_after, told}
+use Rattle.replay.specs.Walk.{AreLeft, ClientsLeft, Due, Forced, Going, IsFit, IsNext, Moment, Move, Speaks, moment, move_effects, move_lines, moved, session_of, ticks_after, told_until}
 use Rattle.replay.specs.declared.stepping.Difference.{Difference}
 use Rattle.replay.specs.declared.verdict.Verdict.{Verdict}
 use Rattle.std.specs.List.{range_with_len}
@@ -109,13 +109,13 @@ module _ {B : Type 0} (asked : Asked B) (fit : IsFit asked) (speaks : Speaks ask
   lines_of m = move_lines asked.setting asked.procs p m
 
   abbrev Wrote : Move → Type 0
-  Wrote m = Writes (Some (told_in f0)) (Some (told_in f1)) (told asked.setting asked.procs p) (told asked.setting asked.procs (moved p m))
+  Wrote m = Writes (Some (told_in f0)) (Some (told_in f1)) (told_until asked.setting asked.procs p) (told_until asked.setting asked.procs (moved p m))
 
-  keeps : (m : Move) → Wrote m → Kept f0 f1 (told asked.setting asked.procs (moved p m))
-  keeps m wrote = kept f0 f1 (told asked.setting asked.procs p) (told asked.setting asked.procs (moved p m)) clean here.said wrote
+  keeps : (m : Move) → Wrote m → Kept f0 f1 (told_until asked.setting asked.procs (moved p m))
+  keeps m wrote = kept f0 f1 (told_until asked.setting asked.procs p) (told_until asked.setting asked.procs (moved p m)) clean here.said wrote
 
   step-is : (m : Move) → Wrote m → f1.step ≡ lines_of m
-  step-is m wrote = cut (told asked.setting asked.procs p) f1.step (lines_of m)
+  step-is m wrote = cut (told_until asked.setting asked.procs p) f1.step (lines_of m)
       (ap (λ l. l ++ f1.step) (sym here.said) ∙ (keeps m wrote).told ∙ told-moved asked.setting asked.procs p m here.stands.made)
 
   front-is : (m : Move) → Wrote m → take (length f1.step) (drop f1.at f1.recorded) ≡ f1.step → take (length f1.step) rest ≡ f1.step

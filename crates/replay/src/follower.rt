@@ -38,7 +38,8 @@ impl<'b> Model for Follower<'b> {
 impl<'b> Follower<'b> {
     /// Before the first line.
     pub fn new(alloc: Global, recorded: &'b [u8]) -> Follower<'b>
-        ensures { result ≡ record { recorded = recorded.now; at = 0; lines = 0; ticks = 0; step = []; faults = 0 } }
+        ensures { result
+            ≡ record { recorded = recorded.now; at = 0; lines = 0; ticks = 0; step = []; faults = 0 } }
     {
         Follower {
             recorded,
@@ -100,7 +101,8 @@ impl<'b> Follower<'b> {
 
     /// If the lines of the step were recorded, they are told.
     pub fn pass(&mut self) -> bool
-        ensures { MatchBool result (ComparedBy self.old self.new None) (Departs (drop self.old.at self.old.recorded) self.old.step × (self.new ≡ self.old)) }
+        ensures { MatchBool result (ComparedBy self.old self.new None)
+            (Departs (drop self.old.at self.old.recorded) self.old.step × (self.new ≡ self.old)) }
     {
         if !self.unlike.is_empty() {
             return false;
@@ -122,7 +124,8 @@ impl<'b> Sink for Follower<'b> {
     fn write(&mut self, bytes: &[u8]) -> Result<usize, Failed>
         ensures bound { IfOk result (λ n. n ≤ length bytes.now) }
         ensures some { IfOk result (λ n. 0 < length bytes.now → 0 < n) }
-        ensures ok { IfOk result (λ n. Some (told_in self.new) ≡ appended (Some (told_in self.old)) (take n bytes.now)) }
+        ensures ok { IfOk result
+            (λ n. Some (told_in self.new) ≡ appended (Some (told_in self.old)) (take n bytes.now)) }
         ensures err { OnErr result (Some (told_in self.new) ≡ Some (told_in self.old)) }
         ensures cause { HasCause self.old.faults self.new.faults result }
         // It only makes the step longer.

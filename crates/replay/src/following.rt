@@ -30,10 +30,18 @@ fn take_step<'s, B: Polled<'s>, P: Program<B>, C: Posted<'s>>(
 ) -> Result<Option<Outcome>, NoMemory>
     requires sound { run.old.failed ≡ false }
     requires clean { follower.old.step ≡ [] }
-    requires told { IsTold (C.lines lines.old) (session_of B.next P.bodies run.old).live.pod (drop follower.old.at follower.old.recorded) told.client told.line }
-    ensures says { IfOk result (λ out. (clients : List ℕ) (posts : List OneLine) → IsFit (asked_of B.next P.bodies P.proc_names run.old clients posts) → Speaks (asked_of B.next P.bodies P.proc_names run.old clients posts)
-        → Going (asked_of B.next P.bodies P.proc_names run.old clients posts) follower.old.recorded (moment_of run.old) (C.lines lines.old) follower.old.at follower.old.lines follower.old.ticks
-        → StepSays (asked_of B.next P.bodies P.proc_names run.old clients posts) follower.old run.new (C.lines lines.new) follower.new out) }
+    requires told { IsTold (C.lines lines.old) (session_of B.next P.bodies run.old).live.pod
+        (drop follower.old.at follower.old.recorded) told.client told.line }
+    ensures says { IfOk result
+        (λ out.
+        (clients : List ℕ) (posts : List OneLine) →
+        IsFit (asked_of B.next P.bodies P.proc_names run.old clients posts) →
+        Speaks (asked_of B.next P.bodies P.proc_names run.old clients posts) →
+        Going (asked_of B.next P.bodies P.proc_names run.old clients posts)
+        follower.old.recorded (moment_of run.old) (C.lines lines.old) follower.old.at
+        follower.old.lines follower.old.ticks →
+        StepSays (asked_of B.next P.bodies P.proc_names run.old clients posts) follower.old
+        run.new (C.lines lines.new) follower.new out) }
     ensures same { OnOk result (GoesOn run.old run.new) }
     ensures unfailed { OnOk result (run.new.failed ≡ false) }
     ensures posts { OnOk result (C.posts lines.new ≡ C.posts lines.old) }
@@ -65,11 +73,20 @@ fn call_step<'s, B: Polled<'s>, P: Program<B>>(
     requires sound { run.old.failed ≡ false }
     requires clean { follower.old.step ≡ [] }
     requires turn { phase_now B.next P.bodies run.old ≡ phase.Turn }
-    ensures says { IfOk result (λ out. (clients : List ℕ) (posts : List OneLine) (lines : ClientsLeft) → IsFit (asked_of B.next P.bodies P.proc_names run.old clients posts) → Speaks (asked_of B.next P.bodies P.proc_names run.old clients posts)
-        → Going (asked_of B.next P.bodies P.proc_names run.old clients posts) follower.old.recorded (moment_of run.old) lines follower.old.at follower.old.lines follower.old.ticks
-        → NoneTold lines (session_of B.next P.bodies run.old).live.pod (drop follower.old.at follower.old.recorded) (length lines.clients)
-        → (tells_take (drop follower.old.at follower.old.recorded) ≡ true → lowest_in lines (session_of B.next P.bodies run.old).live.pod ≡ None)
-        → StepSays (asked_of B.next P.bodies P.proc_names run.old clients posts) follower.old run.new lines follower.new out) }
+    ensures says { IfOk result
+        (λ out.
+        (clients : List ℕ) (posts : List OneLine) (lines : ClientsLeft) →
+        IsFit (asked_of B.next P.bodies P.proc_names run.old clients posts) →
+        Speaks (asked_of B.next P.bodies P.proc_names run.old clients posts) →
+        Going (asked_of B.next P.bodies P.proc_names run.old clients posts)
+        follower.old.recorded (moment_of run.old) lines follower.old.at follower.old.lines
+        follower.old.ticks →
+        NoneTold lines (session_of B.next P.bodies run.old).live.pod
+        (drop follower.old.at follower.old.recorded) (length lines.clients) →
+        (tells_take (drop follower.old.at follower.old.recorded) ≡ true →
+        lowest_in lines (session_of B.next P.bodies run.old).live.pod ≡ None) →
+        StepSays (asked_of B.next P.bodies P.proc_names run.old clients posts) follower.old
+        run.new lines follower.new out) }
     ensures same { OnOk result (GoesOn run.old run.new) }
     ensures unfailed { OnOk result (run.new.failed ≡ false) }
 {
@@ -104,10 +121,18 @@ fn over_step<'s, B: Polled<'s>, P: Program<B>, C: Posted<'s>>(
     halt: &Halt,
 ) -> Result<Outcome, NoMemory>
     requires turns { turns ≡ run.now.turns }
-    ensures { IfOk result (λ out. (clients : List ℕ) (posts : List OneLine) → IsFit (asked_of B.next P.bodies P.proc_names run.now clients posts) → Speaks (asked_of B.next P.bodies P.proc_names run.now clients posts)
-        → Going (asked_of B.next P.bodies P.proc_names run.now clients posts) follower.now.recorded (moment_of run.now) (C.lines lines.now) follower.now.at follower.now.lines follower.now.ticks
-        → Goes (C.lines lines.now) (session_of B.next P.bodies run.now).live.pod run.now.turns run.now.calls (drop follower.now.at follower.now.recorded) (next.Over halt.now)
-        → Says (asked_of B.next P.bodies P.proc_names run.now clients posts) follower.now.recorded out.verdict run.now.takes out.calls) }
+    ensures { IfOk result
+        (λ out.
+        (clients : List ℕ) (posts : List OneLine) →
+        IsFit (asked_of B.next P.bodies P.proc_names run.now clients posts) →
+        Speaks (asked_of B.next P.bodies P.proc_names run.now clients posts) →
+        Going (asked_of B.next P.bodies P.proc_names run.now clients posts)
+        follower.now.recorded (moment_of run.now) (C.lines lines.now) follower.now.at
+        follower.now.lines follower.now.ticks →
+        Goes (C.lines lines.now) (session_of B.next P.bodies run.now).live.pod run.now.turns
+        run.now.calls (drop follower.now.at follower.now.recorded) (next.Over halt.now) →
+        Says (asked_of B.next P.bodies P.proc_names run.now clients posts) follower.now.recorded
+        out.verdict run.now.takes out.calls) }
 {
     let counts = lines.counts(alloc)?;
     let verdict = compare_end(
@@ -132,10 +157,18 @@ fn missing_step<'s, B: Polled<'s>, P: Program<B>, C: Posted<'s>>(
     follower: &Follower<'_>,
     line: Vec<u8>,
 ) -> Result<Outcome, NoMemory>
-    ensures { IfOk result (λ out. (clients : List ℕ) (posts : List OneLine) → IsFit (asked_of B.next P.bodies P.proc_names run.now clients posts) → Speaks (asked_of B.next P.bodies P.proc_names run.now clients posts)
-        → Going (asked_of B.next P.bodies P.proc_names run.now clients posts) follower.now.recorded (moment_of run.now) (C.lines lines.now) follower.now.at follower.now.lines follower.now.ticks
-        → Goes (C.lines lines.now) (session_of B.next P.bodies run.now).live.pod run.now.turns run.now.calls (drop follower.now.at follower.now.recorded) (next.Missing line)
-        → Says (asked_of B.next P.bodies P.proc_names run.now clients posts) follower.now.recorded out.verdict run.now.takes out.calls) }
+    ensures { IfOk result
+        (λ out.
+        (clients : List ℕ) (posts : List OneLine) →
+        IsFit (asked_of B.next P.bodies P.proc_names run.now clients posts) →
+        Speaks (asked_of B.next P.bodies P.proc_names run.now clients posts) →
+        Going (asked_of B.next P.bodies P.proc_names run.now clients posts)
+        follower.now.recorded (moment_of run.now) (C.lines lines.now) follower.now.at
+        follower.now.lines follower.now.ticks →
+        Goes (C.lines lines.now) (session_of B.next P.bodies run.now).live.pod run.now.turns
+        run.now.calls (drop follower.now.at follower.now.recorded) (next.Missing line) →
+        Says (asked_of B.next P.bodies P.proc_names run.now clients posts) follower.now.recorded
+        out.verdict run.now.takes out.calls) }
 {
     let verdict = differs(alloc, follower.lines(), &line, follower.rest())?;
     Ok(Outcome {
@@ -155,10 +188,23 @@ fn one_step<'s, B: Polled<'s>, P: Program<B>, C: Posted<'s>>(
     requires sound { run.old.failed ≡ false }
     requires clean { follower.old.step ≡ [] }
     requires turns { turns ≡ run.old.turns }
-    requires fit { IsFit (asked_of B.next P.bodies P.proc_names run.old (C.lines lines.old).clients (C.posts lines.old)) }
-    requires speaks { Speaks (asked_of B.next P.bodies P.proc_names run.old (C.lines lines.old).clients (C.posts lines.old)) }
-    requires going { Going (asked_of B.next P.bodies P.proc_names run.old (C.lines lines.old).clients (C.posts lines.old)) follower.old.recorded (moment_of run.old) (C.lines lines.old) follower.old.at follower.old.lines follower.old.ticks }
-    ensures says { IfOk result (λ out. StepSays (asked_of B.next P.bodies P.proc_names run.old (C.lines lines.old).clients (C.posts lines.old)) follower.old run.new (C.lines lines.new) follower.new out) }
+    requires fit { IsFit
+        (asked_of B.next P.bodies P.proc_names run.old (C.lines lines.old).clients
+        (C.posts lines.old)) }
+    requires speaks { Speaks
+        (asked_of B.next P.bodies P.proc_names run.old (C.lines lines.old).clients
+        (C.posts lines.old)) }
+    requires going { Going
+        (asked_of B.next P.bodies P.proc_names run.old (C.lines lines.old).clients
+        (C.posts lines.old))
+        follower.old.recorded (moment_of run.old) (C.lines lines.old) follower.old.at
+        follower.old.lines follower.old.ticks }
+    ensures says { IfOk result
+        (λ out.
+        StepSays
+        (asked_of B.next P.bodies P.proc_names run.old (C.lines lines.old).clients
+        (C.posts lines.old))
+        follower.old run.new (C.lines lines.new) follower.new out) }
     ensures same { OnOk result (GoesOn run.old run.new) }
     ensures unfailed { OnOk result (run.new.failed ≡ false) }
     ensures posts { OnOk result (C.posts lines.new ≡ C.posts lines.old) }
@@ -189,10 +235,23 @@ pub fn follow<'s, B: Polled<'s>, P: Program<B>, C: Posted<'s>>(
     requires sound { run.old.failed ≡ false }
     requires clean { follower.old.step ≡ [] }
     requires turns { turns ≡ run.old.turns }
-    requires fit { IsFit (asked_of B.next P.bodies P.proc_names run.old (C.lines lines.old).clients (C.posts lines.old)) }
-    requires speaks { Speaks (asked_of B.next P.bodies P.proc_names run.old (C.lines lines.old).clients (C.posts lines.old)) }
-    requires going { Going (asked_of B.next P.bodies P.proc_names run.old (C.lines lines.old).clients (C.posts lines.old)) follower.old.recorded (moment_of run.old) (C.lines lines.old) follower.old.at follower.old.lines follower.old.ticks }
-    ensures { IfOk result (λ out. Says (asked_of B.next P.bodies P.proc_names run.old (C.lines lines.old).clients (C.posts lines.old)) follower.old.recorded out.verdict run.new.takes out.calls) }
+    requires fit { IsFit
+        (asked_of B.next P.bodies P.proc_names run.old (C.lines lines.old).clients
+        (C.posts lines.old)) }
+    requires speaks { Speaks
+        (asked_of B.next P.bodies P.proc_names run.old (C.lines lines.old).clients
+        (C.posts lines.old)) }
+    requires going { Going
+        (asked_of B.next P.bodies P.proc_names run.old (C.lines lines.old).clients
+        (C.posts lines.old))
+        follower.old.recorded (moment_of run.old) (C.lines lines.old) follower.old.at
+        follower.old.lines follower.old.ticks }
+    ensures { IfOk result
+        (λ out.
+        Says
+        (asked_of B.next P.bodies P.proc_names run.old (C.lines lines.old).clients
+        (C.posts lines.old))
+        follower.old.recorded out.verdict run.new.takes out.calls) }
 {
     loop {
         if let Some(outcome) = one_step(alloc, turns, run, lines, follower)? {

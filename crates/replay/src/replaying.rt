@@ -44,7 +44,10 @@ fn told_of<'s, B: Polled<'s>, P: Program<B>, C: Posted<'s>>(
     requires clock { (session_of B.next P.bodies run.now).live.pod.state.now ≡ ticks }
     requires small { ticks ≤ 4294967295 }
     requires within { client < length (C.lines lines.now).clients }
-    ensures { IfOk result (λ told. ToldOf (C.lines lines.now) (session_of B.next P.bodies run.now).live.pod rest.now client told) }
+    ensures { IfOk result
+        (λ told.
+        ToldOf (C.lines lines.now) (session_of B.next P.bodies run.now).live.pod rest.now client
+        told) }
 {
     let Some(line) = lines.next(client) else {
         return Ok(None);
@@ -69,7 +72,9 @@ fn told_take<'s, B: Polled<'s>, P: Program<B>, C: Posted<'s>>(
     requires sound { run.now.failed ≡ false }
     requires clock { (session_of B.next P.bodies run.now).live.pod.state.now ≡ ticks }
     requires small { ticks ≤ 4294967295 }
-    ensures { IfOk result (λ told. ToldBy (C.lines lines.now) (session_of B.next P.bodies run.now).live.pod rest.now told) }
+    ensures { IfOk result
+        (λ told.
+        ToldBy (C.lines lines.now) (session_of B.next P.bodies run.now).live.pod rest.now told) }
 {
     let named = named_client(rest);
     if named < lines.clients() {
@@ -98,7 +103,8 @@ fn take_of<'s, C: Posted<'s>>(
 ) -> Result<Option<Vec<u8>>, NoMemory>
     requires within { client < length (C.lines lines.now).clients }
     requires small { ticks ≤ 4294967295 }
-    ensures { IfOk result (λ line. option_map (λ v. v.items) line ≡ take_in (C.lines lines.now) ticks event client) }
+    ensures { IfOk result
+        (λ line. option_map (λ v. v.items) line ≡ take_in (C.lines lines.now) ticks event client) }
 {
     if lines.event(client) != event {
         return Ok(None);
@@ -117,7 +123,11 @@ fn lowest_of<'s, C: Posted<'s>>(
     event: u8,
 ) -> Result<Option<Vec<u8>>, NoMemory>
     requires { ticks ≤ 4294967295 }
-    ensures { IfOk result (λ line. option_map (λ v. v.items) line ≡ first_given (take_in (C.lines lines.now) ticks event) (range_with_len 0 (length (C.lines lines.now).clients))) }
+    ensures { IfOk result
+        (λ line.
+        option_map (λ v. v.items) line
+        ≡ first_given (take_in (C.lines lines.now) ticks event)
+        (range_with_len 0 (length (C.lines lines.now).clients))) }
 {
     for client in 0..lines.clients() {
         if let Some(line) = take_of(alloc, ticks, lines, event, client)? {
@@ -138,7 +148,10 @@ fn lowest_at<'s, B: Polled<'s>, P: Program<B>, C: Posted<'s>>(
     requires sound { run.now.failed ≡ false }
     requires clock { (session_of B.next P.bodies run.now).live.pod.state.now ≡ ticks }
     requires small { ticks ≤ 4294967295 }
-    ensures { IfOk result (λ line. option_map (λ v. v.items) line ≡ take_at (C.lines lines.now) (session_of B.next P.bodies run.now).live.pod event) }
+    ensures { IfOk result
+        (λ line.
+        option_map (λ v. v.items) line
+        ≡ take_at (C.lines lines.now) (session_of B.next P.bodies run.now).live.pod event) }
 {
     if run.wants(event) {
         lowest_of(alloc, ticks, lines, event)
@@ -158,7 +171,10 @@ fn lowest_take<'s, B: Polled<'s>, P: Program<B>, C: Posted<'s>>(
     requires sound { run.now.failed ≡ false }
     requires clock { (session_of B.next P.bodies run.now).live.pod.state.now ≡ ticks }
     requires small { ticks ≤ 4294967295 }
-    ensures { IfOk result (λ line. option_map (λ v. v.items) line ≡ lowest_in (C.lines lines.now) (session_of B.next P.bodies run.now).live.pod) }
+    ensures { IfOk result
+        (λ line.
+        option_map (λ v. v.items) line
+        ≡ lowest_in (C.lines lines.now) (session_of B.next P.bodies run.now).live.pod) }
 {
     for event in 0..32u8 {
         if let Some(line) = lowest_at(alloc, ticks, run, lines, event)? {
@@ -179,8 +195,12 @@ fn without_take<'s, B: Polled<'s>, P: Program<B>, C: Posted<'s>>(
     requires sound { run.now.failed ≡ false }
     requires clock { (session_of B.next P.bodies run.now).live.pod.state.now ≡ ticks }
     requires small { ticks ≤ 4294967295 }
-    requires none { NoneTold (C.lines lines.now) (session_of B.next P.bodies run.now).live.pod rest.now (length (C.lines lines.now).clients) }
-    ensures { IfOk result (λ next. Goes (C.lines lines.now) (session_of B.next P.bodies run.now).live.pod run.now.turns run.now.calls rest.now next) }
+    requires none { NoneTold (C.lines lines.now) (session_of B.next P.bodies run.now).live.pod
+        rest.now (length (C.lines lines.now).clients) }
+    ensures { IfOk result
+        (λ next.
+        Goes (C.lines lines.now) (session_of B.next P.bodies run.now).live.pod run.now.turns
+        run.now.calls rest.now next) }
 {
     match run.phase() {
         Phase::Ended(status) => Ok(Next::Over(Halt::Ended(status))),
@@ -212,7 +232,10 @@ pub(crate) fn next_step<'s, B: Polled<'s>, P: Program<B>, C: Posted<'s>>(
     requires sound { run.now.failed ≡ false }
     requires clock { (session_of B.next P.bodies run.now).live.pod.state.now ≡ ticks }
     requires small { ticks ≤ 4294967295 }
-    ensures { IfOk result (λ next. Goes (C.lines lines.now) (session_of B.next P.bodies run.now).live.pod run.now.turns run.now.calls rest.now next) }
+    ensures { IfOk result
+        (λ next.
+        Goes (C.lines lines.now) (session_of B.next P.bodies run.now).live.pod run.now.turns
+        run.now.calls rest.now next) }
 {
     if tells_take(rest) {
         if let Some(told) = told_take(alloc, ticks, run, lines, rest)? {

@@ -78,7 +78,8 @@ pub(crate) fn tells_of(
     line: &Line,
 ) -> Result<bool, NoMemory>
     requires { ticks ≤ 4294967295 }
-    ensures { IfOk result (λ told. told ≡ true ↔ Agree 1 rest.now (ended_line (take_text ticks event line.now))) }
+    ensures { IfOk result
+        (λ told. told ≡ true ↔ Agree 1 rest.now (ended_line (take_text ticks event line.now))) }
 {
     let wanted = take_line(alloc, ticks, event, line)?;
     Ok(begins_with(rest, &wanted) || common_lines(&wanted, rest).lines != 0)

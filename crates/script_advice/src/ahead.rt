@@ -105,7 +105,8 @@ fn note_line(
     line: &[u8],
 ) -> Result<(), NoMemory>
     ensures ahead { OnOk result (ahead.new ≡ ahead_told (phrase_at line.now) ahead.old) }
-    ensures kept { OnOk result (kept.new.items ≡ kept.old.items ++ keeps ahead.old (phrase_at line.now) ∷ []) }
+    ensures kept { OnOk result
+        (kept.new.items ≡ kept.old.items ++ keeps ahead.old (phrase_at line.now) ∷ []) }
 {
     let Some(phrase) = phrase_at(line) else {
         kept.push(false)?;

@@ -4,7 +4,7 @@ ghost use Rattle.script_lines.specs.Reading.{phrase_at};
 ghost use Rattle.script_text.specs.Spelling.{cut};
 ghost use Rattle.script_advice.specs.Doubts.{are_some, doubt_if, doubt_of, doubt_remark, doubted_words, doubts, doubts_told, is_unset, name_doubt, near_set, or_words, role_doubt, way_told};
 ghost use Rattle.script_advice.specs.Remarks.{Remark, some_names, word_or_none};
-ghost use Rattle.line_faults.specs.Near.{nearest};
+ghost use Rattle.script_line_faults.specs.Near.{nearest};
 ghost use Rattle.script_advice.specs.Texts.{remark_text, remarks_text};
 
 use crate::ahead::keeping;
@@ -14,8 +14,8 @@ use crate::remarks::{Cause, Doubt, Place, Remark, Why};
 use crate::sets::{Sets, condition_used, monitor_used, priority_used, thread_used};
 use crate::texts::{Format, add_remark};
 use crate::way::Way;
-use line_faults::slot_at;
 use lwp_types::NoMemory;
+use script_line_faults::slot_at;
 use script_lines::{Kind, Op, Phrase, Role, phrase_at};
 use script_text::NameList;
 use std::alloc::Global;
@@ -142,7 +142,10 @@ fn add_doubt(
     phrase: &Phrase<'_>,
     doubt: Doubt,
 ) -> Result<(), NoMemory>
-    ensures { OnOk result (out.new.items ≡ out.old.items ++ remark_text format (doubt_remark sets.now number line.now phrase.now doubt)) }
+    ensures { OnOk result
+        (out.new.items
+        ≡ out.old.items
+        ++ remark_text format (doubt_remark sets.now number line.now phrase.now doubt)) }
 {
     let remark = Remark {
         line: number,
@@ -177,8 +180,13 @@ fn add_counted(
     phrase: &Phrase<'_>,
     doubt: Doubt,
 ) -> Result<u32, NoMemory>
-    ensures { IfOk result (λ after. (others : List Remark) →
-        out.old.items ++ remarks_text format (take walk.left (doubt_remark sets.now walk.number line.now phrase.now doubt ∷ others))
+    ensures { IfOk result
+        (λ after.
+        (others : List Remark) →
+        out.old.items
+        ++ remarks_text format
+        (take walk.left
+        (doubt_remark sets.now walk.number line.now phrase.now doubt ∷ others))
         ≡ out.new.items ++ remarks_text format (take after others)) }
 {
     if walk.left == 0 {
@@ -197,11 +205,22 @@ fn add_line(
     keeps: bool,
     line: &[u8],
 ) -> Result<Walk, NoMemory>
-    ensures told { IfOk result (λ w. (others : List Remark) →
-        out.old.items ++ remarks_text format (take walk.left (doubts_told sets.now walk.way keeps walk.number line.now (phrase_at line.now) others))
+    ensures told { IfOk result
+        (λ w.
+        (others : List Remark) →
+        out.old.items
+        ++ remarks_text format
+        (take walk.left
+        (doubts_told sets.now walk.way keeps walk.number line.now
+        (phrase_at line.now) others))
         ≡ out.new.items ++ remarks_text format (take w.left others)) }
-    ensures any { IfOk result (λ w. (others : List Remark) →
-        (walk.any || are_some (doubts_told sets.now walk.way keeps walk.number line.now (phrase_at line.now) others)) ≡ (w.any || are_some others)) }
+    ensures any { IfOk result
+        (λ w.
+        (others : List Remark) →
+        (walk.any || are_some
+        (doubts_told sets.now walk.way keeps walk.number line.now
+        (phrase_at line.now) others))
+        ≡ (w.any || are_some others)) }
     ensures way { IfOk result (λ w. w.way ≡ way_told walk.way (phrase_at line.now)) }
     ensures number { IfOk result (λ w. w.number ≡ suc walk.number) }
 {
@@ -237,7 +256,8 @@ fn add_line(
 // Takes the last value.
 fn last_kept(kept: &mut Vec<bool>) -> bool
     ensures last { (before : List Bool) (b : Bool) → kept.old.items ≡ before ++ b ∷ [] → result ≡ b }
-    ensures rest { (before : List Bool) (b : Bool) → kept.old.items ≡ before ++ b ∷ [] → kept.new.items ≡ before }
+    ensures rest { (before : List Bool) (b : Bool) → kept.old.items ≡ before ++ b ∷ [] →
+        kept.new.items ≡ before }
 {
     kept.pop().unwrap_or(false)
 }
@@ -249,7 +269,8 @@ pub fn add_doubts(
     format: Format,
     text: &[u8],
 ) -> Result<bool, NoMemory>
-    ensures told { OnOk result (out.new.items ≡ out.old.items ++ remarks_text format (take 1000 (doubts text.now))) }
+    ensures told { OnOk result
+        (out.new.items ≡ out.old.items ++ remarks_text format (take 1000 (doubts text.now))) }
     ensures any { IfOk result (λ any. any ≡ are_some (doubts text.now)) }
 {
     let sets = Sets::by(alloc, text)?;

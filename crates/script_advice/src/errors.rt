@@ -64,7 +64,9 @@ fn add_error(
     reason: Reason,
     line: &[u8],
 ) -> Result<(), NoMemory>
-    ensures { OnOk result (out.new.items ≡ out.old.items ++ remark_text format (remark_of known.now number reason line.now)) }
+    ensures { OnOk result
+        (out.new.items
+        ≡ out.old.items ++ remark_text format (remark_of known.now number reason line.now)) }
 {
     let remark = remark_of(known, number, reason, line);
     add_remark(out, format, &remark)
@@ -80,8 +82,13 @@ fn add_alone(
     left: u32,
 ) -> Result<u32, NoMemory>
     requires { 0 < left }
-    ensures { IfOk result (λ after. (others : List Remark) →
-        out.old.items ++ remarks_text format (take left (told_first known.now number line.now (alone known.now line.now) others))
+    ensures { IfOk result
+        (λ after.
+        (others : List Remark) →
+        out.old.items
+        ++ remarks_text format
+        (take left
+        (told_first known.now number line.now (alone known.now line.now) others))
         ≡ out.new.items ++ remarks_text format (take after others)) }
 {
     let Some(reason) = alone(known, line) else {
@@ -100,7 +107,9 @@ fn add_unended(
     tail: &[u8],
     left: u32,
 ) -> Result<(), NoMemory>
-    ensures { OnOk result (out.new.items ≡ out.old.items ++ remarks_text format (take left (unended known.now number tail.now))) }
+    ensures { OnOk result
+        (out.new.items
+        ≡ out.old.items ++ remarks_text format (take left (unended known.now number tail.now))) }
 {
     if left == 0 || tail.is_empty() {
         return Ok(());
@@ -117,7 +126,11 @@ fn add_later(
     text: &[u8],
     most: u32,
 ) -> Result<(), NoMemory>
-    ensures { OnOk result (out.new.items ≡ out.old.items ++ remarks_text format (take most (later known.now first (cut text.now).0 (cut text.now).1))) }
+    ensures { OnOk result
+        (out.new.items
+        ≡ out.old.items
+        ++ remarks_text format
+        (take most (later known.now first (cut text.now).0 (cut text.now).1))) }
 {
     let mut number = first;
     let mut rest = text;
@@ -143,7 +156,9 @@ pub fn add_errors(
     line: u32,
     reason: Reason,
 ) -> Result<(), NoMemory>
-    ensures { OnOk result (out.new.items ≡ out.old.items ++ remarks_text format (take 1000 (errors_at text.now line reason))) }
+    ensures { OnOk result
+        (out.new.items
+        ≡ out.old.items ++ remarks_text format (take 1000 (errors_at text.now line reason))) }
 {
     let known = Known::by(alloc, text)?;
     if line == 0 {

@@ -6,7 +6,7 @@
 //! thousand lines are told. `no_errors_where_spelt`, `first_error_is_the_readers` and `errors_are_told` are laws: errors are told exactly
 //! where `script_text` refuses a text, and the first of them is its own.
 //!
-//! The crate stands on `script_text`, whose verdict this is, on `line_faults` for the form of single lines, on the buffers of `trace_text`,
+//! The crate stands on `script_text`, whose verdict this is, on `script_line_faults` for the form of single lines, on the buffers of `trace_text`,
 //! and reads and writes by `whole_streams`.
 #![tactic(auto)]
 

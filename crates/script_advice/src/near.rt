@@ -1,9 +1,9 @@
 // The name that a word is nearly.
 ghost use Rattle.std.specs.Prelude.{◌≡◌, option_map};
-ghost use Rattle.line_faults.specs.Near.{first_near, nearest, one_apart, two_apart};
+ghost use Rattle.script_line_faults.specs.Near.{first_near, nearest, one_apart, two_apart};
 ghost use Rattle.script_advice.specs.Remarks.{some_names};
 
-use line_faults::{one_apart, two_apart};
+use script_line_faults::{one_apart, two_apart};
 use script_text::NameList;
 
 // So many of the first names are looked at.
@@ -11,7 +11,8 @@ const MOST: usize = 256;
 
 // The first of these names that is one edit away from the word.
 fn first_one_apart<'n>(names: &'n NameList, word: &[u8]) -> Option<&'n [u8]>
-    ensures { option_map (λ w. w.now) result ≡ first_near (λ v. one_apart v word.now) (some_names names.now) }
+    ensures { option_map (λ w. w.now) result
+        ≡ first_near (λ v. one_apart v word.now) (some_names names.now) }
 {
     for place in 0..names.len().min(MOST) {
         let name = names.bytes(place);
@@ -24,7 +25,8 @@ fn first_one_apart<'n>(names: &'n NameList, word: &[u8]) -> Option<&'n [u8]>
 
 // The first of these names that is two edits away from the word.
 fn first_two_apart<'n>(names: &'n NameList, word: &[u8]) -> Option<&'n [u8]>
-    ensures { option_map (λ w. w.now) result ≡ first_near (λ v. two_apart v word.now) (some_names names.now) }
+    ensures { option_map (λ w. w.now) result
+        ≡ first_near (λ v. two_apart v word.now) (some_names names.now) }
 {
     for place in 0..names.len().min(MOST) {
         let name = names.bytes(place);

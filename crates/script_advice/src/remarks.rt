@@ -5,7 +5,7 @@ ghost use Rattle.script_advice.specs.Remarks.{cause_text, doubt_text, doubted_te
 
 use crate::known::Known;
 use crate::near::nearest;
-use line_faults::{Fault, What, fault_of, key_at, nearest_op, op_of, slot_at, what_text};
+use script_line_faults::{Fault, What, fault_of, key_at, nearest_op, op_of, slot_at, what_text};
 use script_lines::{Kind, Op, Phrase, phrase_at};
 use script_text::Reason;
 use std::marker::Model;

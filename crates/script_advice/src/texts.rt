@@ -3,8 +3,8 @@ ghost use Rattle.std.specs.Prelude.{◌≡◌, ◌++◌, OnOk, map};
 ghost use Rattle.script_advice.specs.Texts.{advice_text, column, head_text, json_advice, json_place, json_reason, json_text, labelled, labelled_form, plain_text, quoted, remark_text, shown, under};
 
 use crate::remarks::{Remark, cause_text, severity_text, why_text};
-use line_faults::add_form;
 use lwp_types::NoMemory;
+use script_line_faults::add_form;
 use script_lines::Op;
 use trace_text::{add_number, add_text};
 

@@ -41,13 +41,17 @@ fn tell<K: Sink>(
     notes: &mut Notes,
     sink: &mut K,
 ) -> Result<(), RunErr>
-    ensures told { OnOk result (K.written sink.new ≡ appended (K.written sink.old) (told_by notes.old.agents made.now)) }
-    ensures agents { OnOk result (notes.new.agents ≡ agents_after notes.old.event notes.old.agents made.now) }
+    ensures told { OnOk result
+        (K.written sink.new ≡ appended (K.written sink.old) (told_by notes.old.agents made.now)) }
+    ensures agents { OnOk result
+        (notes.new.agents ≡ agents_after notes.old.event notes.old.agents made.now) }
     ensures event { notes.new.event ≡ notes.old.event }
     ensures same { OnOk result (K.faults sink.new ≡ K.faults sink.old) }
-    ensures cut { IsErrOf result RunErr.WriteFault → AppendsPart (K.written sink.old) (K.written sink.new) (told_by notes.old.agents made.now) }
+    ensures cut { IsErrOf result RunErr.WriteFault →
+        AppendsPart (K.written sink.old) (K.written sink.new) (told_by notes.old.agents made.now) }
     ensures cause { IsErrOf result RunErr.WriteFault → Rose (K.faults sink.old) (K.faults sink.new) }
-    ensures quiet { IsErrOf result RunErr.NoMemory → (K.written sink.new ≡ K.written sink.old) × (K.faults sink.new ≡ K.faults sink.old) }
+    ensures quiet { IsErrOf result RunErr.NoMemory →
+        (K.written sink.new ≡ K.written sink.old) × (K.faults sink.new ≡ K.faults sink.old) }
 {
     let line = notes.told_by(alloc, made)?;
     notes.pass(made)?;
@@ -69,9 +73,16 @@ fn answer_out<'s, K: Sink>(
     requires posted { IsPosted script.now }
     requires opening { played.old ≡ opening_run script.now played.old.turns }
     requires stocked { gate.old ≡ stock_of script.now }
-    ensures whole { IfOk result (λ halt. IsTold client played.old.turns script.now (K.written sink.old) (K.written sink.new) played.new.takes played.new.calls halt) }
-    ensures cut { IsErrOf result RunErr.WriteFault → IsCutOff client played.old.turns script.now (K.written sink.old) (K.written sink.new) played.new.takes played.new.calls }
-    ensures stopped { IsErrOf result RunErr.NoMemory → IsStopped client played.old.turns script.now (K.written sink.old) (K.written sink.new) played.new.takes played.new.calls }
+    ensures whole { IfOk result
+        (λ halt.
+        IsTold client played.old.turns script.now (K.written sink.old) (K.written sink.new)
+        played.new.takes played.new.calls halt) }
+    ensures cut { IsErrOf result RunErr.WriteFault →
+        IsCutOff client played.old.turns script.now (K.written sink.old) (K.written sink.new)
+        played.new.takes played.new.calls }
+    ensures stopped { IsErrOf result RunErr.NoMemory →
+        IsStopped client played.old.turns script.now (K.written sink.old) (K.written sink.new)
+        played.new.takes played.new.calls }
     ensures faults { OnOk result (K.faults sink.new ≡ K.faults sink.old) }
     ensures cause { IsErrOf result RunErr.WriteFault → Rose (K.faults sink.old) (K.faults sink.new) }
     ensures memory { IsErrOf result RunErr.NoMemory → K.faults sink.new ≡ K.faults sink.old }

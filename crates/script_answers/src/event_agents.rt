@@ -29,7 +29,8 @@ impl Model for Agents {
 
 // Whether all numbers are less, if they rise.
 fn are_less(numbers: &Vec<u64>, number: u64) -> bool
-    ensures { IsTrue result → AreRising numbers.now.items → AllByRecursion (λ n. n < number) numbers.now.items }
+    ensures { IsTrue result → AreRising numbers.now.items →
+        AllByRecursion (λ n. n < number) numbers.now.items }
 {
     let count = numbers.len();
     count == 0 || numbers[count - 1] < number

@@ -70,7 +70,8 @@ impl Notes {
 
     // A reply's text on a line of its own, if it is made to one of these agents.
     fn text_for(&self, alloc: Global, to: Tid, text: &Text) -> Result<Vec<u8>, NoMemory>
-        ensures { IfOk result (λ line. line.items ≡ (if is_among self.now.agents to then text.now ++ 10 ∷ [] else [])) }
+        ensures { IfOk result
+            (λ line. line.items ≡ (if is_among self.now.agents to then text.now ++ 10 ∷ [] else [])) }
     {
         if self.agents.has(to) {
             line_of(alloc, text)
@@ -107,7 +108,8 @@ impl Notes {
 
     /// A call is behind; it may have made an agent.
     pub(crate) fn pass(&mut self, made: &Option<Made>) -> Result<(), NoMemory>
-        ensures agents { OnOk result (self.new.agents ≡ agents_after self.old.event self.old.agents made.now) }
+        ensures agents { OnOk result
+            (self.new.agents ≡ agents_after self.old.event self.old.agents made.now) }
         ensures event { self.new.event ≡ self.old.event }
     {
         if let Some(made) = made {

@@ -24,7 +24,8 @@ struct Input {
 
 // The input that a source holds, which is read to its end or one byte past what an input may have.
 fn read_input<S: Source>(alloc: Global, source: &mut S) -> Result<Input, SessionEnd>
-    ensures input { IfOk result (λ input. IsInput (S.left source.old) input.text.items input.parts.items) }
+    ensures input { IfOk result
+        (λ input. IsInput (S.left source.old) input.text.items input.parts.items) }
     ensures within { IfOk result (λ input. All (LiesIn input.text.items) input.parts.items) }
     ensures up { OnOk result (IsReadUp 33554433 (S.left source.old) (S.left source.new)) }
     ensures same { OnOk result (S.faults source.new ≡ S.faults source.old) }

@@ -61,7 +61,9 @@ pub(crate) fn bad_text(alloc: Global, line: u32, reason: Reason) -> Result<Vec<u
 
 // The line of the part of this number.
 fn add_line(alloc: Global, out: &mut Vec<u8>, number: u64, said: &[u8]) -> Result<(), NoMemory>
-    ensures { OnOk result (out.new.items ≡ out.old.items ++ (decimal number ++ (codes " " ++ (said.now ++ codes "\n")))) }
+    ensures { OnOk result
+        (out.new.items
+        ≡ out.old.items ++ (decimal number ++ (codes " " ++ (said.now ++ codes "\n")))) }
 {
     add_text(out, number.to_string(alloc)?.as_bytes())?;
     add_text(out, b" ")?;

@@ -18,7 +18,7 @@ monitor_named_by name _ names = names
 
 -- a condition's name is set, if one was made
 abbrev pub condition_named_by : ℕ → Answer → Names → Names
-condition_named_by name (answer.Cond c) names = condition_named name c names
+condition_named_by name (answer.Condition c) names = condition_named name c names
 condition_named_by name _ names = names
 
 -- the name of the last call's statement is set, if it has one

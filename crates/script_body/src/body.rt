@@ -154,7 +154,8 @@ impl<'s> ScriptBody<'s> {
     // Takes an answer that is neither a catch nor a refusal, by the statement of the last call.
     fn take_by(&mut self, got: &Answer, stmt: &Stmt) -> Result<bool, NoMemory>
         ensures took { IfOk result (λ took. took ≡ is_some (taken_by self.old got.now stmt.now)) }
-        ensures after { OnOk result (self.new ≡ unwrap_or (taken_by self.old got.now stmt.now) self.old) }
+        ensures after { OnOk result
+            (self.new ≡ unwrap_or (taken_by self.old got.now stmt.now) self.old) }
     {
         match stmt {
             Stmt::Recv { .. } => self.know_sender(got),
@@ -178,8 +179,10 @@ impl<'s> ScriptBody<'s> {
     }
 
     fn take_plain(&mut self, got: &Answer) -> Result<bool, NoMemory>
-        ensures took { IfOk result (λ took. took ≡ is_some (taken_plain self.old got.now self.old.last)) }
-        ensures after { OnOk result (self.new ≡ unwrap_or (taken_plain self.old got.now self.old.last) self.old) }
+        ensures took { IfOk result
+            (λ took. took ≡ is_some (taken_plain self.old got.now self.old.last)) }
+        ensures after { OnOk result
+            (self.new ≡ unwrap_or (taken_plain self.old got.now self.old.last) self.old) }
     {
         let Some(stmt) = self.last else {
             return Ok(true);
@@ -245,7 +248,8 @@ impl<'s> ScriptBody<'s> {
     // restores registers isn't on the way of most calls.
     #[inline(never)]
     fn call_behind_skips(&mut self, env: &Env, got: &Answer, call: &mut Call<'s>)
-        ensures call { call.new ≡ call_of self.old.script self.old.sender env.now (stmt_after got.now self.old).stmt }
+        ensures call { call.new
+            ≡ call_of self.old.script self.old.sender env.now (stmt_after got.now self.old).stmt }
         ensures after { self.new ≡ behind self.old (stmt_after got.now self.old) }
     {
         let stmts = stmts_at(self.script, self.top.number());
@@ -256,7 +260,8 @@ impl<'s> ScriptBody<'s> {
     // Goes on to the next statement that makes a call, and makes it.
     #[inline(always)]
     fn call_next(&mut self, env: &Env, got: &Answer, call: &mut Call<'s>)
-        ensures call { call.new ≡ call_of self.old.script self.old.sender env.now (stmt_after got.now self.old).stmt }
+        ensures call { call.new
+            ≡ call_of self.old.script self.old.sender env.now (stmt_after got.now self.old).stmt }
         ensures after { self.new ≡ behind self.old (stmt_after got.now self.old) }
     {
         let stmts = stmts_at(self.script, self.top.number());

@@ -90,7 +90,7 @@ fn set_plain_call<'s>(texts: &'s TextList, stmt: &Stmt, call: &mut Call<'s>)
         Stmt::Receivers => *call = Call::Receivers,
         Stmt::MonCreate { .. } => *call = Call::MonCreate,
         Stmt::Monitors => *call = Call::Monitors,
-        Stmt::Conds => *call = Call::Conds,
+        Stmt::Conditions => *call = Call::Conditions,
         Stmt::Handle { pattern, func, arg } => *call = Call::Handle {
             pattern: *pattern,
             func: *func,

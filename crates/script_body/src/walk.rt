@@ -52,7 +52,8 @@ fn first_stmt(stmts: &[Stmt]) -> (&Stmt, usize)
 /// The first statement from `from` on that makes a call and isn't passed over, and the place behind it; past the last one, a
 /// return.
 pub fn next_stmt<'s>(stmts: &'s [Stmt], from: usize, got: &Answer) -> (&'s Stmt, usize)
-    ensures { next_stmt got.now stmts.now false from (drop from stmts.now) ≡ record { stmt = result.0.now; place = result.1 } }
+    ensures { next_stmt got.now stmts.now false from (drop from stmts.now)
+        ≡ record { stmt = result.0.now; place = result.1 } }
 {
     let mut place = from;
     let mut over = false;
@@ -75,7 +76,11 @@ pub fn next_stmt<'s>(stmts: &'s [Stmt], from: usize, got: &Answer) -> (&'s Stmt,
 /// The same where no skip stands at `from`, and so without a loop.
 #[inline(always)]
 pub fn near_stmt(stmts: &[Stmt], from: usize) -> Option<(&Stmt, usize)>
-    ensures { IfSome result (λ x. (got : Answer) → next_stmt got stmts.now false from (drop from stmts.now) ≡ record { stmt = x.0.now; place = x.1 }) }
+    ensures { IfSome result
+        (λ x.
+        (got : Answer) →
+        next_stmt got stmts.now false from (drop from stmts.now)
+        ≡ record { stmt = x.0.now; place = x.1 }) }
 {
     match stmts.get(from) {
         None => Some((&Stmt::Return, from)),

@@ -34,7 +34,8 @@ fn add_text(out: &mut Vec<u8>, text: &[u8]) -> Result<(), NoMemory>
 
 // A word, and a number behind it, on a line of their own.
 fn add_number(alloc: Global, out: &mut Vec<u8>, word: &[u8], number: u64) -> Result<(), NoMemory>
-    ensures { OnOk result (out.new.items ≡ out.old.items ++ (word.now ++ (decimal number ++ codes "\n"))) }
+    ensures { OnOk result
+        (out.new.items ≡ out.old.items ++ (word.now ++ (decimal number ++ codes "\n"))) }
 {
     add_text(out, word)?;
     add_text(out, number.to_string(alloc)?.as_bytes())?;
@@ -43,7 +44,8 @@ fn add_number(alloc: Global, out: &mut Vec<u8>, word: &[u8], number: u64) -> Res
 
 // A word, and a line behind it, if there is one.
 fn add_line(out: &mut Vec<u8>, word: &[u8], line: &Option<Vec<u8>>) -> Result<(), NoMemory>
-    ensures { OnOk result (out.new.items ≡ out.old.items ++ line_text word.now (option_map (λ v. v.items) line.now)) }
+    ensures { OnOk result
+        (out.new.items ≡ out.old.items ++ line_text word.now (option_map (λ v. v.items) line.now)) }
 {
     add_text(out, word)?;
     if let Some(line) = line {
@@ -78,7 +80,11 @@ fn differs_text(
     got: &Option<Vec<u8>>,
     ended: bool,
 ) -> Result<Vec<u8>, NoMemory>
-    ensures { IfOk result (λ out. out.items ≡ differs_text line (option_map (λ v. v.items) want.now) (option_map (λ v. v.items) got.now) ended) }
+    ensures { IfOk result
+        (λ out.
+        out.items
+        ≡ differs_text line (option_map (λ v. v.items) want.now)
+        (option_map (λ v. v.items) got.now) ended) }
 {
     let mut out = Vec::new(alloc);
     add_number(alloc, &mut out, b"differs ", line)?;
@@ -127,7 +133,8 @@ fn names_for(alloc: Global, script: &Script) -> Result<Env, NoMemory>
 fn told_by(alloc: Global, turns: u64, script: &Script, recorded: &[u8]) -> Result<Told, NoMemory>
     requires within { IsWithinLimits script.now }
     requires posted { IsPosted script.now }
-    ensures { IfOk result (λ told. IsTold turns script.now recorded.now told.end told.text.items told.taken told.turns) }
+    ensures { IfOk result
+        (λ told. IsTold turns script.now recorded.now told.end told.text.items told.taken told.turns) }
 {
     let env = names_for(alloc, script)?;
     let program = ScriptProgram::new(alloc, script);
@@ -149,7 +156,8 @@ pub(crate) fn told_of(
     part: Part,
 ) -> Result<Told, SessionEnd>
     requires { LiesIn text.now part }
-    ensures told { IfOk result (λ told. IsToldOf turns text.now part told.end told.text.items told.taken told.turns) }
+    ensures told { IfOk result
+        (λ told. IsToldOf turns text.now part told.end told.text.items told.taken told.turns) }
     ensures none { IfErr result (λ e. IsNotTold text.now part e) }
 {
     let script = match read_script(alloc, &text[part.from..part.to]) {

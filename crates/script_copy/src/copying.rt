@@ -25,7 +25,8 @@ pub fn copy<S: Source, K: Sink>(
     source: &mut S,
     sink: &mut K,
 ) -> Result<(), CopyFailure>
-    ensures copied { OnOk result (Copies (S.left source.old) (K.written sink.old) (K.written sink.new)) }
+    ensures copied { OnOk result
+        (Copies (S.left source.old) (K.written sink.old) (K.written sink.new)) }
     ensures refused { IfErr result (λ why. Refuses (S.left source.old) why) }
 {
     let script = read(alloc, source)?;

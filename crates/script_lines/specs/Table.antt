@@ -42,7 +42,7 @@ rows =
     row op.CvDestroy (codes "cvdestroy") role.Statement (kind.Condition ∷ []) ∷
     row op.CvSend (codes "cvsend") role.Statement (kind.Condition ∷ kind.Who ∷ []) ∷
     row op.CvWaiters (codes "cvwaiters") role.Statement (kind.Condition ∷ []) ∷
-    row op.Conds (codes "conditions") role.Statement [] ∷
+    row op.Conditions (codes "conditions") role.Statement [] ∷
     row op.CallProc (codes "call") role.Statement (kind.Procedure ∷ []) ∷
     row op.Destroy (codes "destroy") role.Statement (kind.Who ∷ []) ∷
     row op.Enter (codes "enter") role.Statement (kind.Monitor ∷ []) ∷

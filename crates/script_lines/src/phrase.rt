@@ -314,7 +314,8 @@ fn put<T: Copy>(slot: &mut T, said: Option<T>) -> Option<()>
 
 // The same, of whom a word means.
 fn put_who<'l>(phrase: &mut Phrase<'l>, said: Option<(Whom, &'l [u8])>) -> Option<()>
-    ensures { option_map (λ done. phrase.new) result ≡ option_map (λ x. record phrase.old { who = x.0; thread = x.1.now }) said.entry }
+    ensures { option_map (λ done. phrase.new) result
+        ≡ option_map (λ x. record phrase.old { who = x.0; thread = x.1.now }) said.entry }
 {
     (phrase.who, phrase.thread) = said?;
     Some(())

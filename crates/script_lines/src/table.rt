@@ -57,7 +57,7 @@ pub enum Op {
     CvDestroy,
     CvSend,
     CvWaiters,
-    Conds,
+    Conditions,
     CallProc,
     Destroy,
     Enter,
@@ -191,7 +191,7 @@ static ROWS: [Row; 66] = [
         Role::Statement,
         &[Kind::Condition],
     ),
-    (Op::Conds, b"conditions", Role::Statement, &[]),
+    (Op::Conditions, b"conditions", Role::Statement, &[]),
     (Op::CallProc, b"call", Role::Statement, &[Kind::Procedure]),
     (Op::Destroy, b"destroy", Role::Statement, &[Kind::Who]),
     (Op::Enter, b"enter", Role::Statement, &[Kind::Monitor]),
@@ -428,7 +428,8 @@ fn letter_of(row: &Row) -> u8
 // The rows without most of those that have an earlier letter: by steps that halve, rows are passed over where the last of them has one.
 fn rows_from(rows: &[Row], letter: u8) -> &[Row]
     requires { IsTrue (rises 1 (map read rows.now)) }
-    ensures { (key : List ℕ) → first_letter key ≡ letter → op_in (map read result.now) key ≡ op_in (map read rows.now) key }
+    ensures { (key : List ℕ) → first_letter key ≡ letter →
+        op_in (map read result.now) key ≡ op_in (map read rows.now) key }
 {
     let mut first = 0;
     let mut step = rows.len() / 2;

@@ -10,7 +10,7 @@ use Rattle.script_text.specs.declared.script.Proc.{Proc}
 use Rattle.script_lines.specs.Phrase.{Phrase}
 use Rattle.script_text.specs.Grammar.{spelling, is_declared, declared_of, SpelledBy}
 use Rattle.script_lines.specs.Line.{IsLine}
-use Rattle.script_text.specs.Meaning.{added, closed, empty_draft, draft_of, script_of}
+use Rattle.script_text.specs.Meaning.{added, with_last_procedure, empty_draft, draft_of, script_of}
 use Rattle.script_maker.specs.declared.script.ClientLine.TheVariants as line
 use Rattle.script_maker.specs.Laws.{MadeSpells}
 use Rattle.script_maker.specs.Made.{each, client_line, declarations, procedure, post_line, past, round, rounds, made_script}
@@ -63,7 +63,7 @@ unfolding made_script
 short seed threads lines few h head_short =
     omega (arith, length-append (declarations threads) (procedure threads ++ (rounds seed threads lines ++ each (client_line line.Quit) threads)), length-append (procedure threads) (rounds seed threads lines ++ each (client_line line.Quit) threads), length-append (declarations threads) (procedure threads), length-append (rounds seed threads lines) (each (client_line line.Quit) threads), head_short, rounds_length seed threads lines few h, quits_length threads few)
 
-some_closed : (d : Draft) → is_some d.current ≡ true → 0 < length (closed d).procs
+some_closed : (d : Draft) → is_some d.current ≡ true → 0 < length (with_last_procedure d).procs
 some_closed d h = some_more d.current h
   where
     some_more : (o : Option Proc) → is_some o ≡ true → 0 < length (d.script.procs ++ option_to_list o)

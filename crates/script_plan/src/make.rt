@@ -64,11 +64,14 @@ fn summary_of(script: &Script, text: u64, session: &Session, trace: u64) -> Summ
 
 // Writes a summary.
 fn tell<K: Sink>(alloc: Global, summary: &Summary, sink: &mut K) -> Result<(), RunErr>
-    ensures whole { OnOk result (K.written sink.new ≡ appended (K.written sink.old) (summary_text summary.now)) }
+    ensures whole { OnOk result
+        (K.written sink.new ≡ appended (K.written sink.old) (summary_text summary.now)) }
     ensures faultless { OnOk result (K.faults sink.new ≡ K.faults sink.old) }
-    ensures cut { IsErrOf result RunErr.WriteFault → AppendsPart (K.written sink.old) (K.written sink.new) (summary_text summary.now) }
+    ensures cut { IsErrOf result RunErr.WriteFault →
+        AppendsPart (K.written sink.old) (K.written sink.new) (summary_text summary.now) }
     ensures cause { IsErrOf result RunErr.WriteFault → Rose (K.faults sink.old) (K.faults sink.new) }
-    ensures quiet { IsErrOf result RunErr.NoMemory → (K.written sink.new ≡ K.written sink.old) × (K.faults sink.new ≡ K.faults sink.old) }
+    ensures quiet { IsErrOf result RunErr.NoMemory →
+        (K.written sink.new ≡ K.written sink.old) × (K.faults sink.new ≡ K.faults sink.old) }
 {
     let lines = summary_lines(alloc, summary)?;
     match write_all(sink, &lines) {

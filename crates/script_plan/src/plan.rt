@@ -33,10 +33,19 @@ fn run_out<'s, K: Sink>(
     requires posted { IsPosted script.now }
     requires opening { played.old ≡ opening_run script.now turns }
     requires stocked { gate.old ≡ stock_of script.now }
-    ensures whole { IfOk result (λ halt. IsWhole turns script.now (K.written sink.old) (K.written sink.new) played.new.takes played.new.calls halt) }
-    ensures part { OnErr result (IsPart turns script.now (K.written sink.old) (K.written sink.new) played.new.takes played.new.calls) }
-    ensures stopped { IsErrOf result RunErr.NoMemory → IsStopped script.now (K.written sink.old) (K.written sink.new) played.new.takes played.new.calls }
-    ensures broken { IsErrOf result RunErr.WriteFault → IsBroken turns script.now (K.written sink.old) (K.written sink.new) played.new.takes played.new.calls }
+    ensures whole { IfOk result
+        (λ halt.
+        IsWhole turns script.now (K.written sink.old) (K.written sink.new) played.new.takes
+        played.new.calls halt) }
+    ensures part { OnErr result
+        (IsPart turns script.now (K.written sink.old) (K.written sink.new) played.new.takes
+        played.new.calls) }
+    ensures stopped { IsErrOf result RunErr.NoMemory →
+        IsStopped script.now (K.written sink.old) (K.written sink.new) played.new.takes
+        played.new.calls }
+    ensures broken { IsErrOf result RunErr.WriteFault →
+        IsBroken turns script.now (K.written sink.old) (K.written sink.new) played.new.takes
+        played.new.calls }
     ensures faults { OnOk result (K.faults sink.new ≡ K.faults sink.old) }
     ensures cause { IsErrOf result RunErr.WriteFault → Rose (K.faults sink.old) (K.faults sink.new) }
     ensures memory { IsErrOf result RunErr.NoMemory → K.faults sink.new ≡ K.faults sink.old }

@@ -21,7 +21,7 @@ use Rattle.script_lines.specs.Words.{is_name}
 use Rattle.script_lines.specs.Table.{row_of, role_of, slots_of, says}
 use Rattle.script_lines.specs.Line.{WhoFits, SourceFits, BuiltFits, SlotFits, IsLine, blank, copy_slots}
 use Rattle.script_text.specs.Meaning.{enter, place, place_of, named, spoken, places_of, who_of, from_of, statement_of, native_kind, entered, added_at, added}
-use Rattle.line_writer.specs.Building.{proc_line}
+use Rattle.script_line_writer.specs.Building.{proc_line}
 use Rattle.script_printer.specs.Printing.{with_who, with_source, stmt_line, client_line, native_as}
 use Rattle.script_text.specs.Track.{name_at}
 use Rattle.script_text.proofs.TrackLaws.{name_place, entered_there, place_there, name_stays, few_names}
@@ -227,7 +227,7 @@ said_by N T at p op.Notify b f e = (stmt.Notify at.condition, refl, (λ i. recor
 said_by N T at p op.Broadcast b f e = (stmt.Broadcast at.condition, refl, (λ i. record (blank op.Broadcast) { condition = b.condition f.0 i }) ∙ e)
 said_by N T at p op.CvSend b f e = (stmt.CvSend at.condition (who_of p.who at.thread), refl, who_back N at.thread p.who p.thread (record (blank op.CvSend) { condition = name_at N.conds at.condition }) b.thread f.1.0 ∙ (λ i. record (blank op.CvSend) { who = p.who; thread = p.thread; condition = b.condition f.0 i }) ∙ e)
 said_by N T at p op.CvWaiters b f e = (stmt.CvWaiters at.condition, refl, (λ i. record (blank op.CvWaiters) { condition = b.condition f.0 i }) ∙ e)
-said_by N T at p op.Conds b f e = (stmt.Conds, refl, e)
+said_by N T at p op.Conditions b f e = (stmt.Conditions, refl, e)
 said_by N T at p op.CallProc b f e = (stmt.CallProc at.procedure, refl, (λ i. record (blank op.CallProc) { procedure = b.procedure f.0 i }) ∙ e)
 said_by N T at p op.Return b f e = (stmt.Return, refl, e)
 said_by N T at p op.Handle b f e = (stmt.Handle p.pattern p.func p.number, refl, e)

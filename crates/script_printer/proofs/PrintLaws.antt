@@ -22,8 +22,8 @@ use Rattle.script_lines.proofs.TableLaws.{only_of_role}
 use Rattle.script_lines.specs.Table.{row_of, role_of, slots_of}
 use Rattle.script_lines.specs.Line.{phrase_text, IsLine, blank, copy_slots, ended}
 use Rattle.script_text.specs.Grammar.{opened, stage_after, stage_of, follows, declares, declared_of, nothing, keeps_rule, may_stand_at, AllStand, spelling, SpelledBy, Spells}
-use Rattle.script_text.specs.Meaning.{named, places_of, statement_of, grown, raised, pushed, entered, added_at, added, empty_draft, draft_of, script_of, closed}
-use Rattle.line_writer.specs.Building.{number_line}
+use Rattle.script_text.specs.Meaning.{named, places_of, statement_of, grown, raised, pushed, entered, added_at, added, empty_draft, draft_of, script_of, with_last_procedure}
+use Rattle.script_line_writer.specs.Building.{number_line}
 use Rattle.script_printer.specs.Printing.{stmt_line, limit_lines, client_line, client_lines, native_line, proc_lines, post_line, body_lines, lines_of, printed}
 use Rattle.script_lines.proofs.WordLemmas.{both}
 use Rattle.script_text.proofs.TrackLaws.{fold_push, stage_push, declared_push}
@@ -433,7 +433,7 @@ sections_podded : (m births : ℕ) → Sections stages.Clients (podded m births)
 sections_podded m births = record { no_natives = λ t. refl; no_procs = λ t. (refl, refl); no_posts = λ t. refl; some_proc = λ t. absurd cc; as_clients = refl }
 
 -- the script of lines behind a limit is printed as the header, the pod, the limit and these lines
-lines_back : (m births : ℕ) (rest : List Phrase) → AllAt stages.Clients nothing (podded m births) rest → AllByRecursion IsLine rest → lines_of (closed (fold added (podded m births) rest)) ≡ headed m (limit_lines births ++ rest)
+lines_back : (m births : ℕ) (rest : List Phrase) → AllAt stages.Clients nothing (podded m births) rest → AllByRecursion IsLine rest → lines_of (with_last_procedure (fold added (podded m births) rest)) ≡ headed m (limit_lines births ++ rest)
 lines_back m births rest a l =
     let fin = fold added (podded m births) rest in
     let r = runs rest fin.script.names fin.script.texts stages.Clients nothing (podded m births) refl (sections_podded m births) a l (later_all fin.script.names fin.script.texts) in

@@ -3,7 +3,7 @@
 //! `printed script` is the text of a script, line by line, and `print_script` writes it. Where some text spells the script, the
 //! printed one does too, so what is printed is read as it was; that is a law (`printed_is_spelt`).
 //!
-//! The crate stands on the scripts of `script_text` and on its grammar, on the lines of `script_lines` and `line_writer`, and on
+//! The crate stands on the scripts of `script_text` and on its grammar, on the lines of `script_lines` and `script_line_writer`, and on
 //! `trace_text` for texts and numbers.
 #![tactic(auto)]
 

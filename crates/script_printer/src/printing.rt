@@ -7,11 +7,11 @@ ghost use Rattle.script_text.specs.Grammar.{spelling};
 ghost use Rattle.script_printer.specs.Printing.{with_who, with_source, exit_line, plain_line, lock_line, stmt_line, limit_lines, client_line, client_lines, native_line, proc_lines, post_line, printed};
 ghost use Rattle.script_text.specs.Track.{name_at};
 
-use line_writer::{
+use lwp_types::NoMemory;
+use script_line_writer::{
     add_line, agent_line, cond_line, create_line, cv_create_line, handle_line, mon_line,
     number_line, proc_line, receive_line, send_line, skip_line, text_line, with_session, with_whom,
 };
-use lwp_types::NoMemory;
 use script_lines::{Op, Phrase, Whom, blank};
 use script_text::{ExitStmt, NameList, Names, Native, NativeKind, Post, Proc, Script, Stmt, Who};
 use std::alloc::Global;
@@ -86,7 +86,7 @@ fn plain_line<'s>(names: &'s Names, texts: &'s TextList, stmt: Stmt) -> Phrase<'
         Stmt::Senders => blank(Op::Senders),
         Stmt::Receivers => blank(Op::Receivers),
         Stmt::Monitors => blank(Op::Monitors),
-        Stmt::Conds => blank(Op::Conds),
+        Stmt::Conditions => blank(Op::Conditions),
         Stmt::Return => blank(Op::Return),
         Stmt::Handle { pattern, func, arg } => handle_line(pattern, func, arg),
         Stmt::Unhandle => blank(Op::Unhandle),
@@ -173,7 +173,8 @@ fn stmt_line<'s>(names: &'s Names, texts: &'s TextList, stmt: Stmt) -> Phrase<'s
 // ---- The sections of a script.
 
 fn add_limit_line(out: &mut Vec<u8>, births: u64) -> Result<(), NoMemory>
-    ensures { OnOk result (out.new.items ≡ out.old.items ++ (codes "limit births " ++ (decimal births ++ codes "\n"))) }
+    ensures { OnOk result
+        (out.new.items ≡ out.old.items ++ (codes "limit births " ++ (decimal births ++ codes "\n"))) }
 {
     add_text(out, b"limit births ")?;
     add_number(out, births)?;
@@ -194,7 +195,8 @@ fn add_limit(out: &mut Vec<u8>, births: u64) -> Result<(), NoMemory>
 // A client and its event.
 #[tactic(auto, unfolding(script_lines::specs::Table::row_of))]
 fn add_client(out: &mut Vec<u8>, client: u64, event: u8) -> Result<(), NoMemory>
-    ensures { OnOk result (out.new.items ≡ out.old.items ++ ended (phrase_text (client_line client event))) }
+    ensures { OnOk result
+        (out.new.items ≡ out.old.items ++ ended (phrase_text (client_line client event))) }
 {
     add_text(out, b"client ")?;
     add_number(out, client)?;
@@ -225,7 +227,8 @@ fn native_line<'s>(names: &'s Names, native: Native) -> Phrase<'s>
 }
 
 fn add_natives(out: &mut Vec<u8>, names: &Names, natives: &[Native]) -> Result<(), NoMemory>
-    ensures { OnOk result (out.new.items ≡ out.old.items ++ spelling (map (native_line names.now) natives.now)) }
+    ensures { OnOk result
+        (out.new.items ≡ out.old.items ++ spelling (map (native_line names.now) natives.now)) }
 {
     for native in natives {
         add_line(out, &native_line(names, *native))?;
@@ -239,7 +242,8 @@ fn add_statements(
     texts: &TextList,
     stmts: &[Stmt],
 ) -> Result<(), NoMemory>
-    ensures { OnOk result (out.new.items ≡ out.old.items ++ spelling (map (stmt_line names.now texts.now) stmts.now)) }
+    ensures { OnOk result
+        (out.new.items ≡ out.old.items ++ spelling (map (stmt_line names.now texts.now) stmts.now)) }
 {
     for stmt in stmts {
         add_line(out, &stmt_line(names, texts, *stmt))?;
@@ -254,7 +258,9 @@ fn add_procs(
     texts: &TextList,
     procs: &[Proc],
 ) -> Result<(), NoMemory>
-    ensures { OnOk result (out.new.items ≡ out.old.items ++ spelling (flat_map (proc_lines names.now texts.now) procs.now)) }
+    ensures { OnOk result
+        (out.new.items
+        ≡ out.old.items ++ spelling (flat_map (proc_lines names.now texts.now) procs.now)) }
 {
     for proc in procs {
         let line = proc_line(Op::Proc, name_at(&names.procs, proc.name));
@@ -267,11 +273,12 @@ fn add_procs(
 fn post_line<'s>(texts: &'s TextList, post: Post) -> Phrase<'s>
     ensures { result ≡ post_line texts.now post }
 {
-    line_writer::post_line(post.client, texts.bytes(post.text as usize))
+    script_line_writer::post_line(post.client, texts.bytes(post.text as usize))
 }
 
 fn add_posts(out: &mut Vec<u8>, texts: &TextList, posts: &[Post]) -> Result<(), NoMemory>
-    ensures { OnOk result (out.new.items ≡ out.old.items ++ spelling (map (post_line texts.now) posts.now)) }
+    ensures { OnOk result
+        (out.new.items ≡ out.old.items ++ spelling (map (post_line texts.now) posts.now)) }
 {
     for post in posts {
         add_line(out, &post_line(texts, *post))?;

@@ -26,7 +26,10 @@ pub fn replay<'s, B: Polled<'s>, P: Program<B>>(
     requires posted { IsPosted script.now }
     requires procs { 1 ≤ length (P.bodies program) }
     requires names { env ≡ names_like env }
-    ensures { IfOk result (λ replayed. Says (asked_for B.next P.bodies P.proc_names script.now program env turns) bytes.now replayed.verdict replayed.taken replayed.turns) }
+    ensures { IfOk result
+        (λ replayed.
+        Says (asked_for B.next P.bodies P.proc_names script.now program env turns) bytes.now
+        replayed.verdict replayed.taken replayed.turns) }
 {
     let params = PodParams {
         maxpri: script.maxpri,

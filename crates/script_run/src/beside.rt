@@ -32,12 +32,14 @@ fn go_live<'s, K: Sink, R: Wait>(
 ) -> Result<Live, RunErr>
     requires sound { played.old.failed ≡ false }
     requires tied { IsTied outside.old }
-    ensures goes { GoesBeside (sides K.written K.faults sink.old sink.new) played.old played.new (intakes outside.old) (intakes outside.new) result }
+    ensures goes { GoesBeside (sides K.written K.faults sink.old sink.new) played.old played.new
+        (intakes outside.old) (intakes outside.new) result }
     ensures tied { IsTied outside.new }
     ensures same { IsSameOutside outside.old outside.new }
     ensures gave { EachInlet Gave (intakes outside.old) (intakes outside.new) }
     ensures closed { IsClosed outside.old → IsClosed outside.new }
-    ensures answers { IfOk result (Answers body_next bodies_of played.new (intakes outside.old) (intakes outside.new)) }
+    ensures answers { IfOk result
+        (Answers body_next bodies_of played.new (intakes outside.old) (intakes outside.new)) }
 {
     draws_keep_ties();
     run_live(rt, played, &mut outside.inlets, sink)
@@ -63,7 +65,8 @@ fn go_beside<'s, K: Sink, R: Wait>(
 ) -> Result<(), RunErr>
     requires sound { played.old.failed ≡ false }
     requires tied { IsTied outside.old }
-    ensures goes { GoesBeside (sides K.written K.faults sink.old sink.new) played.old played.new (intakes outside.old) (intakes outside.new) result }
+    ensures goes { GoesBeside (sides K.written K.faults sink.old sink.new) played.old played.new
+        (intakes outside.old) (intakes outside.new) result }
     ensures tied { IsTied outside.new }
     ensures same { IsSameOutside outside.old outside.new }
 {
@@ -87,7 +90,8 @@ fn go_behind<'s, K: Sink, R: Wait>(
     requires sound { played.old.failed ≡ false }
     requires tied { IsTied outside.old }
     requires closed { IsClosed outside.old }
-    ensures goes { GoesBeside (sides K.written K.faults sink.old sink.new) played.old played.new (intakes outside.old) (intakes outside.new) result }
+    ensures goes { GoesBeside (sides K.written K.faults sink.old sink.new) played.old played.new
+        (intakes outside.old) (intakes outside.new) result }
     ensures gave { EachInlet Gave (intakes outside.old) (intakes outside.new) }
     ensures back { AreBack (events_of outside.old) (all_texts outside.old) (intakes outside.new) }
     ensures halts { IfOk result (Halts body_next bodies_of played.new (intakes outside.new)) }
@@ -111,10 +115,13 @@ pub fn go_to_end<'s, K: Sink, R: Threads + Wait>(
 ) -> Result<WholeRun, RunErr>
     requires sound { played.old.failed ≡ false }
     requires tied { IsTied outside.old }
-    ensures goes { GoesBeside (sides K.written K.faults sink.old sink.new) played.old played.new (intakes outside.old) (intakes outside.new) result }
+    ensures goes { GoesBeside (sides K.written K.faults sink.old sink.new) played.old played.new
+        (intakes outside.old) (intakes outside.new) result }
     ensures back { AreBack (events_of outside.old) (all_texts outside.old) (intakes outside.new) }
-    ensures all { OnOk result (KnowAll (events_of outside.old) (all_texts outside.old) (intakes outside.new)) }
-    ensures halts { IfOk result (λ run. Halts body_next bodies_of played.new (intakes outside.new) run.halt) }
+    ensures all { OnOk result
+        (KnowAll (events_of outside.old) (all_texts outside.old) (intakes outside.new)) }
+    ensures halts { IfOk result
+        (λ run. Halts body_next bodies_of played.new (intakes outside.new) run.halt) }
     ensures posted { IfOk result (λ run. run.posted ≡ Some (lines_in_all (all_texts outside.old))) }
 {
     let beside = go_beside(rt, played, outside, bell, clients, sink);

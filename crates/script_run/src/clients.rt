@@ -25,7 +25,9 @@ fn texts_for<'s>(alloc: Global, script: &'s Script, client: u8) -> Result<Vec<Te
 /// The texts of each client's lines, in order.
 pub fn client_texts<'s>(alloc: Global, script: &'s Script) -> Result<Vec<Vec<Text<'s>>>, NoMemory>
     requires { length script.now.clients ≤ 256 }
-    ensures { IfOk result (λ all. map (λ v. v.items) all.items ≡ texts_from 0 script.now.clients (lines_posted script.now)) }
+    ensures { IfOk result
+        (λ all.
+        map (λ v. v.items) all.items ≡ texts_from 0 script.now.clients (lines_posted script.now)) }
 {
     let mut all = Vec::new(alloc);
     for client in 0..script.clients.len() {
@@ -55,7 +57,8 @@ pub fn counts_behind<'s>(
 ) -> Result<Vec<u32>, NoMemory>
     requires most { length texts.now ≤ 256 }
     requires few { All (λ ts. length ts.items ≤ 20000) texts.now }
-    ensures { IfOk result (λ counts. counts.items ≡ counts_of 0 (map (λ v. v.items) texts.now) played.now.takes) }
+    ensures { IfOk result
+        (λ counts. counts.items ≡ counts_of 0 (map (λ v. v.items) texts.now) played.now.takes) }
 {
     let mut counts = Vec::new(alloc);
     for client in 0..texts.len() {

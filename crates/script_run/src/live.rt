@@ -63,13 +63,21 @@ fn run_out<'s, K: Sink, R: Threads + Wait>(
     requires opening { played.old ≡ opening_run script.now turns }
     requires tied { IsTied outside.old }
     requires events { events_of outside.old ≡ script.now.clients }
-    requires texts { map (λ v. v.items) texts.now ≡ texts_from 0 script.now.clients (lines_posted script.now) }
+    requires texts { map (λ v. v.items) texts.now
+        ≡ texts_from 0 script.now.clients (lines_posted script.now) }
     requires all_texts { all_texts outside.old ≡ map (λ v. v.items) texts.now }
     requires new { All (λ t. t ≡ fresh t.place t.event t.noted) (intakes outside.old) }
-    ensures whole { IfOk result (λ run. IsLived turns script.now (K.written sink.old) (K.written sink.new) played.new.takes played.new.calls run.halt) }
+    ensures whole { IfOk result
+        (λ run.
+        IsLived turns script.now (K.written sink.old) (K.written sink.new) played.new.takes
+        played.new.calls run.halt) }
     ensures posted { IfOk result (λ run. IsAllPosted script.now run.posted) }
-    ensures stopped { IsErrOf result RunErr.NoMemory → IsLiveStopped turns script.now (K.written sink.old) (K.written sink.new) played.new.takes played.new.calls }
-    ensures broken { IsErrOf result RunErr.WriteFault → IsLiveBroken turns script.now (K.written sink.old) (K.written sink.new) played.new.takes played.new.calls }
+    ensures stopped { IsErrOf result RunErr.NoMemory →
+        IsLiveStopped turns script.now (K.written sink.old) (K.written sink.new) played.new.takes
+        played.new.calls }
+    ensures broken { IsErrOf result RunErr.WriteFault →
+        IsLiveBroken turns script.now (K.written sink.old) (K.written sink.new) played.new.takes
+        played.new.calls }
     ensures faults { OnOk result (K.faults sink.new ≡ K.faults sink.old) }
     ensures cause { IsErrOf result RunErr.WriteFault → Rose (K.faults sink.old) (K.faults sink.new) }
     ensures memory { IsErrOf result RunErr.NoMemory → K.faults sink.new ≡ K.faults sink.old }
@@ -99,9 +107,11 @@ fn play_beside<'s, E, K: Sink, G: PostGate + Send + 's, R: Threads + Wait + Sync
 ) -> LiveSession
     requires posted { IsPosted script.now }
     requires opening { played ≡ opening_run script.now turns }
-    requires texts { map (λ v. v.items) texts.now ≡ texts_from 0 script.now.clients (lines_posted script.now) }
+    requires texts { map (λ v. v.items) texts.now
+        ≡ texts_from 0 script.now.clients (lines_posted script.now) }
     requires gates { 16 ≤ length gates.items }
-    ensures played { IsLivePlayed turns script.now (sides K.written K.faults sink.old sink.new) result.session }
+    ensures played { IsLivePlayed turns script.now (sides K.written K.faults sink.old sink.new)
+        result.session }
     ensures posted { PostsSay script.now result.posted result.session.end }
 {
     let clients = script.clients.as_slice();
@@ -144,9 +154,11 @@ fn play_within<'s, 'k, E, K: Sink, G: PostGate + Send + 's, R: Threads + Wait + 
 ) -> (LiveSession, &'k mut K)
     requires within { IsWithinLimits script.now }
     requires posted { IsPosted script.now }
-    requires texts { map (λ v. v.items) texts.now ≡ texts_from 0 script.now.clients (lines_posted script.now) }
+    requires texts { map (λ v. v.items) texts.now
+        ≡ texts_from 0 script.now.clients (lines_posted script.now) }
     requires gates { 16 ≤ length gates.items }
-    ensures played { IsLivePlayed turns script.now (sides K.written K.faults sink.entry.now result.1.now) result.0.session }
+    ensures played { IsLivePlayed turns script.now
+        (sides K.written K.faults sink.entry.now result.1.now) result.0.session }
     ensures posted { PostsSay script.now result.0.posted result.0.session.end }
     ensures handed { result.1.ghost_name ≡ sink.entry.ghost_name }
 {
@@ -172,7 +184,8 @@ fn play_live<K: Sink, G: PostGate + Send, R: Threads + Wait + Sync>(
     requires within { IsWithinLimits script.now }
     requires posted { IsPosted script.now }
     requires gates { 16 ≤ length gates.items }
-    ensures played { IsLivePlayed turns script.now (sides K.written K.faults sink.old sink.new) result.session }
+    ensures played { IsLivePlayed turns script.now (sides K.written K.faults sink.old sink.new)
+        result.session }
     ensures posted { PostsSay script.now result.posted result.session.end }
 {
     let Ok(texts) = client_texts(alloc, script) else {
@@ -187,9 +200,11 @@ fn play_live<K: Sink, G: PostGate + Send, R: Threads + Wait + Sync>(
             requires sync { IsSync R.row }
             requires within { IsWithinLimits script.now }
             requires posted { IsPosted script.now }
-            requires texts { map (λ v. v.items) texts.now ≡ texts_from 0 script.now.clients (lines_posted script.now) }
+            requires texts { map (λ v. v.items) texts.now
+                ≡ texts_from 0 script.now.clients (lines_posted script.now) }
             requires gates { 16 ≤ length gates.items }
-            ensures played { IsLivePlayed turns script.entry.now (sides K.written K.faults sink.entry.now result.1.now) result.0.session }
+            ensures played { IsLivePlayed turns script.entry.now
+                (sides K.written K.faults sink.entry.now result.1.now) result.0.session }
             ensures posted { PostsSay script.entry.now result.0.posted result.0.session.end }
             ensures handed { result.1.ghost_name ≡ sink.entry.ghost_name }
         { play_within(scope, rt, alloc, turns, script, texts, gates, bell, sink) },

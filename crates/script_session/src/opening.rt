@@ -19,7 +19,8 @@ use whole_streams::ReadFailure;
 /// The script that a source holds, which is read to its end; or how the session ends without one. Of what is read only a buffer and
 /// the reader are kept.
 pub fn read_whole<S: Source>(alloc: Global, source: &mut S) -> Result<Script, SessionEnd>
-    ensures read { IfOk result (λ script. IsRead (sides S.left S.faults source.old source.new) script) }
+    ensures read { IfOk result
+        (λ script. IsRead (sides S.left S.faults source.old source.new) script) }
     ensures within { IfOk result IsWithinLimits }
     ensures not_read { IfErr result (λ e. IsNotRead (sides S.left S.faults source.old source.new) e) }
 {

@@ -18,11 +18,13 @@ const BUFFER: usize = 4096;
 /// Feeds a reader to the source's end, or to one byte past what a script may have, and no further.
 pub fn read_all<S: Source>(reader: &mut ScriptReader, source: &mut S) -> Result<(), ReadFailure>
     requires { IsFed reader.old [] }
-    ensures read { OnOk result ((bytes : List ℕ) × HasRead (S.left source.old) bytes × IsFed reader.new bytes) }
+    ensures read { OnOk result
+        ((bytes : List ℕ) × HasRead (S.left source.old) bytes × IsFed reader.new bytes) }
     ensures up { OnOk result (IsReadUp (S.left source.old) (S.left source.new)) }
     ensures part { OnErr result (IsReadPart (S.left source.old) (S.left source.new)) }
     ensures same { OnOk result (S.faults source.new ≡ S.faults source.old) }
-    ensures fault { IsErrOf result ReadFailure.Fault → Rose (S.faults source.old) (S.faults source.new) }
+    ensures fault { IsErrOf result ReadFailure.Fault →
+        Rose (S.faults source.old) (S.faults source.new) }
     ensures memory { IsErrOf result ReadFailure.NoMemory → S.faults source.new ≡ S.faults source.old }
 {
     let mut total = 0;

@@ -113,7 +113,7 @@ plain_statement op.Threads at p = Some stmt.Threads
 plain_statement op.Senders at p = Some stmt.Senders
 plain_statement op.Receivers at p = Some stmt.Receivers
 plain_statement op.Monitors at p = Some stmt.Monitors
-plain_statement op.Conds at p = Some stmt.Conds
+plain_statement op.Conditions at p = Some stmt.Conditions
 plain_statement op.Return at p = Some stmt.Return
 plain_statement op.Handle at p = Some (stmt.Handle p.pattern p.func p.number)
 plain_statement op.Unhandle at p = Some stmt.Unhandle
@@ -184,8 +184,8 @@ empty_draft = record {
 }
 
 -- the script, with the last procedure at its end
-abbrev pub closed : Draft → Script
-closed d = record d.script { procs = d.script.procs ++ option_to_list d.current }
+abbrev pub with_last_procedure : Draft → Script
+with_last_procedure d = record d.script { procs = d.script.procs ++ option_to_list d.current }
 
 -- the names and the text of a line are entered before it is added
 abbrev pub entered : Draft → Phrase → Draft
@@ -220,7 +220,7 @@ added_at role.Pod at d p = record d { script = record d.script { maxpri = p.numb
 added_at role.Limit at d p = record d { script = record d.script { births = p.number } }
 added_at role.Client at d p = record d { script = record d.script { clients = d.script.clients ++ p.event ∷ [] }; posted = d.posted ++ 0 ∷ [] }
 added_at role.Native at d p = record d { script = record d.script { natives = d.script.natives ++ record { name = at.procedure; kind = native_kind p.event at.thread } ∷ [] } }
-added_at role.Proc at d p = record d { script = closed d; current = Some (record { name = at.procedure; stmts = [] }) }
+added_at role.Proc at d p = record d { script = with_last_procedure d; current = Some (record { name = at.procedure; stmts = [] }) }
 added_at role.Post at d p = with_post p.client at.text d
 added_at role.Statement at d p = pushed at d p
 added_at role.Skip at d p = pushed at d p
@@ -236,4 +236,4 @@ draft_of lines = fold added empty_draft lines
 
 -- the script that these lines say
 abbrev pub script_of : List Phrase → Script
-script_of lines = closed (draft_of lines)
+script_of lines = with_last_procedure (draft_of lines)

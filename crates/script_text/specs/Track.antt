@@ -13,7 +13,7 @@ use Rattle.script_lines.specs.Phrase.{Phrase}
 use Rattle.script_lines.specs.Table.{role_of, starts, starts_any}
 use Rattle.script_lines.specs.Reading.{phrase_at}
 use Rattle.script_text.specs.Grammar.{has, nothing, stage_after, may_stand_at}
-use Rattle.script_text.specs.Meaning.{place_of, added, empty_draft, closed}
+use Rattle.script_text.specs.Meaning.{place_of, added, empty_draft, with_last_procedure}
 use Rattle.script_text.specs.Spelling.{reason_of, noted, whole}
 
 -- ---- One line.
@@ -78,7 +78,7 @@ first_missing declared names (m ∷ ms) = if has declared m.any (name_at names m
 -- where every line that has ended is good
 abbrev pub answer_fine : Reader → List ℕ → Result Script (ℕ × Reason)
 answer_fine r (b ∷ tail) = Err (r.count + 1, reason.Unended)
-answer_fine r [] = whole (r.count + 1) (closed r.draft)
+answer_fine r [] = whole (r.count + 1) (with_last_procedure r.draft)
 
 -- A line that starts an undeclared procedure comes first: the lines behind one that is bad by itself aren't judged.
 abbrev pub answer_by : Option ℕ → Option Reason → Reader → List ℕ → Result Script (ℕ × Reason)

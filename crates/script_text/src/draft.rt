@@ -42,7 +42,8 @@ pub struct Places {
 // Enters the names of a line. They stand at these places then, and its text will stand behind those before.
 fn name(names: &mut Names, texts: &TextList, phrase: &Phrase<'_>) -> Result<Places, NoMemory>
     ensures entered { OnOk result (names.new ≡ named names.old phrase.now) }
-    ensures places { IfOk result (λ at. at ≡ places_of (named names.old phrase.now) texts.now phrase.now) }
+    ensures places { IfOk result
+        (λ at. at ≡ places_of (named names.old phrase.now) texts.now phrase.now) }
 {
     let text = texts.len();
     if text > 0xffff_ffff {
@@ -153,7 +154,7 @@ fn plain_statement(at: Places, phrase: &Phrase<'_>) -> Option<Stmt>
         Op::Senders => Some(Stmt::Senders),
         Op::Receivers => Some(Stmt::Receivers),
         Op::Monitors => Some(Stmt::Monitors),
-        Op::Conds => Some(Stmt::Conds),
+        Op::Conditions => Some(Stmt::Conditions),
         Op::Return => Some(Stmt::Return),
         Op::Handle => Some(Stmt::Handle {
             pattern: phrase.pattern,
@@ -292,7 +293,7 @@ impl Draft {
     ghost use Rattle.std.specs.Prelude.{IfOk, IsTrue, length};
     ghost use Rattle.lwp_types.specs.TextFields.{is_text};
     ghost use Rattle.script_lines.specs.Line.{posting, saying};
-    ghost use Rattle.script_text.specs.Meaning.{empty_draft, added_at, added, entered, closed, named, places_of, with_post, with_text};
+    ghost use Rattle.script_text.specs.Meaning.{empty_draft, added_at, added, entered, with_last_procedure, named, places_of, with_post, with_text};
 
     /// No lines.
     pub fn new(alloc: Global) -> Draft
@@ -421,7 +422,11 @@ impl Draft {
     /// One more line, and where its names stand.
     pub fn add(&mut self, alloc: Global, phrase: &Phrase<'_>) -> Result<Places, NoMemory>
         ensures draft { OnOk result (self.new ≡ added self.old phrase.now) }
-        ensures places { IfOk result (λ at. at ≡ places_of (named self.old.script.names phrase.now) self.old.script.texts phrase.now) }
+        ensures places { IfOk result
+            (λ at.
+            at
+            ≡ places_of (named self.old.script.names phrase.now) self.old.script.texts
+            phrase.now) }
     {
         let at = name(&mut self.script.names, &self.script.texts, phrase)?;
         speak(&mut self.script.texts, phrase)?;
@@ -431,7 +436,7 @@ impl Draft {
 
     /// The script.
     pub fn close(self) -> Result<Script, NoMemory>
-        ensures { IfOk result (λ s. s ≡ closed self) }
+        ensures { IfOk result (λ s. s ≡ with_last_procedure self) }
     {
         let Draft {
             mut script,

@@ -84,7 +84,8 @@ impl Lines {
 
     // One more line, which has ended; what is kept behind the last newline is its first part.
     fn line(&mut self, line: &[u8]) -> Result<(), NoMemory>
-        ensures reader { OnOk result (self.new.reader ≡ step self.old.reader (self.old.tail.items ++ line.now)) }
+        ensures reader { OnOk result
+            (self.new.reader ≡ step self.old.reader (self.old.tail.items ++ line.now)) }
         ensures tail { OnOk result (self.new.tail.items ≡ []) }
     {
         if self.tail.is_empty() {
@@ -98,8 +99,13 @@ impl Lines {
 
     /// The lines of a piece, and what is kept of what stands behind the last of them.
     pub fn feed(&mut self, piece: &[u8]) -> Result<(), NoMemory>
-        ensures reader { OnOk result (IsTail self.old.tail.items → self.new.reader ≡ fold step self.old.reader (cut (self.old.tail.items ++ piece.now)).0) }
-        ensures tail { OnOk result (IsTail self.old.tail.items → self.new.tail.items ≡ kept (cut (self.old.tail.items ++ piece.now)).1) }
+        ensures reader { OnOk result
+            (IsTail self.old.tail.items →
+            self.new.reader
+            ≡ fold step self.old.reader (cut (self.old.tail.items ++ piece.now)).0) }
+        ensures tail { OnOk result
+            (IsTail self.old.tail.items →
+            self.new.tail.items ≡ kept (cut (self.old.tail.items ++ piece.now)).1) }
     {
         let mut rest = piece;
         while let Some((line, after)) = first_line(rest) {

@@ -62,7 +62,8 @@ impl ScriptReader {
 
     /// The text so far grows by the piece. After `NoMemory` every later `feed` and `finish` answers `NoMemory`.
     pub fn feed(&mut self, piece: &[u8]) -> Result<(), NoMemory>
-        ensures ok { OnOk result ((text : List ℕ) → HasRead self.old text → HasRead self.new (text ++ piece.now)) }
+        ensures ok { OnOk result
+            ((text : List ℕ) → HasRead self.old text → HasRead self.new (text ++ piece.now)) }
         ensures err { OnErr result (HasFailed self.new) }
         ensures failed { HasFailed self.old → IsErr result }
     {
@@ -87,7 +88,8 @@ impl ScriptReader {
         // A script is read only where the text spells it.
         ensures spelt { (text : List ℕ) → HasRead self text → IfOk result (λ s. Spells text s) }
         // A script that is spelt is read, and no other.
-        ensures only { (text : List ℕ) → HasRead self text → (s : Script) → Spells text s → IsReadAs s result }
+        ensures only { (text : List ℕ) → HasRead self text → (s : Script) → Spells text s →
+            IsReadAs s result }
         // A pod can be made for each script that is read.
         ensures within { (text : List ℕ) → HasRead self text → IfOk result IsWithinLimits }
         ensures failed { HasFailed self → result ≡ Err read_err.NoMemory }

@@ -7,7 +7,7 @@ ghost use Rattle.script_lines.specs.Reading.{phrase_at};
 ghost use Rattle.script_text.specs.Declaring.{only_name, spaced_word, proc_on, native_on};
 ghost use Rattle.script_text.specs.Grammar.{has, keeps_rule, may_stand_at};
 ghost use Rattle.script_text.specs.Spelling.{Gives, word_reason, reason_behind, reason_of, noted, whole};
-ghost use Rattle.script_text.specs.Meaning.{enter, closed};
+ghost use Rattle.script_text.specs.Meaning.{enter, with_last_procedure};
 ghost use Rattle.script_text.specs.Track.{first_missing, mention_of, name_at};
 
 use crate::Script;
@@ -146,7 +146,8 @@ impl Declared {
     // Notes the procedure of statements that a line declares.
     #[inline(never)]
     fn note_proc(&mut self, line: &[u8]) -> Result<(), NoMemory>
-        ensures { OnOk result (self.new ≡ record self.old { procs = enter self.old.procs (proc_on line.now) }) }
+        ensures { OnOk result
+            (self.new ≡ record self.old { procs = enter self.old.procs (proc_on line.now) }) }
     {
         self.procs.enter(proc_on(line))
     }
@@ -154,7 +155,8 @@ impl Declared {
     // Notes the built-in procedure that a line declares.
     #[inline(never)]
     fn note_native(&mut self, line: &[u8]) -> Result<(), NoMemory>
-        ensures { OnOk result (self.new ≡ record self.old { natives = enter self.old.natives (native_on line.now) }) }
+        ensures { OnOk result
+            (self.new ≡ record self.old { natives = enter self.old.natives (native_on line.now) }) }
     {
         self.natives.enter(native_on(line))
     }
@@ -214,7 +216,7 @@ fn first_missing(declared: &Declared, names: &NameList, mentions: &[Mention]) ->
 
 // The script of a draft all of whose lines are good. `line` is the number of the one behind them.
 fn close_at(line: u32, draft: Draft) -> Result<Script, ReadErr>
-    ensures { Gives (whole line (closed draft)) result }
+    ensures { Gives (whole line (with_last_procedure draft)) result }
 {
     let script = draft.close()?;
     if script.procs.len() == 0 {
@@ -231,7 +233,7 @@ impl Reader {
     ghost use Rattle.lwp_types.specs.TextFields.{is_text};
     ghost use Rattle.script_lines.specs.Line.{posting, saying};
     ghost use Rattle.script_text.specs.Grammar.{follows};
-    ghost use Rattle.script_text.specs.Meaning.{place_of, closed};
+    ghost use Rattle.script_text.specs.Meaning.{place_of, with_last_procedure};
     ghost use Rattle.script_text.specs.Spelling.{Gives, whole};
     ghost use Rattle.script_text.specs.Track.{start, taken, judge_alone, took, judged, step, answer, answer_at};
 
@@ -255,7 +257,12 @@ impl Reader {
     // The procedure that a line starts, by the number of its name.
     fn mention(&mut self, phrase: &Phrase<'_>, name: u32) -> Result<(), NoMemory>
         requires { name ≡ place_of self.old.draft.script.names.procs phrase.now.procedure }
-        ensures { OnOk result (self.new ≡ record self.old { mentions = self.old.mentions ++ mention_of self.old.count self.old.draft.script.names.procs phrase.now }) }
+        ensures { OnOk result
+            (self.new
+            ≡ record self.old {
+              mentions = self.old.mentions
+                  ++ mention_of self.old.count self.old.draft.script.names.procs phrase.now;
+            }) }
     {
         if phrase.op.starts() {
             self.mentions.push(Mention {
@@ -292,7 +299,9 @@ impl Reader {
     // The reason of a line that says nothing.
     fn blame_unsaid(&mut self, line: &[u8])
         requires { phrase_at line.now ≡ None }
-        ensures { self.new ≡ took self.old (judge_alone self.old.stage self.old.declared self.old.draft.posted line.now) }
+        ensures { self.new
+            ≡ took self.old
+            (judge_alone self.old.stage self.old.declared self.old.draft.posted line.now) }
     {
         if is_printable(line) {
             self.blame(line, None);
@@ -333,7 +342,9 @@ impl Reader {
 
     // Whether one more line of this client may stand.
     fn may_post(&self, client: u8) -> bool
-        ensures { result ≡ (follows self.now.stage Role.Post && nat_lt (slice_index_or self.now.draft.posted client 20000) 20000) }
+        ensures { result
+            ≡ (follows self.now.stage Role.Post && nat_lt
+            (slice_index_or self.now.draft.posted client 20000) 20000) }
     {
         self.stage.allows(Role::Post) && self.draft.posted.get(client, 20_000) < 20_000
     }
@@ -399,7 +410,9 @@ impl Reader {
     fn fault(&self, line: u32, tail: &[u8]) -> Option<(u32, Reason)>
         requires { line ≡ self.now.count + 1 }
         ensures some { IfSome result (λ x. answer self.now tail.now ≡ Err x) }
-        ensures none { IfNone result (answer self.now tail.now ≡ whole (self.now.count + 1) (closed self.now.draft)) }
+        ensures none { IfNone result
+            (answer self.now tail.now
+            ≡ whole (self.now.count + 1) (with_last_procedure self.now.draft)) }
     {
         let names = &self.draft.script.names.procs;
         if let Some(missing) = first_missing(&self.declared, names, self.mentions.as_slice()) {
@@ -418,7 +431,8 @@ impl Reader {
     // Notes what the tail declares. Gives the number of its line, if no line is bad.
     fn end(&mut self, tail: &[u8]) -> Result<u32, ReadErr>
         ensures draft { self.new.draft ≡ self.old.draft }
-        ensures ok { IfOk result (λ line. answer_at self.old tail.now ≡ whole line (closed self.old.draft)) }
+        ensures ok { IfOk result
+            (λ line. answer_at self.old tail.now ≡ whole line (with_last_procedure self.old.draft)) }
         ensures err { IfErr result (λ err. Gives (answer_at self.old tail.now) (Err err)) }
     {
         self.declared.note(tail)?;

@@ -136,7 +136,7 @@ pub enum Stmt {
     CvWaiters {
         cond: u32,
     },
-    Conds,
+    Conditions,
     CallProc {
         proc: u32,
     },

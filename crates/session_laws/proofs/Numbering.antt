@@ -3,17 +3,17 @@
 use Rattle.lwp_types.specs.Agents.{deliver, deliver_to, end_agent, event_agents, message}
 use Rattle.lwp_types.specs.Case.{Case, Check, refused, unanswered, unless, valued, with_zero}
 use Rattle.lwp_types.specs.Choice.{choice}
+use Rattle.lwp_types.specs.Conditions.{condition_of, waited, woken, woken_all}
 use Rattle.lwp_types.specs.Death.{answer_joiners, bury, death, destroyed, end_agents, refuse_receivers, refuse_sender, refuse_senders, release_all, run_all_exits, withdraw}
+use Rattle.lwp_types.specs.Exceptions.{caught_marks, exits_of, first_frames, found, frames, later_frames, on_exit, with_match}
 use Rattle.lwp_types.specs.Exits.{caught, exit_case, leave_frame, notified_by, run_exit, unwind}
-use Rattle.lwp_types.specs.Letters.{as_answer, as_received, post, receive_by, receivers_of, replied, takes_from, unreceived, with_holding, without_letter}
-use Rattle.lwp_types.specs.Locks.{depth_in, entered, exited, is_owned_by_other, requested, with_depth}
-use Rattle.lwp_types.specs.Marks.{caught_marks, exits_of, first_frames, found, frames, later_frames, on_exit, with_match}
-use Rattle.lwp_types.specs.Release.{grant, last_lock, next_owner, release, without_lock}
+use Rattle.lwp_types.specs.Messages.{as_answer, as_received, post, receive_by, receivers_of, replied, takes_from, unreceived, with_holding, without_letter}
+use Rattle.lwp_types.specs.MonitorRelease.{grant, last_lock, next_owner, release, without_lock}
+use Rattle.lwp_types.specs.Monitors.{depth_in, entered, exited, is_owned_by_other, requested, with_depth}
 use Rattle.lwp_types.specs.State.{Outcome, State, ThreadRow, and_then, for_each, in_order, is_agent, marked, marks_in, passes, still, thread_of, with_marks}
 use Rattle.lwp_types.specs.Step.{case_of, step, step_by, step_if}
 use Rattle.lwp_types.specs.Time.{due_threads, tick, ticked, time_out}
 use Rattle.lwp_types.specs.Unblock.{blocked, blocked_for, nonexist, unblock, zero_answer}
-use Rattle.lwp_types.specs.Waits.{condition_of, waited, woken, woken_all}
 use Rattle.lwp_types.specs.declared.call.Call.{Call}
 use Rattle.lwp_types.specs.declared.call.ExitCall.{ExitCall}
 use Rattle.lwp_types.specs.declared.call.Func.{Func}
@@ -242,7 +242,7 @@ case_numbers s t (call.Wait c) = plain s t _ _ refl (none_unless s _ _ (none_wai
 case_numbers s t (call.Notify c) = plain s t _ _ refl (none_unless s _ _ (none_woken_all (condition_of s.conditions c) _ s))
 case_numbers s t (call.Broadcast c) = plain s t _ _ refl (none_unless s _ _ (none_woken_all (condition_of s.conditions c) _ s))
 case_numbers s t (call.CvSend c u) = plain s t _ _ refl (none_unless s _ _ (none_woken_all (condition_of s.conditions c) _ s))
-case_numbers s t call.Conds = plain s t _ _ refl refl
+case_numbers s t call.Conditions = plain s t _ _ refl refl
 case_numbers s t (call.CvWaiters c) = plain s t _ _ refl (none_unless s _ _ refl)
 case_numbers s t (call.CallProc number) = plain s t _ _ refl (none_unless s _ _ refl)
 case_numbers s t call.Return = plain s t _ _ refl (none_cond s (nat_le 2 (frames (marks_in s t))) (leave_frame s t) (unanswered (death t s)) (none_unwound t (first_frames (frames (marks_in s t) - 1) (marks_in s t)) (later_frames (frames (marks_in s t) - 1) (marks_in s t)) s) (none_died t s))

@@ -1,7 +1,7 @@
 -- What the effects of a step tell of the exit procedure that it sets.
 use Rattle.lwp_types.specs.Case.{Case, refused, unless, valued}
 use Rattle.lwp_types.specs.Choice.{choice}
-use Rattle.lwp_types.specs.Marks.{on_exit}
+use Rattle.lwp_types.specs.Exceptions.{on_exit}
 use Rattle.lwp_types.specs.State.{State, marks_in, with_marks}
 use Rattle.lwp_types.specs.Step.{case_of, end_effects, own_effects, step, step_by, step_if}
 use Rattle.lwp_types.specs.declared.call.Call.{Call}
@@ -56,7 +56,7 @@ what_it_sets (call.Wait c) = Nothing (λ p s t. refl) (λ p t es. refl)
 what_it_sets (call.Notify c) = Nothing (λ p s t. refl) (λ p t es. refl)
 what_it_sets (call.Broadcast c) = Nothing (λ p s t. refl) (λ p t es. refl)
 what_it_sets (call.CvSend c u) = Nothing (λ p s t. refl) (λ p t es. refl)
-what_it_sets call.Conds = Nothing (λ p s t. refl) (λ p t es. refl)
+what_it_sets call.Conditions = Nothing (λ p s t. refl) (λ p t es. refl)
 what_it_sets (call.CvWaiters c) = Nothing (λ p s t. refl) (λ p t es. refl)
 what_it_sets (call.CallProc number) = Nothing (λ p s t. refl) (λ p t es. refl)
 what_it_sets call.Return = Nothing (λ p s t. refl) (λ p t es. refl)

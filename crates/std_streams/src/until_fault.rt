@@ -61,7 +61,8 @@ impl<W: Write + Drop> Write for UntilFault<W> {
 
     fn write(&mut self, buf: &[u8]) -> io::Result<usize>
         ensures bound { IfOk result (λ n. n ≤ length buf.now) }
-        ensures bytes { WriteAppends (W.contents self.old.out) (W.contents self.new.out) result buf.now }
+        ensures bytes { WriteAppends (W.contents self.old.out) (W.contents self.new.out) result
+            buf.now }
         ensures fails { OnErr result (IsTrue self.new.is_closed) }
         ensures refuses { IsTrue self.old.is_closed → IsErr result }
         ensures stays { IsTrue self.old.is_closed → self.new ≡ self.old }

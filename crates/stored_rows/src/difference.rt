@@ -37,7 +37,9 @@ pub fn first_difference<'t>(found: &'t [u8], wanted: &'t [u8]) -> Option<Differe
     // Texts without a difference are the same, to the last byte.
     ensures same { IfNone result (found.now ≡ wanted.now) }
     // The lines before it are the same in both, and it is not.
-    ensures first { IfSome result (λ d. IsFirstDifference d.number d.found.now d.wanted.now (lines found.now) (lines wanted.now)) }
+    ensures first { IfSome result
+        (λ d.
+        IsFirstDifference d.number d.found.now d.wanted.now (lines found.now) (lines wanted.now)) }
 {
     let mut number = 1;
     let mut left = found;

@@ -94,7 +94,7 @@ fn drain<'s, R: Wait>(rt: &R, outside: &mut Outside<'s>, tally: &mut Tally)
 
 // What an inlet says in the end: its event, and how many lines of its clients are left; 9 where a pass is missing.
 fn last_word(inlet: &AnyInlet) -> (u8, u32) {
-    if !inlet.told() {
+    if !inlet.is_told() {
         return (inlet.event(), 9);
     }
     let mut left = 0u32;
@@ -182,7 +182,8 @@ fn run_three<R: Threads + Wait + Sync>(
         thread::scope_env(),
         rt,
         move |scope| -> Result<Harvest, NoMemory>
-            requires { IsSync R.row × (length gates.items ≡ 3) × (length texts.now ≡ 3) × All (λ ts. length ts.items ≤ 20000) texts.now }
+            requires { IsSync R.row × (length gates.items ≡ 3) × (length texts.now ≡ 3)
+                × All (λ ts. length ts.items ≤ 20000) texts.now }
         { start_and_take(scope, rt, alloc, texts, gates, bell) },
     )
 }
@@ -191,7 +192,9 @@ fn run_three<R: Threads + Wait + Sync>(
 fn add_texts(alloc: Global, all: &mut Vec<Vec<Text<'_>>>, lines: usize) -> Result<(), NoMemory>
     requires lines { lines ≤ 20000 }
     requires before { All (λ ts. length ts.items ≤ 20000) all.old.items }
-    ensures { OnOk result ((length all.new.items ≡ length all.old.items + 1) × All (λ ts. length ts.items ≤ 20000) all.new.items) }
+    ensures { OnOk result
+        ((length all.new.items ≡ length all.old.items + 1)
+        × All (λ ts. length ts.items ≤ 20000) all.new.items) }
 {
     let mut texts = Vec::new(alloc);
     for _ in 0..lines {

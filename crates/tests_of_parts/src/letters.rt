@@ -1,9 +1,9 @@
 ghost use Rattle.std.specs.Prelude.{◌≡◌, false};
-ghost use Rattle.rendezvous.specs.Mailbag.{empty_mail};
+ghost use Rattle.messages.specs.MessageTable.{no_messages};
 
 use crate::lists::holds;
 use lwp_types::{Letter, LwpErr, Text, Tid};
-use rendezvous::Mail;
+use messages::Messages;
 
 const A: Tid = Tid { number: 0 };
 
@@ -15,7 +15,8 @@ const D: Tid = Tid { number: 3 };
 
 // A letter that nobody has received, with room for a reply of four bytes.
 fn letter<'s>(from: Tid, to: Tid, text: Text<'s>) -> Letter<'s>
-    ensures { result ≡ record { from = from; to = to; text = text.entry; room = 4; received = false } }
+    ensures { result
+        ≡ record { from = from; to = to; text = text.entry; room = 4; received = false } }
 {
     Letter {
         from,
@@ -27,18 +28,18 @@ fn letter<'s>(from: Tid, to: Tid, text: Text<'s>) -> Letter<'s>
 }
 
 // The letter of a named sender is received, or of any.
-fn takes(mail: &mut Mail, from: Option<Tid>, wanted: Tid) -> bool {
-    let Some(letter) = mail.take_letter(D, from) else {
+fn takes(messages: &mut Messages, from: Option<Tid>, wanted: Tid) -> bool {
+    let Some(letter) = messages.take_letter(D, from) else {
         return false;
     };
     letter.from == wanted && letter.received && letter.text.equals(b"hello")
 }
 
-fn is_received(mail: &mut Mail) -> bool {
-    holds(mail.senders(D), &[2, 0, 1])
-        && takes(mail, Some(A), A)
-        && takes(mail, None, C)
-        && mail.take_letter(D, Some(D)).is_none()
+fn is_received(messages: &mut Messages) -> bool {
+    holds(messages.senders(D), &[2, 0, 1])
+        && takes(messages, Some(A), A)
+        && takes(messages, None, C)
+        && messages.take_letter(D, Some(D)).is_none()
 }
 
 const REPLIES: [(Tid, usize, Option<LwpErr>); 4] = [
@@ -48,9 +49,9 @@ const REPLIES: [(Tid, usize, Option<LwpErr>); 4] = [
     (A, 4, Some(LwpErr::NoWait)),
 ];
 
-fn replies(mail: &mut Mail) -> bool {
+fn replies(messages: &mut Messages) -> bool {
     for (from, len, refusal) in REPLIES {
-        if mail.reply(D, from, len).err() != refusal {
+        if messages.reply(D, from, len).err() != refusal {
             return false;
         }
     }
@@ -58,32 +59,32 @@ fn replies(mail: &mut Mail) -> bool {
 }
 
 // They go with their senders and receivers.
-fn forgets(mail: &mut Mail) -> bool {
-    mail.forget(D);
-    mail.pop_to(C).is_none()
-        && mail.pop_to(D) == Some(C)
-        && mail.pop_to(D) == Some(B)
-        && mail.pop_to(D).is_none()
+fn forgets(messages: &mut Messages) -> bool {
+    messages.forget(D);
+    messages.pop_to(C).is_none()
+        && messages.pop_to(D) == Some(C)
+        && messages.pop_to(D) == Some(B)
+        && messages.pop_to(D).is_none()
 }
 
 // Three letters are received in the order of sending, and replied to.
-fn does_all(mail: &mut Mail) -> bool
-    requires { mail.old ≡ empty_mail }
+fn does_all(messages: &mut Messages) -> bool
+    requires { messages.old ≡ no_messages }
 {
-    let Ok(()) = mail.reserve(3) else {
+    let Ok(()) = messages.reserve(3) else {
         return false;
     };
     let Some(text) = Text::new(b"hello") else {
         return false;
     };
-    mail.post_letter(letter(C, D, text.again()));
-    mail.post_letter(letter(A, D, text.again()));
-    mail.post_letter(letter(B, D, text));
-    is_received(mail) && replies(mail) && forgets(mail)
+    messages.post_letter(letter(C, D, text.again()));
+    messages.post_letter(letter(A, D, text.again()));
+    messages.post_letter(letter(B, D, text));
+    is_received(messages) && replies(messages) && forgets(messages)
 }
 
 #[test]
 fn letters_are_received_in_send_order_and_replied_to(rt: HostRuntime) {
-    let mut mail = Mail::new(rt.alloc());
-    assert!(rt; does_all(&mut mail));
+    let mut messages = Messages::new(rt.alloc());
+    assert!(rt; does_all(&mut messages));
 }

@@ -22,7 +22,7 @@ const ASKING: [Call<'static>; 15] = [
     Call::CvCreate {
         mon: Mid { number: 0 },
     },
-    Call::Conds,
+    Call::Conditions,
     Call::CvWaiters {
         cond: Cid { number: 0 },
     },

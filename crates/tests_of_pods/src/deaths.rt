@@ -4,20 +4,20 @@ ghost use Rattle.death_cleanup.specs.Example.{thread};
 ghost use Rattle.death_cleanup.specs.Named.{IsNoteOf};
 ghost use Rattle.death_cleanup.specs.Ties.{LawfulParts};
 ghost use Rattle.tests_of_pods.specs.Living.{register_as};
-ghost use Rattle.exc_stack.specs.Stack.{one_frame};
+ghost use Rattle.exceptions.specs.Stack.{one_frame};
 ghost use Rattle.monitors.specs.MonitorTable.{empty_table};
 ghost use Rattle.stale_ids.specs.Register.{inserted};
 
 use agents::Agents;
-use conditions::{Conds, WaitRec};
+use conditions::{Conditions, WaitRec};
 use death_cleanup::{Kind, Named, Parts, ThreadRec, die, note};
-use exc_stack::ExcStack;
+use exceptions::ExceptionStack;
 use lwp_types::{
     Answer, Block, Cid, Effect, Effects, ExitCall, Flags, Letter, LwpErr, Mid, NoMemory, Text, Tid,
 };
+use messages::Messages;
 use monitors::Monitors;
 use pod_sched::Sched;
-use rendezvous::Mail;
 use stale_ids::Registry;
 use std::alloc::Global;
 
@@ -36,7 +36,7 @@ const JOINS: Block = Block::Joining(DYING);
 const AGENT: Tid = Tid { number: 8 };
 
 // A thread is born that waits so, with these marks.
-fn bear_with<'s>(ids: &mut Registry<Kind<'s>>, block: Block, stack: ExcStack<'s>)
+fn bear_with<'s>(ids: &mut Registry<Kind<'s>>, block: Block, stack: ExceptionStack<'s>)
     requires room { length ids.old.live < ids.old.places }
     requires more { ids.old.births < ids.old.limit }
     ensures { ids.new ≡ inserted ids.old (thread block stack.entry) }
@@ -54,16 +54,16 @@ fn bear(ids: &mut Registry<Kind>, alloc: Global, block: Block) -> Result<(), NoM
     requires more { ids.old.births < ids.old.limit }
     ensures { OnOk result (ids.new ≡ inserted ids.old (thread block one_frame)) }
 {
-    let stack = ExcStack::new(alloc)?;
+    let stack = ExceptionStack::new(alloc)?;
     bear_with(ids, block, stack);
     Ok(())
 }
 
 // The stack with five exit procedures: one of them resumes the dying thread itself.
-fn five_exits<'s>(alloc: Global) -> Result<ExcStack<'s>, NoMemory>
+fn five_exits<'s>(alloc: Global) -> Result<ExceptionStack<'s>, NoMemory>
     ensures { IfOk result (λ s. s ≡ example.stack) }
 {
-    let mut stack = ExcStack::new(alloc)?;
+    let mut stack = ExceptionStack::new(alloc)?;
     stack.on_exit(
         0,
         ExitCall::Note {
@@ -161,21 +161,31 @@ fn letter<'s>(from: u64, room: u8, received: bool) -> Letter<'s>
     }
 }
 
-fn posted<'s>(alloc: Global) -> Result<Mail<'s>, NoMemory>
-    ensures { IfOk result (λ m. m ≡ example.mail) }
+fn posted<'s>(alloc: Global) -> Result<Messages<'s>, NoMemory>
+    ensures { IfOk result (λ m. m ≡ example.messages) }
 {
-    let mut mail = Mail::new(alloc);
-    mail.reserve(9)?;
-    mail.post_letter(letter(1, 9, true));
-    mail.post_letter(letter(2, 9, false));
-    mail.post_letter(letter(8, 240, false));
-    Ok(mail)
+    let mut messages = Messages::new(alloc);
+    messages.reserve(9)?;
+    messages.post_letter(letter(1, 9, true));
+    messages.post_letter(letter(2, 9, false));
+    messages.post_letter(letter(8, 240, false));
+    Ok(messages)
 }
 
 // Three monitors are born.
 fn create_three(mons: &mut Monitors) -> Result<(), NoMemory>
     requires { mons.old ≡ empty_table 100 }
-    ensures { OnOk result (mons.new ≡ record { monitors = 0 ∷ 1 ∷ 2 ∷ []; births = 3; limit = 100; locks = []; requests = []; places = 8 }) }
+    ensures { OnOk result
+        (mons.new
+        ≡ record {
+          monitors = 0 ∷ 1 ∷ 2
+              ∷ [];
+          births = 3;
+          limit = 100;
+          locks = [];
+          requests = [];
+          places = 8;
+        }) }
 {
     mons.reserve(8)?;
     mons.create()?;
@@ -186,7 +196,16 @@ fn create_three(mons: &mut Monitors) -> Result<(), NoMemory>
 
 // The dying thread holds two of them, and somebody waits for each.
 fn hold_two(mons: &mut Monitors)
-    requires { mons.old ≡ record { monitors = 0 ∷ 1 ∷ 2 ∷ []; births = 3; limit = 100; locks = []; requests = []; places = 8 } }
+    requires { mons.old
+        ≡ record {
+          monitors = 0 ∷ 1 ∷ 2
+              ∷ [];
+          births = 3;
+          limit = 100;
+          locks = [];
+          requests = [];
+          places = 8;
+        } }
     ensures { mons.new ≡ example.mons }
 {
     let first = Mid { number: 0 };
@@ -206,10 +225,10 @@ fn held(alloc: Global) -> Result<Monitors, NoMemory>
     Ok(mons)
 }
 
-fn waited(alloc: Global) -> Result<Conds, NoMemory>
+fn waited(alloc: Global) -> Result<Conditions, NoMemory>
     ensures { IfOk result (λ c. c ≡ example.conds) }
 {
-    let mut conds = Conds::new(alloc, 100);
+    let mut conds = Conditions::new(alloc, 100);
     conds.reserve(8)?;
     conds.create(Mid { number: 2 })?;
     conds.wait(WaitRec {
@@ -252,7 +271,7 @@ fn parts<'s>(alloc: Global) -> Result<Parts<'s>, NoMemory>
     Ok(Parts {
         ids: all_waiting(alloc)?,
         sched: scheduled(alloc)?,
-        mail: posted(alloc)?,
+        messages: posted(alloc)?,
         mons: held(alloc)?,
         conds: waited(alloc)?,
         agents: armed(alloc)?,
@@ -328,7 +347,7 @@ fn left(parts: &mut Parts) -> u32 {
     if parts.ids.is_live(0) || parts.ids.is_live(8) {
         return 2;
     }
-    if parts.mail.pop_to(DYING).is_some() {
+    if parts.messages.pop_to(DYING).is_some() {
         return 3;
     }
     if parts.agents.owner_of(AGENT).is_some() {

@@ -111,7 +111,8 @@ impl Timers {
 
     /// The first timer whose tick has come goes; the answer is whose it was.
     pub fn pop(&mut self) -> Option<Tid>
-        ensures value { result ≡ option_map (λ row. row.tid) (first_due self.old.timers self.old.now) }
+        ensures value { result
+            ≡ option_map (λ row. row.tid) (first_due self.old.timers self.old.now) }
         ensures after { self.new ≡ popped self.old }
     {
         let leaf = self.shelf.first_due(self.now)?;

@@ -9,17 +9,20 @@ ghost use Rattle.trace_lines.specs.Told.{AlsoIsRead, AnswersAreRead, CallsAreRea
 
 /// A call's line is read back as the call.
 pub fn called_again()
-    ensures { (procs : List (List ℕ)) (took : Option Line) (t : ℕ) (c : Call) → CallsAreRead procs took t c }
+    ensures { (procs : List (List ℕ)) (took : Option Line) (t : ℕ) (c : Call) →
+        CallsAreRead procs took t c }
 {}
 
 /// An answer's line is read back as the answer.
 pub fn answered_again()
-    ensures { (procs : List (List ℕ)) (took : Option Line) (t : ℕ) (a : Answer) → AnswersAreRead procs took t a }
+    ensures { (procs : List (List ℕ)) (took : Option Line) (t : ℕ) (a : Answer) →
+        AnswersAreRead procs took t a }
 {}
 
 /// The line of an exit procedure is read back.
 pub fn exited_again()
-    ensures { (procs : List (List ℕ)) (took : Option Line) (t reg : ℕ) (x : ExitCall) (a : Answer) → ExitsAreRead procs took t reg x a }
+    ensures { (procs : List (List ℕ)) (took : Option Line) (t reg : ℕ) (x : ExitCall) (a : Answer) →
+        ExitsAreRead procs took t reg x a }
 {}
 
 /// A death's line is read back.
@@ -57,7 +60,8 @@ pub fn trapped_again()
 
 /// The line of a report is read back.
 pub fn reported_again()
-    ensures { (procs : List (List ℕ)) (took : Option Line) (agent dead : ℕ) → RitesAreRead procs took agent dead }
+    ensures { (procs : List (List ℕ)) (took : Option Line) (agent dead : ℕ) →
+        RitesAreRead procs took agent dead }
 {}
 
 /// Less than that, or more, is no line of a trace.

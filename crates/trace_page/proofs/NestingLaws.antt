@@ -13,7 +13,7 @@ use Rattle.trace_page.specs.Frame as frame
 use Rattle.trace_page.specs.Nesting.{Outside, Quoted, at, is_closed, is_nested, read, read_on}
 use Rattle.trace_page.specs.Page.{groups, page, shown, told_all, told_line}
 use Rattle.trace_page.specs.Scene.{Seen, need_of, opening}
-use Rattle.trace_page.specs.Shapes.{arrow_text, band_text, bar_text, class_text, clock_text, closed, closing_text, due_text, escaped, event_text, group_closed, group_open, group_text, held_text, label_closed, label_text, letter_text, line_text, move_text, named_text, path_text, posted_text, rect_text, rule_text, said_text, shape_text, shapes_text, sign_of, sign_open, tag_text, tick_text, title_text, trap_text, use_open, use_text, value_text, wait_class, wait_text, waits_text, wanted_text, way_class, x_of, y_of}
+use Rattle.trace_page.specs.Shapes.{arrow_text, band_text, bar_text, class_text, clock_text, closing_text, due_text, element_closed, escaped, event_text, group_closed, group_open, group_text, held_text, label_closed, label_text, letter_text, line_text, move_text, named_text, path_text, posted_text, rect_text, rule_text, said_text, shape_text, shapes_text, sign_of, sign_open, tag_text, tick_text, title_text, trap_text, use_open, use_text, value_text, wait_class, wait_text, waits_text, wanted_text, way_class, x_of, y_of}
 use Rattle.trace_page.specs.Steps.{finished, is_shown}
 use Rattle.trace_page.specs.Titles.{is_plain}
 use Rattle.trace_page.specs.declared.scene.Kind.{Kind}
@@ -90,8 +90,8 @@ line_goes : (x y : ℕ) → Goes (line_text x y)
 unfolding read read_on line_text
 line_goes x y = further {front = codes "L"} (record { goes = λ names. record { so = refl } }) (further (digits_go x) (further {front = codes " "} (record { goes = λ names. record { so = refl } }) (digits_go y)))
 
-closes : (name : List ℕ) (names : List (List ℕ)) → Brings (at (Quoted 39) (name ∷ names)) closed (at Outside names)
-unfolding read read_on closed
+closes : (name : List ℕ) (names : List (List ℕ)) → Brings (at (Quoted 39) (name ∷ names)) element_closed (at Outside names)
+unfolding read read_on element_closed
 closes name names = record { so = refl }
 
 -- ---- elements

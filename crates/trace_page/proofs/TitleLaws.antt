@@ -10,9 +10,9 @@ use Rattle.trace_lines.specs.declared.entry.Gain.TheVariants as gain
 use Rattle.trace_lines.specs.declared.entry.Verb.{Verb}
 use Rattle.trace_lines.specs.declared.entry.Verb.TheVariants as verb
 use Rattle.trace_page.specs.Page.{noted_by, told_all, told_by, told_line}
-use Rattle.trace_page.specs.Scene.{Seen, drawn, lane_of, opened, opening, place, put}
+use Rattle.trace_page.specs.Scene.{Seen, drawn, lane_of, opening, place, put, with_lane}
 use Rattle.trace_page.specs.Shapes.{escaped, escaped_byte}
-use Rattle.trace_page.specs.Steps.{carried, created, done, exited, given_up, granted, is_past, is_shown, met, met_thread, named, noted, parked, room, said, set, settled, spoken, told, with_agent}
+use Rattle.trace_page.specs.Steps.{carried, created, done, exited, given_up, granted, is_past, is_shown, met, met_thread, named, noted, parked, room, said, set, settled, spoken, told_entry, with_agent}
 use Rattle.trace_page.specs.Titles.{LinesAreTitles, TextsArePlain, is_plain, titles}
 use Rattle.trace_page.specs.declared.scene.Lane.{Lane}
 use Rattle.trace_page.specs.declared.scene.Shape.TheVariants as shape
@@ -22,7 +22,7 @@ use Rattle.trace_page.specs.declared.scene.Shape.TheVariants as shape
 base_met : (id event owner : ℕ) (s : Seen) → (met id event owner s).base ≡ s.base
 base_met id event owner s = by (ltb (place id s.lanes) (length s.lanes))
   where
-    by : (b : Bool) → (cond b s (opened id event owner s)).base ≡ s.base
+    by : (b : Bool) → (cond b s (with_lane id event owner s)).base ≡ s.base
     by true = refl
     by false = refl
 
@@ -166,8 +166,8 @@ base_done (entry.Trapped tid event) s = base_met tid 0 _ _
 base_done (entry.Rites agent dead) s = refl
 base_done entry.Closing s = refl
 
-base_told : (e : Entry) (s : Seen) → (told e s).base ≡ s.base
-unfolding told
+base_told : (e : Entry) (s : Seen) → (told_entry e s).base ≡ s.base
+unfolding told_entry
 base_told e s = by (is_past e s)
   where
     by : (b : Bool) → (cond b (record s { more = true; shapes = [] }) (done e (record s { shapes = [] }))).base ≡ s.base
@@ -196,8 +196,8 @@ base_line l s = by (entry_of l)
 
 -- ---- once there is more, there is
 
-more_told : (e : Entry) (s : Seen) → (told e s).more ≡ false → s.more ≡ false
-unfolding told
+more_told : (e : Entry) (s : Seen) → (told_entry e s).more ≡ false → s.more ≡ false
+unfolding told_entry
 more_told e s h = by s.more refl
   where
     by : (b : Bool) → s.more ≡ b → b ≡ false

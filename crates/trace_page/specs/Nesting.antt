@@ -43,14 +43,14 @@ abbrev pub is_void : List ℕ → Bool
 is_void name = bytes_eq name (codes "meta")
 
 -- behind the `>` of a tag that opens the innermost element
-abbrev pub opened : List (List ℕ) → Reader
-opened [] = at Lost []
-opened (name ∷ names) = at Outside (if is_void name then names else name ∷ names)
+abbrev pub behind_start_tag : List (List ℕ) → Reader
+behind_start_tag [] = at Lost []
+behind_start_tag (name ∷ names) = at Outside (if is_void name then names else name ∷ names)
 
 -- behind the `>` of a tag that closes an element of this name: the innermost has to be one
-abbrev pub closed : List ℕ → List (List ℕ) → Reader
-closed name [] = at Lost []
-closed name (innermost ∷ names) = if bytes_eq innermost name then at Outside names else at Lost names
+abbrev pub behind_end_tag : List ℕ → List (List ℕ) → Reader
+behind_end_tag name [] = at Lost []
+behind_end_tag name (innermost ∷ names) = if bytes_eq innermost name then at Outside names else at Lost names
 
 -- behind the `/>` of the innermost element
 abbrev pub ended : List (List ℕ) → Reader
@@ -59,14 +59,14 @@ ended (name ∷ names) = at Outside names
 
 -- a byte in a tag, behind its name or behind a value
 abbrev pub inside : ℕ → List (List ℕ) → Reader
-inside b names = if b == 62 then opened names else at (if b == 47 then Slashed else if b == 32 then Spaced else Lost) names
+inside b names = if b == 62 then behind_start_tag names else at (if b == 47 then Slashed else if b == 32 then Spaced else Lost) names
 
 -- a reader has read a byte more; 60 and 62 are angle brackets, 34 and 39 quotes, and the others are /, !, =, - and a space
 unfoldable pub read : Place → List (List ℕ) → ℕ → Reader
 read Outside names b = at (if b == 60 then Begun else if b == 62 then Lost else Outside) names
 read Begun names b = at (if b == 47 then Closing [] else if b == 33 then Declared else if is_letter b then Opening (b ∷ []) else Lost) names
 read (Opening name) names b = if is_letter b then at (Opening (name ++ b ∷ [])) names else inside b (name ∷ names)
-read (Closing name) names b = if b == 62 then closed name names else at (if is_letter b then Closing (name ++ b ∷ []) else Lost) names
+read (Closing name) names b = if b == 62 then behind_end_tag name names else at (if is_letter b then Closing (name ++ b ∷ []) else Lost) names
 read Inside names b = inside b names
 read Spaced names b = at (if is_letter b then Attribute else Lost) names
 read Attribute names b = at (if b == 61 then Equals else if is_letter b || (b == 45) then Attribute else Lost) names

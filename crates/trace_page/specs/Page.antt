@@ -5,7 +5,7 @@ use Rattle.trace_lines.specs.declared.entry.Entry.{Entry}
 use Rattle.trace_page.specs.Frame.{head, tail}
 use Rattle.trace_page.specs.Scene.{Seen, opening}
 use Rattle.trace_page.specs.Shapes.{group_text}
-use Rattle.trace_page.specs.Steps.{finished, is_shown, noted, told}
+use Rattle.trace_page.specs.Steps.{finished, is_shown, noted, told_entry}
 
 -- a byte in front of the first of these lines, if there is any
 abbrev pub onto_first : ℕ → List (List ℕ) → List (List ℕ)
@@ -35,7 +35,7 @@ bad_line text = bad_from 1 (is_whole text) (whole_lines text)
 -- what is known behind a line
 abbrev pub told_by : Option Entry → Seen → Seen
 told_by None s = s
-told_by (Some e) s = told e s
+told_by (Some e) s = told_entry e s
 
 -- the words of a line are known
 abbrev pub noted_by : Option Entry → List ℕ → Seen → Seen

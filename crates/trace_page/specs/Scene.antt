@@ -111,5 +111,5 @@ abbrev pub begun : Span → Seen → Seen
 begun span s = record s { spans = s.spans ++ span ∷ [] }
 
 -- a lane more, which lives from now on
-abbrev pub opened : ℕ → ℕ → ℕ → Seen → Seen
-opened id event owner s = begun (record { tid = id; kind = kind.Life; of = owner; since = s.time; level = 0; event = event }) (record s { lanes = s.lanes ++ blank id event s.time ∷ [] })
+abbrev pub with_lane : ℕ → ℕ → ℕ → Seen → Seen
+with_lane id event owner s = begun (record { tid = id; kind = kind.Life; of = owner; since = s.time; level = 0; event = event }) (record s { lanes = s.lanes ++ blank id event s.time ∷ [] })

@@ -66,22 +66,22 @@ unfoldable pub line_text : ℕ → ℕ → List ℕ
 line_text x y = codes "L" ++ (decimal x ++ (codes " " ++ decimal y))
 
 -- the end of an element that has nothing inside
-unfoldable pub closed : List ℕ
-closed = codes "'/>"
+unfoldable pub element_closed : List ℕ
+element_closed = codes "'/>"
 
 unfoldable pub label_closed : List ℕ
 label_closed = codes "</text>"
 
 -- a sign of the page's head
 unfoldable pub use_text : List ℕ → ℕ → ℕ → List ℕ
-use_text sign x y = sign_open sign ++ (value_text (codes "x") x ++ (value_text (codes "y") y ++ closed))
+use_text sign x y = sign_open sign ++ (value_text (codes "x") x ++ (value_text (codes "y") y ++ element_closed))
 
 unfoldable pub rect_text : List ℕ → ℕ → ℕ → ℕ → ℕ → List ℕ
 rect_text class x y width height =
-    class_text (codes "rect") class ++ (value_text (codes "x") x ++ (value_text (codes "y") y ++ (value_text (codes "width") width ++ (value_text (codes "height") height ++ closed))))
+    class_text (codes "rect") class ++ (value_text (codes "x") x ++ (value_text (codes "y") y ++ (value_text (codes "width") width ++ (value_text (codes "height") height ++ element_closed))))
 
 unfoldable pub path_text : List ℕ → ℕ → ℕ → ℕ → ℕ → List ℕ
-path_text class x y to_x to_y = class_text (codes "path") class ++ (move_text x y ++ (line_text to_x to_y ++ closed))
+path_text class x y to_x to_y = class_text (codes "path") class ++ (move_text x y ++ (line_text to_x to_y ++ element_closed))
 
 -- a label, before its words
 unfoldable pub label_text : List ℕ → ℕ → ℕ → List ℕ

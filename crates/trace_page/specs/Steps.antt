@@ -9,7 +9,7 @@ use Rattle.trace_lines.specs.declared.entry.Gain.{Gain}
 use Rattle.trace_lines.specs.declared.entry.Gain.TheVariants as gain
 use Rattle.trace_lines.specs.declared.entry.Verb.{Verb}
 use Rattle.trace_lines.specs.declared.entry.Verb.TheVariants as verb
-use Rattle.trace_page.specs.Scene.{Seen, begun, drawn, lane_of, need_of, one_more, opened, place, put, together}
+use Rattle.trace_page.specs.Scene.{Seen, begun, drawn, lane_of, need_of, one_more, place, put, together, with_lane}
 use Rattle.trace_page.specs.Spans.{agent_of, changed, held_more, last_from, level_from, top_from}
 use Rattle.trace_page.specs.declared.scene.Kind.TheVariants as kind
 use Rattle.trace_page.specs.declared.scene.Lane.{Lane}
@@ -24,7 +24,7 @@ use Rattle.trace_page.specs.declared.spans.Change.TheVariants as change
 
 -- a thread that acts has a lane
 abbrev pub met : ℕ → ℕ → ℕ → Seen → Seen
-met id event owner s = if nat_lt (place id s.lanes) (length s.lanes) then s else opened id event owner s
+met id event owner s = if nat_lt (place id s.lanes) (length s.lanes) then s else with_lane id event owner s
 
 -- a thread does
 abbrev pub met_thread : ℕ → Seen → Seen
@@ -275,8 +275,8 @@ trapped tid s =
 abbrev pub reported : ℕ → ℕ → Seen → Seen
 reported agent dead s = sent agent (drawn (shape.Arrow way.Also dead s.time agent s.time) s)
 
-abbrev pub closed : Seen → Seen
-closed s = drawn (shape.Closing s.closings s.time) (record s { closings = one_more s.closings })
+abbrev pub with_closing : Seen → Seen
+with_closing s = drawn (shape.Closing s.closings s.time) (record s { closings = one_more s.closings })
 
 -- ---- a line
 
@@ -290,7 +290,7 @@ done (entry.Also agent) s = also_sent agent s
 done (entry.Tick now client seq) s = ticked now s
 done (entry.Trapped tid event) s = trapped tid s
 done (entry.Rites agent dead) s = reported agent dead s
-done entry.Closing s = closed s
+done entry.Closing s = with_closing s
 
 abbrev pub is_call : Entry → Bool
 is_call (entry.Called tid v target suspended) = true
@@ -350,8 +350,8 @@ abbrev pub is_past : Entry → Seen → Bool
 is_past e s = s.more || (is_call e && (s.time.call == s.last))
 
 -- all that is known behind a line
-unfoldable pub told : Entry → Seen → Seen
-told e s = if is_past e s then record s { more = true; shapes = [] } else done e (record s { shapes = [] })
+unfoldable pub told_entry : Entry → Seen → Seen
+told_entry e s = if is_past e s then record s { more = true; shapes = [] } else done e (record s { shapes = [] })
 
 -- a line is drawn: it belongs to a call behind the first
 unfoldable pub is_shown : Seen → Bool

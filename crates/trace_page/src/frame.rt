@@ -282,7 +282,9 @@ impl<'t> Scene<'t> {
     }
 
     fn add_all_names(&self, out: &mut Vec<u8>) -> Result<(), NoMemory>
-        ensures { OnOk result (out.new.items ≡ out.old.items ++ flat_map (λ lane. name_text self.now lane) self.now.lanes) }
+        ensures { OnOk result
+            (out.new.items
+            ≡ out.old.items ++ flat_map (λ lane. name_text self.now lane) self.now.lanes) }
     {
         for lane in self.lanes.as_slice() {
             self.add_name(out, *lane)?;
@@ -331,7 +333,8 @@ impl<'t> Scene<'t> {
     }
 
     fn add_all_numbers(&self, out: &mut Vec<u8>) -> Result<(), NoMemory>
-        ensures { OnOk result (out.new.items ≡ out.old.items ++ each_text (number_text self.now) 0 (tenths self.now)) }
+        ensures { OnOk result
+            (out.new.items ≡ out.old.items ++ each_text (number_text self.now) 0 (tenths self.now)) }
     {
         let count = self.tenths();
         for n in 0..count {

@@ -21,7 +21,10 @@ pub fn elements_are_closed()
 
 /// What it is that elements are closed: pages for which it holds, and others for which it doesn't.
 pub fn some_are_closed()
-    ensures whole { is_nested (codes "<!DOCTYPE html>\n<html lang='en'><meta charset='utf-8'><p title='a>b'>it's</p><use href=\"#tick\"/></html>\n") ≡ true }
+    ensures whole { is_nested
+        (codes
+        "<!DOCTYPE html>\n<html lang='en'><meta charset='utf-8'><p title='a>b'>it's</p><use href=\"#tick\"/></html>\n")
+        ≡ true }
     ensures unclosed { is_nested (codes "<g><title>stuck</title>") ≡ false }
     ensures unopened { is_nested (codes "<title>stuck</title></g>") ≡ false }
     ensures crossed { is_nested (codes "<g><title>stuck</g></title>") ≡ false }

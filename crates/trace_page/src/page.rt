@@ -53,9 +53,11 @@ fn add_line<'t>(
     number: u64,
 ) -> Result<(), PageErr>
     ensures told { OnOk result (scene.new ≡ told_line line.now scene.old) }
-    ensures drawn { OnOk result (out.new.items ≡ out.old.items ++ shown (told_line line.now scene.old) line.now) }
+    ensures drawn { OnOk result
+        (out.new.items ≡ out.old.items ++ shown (told_line line.now scene.old) line.now) }
     ensures good { OnOk result (is_some (entry_of line.now) ≡ true) }
-    ensures bad { IfErr result (λ e. (n : ℕ) → e ≡ PageErr.Line n → (n ≡ number) × (entry_of line.now ≡ None)) }
+    ensures bad { IfErr result
+        (λ e. (n : ℕ) → e ≡ PageErr.Line n → (n ≡ number) × (entry_of line.now ≡ None)) }
 {
     let Some(entry) = entry_of(line) else {
         return Err(PageErr::Line(number));
@@ -69,7 +71,8 @@ fn add_line<'t>(
 // The lines of a text, which are told and drawn one by one.
 fn add_lines<'t>(scene: &mut Scene<'t>, out: &mut Vec<u8>, text: &'t [u8]) -> Result<(), PageErr>
     ensures told { OnOk result (scene.new ≡ told_all scene.old (whole_lines text.now)) }
-    ensures drawn { OnOk result (out.new.items ≡ out.old.items ++ groups scene.old (whole_lines text.now)) }
+    ensures drawn { OnOk result
+        (out.new.items ≡ out.old.items ++ groups scene.old (whole_lines text.now)) }
     ensures good { OnOk result (bad_line text.now ≡ None) }
     ensures bad { IfErr result (λ e. (n : ℕ) → e ≡ PageErr.Line n → bad_line text.now ≡ Some n) }
 {
@@ -98,7 +101,8 @@ pub fn add_page(
     last: u64,
     text: &[u8],
 ) -> Result<(), PageErr>
-    ensures page { OnOk result (out.new.items ≡ out.old.items ++ page base last (whole_lines text.now)) }
+    ensures page { OnOk result
+        (out.new.items ≡ out.old.items ++ page base last (whole_lines text.now)) }
     ensures good { OnOk result (bad_line text.now ≡ None) }
     ensures bad { IfErr result (λ e. (n : ℕ) → e ≡ PageErr.Line n → bad_line text.now ≡ Some n) }
 {

@@ -1,7 +1,7 @@
 // The text of what is drawn. Each function but those that answer a number or a word puts its part at the end of the bytes so far.
 ghost use Rattle.std.specs.Prelude.{◌≡◌, ◌≤◌, ◌+◌, ◌++◌, OnOk, codes};
 ghost use Rattle.std.specs.Fmt.{decimal};
-ghost use Rattle.trace_page.specs.Shapes.{class_text, closed, group_closed, group_open, label_closed, posted_text, sign_open, tag_text, title_text, use_open, value_text, waits_text, arrow_text, band_text, bar_text, clock_text, closing_text, deep, due_text, escaped, escaped_byte, event_text, group_text, half, held_text, label_text, letter_text, named_text, path_text, rect_text, rule_text, said_text, shape_text, shapes_text, sign_of, tick_text, trap_text, use_text, wait_class, wait_text, wanted_text, way_class, x_of, y_of};
+ghost use Rattle.trace_page.specs.Shapes.{class_text, element_closed, group_closed, group_open, label_closed, posted_text, sign_open, tag_text, title_text, use_open, value_text, waits_text, arrow_text, band_text, bar_text, clock_text, closing_text, deep, due_text, escaped, escaped_byte, event_text, group_text, half, held_text, label_text, letter_text, named_text, path_text, rect_text, rule_text, said_text, shape_text, shapes_text, sign_of, tick_text, trap_text, use_text, wait_class, wait_text, wanted_text, way_class, x_of, y_of};
 
 use crate::scene::{Kind, Lane, Moment, Need, Scene, Shape, Span, Way};
 use crate::steps::{need_of, place};
@@ -84,7 +84,8 @@ fn add_value(out: &mut Vec<u8>, name: &[u8], n: u64) -> Result<(), NoMemory>
 
 // Where an element is.
 fn add_place(out: &mut Vec<u8>, x: u64, y: u64) -> Result<(), NoMemory>
-    ensures { OnOk result (out.new.items ≡ out.old.items ++ (value_text (codes "x") x ++ value_text (codes "y") y)) }
+    ensures { OnOk result
+        (out.new.items ≡ out.old.items ++ (value_text (codes "x") x ++ value_text (codes "y") y)) }
 {
     add_value(out, b"x", x)?;
     add_value(out, b"y", y)
@@ -92,15 +93,16 @@ fn add_place(out: &mut Vec<u8>, x: u64, y: u64) -> Result<(), NoMemory>
 
 // A point of a path, behind what the path does there.
 fn add_point(out: &mut Vec<u8>, step: &[u8], x: u64, y: u64) -> Result<(), NoMemory>
-    ensures { OnOk result (out.new.items ≡ out.old.items ++ (step.now ++ (decimal x ++ (codes " " ++ decimal y)))) }
+    ensures { OnOk result
+        (out.new.items ≡ out.old.items ++ (step.now ++ (decimal x ++ (codes " " ++ decimal y)))) }
 {
     add_counted(out, step, x)?;
     add_counted(out, b" ", y)
 }
 
-#[tactic(auto, unfolding(crate::specs::Shapes::closed))]
+#[tactic(auto, unfolding(crate::specs::Shapes::element_closed))]
 fn add_closed(out: &mut Vec<u8>) -> Result<(), NoMemory>
-    ensures { OnOk result (out.new.items ≡ out.old.items ++ closed) }
+    ensures { OnOk result (out.new.items ≡ out.old.items ++ element_closed) }
 {
     add_text(out, b"'/>")
 }
@@ -397,7 +399,8 @@ impl<'t> Scene<'t> {
         to: Moment,
     ) -> Result<(), NoMemory>
         requires { down ≤ 44 }
-        ensures { OnOk result (out.new.items ≡ out.old.items ++ band_text self.now class.now down height span to) }
+        ensures { OnOk result
+            (out.new.items ≡ out.old.items ++ band_text self.now class.now down height span to) }
     {
         let x = self.x_of(span.since);
         let width = self.x_of(to).saturating_sub(x);
@@ -426,7 +429,8 @@ impl<'t> Scene<'t> {
         to: u64,
         at: Moment,
     ) -> Result<(), NoMemory>
-        ensures { OnOk result (out.new.items ≡ out.old.items ++ arrow_text self.now way from left to at) }
+        ensures { OnOk result
+            (out.new.items ≡ out.old.items ++ arrow_text self.now way from left to at) }
     {
         let x = self.x_of(left);
         let y = self.y_of(from) + 10;
@@ -445,7 +449,8 @@ impl<'t> Scene<'t> {
         agent: u64,
         at: Moment,
     ) -> Result<(), NoMemory>
-        ensures { OnOk result (out.new.items ≡ out.old.items ++ event_text self.now client seq nth agent at) }
+        ensures { OnOk result
+            (out.new.items ≡ out.old.items ++ event_text self.now client seq nth agent at) }
     {
         let x = self.x_of(at);
         let y = self.y_of(agent) + 10;
@@ -483,7 +488,8 @@ impl<'t> Scene<'t> {
         nth: u64,
         at: Moment,
     ) -> Result<(), NoMemory>
-        ensures { OnOk result (out.new.items ≡ out.old.items ++ closing_text self.now line.now nth at) }
+        ensures { OnOk result
+            (out.new.items ≡ out.old.items ++ closing_text self.now line.now nth at) }
     {
         let x = self.x_of(at) + 24;
         let y = 14 + 14 * nth.min(16);
@@ -540,7 +546,8 @@ impl<'t> Scene<'t> {
 
     /// What is drawn for a line.
     pub(crate) fn add_shapes(&self, out: &mut Vec<u8>, line: &[u8]) -> Result<(), NoMemory>
-        ensures { OnOk result (out.new.items ≡ out.old.items ++ shapes_text self.now line.now self.now.shapes) }
+        ensures { OnOk result
+            (out.new.items ≡ out.old.items ++ shapes_text self.now line.now self.now.shapes) }
     {
         for shape in self.shapes.as_slice() {
             self.add_shape(out, line, *shape)?;

@@ -1,8 +1,8 @@
 // What a line makes of all that is known, and what is drawn for it.
 ghost use Rattle.std.specs.Prelude.{◌≡◌, ◌++◌, ◌&&◌, OnOk};
-ghost use Rattle.trace_page.specs.Scene.{begun, blank, drawn, lane_of, need_of, one_more, opened, opening, place, put, same_bool, together};
+ghost use Rattle.trace_page.specs.Scene.{begun, blank, drawn, lane_of, need_of, one_more, opening, place, put, same_bool, together, with_lane};
 ghost use Rattle.trace_page.specs.Spans.{changed, held_more};
-ghost use Rattle.trace_page.specs.Steps.{all_due, also_sent, answered, asking, called, came, carried, closed, counted, created, died, done, drawable, due, event_taken, exited, finished, given_up, granted, has_waited, is_call, is_past, is_shown, left, may_wait, met, met_thread, named, noted, owner_of, parked, reported, room, said, sent, set, settled, shown_answer, spoken, ticked, told, trapped, waited, with_agent, woken, words_of};
+ghost use Rattle.trace_page.specs.Steps.{all_due, also_sent, answered, asking, called, came, carried, counted, created, died, done, drawable, due, event_taken, exited, finished, given_up, granted, has_waited, is_call, is_past, is_shown, left, may_wait, met, met_thread, named, noted, owner_of, parked, reported, room, said, sent, set, settled, shown_answer, spoken, ticked, told_entry, trapped, waited, with_agent, with_closing, woken, words_of};
 
 use crate::scene::{Kind, Lane, Moment, Naming, Need, Scene, Setting, Shape, Span, Way, Words};
 use crate::spans::{Change, add_bars, add_kept, agent_of, level_of, monitor_at, top_level};
@@ -259,7 +259,7 @@ impl<'t> Scene<'t> {
 
     // A lane more, which lives from now on.
     fn open(&mut self, id: u64, event: u64, owner: u64) -> Result<(), NoMemory>
-        ensures { OnOk result (self.new ≡ opened id event owner self.old) }
+        ensures { OnOk result (self.new ≡ with_lane id event owner self.old) }
     {
         self.lanes.push(blank(id, event, self.time))?;
         self.begin(Span {
@@ -403,7 +403,8 @@ impl<'t> Scene<'t> {
 
     // What comes to a lane with its answer.
     fn show_coming(&mut self, lane: Lane, gain: Gain) -> Result<(), NoMemory>
-        ensures { OnOk result (self.new ≡ record self.old { shapes = self.old.shapes ++ came lane gain self.old }) }
+        ensures { OnOk result
+            (self.new ≡ record self.old { shapes = self.old.shapes ++ came lane gain self.old }) }
     {
         let now = self.time;
         match gain {
@@ -740,7 +741,7 @@ impl<'t> Scene<'t> {
     }
 
     fn close(&mut self) -> Result<(), NoMemory>
-        ensures { OnOk result (self.new ≡ closed self.old) }
+        ensures { OnOk result (self.new ≡ with_closing self.old) }
     {
         let nth = self.closings;
         let at = self.time;
@@ -802,9 +803,9 @@ impl<'t> Scene<'t> {
     }
 
     /// What a line tells is known now.
-    #[tactic(auto, unfolding(crate::specs::Steps::told))]
+    #[tactic(auto, unfolding(crate::specs::Steps::told_entry))]
     pub fn tell(&mut self, entry: Entry) -> Result<(), NoMemory>
-        ensures { OnOk result (self.new ≡ told entry self.old) }
+        ensures { OnOk result (self.new ≡ told_entry entry self.old) }
     {
         self.shapes.clear();
         if self.is_past(entry) {

@@ -12,7 +12,8 @@ use lwp_types::{Answer, Func, IdKind, IdList, LwpErr, NoMemory, Text, Tid};
 
 // The numbers of a list, each behind a space and a letter.
 fn add_ids(out: &mut Vec<u8>, letter: u8, list: &IdList) -> Result<(), NoMemory>
-    ensures { OnOk result (out.new.items ≡ out.old.items ++ flat_map (λ n. 32 ∷ id_text (letter ∷ []) n) list.now) }
+    ensures { OnOk result
+        (out.new.items ≡ out.old.items ++ flat_map (λ n. 32 ∷ id_text (letter ∷ []) n) list.now) }
 {
     for i in 0..list.len() {
         add_word_id(out, b" ", letter, list.get(i))?;
@@ -21,13 +22,14 @@ fn add_ids(out: &mut Vec<u8>, letter: u8, list: &IdList) -> Result<(), NoMemory>
 }
 
 fn add_id_list(out: &mut Vec<u8>, kind: IdKind, list: &IdList) -> Result<(), NoMemory>
-    ensures { OnOk result (out.new.items ≡ out.old.items ++ (codes " = ids" ++ ids_text kind list.now)) }
+    ensures { OnOk result
+        (out.new.items ≡ out.old.items ++ (codes " = ids" ++ ids_text kind list.now)) }
 {
     add_word(out, b" = ids")?;
     match kind {
         IdKind::Thread => add_ids(out, b't', list),
         IdKind::Monitor => add_ids(out, b'm', list),
-        IdKind::Cond => add_ids(out, b'c', list),
+        IdKind::Condition => add_ids(out, b'c', list),
     }
 }
 
@@ -40,7 +42,9 @@ fn add_letter(
     room: u8,
 ) -> Result<(), NoMemory>
     requires { at + 64 ≤ length out.old.items }
-    ensures { OnOk result (out.new.items ≡ take at out.old.items ++ ended_line (answer_text (Answer.Letter from text.now room))) }
+    ensures { OnOk result
+        (out.new.items
+        ≡ take at out.old.items ++ ended_line (answer_text (Answer.Letter from text.now room))) }
 {
     let row = out.as_mut_slice();
     let next = put_word_id(row, at, b" = letter ", b't', from.number);
@@ -52,7 +56,8 @@ fn add_letter(
 
 fn add_bound(out: &mut Vec<u8>, at: usize, func: Func, arg: u32) -> Result<(), NoMemory>
     requires { at + 64 ≤ length out.old.items }
-    ensures { OnOk result (out.new.items ≡ take at out.old.items ++ ended_line (answer_text (Answer.Bound func arg))) }
+    ensures { OnOk result
+        (out.new.items ≡ take at out.old.items ++ ended_line (answer_text (Answer.Bound func arg))) }
 {
     let row = out.as_mut_slice();
     let word = put_word(row, at, b" = bound ");
@@ -65,7 +70,9 @@ fn add_bound(out: &mut Vec<u8>, at: usize, func: Func, arg: u32) -> Result<(), N
 #[inline(never)]
 fn add_ids_line(out: &mut Vec<u8>, at: usize, kind: IdKind, list: &IdList) -> Result<(), NoMemory>
     requires { at + 64 ≤ length out.old.items }
-    ensures { OnOk result (out.new.items ≡ take at out.old.items ++ ended_line (answer_text (Answer.Ids kind list.now))) }
+    ensures { OnOk result
+        (out.new.items
+        ≡ take at out.old.items ++ ended_line (answer_text (Answer.Ids kind list.now))) }
 {
     out.truncate(at);
     add_id_list(out, kind, list)?;
@@ -75,7 +82,8 @@ fn add_ids_line(out: &mut Vec<u8>, at: usize, kind: IdKind, list: &IdList) -> Re
 #[inline(never)]
 fn add_negative(out: &mut Vec<u8>, at: usize, value: i64) -> Result<(), NoMemory>
     requires { at + 64 ≤ length out.old.items }
-    ensures { OnOk result (out.new.items ≡ take at out.old.items ++ ended_line (answer_text (Answer.Value value))) }
+    ensures { OnOk result
+        (out.new.items ≡ take at out.old.items ++ ended_line (answer_text (Answer.Value value))) }
 {
     let mut buffer = Buffer::new();
     out.truncate(at);
@@ -87,7 +95,8 @@ fn add_negative(out: &mut Vec<u8>, at: usize, value: i64) -> Result<(), NoMemory
 #[inline(always)]
 fn add_value(out: &mut Vec<u8>, at: usize, value: i64) -> Result<(), NoMemory>
     requires { at + 64 ≤ length out.old.items }
-    ensures { OnOk result (out.new.items ≡ take at out.old.items ++ ended_line (answer_text (Answer.Value value))) }
+    ensures { OnOk result
+        (out.new.items ≡ take at out.old.items ++ ended_line (answer_text (Answer.Value value))) }
 {
     if value < 0 {
         return add_negative(out, at, value);
@@ -102,7 +111,9 @@ fn add_value(out: &mut Vec<u8>, at: usize, value: i64) -> Result<(), NoMemory>
 #[inline(always)]
 fn add_one(out: &mut Vec<u8>, at: usize, letter: u8, n: u64) -> Result<(), NoMemory>
     requires { at + 64 ≤ length out.old.items }
-    ensures { OnOk result (out.new.items ≡ take at out.old.items ++ ended_line (codes " = " ++ id_text (letter ∷ []) n)) }
+    ensures { OnOk result
+        (out.new.items
+        ≡ take at out.old.items ++ ended_line (codes " = " ++ id_text (letter ∷ []) n)) }
 {
     let end = put_word_id(out.as_mut_slice(), at, b" = ", letter, n);
     end_line(out, end);
@@ -112,7 +123,8 @@ fn add_one(out: &mut Vec<u8>, at: usize, letter: u8, n: u64) -> Result<(), NoMem
 #[inline(always)]
 fn add_caught(out: &mut Vec<u8>, at: usize, pattern: u32) -> Result<(), NoMemory>
     requires { at + 64 ≤ length out.old.items }
-    ensures { OnOk result (out.new.items ≡ take at out.old.items ++ ended_line (codes " caught " ++ decimal pattern)) }
+    ensures { OnOk result
+        (out.new.items ≡ take at out.old.items ++ ended_line (codes " caught " ++ decimal pattern)) }
 {
     let end = put_word_number(out.as_mut_slice(), at, b" caught ", pattern);
     end_line(out, end);
@@ -121,7 +133,8 @@ fn add_caught(out: &mut Vec<u8>, at: usize, pattern: u32) -> Result<(), NoMemory
 
 fn add_refusal(out: &mut Vec<u8>, at: usize, error: LwpErr) -> Result<(), NoMemory>
     requires { at + 64 ≤ length out.old.items }
-    ensures { OnOk result (out.new.items ≡ take at out.old.items ++ ended_line (answer_text (Answer.Refused error))) }
+    ensures { OnOk result
+        (out.new.items ≡ take at out.old.items ++ ended_line (answer_text (Answer.Refused error))) }
 {
     let row = out.as_mut_slice();
     let next = put_word(row, at, b" ! ");
@@ -133,7 +146,8 @@ fn add_refusal(out: &mut Vec<u8>, at: usize, error: LwpErr) -> Result<(), NoMemo
 #[inline(never)]
 fn add_reply(out: &mut Vec<u8>, at: usize, reply: &Text) -> Result<(), NoMemory>
     requires { at + 64 ≤ length out.old.items }
-    ensures { OnOk result (out.new.items ≡ take at out.old.items ++ ended_line (answer_text (Answer.Reply reply.now))) }
+    ensures { OnOk result
+        (out.new.items ≡ take at out.old.items ++ ended_line (answer_text (Answer.Reply reply.now))) }
 {
     let end = put_word(out.as_mut_slice(), at, b" = reply");
     out.truncate(end);
@@ -145,13 +159,14 @@ fn add_reply(out: &mut Vec<u8>, at: usize, reply: &Text) -> Result<(), NoMemory>
 #[inline(never)]
 fn add_any_answer(out: &mut Vec<u8>, at: usize, answer: &Answer) -> Result<(), NoMemory>
     requires { at + 64 ≤ length out.old.items }
-    ensures { OnOk result (out.new.items ≡ take at out.old.items ++ ended_line (answer_text answer.now)) }
+    ensures { OnOk result
+        (out.new.items ≡ take at out.old.items ++ ended_line (answer_text answer.now)) }
 {
     match answer {
         Answer::Value(value) => add_value(out, at, *value),
         Answer::Thread(tid) => add_one(out, at, b't', tid.number),
         Answer::Monitor(mon) => add_one(out, at, b'm', mon.number),
-        Answer::Cond(cond) => add_one(out, at, b'c', cond.number),
+        Answer::Condition(cond) => add_one(out, at, b'c', cond.number),
         Answer::Letter { from, text, room } => add_letter(out, at, *from, text, *room),
         Answer::Reply(text) => add_reply(out, at, text),
         Answer::Bound { func, arg } => add_bound(out, at, *func, *arg),
@@ -169,7 +184,8 @@ fn add_any_answer(out: &mut Vec<u8>, at: usize, answer: &Answer) -> Result<(), N
 #[inline(always)]
 pub(crate) fn add_answer(out: &mut Vec<u8>, at: usize, answer: &Answer) -> Result<(), NoMemory>
     requires { at + 64 ≤ length out.old.items }
-    ensures { OnOk result (out.new.items ≡ take at out.old.items ++ ended_line (answer_text answer.now)) }
+    ensures { OnOk result
+        (out.new.items ≡ take at out.old.items ++ ended_line (answer_text answer.now)) }
 {
     match answer {
         Answer::Value(value) => add_value(out, at, *value),

@@ -1,7 +1,7 @@
 // What threads call, and what exit procedures do.
 ghost use Rattle.std.specs.Prelude.{◌≡◌, ◌≤◌, ◌+◌, ◌++◌, ◌∷◌, [], OnOk, Some, None, length, take};
 ghost use Rattle.std.specs.Fmt.{decimal};
-ghost use Rattle.lwp_types.specs.Families.{agent_call, letter_call, life_call, lock_call, mark_call, number_call, turn_call, wait_call};
+ghost use Rattle.lwp_types.specs.Families.{agent_call, condition_call, exception_call, message_call, monitor_call, pod_call, thread_call, turn_call};
 ghost use Rattle.trace_text.specs.Lines.{ended_line, exit_text, call_text, id_text, who_text};
 
 use crate::rows::{
@@ -12,8 +12,8 @@ use crate::words::{
     add_word_text, add_word_who, add_word_who_text,
 };
 use lwp_types::{
-    AgentCall, Call, ExitCall, Family, Flags, Func, LetterCall, LifeCall, LockCall, MarkCall, Mode,
-    NoMemory, NumberCall, Pattern, Text, Tid, TurnCall, WaitCall,
+    AgentCall, Call, ConditionCall, ExceptionCall, ExitCall, Family, Flags, Func, MessageCall,
+    Mode, MonitorCall, NoMemory, Pattern, PodCall, Text, ThreadCall, Tid, TurnCall,
 };
 use text_list::TextList;
 
@@ -136,40 +136,40 @@ fn put_turn(row: &mut [u8], at: usize, me: Option<Tid>, call: TurnCall) -> usize
 }
 
 #[inline(always)]
-fn put_lock(row: &mut [u8], at: usize, call: LockCall) -> usize
+fn put_lock(row: &mut [u8], at: usize, call: MonitorCall) -> usize
     requires { at + 60 ≤ length row.old }
     ensures len { length row.new ≡ length row.old }
     ensures end { result ≤ at + 60 }
-    ensures text { take result row.new ≡ take at row.old ++ call_text [] None (lock_call call) }
+    ensures text { take result row.new ≡ take at row.old ++ call_text [] None (monitor_call call) }
 {
     match call {
-        LockCall::Create => put_word(row, at, b"moncreate"),
-        LockCall::Destroy(mon) => put_word_id(row, at, b"mondestroy ", b'm', mon.number),
-        LockCall::Enter(mon) => put_word_id(row, at, b"enter ", b'm', mon.number),
-        LockCall::CondEnter(mon) => put_word_id(row, at, b"condenter ", b'm', mon.number),
-        LockCall::Exit(mon) => put_word_id(row, at, b"monexit ", b'm', mon.number),
-        LockCall::Break(mon) => put_word_id(row, at, b"monbreak ", b'm', mon.number),
-        LockCall::List => put_word(row, at, b"monitors"),
-        LockCall::Waiters(mon) => put_word_id(row, at, b"monwaiters ", b'm', mon.number),
+        MonitorCall::Create => put_word(row, at, b"moncreate"),
+        MonitorCall::Destroy(mon) => put_word_id(row, at, b"mondestroy ", b'm', mon.number),
+        MonitorCall::Enter(mon) => put_word_id(row, at, b"enter ", b'm', mon.number),
+        MonitorCall::CondEnter(mon) => put_word_id(row, at, b"condenter ", b'm', mon.number),
+        MonitorCall::Exit(mon) => put_word_id(row, at, b"monexit ", b'm', mon.number),
+        MonitorCall::Break(mon) => put_word_id(row, at, b"monbreak ", b'm', mon.number),
+        MonitorCall::List => put_word(row, at, b"monitors"),
+        MonitorCall::Waiters(mon) => put_word_id(row, at, b"monwaiters ", b'm', mon.number),
     }
 }
 
 #[inline(always)]
-fn put_wait(row: &mut [u8], at: usize, me: Option<Tid>, call: WaitCall) -> usize
+fn put_wait(row: &mut [u8], at: usize, me: Option<Tid>, call: ConditionCall) -> usize
     requires { at + 60 ≤ length row.old }
     ensures len { length row.new ≡ length row.old }
     ensures end { result ≤ at + 60 }
-    ensures text { take result row.new ≡ take at row.old ++ call_text [] me (wait_call call) }
+    ensures text { take result row.new ≡ take at row.old ++ call_text [] me (condition_call call) }
 {
     match call {
-        WaitCall::Create(mon) => put_word_id(row, at, b"cvcreate ", b'm', mon.number),
-        WaitCall::Destroy(cond) => put_word_id(row, at, b"cvdestroy ", b'c', cond.number),
-        WaitCall::Wait(cond) => put_word_id(row, at, b"wait ", b'c', cond.number),
-        WaitCall::Notify(cond) => put_word_id(row, at, b"notify ", b'c', cond.number),
-        WaitCall::Broadcast(cond) => put_word_id(row, at, b"broadcast ", b'c', cond.number),
-        WaitCall::Send(cond, tid) => put_cond_send(row, at, me, cond.number, tid),
-        WaitCall::List => put_word(row, at, b"conditions"),
-        WaitCall::Waiters(cond) => put_word_id(row, at, b"cvwaiters ", b'c', cond.number),
+        ConditionCall::Create(mon) => put_word_id(row, at, b"cvcreate ", b'm', mon.number),
+        ConditionCall::Destroy(cond) => put_word_id(row, at, b"cvdestroy ", b'c', cond.number),
+        ConditionCall::Wait(cond) => put_word_id(row, at, b"wait ", b'c', cond.number),
+        ConditionCall::Notify(cond) => put_word_id(row, at, b"notify ", b'c', cond.number),
+        ConditionCall::Broadcast(cond) => put_word_id(row, at, b"broadcast ", b'c', cond.number),
+        ConditionCall::Send(cond, tid) => put_cond_send(row, at, me, cond.number, tid),
+        ConditionCall::List => put_word(row, at, b"conditions"),
+        ConditionCall::Waiters(cond) => put_word_id(row, at, b"cvwaiters ", b'c', cond.number),
     }
 }
 
@@ -199,7 +199,10 @@ fn add_create(
     flags: Flags,
 ) -> Result<(), NoMemory>
     requires { at + 64 ≤ length out.old.items }
-    ensures { OnOk result (out.new.items ≡ take at out.old.items ++ ended_line (call_text procs.now None (Call.Create number prio flags))) }
+    ensures { OnOk result
+        (out.new.items
+        ≡ take at out.old.items
+        ++ ended_line (call_text procs.now None (Call.Create number prio flags))) }
 {
     out.truncate(at);
     add_word(out, b"create ")?;
@@ -220,7 +223,9 @@ fn add_send(
     text: &Text,
 ) -> Result<(), NoMemory>
     requires { at + 64 ≤ length out.old.items }
-    ensures { OnOk result (out.new.items ≡ take at out.old.items ++ ended_line (call_text [] me (Call.Send to room text.now))) }
+    ensures { OnOk result
+        (out.new.items
+        ≡ take at out.old.items ++ ended_line (call_text [] me (Call.Send to room text.now))) }
 {
     let row = out.as_mut_slice();
     let next = put_word_who(row, at, b"send ", me, to);
@@ -239,7 +244,9 @@ fn add_reply(
     text: &Text,
 ) -> Result<(), NoMemory>
     requires { at + 64 ≤ length out.old.items }
-    ensures { OnOk result (out.new.items ≡ take at out.old.items ++ ended_line (call_text [] me (Call.Reply to text.now))) }
+    ensures { OnOk result
+        (out.new.items
+        ≡ take at out.old.items ++ ended_line (call_text [] me (Call.Reply to text.now))) }
 {
     let end = put_word_who(out.as_mut_slice(), at, b"reply ", me, to);
     out.truncate(end);
@@ -250,7 +257,8 @@ fn add_reply(
 #[inline(never)]
 fn add_say(out: &mut Vec<u8>, at: usize, text: &Text) -> Result<(), NoMemory>
     requires { at + 64 ≤ length out.old.items }
-    ensures { OnOk result (out.new.items ≡ take at out.old.items ++ ended_line (call_text [] None (Call.Say text.now))) }
+    ensures { OnOk result
+        (out.new.items ≡ take at out.old.items ++ ended_line (call_text [] None (Call.Say text.now))) }
 {
     out.truncate(at);
     add_word_text(out, b"say", text)?;
@@ -265,7 +273,9 @@ fn add_handle(
     arg: u32,
 ) -> Result<(), NoMemory>
     requires { at + 64 ≤ length out.old.items }
-    ensures { OnOk result (out.new.items ≡ take at out.old.items ++ ended_line (call_text [] None (Call.Handle pattern func arg))) }
+    ensures { OnOk result
+        (out.new.items
+        ≡ take at out.old.items ++ ended_line (call_text [] None (Call.Handle pattern func arg))) }
 {
     let row = out.as_mut_slice();
     let word = put_word(row, at, b"handle ");
@@ -285,7 +295,9 @@ fn add_call_procedure(
     number: u32,
 ) -> Result<(), NoMemory>
     requires { at + 64 ≤ length out.old.items }
-    ensures { OnOk result (out.new.items ≡ take at out.old.items ++ ended_line (call_text procs.now None (Call.CallProc number))) }
+    ensures { OnOk result
+        (out.new.items
+        ≡ take at out.old.items ++ ended_line (call_text procs.now None (Call.CallProc number))) }
 {
     out.truncate(at);
     add_word(out, b"call ")?;
@@ -301,7 +313,9 @@ fn add_on_exit(
     call: &ExitCall,
 ) -> Result<(), NoMemory>
     requires { at + 64 ≤ length out.old.items }
-    ensures { OnOk result (out.new.items ≡ take at out.old.items ++ ended_line (call_text [] me (Call.OnExit call.now))) }
+    ensures { OnOk result
+        (out.new.items
+        ≡ take at out.old.items ++ ended_line (call_text [] me (Call.OnExit call.now))) }
 {
     out.truncate(at);
     add_word(out, b"onexit ")?;
@@ -330,7 +344,8 @@ fn add_named(
 ) -> Result<(), NoMemory>
     requires room { at + 64 ≤ length out.old.items }
     requires short { length word.now ≤ 12 }
-    ensures { OnOk result (out.new.items ≡ take at out.old.items ++ ended_line (word.now ++ who_text me tid)) }
+    ensures { OnOk result
+        (out.new.items ≡ take at out.old.items ++ ended_line (word.now ++ who_text me tid)) }
 {
     let end = put_word_who(out.as_mut_slice(), at, word, me, tid);
     end_line(out, end);
@@ -341,7 +356,8 @@ fn add_named(
 fn add_numbered(out: &mut Vec<u8>, at: usize, word: &[u8], n: u32) -> Result<(), NoMemory>
     requires room { at + 64 ≤ length out.old.items }
     requires short { length word.now ≤ 12 }
-    ensures { OnOk result (out.new.items ≡ take at out.old.items ++ ended_line (word.now ++ decimal n)) }
+    ensures { OnOk result
+        (out.new.items ≡ take at out.old.items ++ ended_line (word.now ++ decimal n)) }
 {
     let end = put_word_number(out.as_mut_slice(), at, word, n);
     end_line(out, end);
@@ -349,38 +365,41 @@ fn add_numbered(out: &mut Vec<u8>, at: usize, word: &[u8], n: u32) -> Result<(),
 }
 
 #[inline(always)]
-fn add_life(
+fn add_thread_call(
     out: &mut Vec<u8>,
     at: usize,
     procs: &TextList,
     me: Option<Tid>,
-    call: LifeCall,
+    call: ThreadCall,
 ) -> Result<(), NoMemory>
     requires { at + 64 ≤ length out.old.items }
-    ensures { OnOk result (out.new.items ≡ take at out.old.items ++ ended_line (call_text procs.now me (life_call call))) }
+    ensures { OnOk result
+        (out.new.items
+        ≡ take at out.old.items ++ ended_line (call_text procs.now me (thread_call call))) }
 {
     match call {
-        LifeCall::Create(number, prio, flags) => add_create(out, at, procs, number, prio, flags),
-        LifeCall::Destroy(tid) => add_named(out, at, b"destroy ", me, tid),
-        LifeCall::Ping(tid) => add_named(out, at, b"ping ", me, tid),
-        LifeCall::Join(tid) => add_named(out, at, b"join ", me, tid),
-        LifeCall::Sleep(ticks) => add_numbered(out, at, b"sleep ", ticks),
-        LifeCall::Threads => add_plain(out, at, b"threads"),
+        ThreadCall::Create(number, prio, flags) => add_create(out, at, procs, number, prio, flags),
+        ThreadCall::Destroy(tid) => add_named(out, at, b"destroy ", me, tid),
+        ThreadCall::Ping(tid) => add_named(out, at, b"ping ", me, tid),
+        ThreadCall::Join(tid) => add_named(out, at, b"join ", me, tid),
+        ThreadCall::Sleep(ticks) => add_numbered(out, at, b"sleep ", ticks),
+        ThreadCall::Threads => add_plain(out, at, b"threads"),
     }
 }
 
 #[inline(always)]
-fn add_number_call(out: &mut Vec<u8>, at: usize, call: &NumberCall) -> Result<(), NoMemory>
+fn add_pod_call(out: &mut Vec<u8>, at: usize, call: &PodCall) -> Result<(), NoMemory>
     requires { at + 64 ≤ length out.old.items }
-    ensures { OnOk result (out.new.items ≡ take at out.old.items ++ ended_line (call_text [] None (number_call call.now))) }
+    ensures { OnOk result
+        (out.new.items ≡ take at out.old.items ++ ended_line (call_text [] None (pod_call call.now))) }
 {
     match call {
-        NumberCall::Me => add_plain(out, at, b"self"),
-        NumberCall::SetMaxPri(prio) => add_numbered(out, at, b"setmaxpri ", *prio),
-        NumberCall::SetExit(code) => add_numbered(out, at, b"setexit ", *code),
-        NumberCall::GetExit => add_plain(out, at, b"getexit"),
-        NumberCall::PodExit(code) => add_numbered(out, at, b"podexit ", *code),
-        NumberCall::Say(text) => add_say(out, at, text),
+        PodCall::Me => add_plain(out, at, b"self"),
+        PodCall::SetMaxPri(prio) => add_numbered(out, at, b"setmaxpri ", *prio),
+        PodCall::SetExit(code) => add_numbered(out, at, b"setexit ", *code),
+        PodCall::GetExit => add_plain(out, at, b"getexit"),
+        PodCall::PodExit(code) => add_numbered(out, at, b"podexit ", *code),
+        PodCall::Say(text) => add_say(out, at, text),
     }
 }
 
@@ -393,7 +412,8 @@ fn add_receive(
     mode: Mode,
 ) -> Result<(), NoMemory>
     requires { at + 64 ≤ length out.old.items }
-    ensures { OnOk result (out.new.items ≡ take at out.old.items ++ ended_line (call_text [] me (Call.Recv from mode))) }
+    ensures { OnOk result
+        (out.new.items ≡ take at out.old.items ++ ended_line (call_text [] me (Call.Recv from mode))) }
 {
     let end = put_receive(out.as_mut_slice(), at, me, from, mode);
     end_line(out, end);
@@ -401,52 +421,62 @@ fn add_receive(
 }
 
 #[inline(always)]
-fn add_letter_call(
+fn add_message_call(
     out: &mut Vec<u8>,
     at: usize,
     me: Option<Tid>,
-    call: &LetterCall,
+    call: &MessageCall,
 ) -> Result<(), NoMemory>
     requires { at + 64 ≤ length out.old.items }
-    ensures { OnOk result (out.new.items ≡ take at out.old.items ++ ended_line (call_text [] me (letter_call call.now))) }
+    ensures { OnOk result
+        (out.new.items
+        ≡ take at out.old.items ++ ended_line (call_text [] me (message_call call.now))) }
 {
     match call {
-        LetterCall::Send(to, room, text) => add_send(out, at, me, *to, *room, text),
-        LetterCall::Recv(from, mode) => add_receive(out, at, me, *from, *mode),
-        LetterCall::Reply(to, text) => add_reply(out, at, me, *to, text),
-        LetterCall::Senders => add_plain(out, at, b"senders"),
-        LetterCall::Receivers => add_plain(out, at, b"receivers"),
+        MessageCall::Send(to, room, text) => add_send(out, at, me, *to, *room, text),
+        MessageCall::Recv(from, mode) => add_receive(out, at, me, *from, *mode),
+        MessageCall::Reply(to, text) => add_reply(out, at, me, *to, text),
+        MessageCall::Senders => add_plain(out, at, b"senders"),
+        MessageCall::Receivers => add_plain(out, at, b"receivers"),
     }
 }
 
 #[inline(always)]
-fn add_mark(
+fn add_exception_call(
     out: &mut Vec<u8>,
     at: usize,
     procs: &TextList,
     me: Option<Tid>,
-    call: &MarkCall,
+    call: &ExceptionCall,
 ) -> Result<(), NoMemory>
     requires { at + 64 ≤ length out.old.items }
-    ensures { OnOk result (out.new.items ≡ take at out.old.items ++ ended_line (call_text procs.now me (mark_call call.now))) }
+    ensures { OnOk result
+        (out.new.items
+        ≡ take at out.old.items ++ ended_line (call_text procs.now me (exception_call call.now))) }
 {
     match call {
-        MarkCall::CallProc(number) => add_call_procedure(out, at, procs, *number),
-        MarkCall::Return => add_plain(out, at, b"return"),
-        MarkCall::Handle(pattern, func, arg) => add_handle(out, at, *pattern, *func, *arg),
-        MarkCall::Unhandle => add_plain(out, at, b"unhandle"),
-        MarkCall::OnExit(call) => add_on_exit(out, at, me, call),
-        MarkCall::Raise(pattern) => add_numbered(out, at, b"raise ", *pattern),
-        MarkCall::ExcNotify(pattern) => add_numbered(out, at, b"excnotify ", *pattern),
-        MarkCall::Bound(pattern) => add_numbered(out, at, b"bound ", *pattern),
-        MarkCall::UniqPatt => add_plain(out, at, b"uniqpatt"),
+        ExceptionCall::CallProc(number) => add_call_procedure(out, at, procs, *number),
+        ExceptionCall::Return => add_plain(out, at, b"return"),
+        ExceptionCall::Handle(pattern, func, arg) => add_handle(out, at, *pattern, *func, *arg),
+        ExceptionCall::Unhandle => add_plain(out, at, b"unhandle"),
+        ExceptionCall::OnExit(call) => add_on_exit(out, at, me, call),
+        ExceptionCall::Raise(pattern) => add_numbered(out, at, b"raise ", *pattern),
+        ExceptionCall::ExcNotify(pattern) => add_numbered(out, at, b"excnotify ", *pattern),
+        ExceptionCall::Bound(pattern) => add_numbered(out, at, b"bound ", *pattern),
+        ExceptionCall::UniqPatt => add_plain(out, at, b"uniqpatt"),
     }
 }
 
 #[inline(always)]
-fn add_turn(out: &mut Vec<u8>, at: usize, me: Option<Tid>, call: TurnCall) -> Result<(), NoMemory>
+fn add_turn_call(
+    out: &mut Vec<u8>,
+    at: usize,
+    me: Option<Tid>,
+    call: TurnCall,
+) -> Result<(), NoMemory>
     requires { at + 64 ≤ length out.old.items }
-    ensures { OnOk result (out.new.items ≡ take at out.old.items ++ ended_line (call_text [] me (turn_call call))) }
+    ensures { OnOk result
+        (out.new.items ≡ take at out.old.items ++ ended_line (call_text [] me (turn_call call))) }
 {
     let end = put_turn(out.as_mut_slice(), at, me, call);
     end_line(out, end);
@@ -454,9 +484,10 @@ fn add_turn(out: &mut Vec<u8>, at: usize, me: Option<Tid>, call: TurnCall) -> Re
 }
 
 #[inline(always)]
-fn add_lock(out: &mut Vec<u8>, at: usize, call: LockCall) -> Result<(), NoMemory>
+fn add_monitor_call(out: &mut Vec<u8>, at: usize, call: MonitorCall) -> Result<(), NoMemory>
     requires { at + 64 ≤ length out.old.items }
-    ensures { OnOk result (out.new.items ≡ take at out.old.items ++ ended_line (call_text [] None (lock_call call))) }
+    ensures { OnOk result
+        (out.new.items ≡ take at out.old.items ++ ended_line (call_text [] None (monitor_call call))) }
 {
     let end = put_lock(out.as_mut_slice(), at, call);
     end_line(out, end);
@@ -464,9 +495,15 @@ fn add_lock(out: &mut Vec<u8>, at: usize, call: LockCall) -> Result<(), NoMemory
 }
 
 #[inline(always)]
-fn add_wait(out: &mut Vec<u8>, at: usize, me: Option<Tid>, call: WaitCall) -> Result<(), NoMemory>
+fn add_condition_call(
+    out: &mut Vec<u8>,
+    at: usize,
+    me: Option<Tid>,
+    call: ConditionCall,
+) -> Result<(), NoMemory>
     requires { at + 64 ≤ length out.old.items }
-    ensures { OnOk result (out.new.items ≡ take at out.old.items ++ ended_line (call_text [] me (wait_call call))) }
+    ensures { OnOk result
+        (out.new.items ≡ take at out.old.items ++ ended_line (call_text [] me (condition_call call))) }
 {
     let end = put_wait(out.as_mut_slice(), at, me, call);
     end_line(out, end);
@@ -476,7 +513,8 @@ fn add_wait(out: &mut Vec<u8>, at: usize, me: Option<Tid>, call: WaitCall) -> Re
 #[inline(always)]
 fn add_agent_call(out: &mut Vec<u8>, at: usize, call: AgentCall) -> Result<(), NoMemory>
     requires { at + 64 ≤ length out.old.items }
-    ensures { OnOk result (out.new.items ≡ take at out.old.items ++ ended_line (call_text [] None (agent_call call))) }
+    ensures { OnOk result
+        (out.new.items ≡ take at out.old.items ++ ended_line (call_text [] None (agent_call call))) }
 {
     let end = put_agent_call(out.as_mut_slice(), at, call);
     end_line(out, end);
@@ -492,17 +530,19 @@ pub(crate) fn add_call(
     call: &Call,
 ) -> Result<(), NoMemory>
     requires { at + 64 ≤ length out.old.items }
-    ensures { OnOk result (out.new.items ≡ take at out.old.items ++ ended_line (call_text procs.now (Some me) call.now)) }
+    ensures { OnOk result
+        (out.new.items
+        ≡ take at out.old.items ++ ended_line (call_text procs.now (Some me) call.now)) }
 {
     let caller = Some(me);
     match call.family() {
-        Family::Lives(call) => add_life(out, at, procs, caller, call),
-        Family::Turns(call) => add_turn(out, at, caller, call),
-        Family::Numbers(call) => add_number_call(out, at, &call),
-        Family::Letters(call) => add_letter_call(out, at, caller, &call),
-        Family::Locks(call) => add_lock(out, at, call),
-        Family::Waits(call) => add_wait(out, at, caller, call),
-        Family::Marks(call) => add_mark(out, at, procs, caller, &call),
+        Family::Threads(call) => add_thread_call(out, at, procs, caller, call),
+        Family::Turns(call) => add_turn_call(out, at, caller, call),
+        Family::Pod(call) => add_pod_call(out, at, &call),
+        Family::Messages(call) => add_message_call(out, at, caller, &call),
+        Family::Monitors(call) => add_monitor_call(out, at, call),
+        Family::Conditions(call) => add_condition_call(out, at, caller, call),
+        Family::Exceptions(call) => add_exception_call(out, at, procs, caller, &call),
         Family::Agents(call) => add_agent_call(out, at, call),
     }
 }

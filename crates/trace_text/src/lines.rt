@@ -18,7 +18,8 @@ fn put_poster(row: &mut [u8], at: usize, line: &Line) -> usize
     requires { at + 60 ≤ length row.old }
     ensures len { length row.new ≡ length row.old }
     ensures end { result ≤ at + 60 }
-    ensures text { take result row.new ++ spaced line.now.text ≡ take at row.old ++ posted_text line.now }
+    ensures text { take result row.new ++ spaced line.now.text
+        ≡ take at row.old ++ posted_text line.now }
 {
     let next = put_word_number(row, at, b" client ", u32::from(line.client));
     put_word_number(row, next, b" seq ", line.seq)
@@ -53,7 +54,9 @@ fn add_tick(out: &mut Vec<u8>, now: u64, line: &Line) -> Result<(), NoMemory>
 
 #[inline(always)]
 fn add_called(out: &mut Vec<u8>, procs: &TextList, tid: Tid, call: &Call) -> Result<(), NoMemory>
-    ensures { OnOk result (out.new.items ≡ out.old.items ++ ended_line (line_text procs.now None (Effect.Called tid call.now))) }
+    ensures { OnOk result
+        (out.new.items
+        ≡ out.old.items ++ ended_line (line_text procs.now None (Effect.Called tid call.now))) }
 {
     let from = open(out)?;
     let row = out.as_mut_slice();
@@ -64,7 +67,9 @@ fn add_called(out: &mut Vec<u8>, procs: &TextList, tid: Tid, call: &Call) -> Res
 
 #[inline(always)]
 fn add_answered(out: &mut Vec<u8>, tid: Tid, answer: &Answer) -> Result<(), NoMemory>
-    ensures { OnOk result (out.new.items ≡ out.old.items ++ ended_line (line_text [] None (Effect.Answered tid answer.now))) }
+    ensures { OnOk result
+        (out.new.items
+        ≡ out.old.items ++ ended_line (line_text [] None (Effect.Answered tid answer.now))) }
 {
     let from = open(out)?;
     let at = put_id(out.as_mut_slice(), from, b't', tid.number);
@@ -73,7 +78,10 @@ fn add_answered(out: &mut Vec<u8>, tid: Tid, answer: &Answer) -> Result<(), NoMe
 
 #[inline(never)]
 fn add_exited(out: &mut Vec<u8>, reg: u64, call: &ExitCall, answer: &Answer) -> Result<(), NoMemory>
-    ensures { OnOk result (out.new.items ≡ out.old.items ++ ended_line (line_text [] None (Effect.Exited 0 reg call.now answer.now))) }
+    ensures { OnOk result
+        (out.new.items
+        ≡ out.old.items
+        ++ ended_line (line_text [] None (Effect.Exited 0 reg call.now answer.now))) }
 {
     add_word(out, b"exit x")?;
     add_number(out, reg)?;
@@ -84,7 +92,8 @@ fn add_exited(out: &mut Vec<u8>, reg: u64, call: &ExitCall, answer: &Answer) -> 
 }
 
 fn add_died(out: &mut Vec<u8>, tid: Tid) -> Result<(), NoMemory>
-    ensures { OnOk result (out.new.items ≡ out.old.items ++ ended_line (line_text [] None (Effect.Died tid))) }
+    ensures { OnOk result
+        (out.new.items ≡ out.old.items ++ ended_line (line_text [] None (Effect.Died tid))) }
 {
     let from = open(out)?;
     let row = out.as_mut_slice();
@@ -96,7 +105,8 @@ fn add_died(out: &mut Vec<u8>, tid: Tid) -> Result<(), NoMemory>
 
 #[inline(never)]
 fn add_also(out: &mut Vec<u8>, agent: Tid) -> Result<(), NoMemory>
-    ensures { OnOk result (out.new.items ≡ out.old.items ++ ended_line (delivered_text agent 0 None)) }
+    ensures { OnOk result
+        (out.new.items ≡ out.old.items ++ ended_line (delivered_text agent 0 None)) }
 {
     add_word(out, b"also ")?;
     add_id(out, b't', agent.number)?;
@@ -109,7 +119,9 @@ fn add_delivered(
     event: u8,
     took: Option<&Line>,
 ) -> Result<(), NoMemory>
-    ensures { OnOk result (out.new.items ≡ out.old.items ++ ended_line (delivered_text agent event (option_copied took.entry))) }
+    ensures { OnOk result
+        (out.new.items
+        ≡ out.old.items ++ ended_line (delivered_text agent event (option_copied took.entry))) }
 {
     match took {
         Some(line) => add_taken(out, event, line),
@@ -118,7 +130,8 @@ fn add_delivered(
 }
 
 fn add_ticked(out: &mut Vec<u8>, now: u64, took: Option<&Line>) -> Result<(), NoMemory>
-    ensures { OnOk result (out.new.items ≡ out.old.items ++ ended_line (tick_text now (option_copied took.entry))) }
+    ensures { OnOk result
+        (out.new.items ≡ out.old.items ++ ended_line (tick_text now (option_copied took.entry))) }
 {
     match took {
         Some(line) => add_tick(out, now, line),
@@ -148,7 +161,8 @@ fn add_rites(out: &mut Vec<u8>, agent: Tid, dead: Tid) -> Result<(), NoMemory>
 
 #[inline(never)]
 fn add_end(out: &mut Vec<u8>, status: u8) -> Result<(), NoMemory>
-    ensures { OnOk result (out.new.items ≡ out.old.items ++ ended_line (line_text [] None (Effect.Ended status))) }
+    ensures { OnOk result
+        (out.new.items ≡ out.old.items ++ ended_line (line_text [] None (Effect.Ended status))) }
 {
     add_word_number(out, b"pod ends ", u32::from(status))?;
     add_byte(out, b'\n')
@@ -162,7 +176,9 @@ fn add_ended(
     took: Option<&Line>,
     names: &TextList,
 ) -> Result<(), NoMemory>
-    ensures { OnOk result (out.new.items ≡ out.old.items ++ ended_line (line_text names.now (option_copied took.entry) e.now)) }
+    ensures { OnOk result
+        (out.new.items
+        ≡ out.old.items ++ ended_line (line_text names.now (option_copied took.entry) e.now)) }
 {
     match e {
         Effect::Called { tid, call } => add_called(out, names, *tid, call),
@@ -191,7 +207,9 @@ pub fn add_call_line(
     call: &Call,
     names: &TextList,
 ) -> Result<(), NoMemory>
-    ensures { OnOk result (out.new.items ≡ out.old.items ++ ended_line (line_text names.now None (Effect.Called tid call.now))) }
+    ensures { OnOk result
+        (out.new.items
+        ≡ out.old.items ++ ended_line (line_text names.now None (Effect.Called tid call.now))) }
 {
     add_called(out, names, tid, call)
 }
@@ -206,7 +224,9 @@ pub fn add_step_lines(
     took: Option<&Line>,
     names: &TextList,
 ) -> Result<(), NoMemory>
-    ensures { OnOk result (out.new.items ≡ out.old.items ++ step_lines names.now (option_copied took.entry) effects.now) }
+    ensures { OnOk result
+        (out.new.items
+        ≡ out.old.items ++ step_lines names.now (option_copied took.entry) effects.now) }
 {
     let mut left = took;
     for i in 0..effects.len() {
@@ -223,7 +243,8 @@ pub fn trace_line(
     took: Option<&Line>,
     names: &TextList,
 ) -> Result<Vec<u8>, NoMemory>
-    ensures { IfOk result (λ out. out.items ≡ ended_line (line_text names.now (option_copied took.entry) e.now)) }
+    ensures { IfOk result
+        (λ out. out.items ≡ ended_line (line_text names.now (option_copied took.entry) e.now)) }
 {
     let mut out = Vec::new(alloc);
     add_ended(&mut out, e, took, names)?;

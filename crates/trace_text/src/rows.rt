@@ -60,7 +60,8 @@ fn put_last_three(row: &mut [u8], at: usize, n: u32) -> usize
     requires room { at + 3 ≤ length row.old }
     ensures len { length row.new ≡ length row.old }
     ensures end { result ≡ at + 3 }
-    ensures text { take result row.new ≡ take at row.old ++ (48 + n / 100 % 10) ∷ (48 + n / 10 % 10) ∷ (48 + n % 10) ∷ [] }
+    ensures text { take result row.new
+        ≡ take at row.old ++ (48 + n / 100 % 10) ∷ (48 + n / 10 % 10) ∷ (48 + n % 10) ∷ [] }
 {
     let tens = put_byte(row, at, digit(n / 100 % 10));
     let ones = put_byte(row, tens, digit(n / 10 % 10));

@@ -245,7 +245,8 @@ pub(crate) fn add_word_who_text(
     tid: Tid,
     text: &Text,
 ) -> Result<(), NoMemory>
-    ensures { OnOk result (out.new.items ≡ out.old.items ++ (word.now ++ (who_text me tid ++ spaced text.now))) }
+    ensures { OnOk result
+        (out.new.items ≡ out.old.items ++ (word.now ++ (who_text me tid ++ spaced text.now))) }
 {
     add_word(out, word)?;
     add_who(out, me, tid)?;

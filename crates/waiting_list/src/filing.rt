@@ -121,7 +121,8 @@ pub fn file_next(
     requires sorted { IsSortedOut entries.now.items ranks.old.items arrived.old.items }
     requires ranks_fit { length entries.now.items < deque_capacity ranks.old }
     requires arrived_fit { length entries.now.items < deque_capacity arrived.old }
-    ensures sorted { IsSortedOut (entries.now.items ++ entry.now ∷ []) ranks.new.items arrived.new.items }
+    ensures sorted { IsSortedOut (entries.now.items ++ entry.now ∷ []) ranks.new.items
+        arrived.new.items }
     ensures rank_room { deque_capacity ranks.old ≤ deque_capacity ranks.new }
     ensures arrived_room { deque_capacity arrived.old ≤ deque_capacity arrived.new }
 {
@@ -166,10 +167,12 @@ pub fn refile(
     requires sorted { IsSortedOut entries.now.items ranks.old.items arrived.old.items }
     requires within { at < length entries.now.items }
     requires same_thing { after.now.what ≡ (slice_index_or entries.now.items at after.now).what }
-    requires same_arrival { after.now.arrival ≡ (slice_index_or entries.now.items at after.now).arrival }
+    requires same_arrival { after.now.arrival
+        ≡ (slice_index_or entries.now.items at after.now).arrival }
     requires ranks_fit { length entries.now.items ≤ deque_capacity ranks.old }
     requires arrived_fit { length entries.now.items ≤ deque_capacity arrived.old }
-    ensures sorted { IsSortedOut (slice_set entries.now.items at after.now) ranks.new.items arrived.new.items }
+    ensures sorted { IsSortedOut (slice_set entries.now.items at after.now) ranks.new.items
+        arrived.new.items }
     ensures rank_room { deque_capacity ranks.old ≤ deque_capacity ranks.new }
     ensures arrived_room { deque_capacity arrived.old ≤ deque_capacity arrived.new }
 {

@@ -113,7 +113,8 @@ fn add_within(keys: &mut VecDeque<Key>, key: Key)
     requires sorted { IsSorted keys.old.items }
     requires room { length keys.old.items < deque_capacity keys.old }
     ensures sorted { IsSorted keys.new.items }
-    ensures counts { (k : Key) → count_by (is_key k) keys.new.items ≡ count_by (is_key k) keys.old.items + one (is_key k key) }
+    ensures counts { (k : Key) →
+        count_by (is_key k) keys.new.items ≡ count_by (is_key k) keys.old.items + one (is_key k key) }
     ensures len { length keys.new.items ≡ length keys.old.items + 1 }
     ensures capacity { deque_capacity keys.old ≤ deque_capacity keys.new }
 {
@@ -127,7 +128,8 @@ pub fn add(keys: &mut VecDeque<Key>, key: Key)
     requires sorted { IsSorted keys.old.items }
     requires room { length keys.old.items < deque_capacity keys.old }
     ensures sorted { IsSorted keys.new.items }
-    ensures counts { (k : Key) → count_by (is_key k) keys.new.items ≡ count_by (is_key k) keys.old.items + one (is_key k key) }
+    ensures counts { (k : Key) →
+        count_by (is_key k) keys.new.items ≡ count_by (is_key k) keys.old.items + one (is_key k key) }
     ensures len { length keys.new.items ≡ length keys.old.items + 1 }
     ensures capacity { deque_capacity keys.old ≤ deque_capacity keys.new }
 {
@@ -145,7 +147,8 @@ fn take_within(keys: &mut VecDeque<Key>, key: Key)
     requires sorted { IsSorted keys.old.items }
     requires there { 1 ≤ count_by (is_key key) keys.old.items }
     ensures sorted { IsSorted keys.new.items }
-    ensures counts { (k : Key) → count_by (is_key k) keys.new.items + one (is_key k key) ≡ count_by (is_key k) keys.old.items }
+    ensures counts { (k : Key) →
+        count_by (is_key k) keys.new.items + one (is_key k key) ≡ count_by (is_key k) keys.old.items }
     ensures len { length keys.new.items + 1 ≡ length keys.old.items }
     ensures capacity { deque_capacity keys.new ≡ deque_capacity keys.old }
 {
@@ -159,7 +162,8 @@ pub fn take(keys: &mut VecDeque<Key>, key: Key)
     requires sorted { IsSorted keys.old.items }
     requires there { 1 ≤ count_by (is_key key) keys.old.items }
     ensures sorted { IsSorted keys.new.items }
-    ensures counts { (k : Key) → count_by (is_key k) keys.new.items + one (is_key k key) ≡ count_by (is_key k) keys.old.items }
+    ensures counts { (k : Key) →
+        count_by (is_key k) keys.new.items + one (is_key k key) ≡ count_by (is_key k) keys.old.items }
     ensures len { length keys.new.items + 1 ≡ length keys.old.items }
     ensures capacity { deque_capacity keys.new ≡ deque_capacity keys.old }
 {
@@ -197,7 +201,9 @@ fn replace(keys: &mut VecDeque<Key>, at: usize, key: Key)
     requires sorted { IsSorted (remove keys.old.items at) }
     requires room { length keys.old.items ≤ deque_capacity keys.old }
     ensures sorted { IsSorted keys.new.items }
-    ensures counts { (k : Key) → count_by (is_key k) keys.new.items ≡ count_by (is_key k) (remove keys.old.items at) + one (is_key k key) }
+    ensures counts { (k : Key) →
+        count_by (is_key k) keys.new.items
+        ≡ count_by (is_key k) (remove keys.old.items at) + one (is_key k key) }
     ensures len { length keys.new.items ≡ length keys.old.items }
     ensures capacity { deque_capacity keys.old ≤ deque_capacity keys.new }
 {
@@ -212,7 +218,9 @@ fn go_forward(keys: &mut VecDeque<Key>, from: usize, key: Key)
     requires ahead { IsAhead key keys.old.items from }
     requires room { length keys.old.items ≤ deque_capacity keys.old }
     ensures sorted { IsSorted keys.new.items }
-    ensures counts { (k : Key) → count_by (is_key k) keys.new.items ≡ count_by (is_key k) (remove keys.old.items from) + one (is_key k key) }
+    ensures counts { (k : Key) →
+        count_by (is_key k) keys.new.items
+        ≡ count_by (is_key k) (remove keys.old.items from) + one (is_key k key) }
     ensures len { length keys.new.items ≡ length keys.old.items }
     ensures capacity { deque_capacity keys.old ≤ deque_capacity keys.new }
 {
@@ -235,7 +243,9 @@ fn go_back(keys: &mut VecDeque<Key>, from: usize, key: Key)
     requires behind { IsBehind key keys.old.items from }
     requires room { length keys.old.items ≤ deque_capacity keys.old }
     ensures sorted { IsSorted keys.new.items }
-    ensures counts { (k : Key) → count_by (is_key k) keys.new.items ≡ count_by (is_key k) (remove keys.old.items from) + one (is_key k key) }
+    ensures counts { (k : Key) →
+        count_by (is_key k) keys.new.items
+        ≡ count_by (is_key k) (remove keys.old.items from) + one (is_key k key) }
     ensures len { length keys.new.items ≡ length keys.old.items }
     ensures capacity { deque_capacity keys.old ≤ deque_capacity keys.new }
 {
@@ -268,7 +278,9 @@ fn change_in_piece(keys: &mut VecDeque<Key>, at: usize, after: Key)
     requires sorted { IsSorted keys.old.items }
     requires room { length keys.old.items ≤ deque_capacity keys.old }
     ensures sorted { IsSorted keys.new.items }
-    ensures counts { (k : Key) → count_by (is_key k) keys.new.items ≡ count_by (is_key k) (remove keys.old.items at) + one (is_key k after) }
+    ensures counts { (k : Key) →
+        count_by (is_key k) keys.new.items
+        ≡ count_by (is_key k) (remove keys.old.items at) + one (is_key k after) }
     ensures len { length keys.new.items ≡ length keys.old.items }
     ensures capacity { deque_capacity keys.old ≤ deque_capacity keys.new }
 {
@@ -285,7 +297,9 @@ fn change_in_ring(keys: &mut VecDeque<Key>, at: usize, after: Key)
     requires sorted { IsSorted keys.old.items }
     requires room { length keys.old.items ≤ deque_capacity keys.old }
     ensures sorted { IsSorted keys.new.items }
-    ensures counts { (k : Key) → count_by (is_key k) keys.new.items ≡ count_by (is_key k) (remove keys.old.items at) + one (is_key k after) }
+    ensures counts { (k : Key) →
+        count_by (is_key k) keys.new.items
+        ≡ count_by (is_key k) (remove keys.old.items at) + one (is_key k after) }
     ensures len { length keys.new.items ≡ length keys.old.items }
     ensures capacity { deque_capacity keys.old ≤ deque_capacity keys.new }
 {
@@ -303,7 +317,9 @@ pub fn change(keys: &mut VecDeque<Key>, key: Key, after: Key)
     requires there { 1 ≤ count_by (is_key key) keys.old.items }
     requires room { length keys.old.items ≤ deque_capacity keys.old }
     ensures sorted { IsSorted keys.new.items }
-    ensures counts { (k : Key) → count_by (is_key k) keys.new.items + one (is_key k key) ≡ count_by (is_key k) keys.old.items + one (is_key k after) }
+    ensures counts { (k : Key) →
+        count_by (is_key k) keys.new.items + one (is_key k key)
+        ≡ count_by (is_key k) keys.old.items + one (is_key k after) }
     ensures len { length keys.new.items ≡ length keys.old.items }
     ensures capacity { deque_capacity keys.old ≤ deque_capacity keys.new }
 {

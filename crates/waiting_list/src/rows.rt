@@ -246,7 +246,8 @@ fn tids_filed(
 ) -> Result<IdList, NoMemory>
     requires rising { AreRising (arrivals entries.now.items) }
     requires filed { IsFiled arrival_key entries.now.items arrived.now.items }
-    ensures { IfOk result (λ ids. ids ≡ map (λ e. e.tid) (filter (is_entry_for what) entries.now.items)) }
+    ensures { IfOk result
+        (λ ids. ids ≡ map (λ e. e.tid) (filter (is_entry_for what) entries.now.items)) }
 {
     let mut ids = IdList::new(alloc);
     for at in keys::start_of(arrived, what)..keys::end_of(arrived, what) {
@@ -257,7 +258,8 @@ fn tids_filed(
 
 // The threads that wait for this, of whom all are looked at.
 fn tids_among(alloc: Global, entries: &VecDeque<Entry>, what: u64) -> Result<IdList, NoMemory>
-    ensures { IfOk result (λ ids. ids ≡ map (λ e. e.tid) (filter (is_entry_for what) entries.now.items)) }
+    ensures { IfOk result
+        (λ ids. ids ≡ map (λ e. e.tid) (filter (is_entry_for what) entries.now.items)) }
 {
     let mut ids = IdList::new(alloc);
     for i in 0..entries.len() {
@@ -278,7 +280,8 @@ pub fn tids_for(
     what: u64,
 ) -> Result<IdList, NoMemory>
     requires { IsIndexed entries.now.items ranks.now.items arrived.now.items }
-    ensures { IfOk result (λ ids. ids ≡ map (λ e. e.tid) (filter (is_entry_for what) entries.now.items)) }
+    ensures { IfOk result
+        (λ ids. ids ≡ map (λ e. e.tid) (filter (is_entry_for what) entries.now.items)) }
 {
     if !ranks.is_empty() {
         return tids_filed(alloc, entries, arrived, what);

@@ -39,11 +39,13 @@ pub fn feed_up_to<S: Source, F: Feed>(
     source: &mut S,
 ) -> Result<(), ReadFailure>
     requires { F.has into.old [] }
-    ensures read { OnOk result ((bytes : List ℕ) × HasFront most (S.left source.old) bytes × F.has into.new bytes) }
+    ensures read { OnOk result
+        ((bytes : List ℕ) × HasFront most (S.left source.old) bytes × F.has into.new bytes) }
     ensures up { OnOk result (IsReadUp most (S.left source.old) (S.left source.new)) }
     ensures part { OnErr result (IsReadWithin most (S.left source.old) (S.left source.new)) }
     ensures same { OnOk result (S.faults source.new ≡ S.faults source.old) }
-    ensures fault { IsErrOf result ReadFailure.Fault → Rose (S.faults source.old) (S.faults source.new) }
+    ensures fault { IsErrOf result ReadFailure.Fault →
+        Rose (S.faults source.old) (S.faults source.new) }
     ensures memory { IsErrOf result ReadFailure.NoMemory → S.faults source.new ≡ S.faults source.old }
 {
     let mut total = 0;
@@ -70,7 +72,8 @@ pub fn read_up_to<S: Source>(
     ensures up { OnOk result (IsReadUp most (S.left source.old) (S.left source.new)) }
     ensures part { OnErr result (IsReadWithin most (S.left source.old) (S.left source.new)) }
     ensures same { OnOk result (S.faults source.new ≡ S.faults source.old) }
-    ensures fault { IsErrOf result ReadFailure.Fault → Rose (S.faults source.old) (S.faults source.new) }
+    ensures fault { IsErrOf result ReadFailure.Fault →
+        Rose (S.faults source.old) (S.faults source.new) }
     ensures memory { IsErrOf result ReadFailure.NoMemory → S.faults source.new ≡ S.faults source.old }
 {
     let mut text = Vec::new(alloc);

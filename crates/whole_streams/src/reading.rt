@@ -45,7 +45,8 @@ pub fn read_all<S: Source>(alloc: Global, source: &mut S) -> Result<Vec<u8>, Rea
     ensures read { IfOk result (λ text. HasRead (S.left source.old) (S.left source.new) text.items) }
     ensures part { OnErr result (IsReadPart (S.left source.old) (S.left source.new)) }
     ensures same { OnOk result (S.faults source.new ≡ S.faults source.old) }
-    ensures fault { IsErrOf result ReadFailure.Fault → Rose (S.faults source.old) (S.faults source.new) }
+    ensures fault { IsErrOf result ReadFailure.Fault →
+        Rose (S.faults source.old) (S.faults source.new) }
     ensures memory { IsErrOf result ReadFailure.NoMemory → S.faults source.new ≡ S.faults source.old }
 {
     let mut text = Vec::new(alloc);

@@ -1,10 +1,10 @@
 pub mod Words
 pub mod Threads
 pub mod Ends
-pub mod Letters
-pub mod Locks
-pub mod Waits
-pub mod Marks
+pub mod Messages
+pub mod Monitors
+pub mod Conditions
+pub mod Exceptions
 pub mod Exits
 pub mod Deaths
 pub mod Agents

@@ -8,15 +8,16 @@
 
 pub mod agent_rows;
 pub mod answer_rows;
+pub mod condition_rows;
 pub mod deaths;
 pub mod ends;
+pub mod exception_rows;
 pub mod exits;
 pub mod last_rites;
-pub mod letters;
 pub mod limits;
 pub mod line_rows;
-pub mod locks;
-pub mod marks;
+pub mod message_rows;
+pub mod monitor_rows;
 pub mod next_calls;
 pub mod played;
 pub mod scripts;
@@ -26,4 +27,3 @@ pub mod sleepers;
 pub mod threads;
 pub mod time;
 pub mod traps;
-pub mod waits;

@@ -1,7 +1,7 @@
 // Several agents of one event: whom a line reaches, and when the next one is taken.
 ghost use Rattle.std.specs.Prelude.{[], codes, false, true, ◌≡◌, ◌∷◌};
 ghost use Rattle.lwp_types.specs.Agents.{armed, deliver};
-ghost use Rattle.lwp_types.specs.Letters.{senders_to};
+ghost use Rattle.lwp_types.specs.Messages.{senders_to};
 ghost use Rattle.lwp_types.specs.declared.call.Answer.TheVariants as answer;
 ghost use Rattle.lwp_types.specs.declared.call.Call.TheVariants as call;
 ghost use Rattle.lwp_types.specs.declared.call.Effect.TheVariants as effect;

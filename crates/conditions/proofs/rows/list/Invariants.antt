@@ -1,5 +1,5 @@
 use Rattle.conditions.proofs.rows.list.Given as goal
-use Rattle.lwp_types.specs.Waits.{condition_numbers}
+use Rattle.lwp_types.specs.Conditions.{condition_numbers}
 use Rattle.std.proofs.Common.{take, ◌≡◌}
 
 abbrev pub invariant-loop-row : goal.invariant-loop-row

@@ -1,7 +1,7 @@
 use Rattle.conditions.proofs.RowLaws.{found_at}
 use Rattle.conditions.proofs.rows.row_of.Goals as goal
+use Rattle.lwp_types.specs.Conditions.{is_condition}
 use Rattle.lwp_types.specs.CountLaws.{find_none}
-use Rattle.lwp_types.specs.Waits.{is_condition}
 use Rattle.std.proofs.Common.{Some, ap, sym, ◌∙◌}
 
 pub returns-in_err-at : goal.returns-in_err-at

@@ -1,5 +1,5 @@
 use Rattle.conditions.proofs.rows.take_out_of.Goals as goal
-use Rattle.lwp_types.specs.Locks.{is_of_monitor}
+use Rattle.lwp_types.specs.Monitors.{is_of_monitor}
 use Rattle.std.proofs.Common.{not, rules}
 use Rattle.std.proofs.lemmas.Fn.{filter_same}
 

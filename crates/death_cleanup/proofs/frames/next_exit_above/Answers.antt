@@ -1,6 +1,6 @@
 use Rattle.death_cleanup.proofs.Leaving.{deep-none, left-here, marks-here}
 use Rattle.death_cleanup.proofs.frames.next_exit_above.Goals as goal
-use Rattle.lwp_types.specs.Marks.{frames}
+use Rattle.lwp_types.specs.Exceptions.{frames}
 use Rattle.stale_ids.specs.Register.{value_of}
 use Rattle.std.proofs.Common.{None, Some, ap, arith, sym, ◌∙◌, ◌≡◌}
 

@@ -1,7 +1,7 @@
 use Rattle.death_cleanup.proofs.Unwinding.{Unwinding}
 use Rattle.death_cleanup.proofs.frames.run_all_exits.Given as goal
 use Rattle.death_cleanup.specs.View.{state_of}
-use Rattle.lwp_types.specs.Marks.{exits_of}
+use Rattle.lwp_types.specs.Exceptions.{exits_of}
 use Rattle.lwp_types.specs.State.{marks_in}
 use Rattle.std.proofs.Common.{[], length}
 

@@ -1,7 +1,7 @@
 use Rattle.death_cleanup.proofs.Draining.{starts}
 use Rattle.death_cleanup.proofs.Releases.{Keeps, list, lock_fewer, lock_held, lock_lawful, lock_on, lock_room, locks_over}
 use Rattle.death_cleanup.proofs.waiters.release_all.Goals as goal
-use Rattle.lwp_types.specs.Release.{release}
+use Rattle.lwp_types.specs.MonitorRelease.{release}
 use Rattle.std.proofs.Common.{sym, ◌∙◌}
 
 pub loop-mon-init : goal.loop-mon-init

@@ -2,7 +2,7 @@ use Rattle.death_cleanup.proofs.Draining.{Draining}
 use Rattle.death_cleanup.proofs.Releases.{Keeps, list}
 use Rattle.death_cleanup.proofs.waiters.release_all.Given as goal
 use Rattle.death_cleanup.specs.View.{state_of}
-use Rattle.lwp_types.specs.Release.{release}
+use Rattle.lwp_types.specs.MonitorRelease.{release}
 use Rattle.std.proofs.Common.{length}
 
 abbrev pub invariant-loop-mon : goal.invariant-loop-mon

@@ -2,7 +2,7 @@ use Rattle.death_cleanup.specs.View.{rows_of, state_of}
 use Rattle.lwp_calls.proofs.Lists.{listed-other, listed-waiter}
 use Rattle.lwp_calls.proofs.asks.receivers.Goals as goal
 use Rattle.lwp_calls.proofs.asks.receivers.Goals.{else-waits_for, then-waits_for+in_ok-push}
-use Rattle.lwp_types.specs.Letters.{awaits, receivers_of}
+use Rattle.lwp_types.specs.Messages.{awaits, receivers_of}
 use Rattle.lwp_types.specs.State.{numbers}
 use Rattle.std.proofs.Common.{[], ap, drop, sym, ◌+◌, ◌++◌, ◌∙◌, ◌∷◌}
 use Rattle.std.specs.List.{filter}

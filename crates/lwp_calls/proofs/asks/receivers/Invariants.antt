@@ -1,6 +1,6 @@
 use Rattle.death_cleanup.specs.View.{rows_of, state_of}
 use Rattle.lwp_calls.proofs.asks.receivers.Given as goal
-use Rattle.lwp_types.specs.Letters.{awaits, receivers_of}
+use Rattle.lwp_types.specs.Messages.{awaits, receivers_of}
 use Rattle.lwp_types.specs.State.{numbers}
 use Rattle.std.proofs.Common.{drop, ◌++◌, ◌≡◌}
 use Rattle.std.specs.List.{filter}

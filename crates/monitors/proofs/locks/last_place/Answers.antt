@@ -1,4 +1,4 @@
-use Rattle.lwp_types.specs.Release.{is_lock}
+use Rattle.lwp_types.specs.MonitorRelease.{is_lock}
 use Rattle.monitors.proofs.LockLaws.{no_lock}
 use Rattle.monitors.proofs.locks.last_place.Goals as goal
 use Rattle.std.proofs.Common.{arith}

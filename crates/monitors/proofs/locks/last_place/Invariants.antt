@@ -1,7 +1,7 @@
 use Rattle.monitors.proofs.locks.last_place.Given as goal
 use Rattle.lwp_types.specs.declared.rows.Lock.{Lock}
 use Rattle.std.proofs.Common.{false, get_or, length, ℕ, ◌<◌, ◌≡◌, ◌≤◌}
-use Rattle.lwp_types.specs.Release.{is_lock}
+use Rattle.lwp_types.specs.MonitorRelease.{is_lock}
 
 abbrev pub invariant-loop-behind : goal.invariant-loop-behind
 invariant-loop-behind l = record {

@@ -1,5 +1,5 @@
 use Rattle.lwp_types.specs.CountLaws.{find_none}
-use Rattle.lwp_types.specs.Release.{is_lock}
+use Rattle.lwp_types.specs.MonitorRelease.{is_lock}
 use Rattle.monitors.proofs.LockLaws.{lock_at}
 use Rattle.monitors.proofs.locks.lock_of.Goals as goal
 use Rattle.std.proofs.Common.{Some, ap, sym, ◌∙◌}

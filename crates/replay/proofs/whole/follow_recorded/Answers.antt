@@ -4,7 +4,7 @@ use Rattle.replay.proofs.Peopled.{speaks}
 use Rattle.replay.proofs.Steps.{going-opened}
 use Rattle.replay.specs.Following.{Following}
 use Rattle.replay.specs.Replayed.{asked_of, moment_of}
-use Rattle.replay.specs.Walk.{Going, IsFit, Speaks, opened}
+use Rattle.replay.specs.Walk.{Going, IsFit, Speaks, first_moment}
 use Rattle.replay.proofs.whole.follow_recorded.Goals as goal
 
 pub follow-requires : goal.follow-requires
@@ -20,6 +20,6 @@ follow-requires g c =
     let peopled = subst (λ (r : Played _). Speaks (asked_of g.B.Body.next g.P.Program.bodies g.P.Program.proc_names r lines.clients posts)) (sym c.in_ok-run.ensures)
     (speaks asked (record { bodies = c.requires.bodies; first = c.requires.procs; least = c.requires.least; most = c.requires.most })) in
     let going = subst (λ (r : Played _). Going (asked_of g.B.Body.next g.P.Program.bodies g.P.Program.proc_names r lines.clients posts) c.new-follower.result.recorded (moment_of r) lines c.new-follower.result.at c.new-follower.result.lines c.new-follower.result.ticks) (sym c.in_ok-run.ensures)
-    (subst (λ (f : Following). Going asked f.recorded opened lines f.at f.lines f.ticks) (sym c.new-follower.ensures)
+    (subst (λ (f : Following). Going asked f.recorded first_moment lines f.at f.lines f.ticks) (sym c.new-follower.ensures)
     (going-opened asked c.args.bytes.now c.requires.fit lines refl c.requires.left)) in
     λ k. ((refl, tt), (sound, (clean, (allowed, (fit, (peopled, going))))))

@@ -1,5 +1,5 @@
 use Rattle.std.proofs.Common.{◌≡◌, drop, take}
-use Rattle.line_faults.specs.Near.{first_near, two_apart}
+use Rattle.script_line_faults.specs.Near.{first_near, two_apart}
 use Rattle.script_advice.proofs.near.first_two_apart.Given as goal
 
 abbrev pub invariant-loop-place : goal.invariant-loop-place

@@ -31,7 +31,7 @@ returns-in_default c =
       | op.Senders ↦ λ e p. absurd (other.not-Senders e)
       | op.Receivers ↦ λ e p. absurd (other.not-Receivers e)
       | op.Monitors ↦ λ e p. absurd (other.not-Monitors e)
-      | op.Conds ↦ λ e p. absurd (other.not-Conds e)
+      | op.Conditions ↦ λ e p. absurd (other.not-Conditions e)
       | op.Return ↦ λ e p. absurd (other.not-Return e)
       | op.Handle ↦ λ e p. absurd (other.not-Handle e)
       | op.Unhandle ↦ λ e p. absurd (other.not-Unhandle e)
@@ -80,8 +80,8 @@ returns-in-Receivers c = by_view op.Receivers c.args.at _ c.args.phrase.now c.ph
 pub returns-in-Monitors : goal.returns-in-Monitors
 returns-in-Monitors c = by_view op.Monitors c.args.at _ c.args.phrase.now c.phrase.view_is c.in-Monitors.is
 
-pub returns-in-Conds : goal.returns-in-Conds
-returns-in-Conds c = by_view op.Conds c.args.at _ c.args.phrase.now c.phrase.view_is c.in-Conds.is
+pub returns-in-Conditions : goal.returns-in-Conditions
+returns-in-Conditions c = by_view op.Conditions c.args.at _ c.args.phrase.now c.phrase.view_is c.in-Conditions.is
 
 pub returns-in-Return : goal.returns-in-Return
 returns-in-Return c = by_view op.Return c.args.at _ c.args.phrase.now c.phrase.view_is c.in-Return.is

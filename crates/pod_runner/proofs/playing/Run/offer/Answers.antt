@@ -1,6 +1,6 @@
 use Rattle.std.proofs.Common.{◌≡◌, ◌++◌, ◌∷◌, ◌∙◌, [], List, ℕ, false, true, refl}
 use Rattle.lwp_types.specs.Names.{null_names}
-use Rattle.pod_runner.specs.Parts.{live_of, told_of}
+use Rattle.pod_runner.specs.RunParts.{live_of, told_of}
 use Rattle.pod_runner.specs.Play.{play}
 use Rattle.pod_runner.specs.Session.{Setting}
 use Rattle.pod_runner.specs.declared.session.Took.{Took}

@@ -1,6 +1,6 @@
 use Rattle.std.proofs.Common.{arith, ◌≡◌, ◌+◌, ◌∙◌, List, ℕ, false, true}
 use Rattle.lwp_types.specs.Names.{null_names}
-use Rattle.pod_runner.specs.Parts.{live_of, told_of}
+use Rattle.pod_runner.specs.RunParts.{live_of, told_of}
 use Rattle.pod_runner.specs.Play.{play}
 use Rattle.pod_runner.specs.Session.{Setting}
 use Rattle.pod_runner.proofs.Turns.{called-step, keeps-call, made-call, room-turn, told-fault, told-ok}

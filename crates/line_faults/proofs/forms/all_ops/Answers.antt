@@ -1,5 +1,0 @@
-use Rattle.std.proofs.Common.{refl}
-use Rattle.line_faults.proofs.forms.all_ops.Goals as goal
-
-pub returns : goal.returns
-returns c = refl

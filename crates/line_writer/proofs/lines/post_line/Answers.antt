@@ -1,5 +1,0 @@
-use Rattle.line_writer.proofs.lines.post_line.Goals as goal
-use Rattle.std.proofs.Common.{rules}
-
-pub returns : goal.returns
-returns c = search rules

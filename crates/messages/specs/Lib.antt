@@ -1,0 +1,3 @@
+pub mod MessageTable
+pub mod Slots
+pub mod Kept

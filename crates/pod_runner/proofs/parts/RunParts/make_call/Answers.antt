@@ -1,0 +1,39 @@
+use Rattle.lwp_types.specs.Choice.{choice}
+use Rattle.lwp_types.specs.declared.call.Call.{Call}
+use Rattle.lwp_types.specs.declared.call.Effect.{Effect}
+use Rattle.pod_events.specs.Events.{EventState}
+use Rattle.pod_events.specs.Step.{event_step, leads, leads_if}
+use Rattle.pod_events.specs.Traps.{lead}
+use Rattle.pod_runner.specs.Calls.{caller_of, with_call_by}
+use Rattle.pod_runner.specs.RunParts.{live_of}
+use Rattle.pod_runner.specs.Session.{settled}
+use Rattle.pod_runner.specs.declared.session.Row.{Row}
+use Rattle.pod_runner.proofs.Moves.{chosen_from, moves_at}
+use Rattle.pod_runner.proofs.parts.RunParts.make_call.Goals as goal
+use Rattle.std.proofs.Common.{List, None, Option, Some, ap, refl, subst, ◌++◌, ◌∙◌, ◌≡◌, ℕ}
+
+-- of whose turn it is the call is told first, unless a trap is raised before it
+first_told : (es : EventState) (t : ℕ) (call : Call) (effects : List Effect) → choice es.state ≡ Some t → leads es call ++ effects ≡ (event_step es call).effects → lead es.pending t call ++ effects ≡ (event_step es call).effects
+first_told es t call effects turn told = subst (λ (who : Option ℕ). leads_if es.pending call who ++ effects ≡ (event_step es call).effects) turn told
+
+-- the call itself settles nothing
+settled-lead : {B : Type 0} (bodies : List B) (born : Option ℕ) (pending : Option ℕ) (t : ℕ) (call : Call) (effects : List Effect) (rows : List (Row B)) → settled bodies born effects rows ≡ settled bodies born (lead pending t call ++ effects) rows
+settled-lead bodies born None t call effects rows = refl
+settled-lead bodies born (Some e) t call effects rows = refl
+
+-- the call itself stands before the effects, unless a trap is raised before it
+led : (pending : Option ℕ) (t : ℕ) (call : Call) (effects : List Effect) → with_call_by (caller_of pending t) call effects ≡ lead pending t call ++ effects
+led None t call effects = refl
+led (Some e) t call effects = refl
+
+pub returns : goal.returns
+returns g c =
+    let es = c.args.self.now.pod in
+    let chosen = chosen_from es.state c.args.tid c.requires.current in
+    let call = c.poll_at.new.call in
+    let told = first_told es c.args.tid call c.carry_out.new.effects chosen c.in_ok-caller.ensures.effects in
+    let effects = lead es.pending c.args.tid call ++ c.carry_out.new.effects in
+    let rows = c.in_ok-settle.ensures ∙ settled-lead (g.P.Program.bodies c.args.program.now) c.proc_of-born.result es.pending c.args.tid call c.carry_out.new.effects c.poll_at.new.self in
+    let m = moves_at g.B.Body.next (g.P.Program.bodies c.args.program.now) c.args.names.now (live_of c.args.self.now) c.args.tid c.args.i c.set_me.new.self call c.carry_out.new.pod effects c.poll_at.new.self c.settle.new.rows c.poll_at.new.env c.carry_out.new.out.items c.proc_of-born.result
+    chosen c.requires.place c.requires.within c.set_me.ensures c.in_ok-poll_at.ensures c.in_ok-caller.ensures.after told c.proc_of-born.ensures rows c.in_ok-caller.ensures.lines in
+    record { live = m.live; effects = ap (λ who. with_call_by who call c.carry_out.new.effects) c.in_ok-caller.ensures.caller ∙ led es.pending c.args.tid call c.carry_out.new.effects ∙ m.effects; lines = m.lines }

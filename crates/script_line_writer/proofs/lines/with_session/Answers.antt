@@ -1,0 +1,5 @@
+use Rattle.script_line_writer.proofs.lines.with_session.Goals as goal
+use Rattle.std.proofs.Common.{rules}
+
+pub returns : goal.returns
+returns c = search rules
