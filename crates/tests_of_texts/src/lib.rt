@@ -15,6 +15,8 @@ mod scripts;
 #[cfg(test)]
 mod servers;
 #[cfg(test)]
+mod spoken;
+#[cfg(test)]
 mod traces;
 #[cfg(test)]
 mod words;
