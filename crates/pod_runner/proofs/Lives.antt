@@ -1,7 +1,8 @@
 -- What a live run, its inlets and a sink come to together, part by part.
-use Rattle.std.proofs.Common.{◌≢◌, ◌≡◌, ◌≤◌, ◌<◌, ℕ, zero, suc, ◌+◌, List, [], ◌∷◌, Bool, true, false, cond, None, Some, ap, ◌∙◌, refl, sym, subst, ◌++◌, length, length-append, append-nil, append_assoc, map, eqb, slice_index_or, slice_set, inl, inr, arith}
+use Rattle.std.proofs.Common.{◌≢◌, ◌≡◌, ◌≤◌, ◌<◌, ℕ, zero, suc, ◌+◌, ◌-◌, List, [], ◌∷◌, Bool, true, false, cond, None, Some, ap, ◌∙◌, refl, sym, subst, ◌++◌, length, length-append, append-nil, append_assoc, map, eqb, slice_index_or, slice_set, inl, inr, arith}
 use Rattle.std.specs.Prelude.{Option, Result, Ok, Err, OnOk, IsErrAnd, nat_le, nat_lt, ◌&&◌, ◌||◌, ◌⊎◌}
 use Rattle.std.specs.List.{All, filter, list_any}
+use Rattle.std.specs.Slice.Scan.{HoldsNowhere}
 use Rattle.std.proofs.lemmas.Bool.{cases_lt, eq-eqb, eqb-true, ne_eqb}
 use Rattle.std.proofs.lemmas.List.{get_or-map, get_or-set_other, get_or-set_same, length-map, length-set, map-append}
 use Rattle.std.proofs.lemmas.List.Elements.{All-append, filter-append}
@@ -10,7 +11,7 @@ use Rattle.pod_events.specs.Events.{EventState, has_turn, is_takeable, take_even
 use Rattle.lwp_types.specs.Poll.{Next}
 use Rattle.lwp_types.specs.declared.call.Line.{Line}
 use Rattle.pod_runner.specs.Due.{IsDefined}
-use Rattle.pod_runner.specs.Inlets.{IsCalm, IsSeen, Serves, ServesAt, Takes}
+use Rattle.pod_runner.specs.Inlets.{AreBelow, IsCalm, IsSeen, Serves, ServesAt, Takes}
 use Rattle.pod_runner.specs.Live.{AllTold, Answers, Draws, EachInlet, EventsRise, Extends, Gives, Halts, HasEvent, IsQuiet, IsWanted, LivesOn, NoneComes, drawn_from, is_take_of, lines_taken, looks, may_lose}
 use Rattle.pod_runner.specs.Over.{can_take, events, halt_if, is_wanted, over}
 use Rattle.pod_runner.specs.Phase.{phase_by, phase_of}
@@ -143,6 +144,33 @@ told-more f items i x within is told before k d low = by (cases_lt k i)
 
 pub same-length : {I : Type 0} (f : I → Intake) (xs ys : List I) → length (map f ys) ≡ length (map f xs) → length ys ≡ length xs
 same-length f xs ys h = let a = length-map xs f in let b = length-map ys f in omega (arith, h, a, b)
+
+-- where the last inlet's event is below another, each is
+pub below-last : {I : Type 0} (f : I → Intake) (items : List I) (from e : ℕ) (x : I) → EventsRise (map f items) → 0 < length items
+    → slice_index_or items (length items - 1) x ≡ x → (f x).event < e → AreBelow (map f items) from (length items) e
+below-last f items from e x rise some is under k d above low = by (cases_lt k (length items - 1))
+  where
+    within : length items - 1 < length (map f items)
+    within = let n = length-map items f in omega (arith, n, some)
+
+    last : (slice_index_or (map f items) (length items - 1) d).event ≡ (f x).event
+    last = ap (λ (t : Intake). t.event) (inlet-at f items (length items - 1) x (omega (arith, some)) is d)
+
+    by : (k < length items - 1) ⊎ (length items - 1 ≤ k) → (slice_index_or (map f items) k d).event < e
+    by (inl before) = let rises = rise k (length items - 1) d before within in omega (arith, rises, last, under)
+    by (inr behind) = let here : k ≡ length items - 1 = omega (arith, behind, low) in
+        let same = ap (λ k. (slice_index_or (map f items) k d).event) here in omega (arith, same, last, under)
+
+-- one inlet more
+pub below-more : {I : Type 0} (f : I → Intake) (items : List I) (from i e : ℕ) (x : I) → i < length items → slice_index_or items i x ≡ x → (f x).event < e
+    → AreBelow (map f items) from i e → AreBelow (map f items) from (i + 1) e
+below-more f items from i e x within is under h k d above low = by (cases_lt k i)
+  where
+    by : (k < i) ⊎ (i ≤ k) → (slice_index_or (map f items) k d).event < e
+    by (inl before) = h k d above before
+    by (inr behind) = let here : k ≡ i = omega (arith, behind, low) in
+        let same = ap (λ k. (slice_index_or (map f items) k d).event) here in
+        let there = ap (λ (t : Intake). t.event) (inlet-at f items i x within is d) in omega (arith, same, there, under)
 
 -- two inlets have two events
 apart : (xs : List Intake) → EventsRise xs → (k i : ℕ) (d : Intake) → k < length xs → i < length xs → k ≢ i → (slice_index_or xs i d).event ≢ (slice_index_or xs k d).event
@@ -539,6 +567,49 @@ module _ {B P : Type 0} (next : Next B) (bodies : P → List B) (procs : P → L
       by k d below low (inr above) = let same : k ≡ n = omega (arith, below, above) in
           subst (λ k. IsSeen next bodies old new (slice_index_or before k d) (slice_index_or after k d)) (sym same)
           (now (slice_index_or before n d) (slice_index_or after n d) (subst (λ v. IsSeen next bodies mid new v (slice_index_or after n d)) (h.others n d (omega arith)) (at.seen d)))
+
+  -- ---- inlets are passed over
+
+  -- those whose events don't wait
+  serves-passed : (n m : ℕ) (old new : Played P) (before after : List Intake) → n ≤ m → Serves next bodies n old new before after
+      → ((k : ℕ) (d : Intake) → n ≤ k → k < m → k < length before → is_takeable (session_of next bodies new).live.pod (slice_index_or after k d).event ≡ false)
+      → Serves next bodies m old new before after
+  serves-passed n m old new before after up h none = record {
+    takes = h.takes;
+    seen = λ k d below low. by k d below low (cases_lt k n);
+    others = λ k d above. h.others k d (omega (arith, up, above));
+  }
+    where
+      by : (k : ℕ) (d : Intake) → k < m → k < length before → (k < n) ⊎ (n ≤ k) → IsSeen next bodies old new (slice_index_or before k d) (slice_index_or after k d)
+      by k d below low (inl under) = h.seen k d under low
+      by k d below low (inr above) = let no = none k d above below low in
+          record { looked = λ turn wanted. absurd (cc); found = λ same wanted. absurd (cc) }
+
+  -- from the one at place n on, all before place m, since no event from its own on waits below e
+  pub serves-below : {T : Type 0} (s : Stream) (n m e : ℕ) (t : Intake) (old new : Played P) (before after : List Intake) (r : Result T RunErr)
+      → Lived s old new before after r → EventsRise after → ((d : Intake) → slice_index_or after n d ≡ t) → n + 1 ≤ m → t.event < e
+      → HoldsNowhere (is_takeable (session_of next bodies new).live.pod) t.event e → AreBelow after (n + 1) m e
+      → Serves next bodies n old new before after → Serves next bodies m old new before after
+  serves-below s n m e t old new before after r lives rise at up under nowhere below h =
+      serves-passed n m old new before after (omega (arith, up)) h (λ k d above low within. by k d low within (cases_lt n k) above)
+    where
+      by : (k : ℕ) (d : Intake) → k < m → k < length before → (n < k) ⊎ (k ≤ n) → n ≤ k → is_takeable (session_of next bodies new).live.pod (slice_index_or after k d).event ≡ false
+      by k d low within (inl above) from =
+          let many = lives.draws.given.0 in
+          let first = ap (λ (w : Intake). w.event) (at d) in
+          let rises = rise n k d above (omega (arith, many, within)) in
+          nowhere (slice_index_or after k d).event (omega (arith, first, rises)) (below k d (omega (arith, above)) low)
+      by k d low within (inr same) from = let here : k ≡ n = omega (arith, same, from) in
+          ap (λ k. is_takeable (session_of next bodies new).live.pod (slice_index_or after k d).event) here
+          ∙ ap (λ (w : Intake). is_takeable (session_of next bodies new).live.pod w.event) (at d)
+          ∙ nowhere t.event (omega arith) under
+
+  -- all inlets were served, or passed over
+  pub serves-end : {I : Type 0} (f : I → Intake) (items some : List I) (n : ℕ) (old new : Played P) → length some ≡ length items → n ≤ length some → length some ≤ n
+      → Serves next bodies n old new (map f items) (map f some) → Serves next bodies (length (map f items)) old new (map f items) (map f some)
+  serves-end f items some n old new same most least h =
+      let all : n ≡ length (map f items) = let many = length-map items f in omega (arith, same, most, least, many) in
+      subst (λ m. Serves next bodies m old new (map f items) (map f some)) all h
 
   -- ---- with nobody to run, and no line taken
 

@@ -37,3 +37,7 @@ pub record Serves {B P : Type 0} (next : Next B) (bodies : P → List B) (n : �
   pub takes : Takes next bodies old new
   pub seen : (k : ℕ) (d : Intake) → k < n → k < length before → IsSeen next bodies old new (slice_index_or before k d) (slice_index_or after k d)
   pub others : (k : ℕ) (d : Intake) → n ≤ k → slice_index_or after k d ≡ slice_index_or before k d
+
+-- the inlets from one place on, up to another, have events below this one
+abbrev pub AreBelow : List Intake → ℕ → ℕ → ℕ → Type 0
+AreBelow inlets from to e = (k : ℕ) (d : Intake) → from ≤ k → k < to → (slice_index_or inlets k d).event < e
