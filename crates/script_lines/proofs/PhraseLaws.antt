@@ -342,7 +342,7 @@ client_found w n e =
     let d = number_found w m i in
     (d.0 ∙ ap decimal t.1, subst (λ x. x ≤ 15) t.1 (leb-true m 15 t.0)))
 
-client_again : (n : ℕ) → n ≤ 15 → client_at (decimal n) ≡ Some n
+pub client_again : (n : ℕ) → n ≤ 15 → client_at (decimal n) ≡ Some n
 client_again n h = rw (number_again n (omega arith), le-leb n 15 h) refl
 
 event_found : (w : List ℕ) (n : ℕ) → event_at w ≡ Some n → (w ≡ decimal n) × IsEvent n
@@ -533,7 +533,7 @@ name_is_whole (b ∷ bs) h =
     let no : eqb b 32 ≡ false = ne_eqb b 32 (λ z. omega arith) in
     rw no (ap suc (name_bytes_are_whole bs t.1))
 
-digits_are_whole : (bs : List ℕ) → all_ascii_digits bs ≡ true → reach 32 bs ≡ length bs
+pub digits_are_whole : (bs : List ℕ) → all_ascii_digits bs ≡ true → reach 32 bs ≡ length bs
 digits_are_whole [] h = refl
 digits_are_whole (b ∷ bs) h = elim (eqb b 32) as (λ v. eqb b 32 ≡ v → cond v 0 (suc (reach 32 bs)) ≡ suc (length bs)) [
   | true ↦ λ t. absurd (let h' = subst (λ x. (is_ascii_digit x && all_ascii_digits bs) ≡ true) (eqb-true b 32 t) h in cc)

@@ -1,10 +1,15 @@
 -- What a line says that says or posts a text.
-use Rattle.std.proofs.Common.{◌≡◌, ℕ, suc, ◌<◌, true, false, cond, eqb, List, [], ◌∷◌, ◌++◌, length, take, drop, Some, refl, sym, ap, subst, ◌∙◌, arith}
+use Rattle.std.proofs.Common.{◌≡◌, ℕ, suc, ◌<◌, ◌≤◌, true, false, cond, eqb, List, [], ◌∷◌, ◌++◌, length, take, drop, Some, refl, sym, ap, subst, ◌∙◌, arith}
 use Rattle.std.specs.Prelude.{codes, nat_lt}
 use Rattle.std.proofs.lemmas.Bool.{eqb-true, lt-ltb}
 use Rattle.lwp_types.specs.TextFields.{is_text}
 use Rattle.script_lines.specs.Words.{behind, reach}
 use Rattle.script_lines.specs.Line.{posting, saying}
+use Rattle.script_lines.proofs.PhraseLaws.{phrase_found, client_again, digits_are_whole}
+use Rattle.script_lines.proofs.WordLemmas.{reach-append, own}
+use Rattle.std.specs.Fmt.{decimal}
+use Rattle.std.proofs.lemmas.List.{append-nil, take_at, drop_at}
+use Rattle.std.proofs.lemmas.Fmt.{digits_decimal}
 use Rattle.script_lines.specs.Reading.{client_at, phrase_at}
 use Rattle.script_lines.specs.Table.{op_at, row_of}
 
@@ -40,3 +45,23 @@ posts line words (b ∷ bs) c is more client last some fits =
     let there : line ≡ codes "post " ++ words = begins (codes "post ") line (subst (λ xs. 0 < length xs) is more) ∙ ap (λ xs. codes "post " ++ xs) (sym is) in
     let rest : drop (reach 32 words) words ≡ 32 ∷ b ∷ bs = begins (codes " ") (drop (reach 32 words) words) (subst (λ xs. 0 < length xs) last some) ∙ ap (λ xs. codes " " ++ xs) (sym last) in
     ap phrase_at there ∙ posted words b bs c client rest fits
+
+-- a line that says a text is the word, a space and the text
+pub saying_is_spelt : (line : List ℕ) (b : ℕ) (bs : List ℕ) → phrase_at line ≡ Some (saying (b ∷ bs)) → (behind (codes "say ") line ≡ b ∷ bs) × (is_text (b ∷ bs) ≡ true)
+unfolding row_of
+saying_is_spelt line b bs e =
+    let f = phrase_found line (saying (b ∷ bs)) e in
+    (ap (behind (codes "say ")) f.1 ∙ ap (λ xs. b ∷ xs) (append-nil bs), f.0.0)
+
+-- what stands behind the word of a line that posts a text: the client's number, a space and the text
+pub posting_is_spelt : (line : List ℕ) (c : ℕ) (b : ℕ) (bs : List ℕ) → phrase_at line ≡ Some (posting c (b ∷ bs)) → (behind (codes "post ") line ≡ decimal c ++ 32 ∷ b ∷ bs) × (c ≤ 15) × (is_text (b ∷ bs) ≡ true)
+unfolding row_of
+posting_is_spelt line c b bs e =
+    let f = phrase_found line (posting c (b ∷ bs)) e in
+    (ap (behind (codes "post ")) f.1 ∙ ap (λ xs. decimal c ++ 32 ∷ b ∷ xs) (append-nil bs), f.0.0, f.0.1.0)
+
+-- the number of a client ends before the space behind it
+pub client_is_first : (c : ℕ) (more : List ℕ) → c ≤ 15 → (client_at (take (reach 32 (decimal c ++ 32 ∷ more)) (decimal c ++ 32 ∷ more)) ≡ Some c) × (drop (reach 32 (decimal c ++ 32 ∷ more)) (decimal c ++ 32 ∷ more) ≡ 32 ∷ more)
+client_is_first c more h =
+    let n : reach 32 (decimal c ++ 32 ∷ more) ≡ length (decimal c) = reach-append 32 (decimal c) (32 ∷ more) (digits_are_whole (decimal c) (digits_decimal own c (omega (arith, h)))) refl in
+    (rw (n, take_at (decimal c) (32 ∷ more) (length (decimal c)) refl, client_again c h) refl, rw (n, drop_at (decimal c) (32 ∷ more) (length (decimal c)) refl) refl)

@@ -1,6 +1,6 @@
 // The two lines of which a long script has most, those that say and those that post a text, told at one look: without the table,
 // and without a phrase.
-ghost use Rattle.std.specs.Prelude.{◌≡◌, codes, IfSome, IsTrue, Some};
+ghost use Rattle.std.specs.Prelude.{◌≡◌, ℕ, [], codes, IfSome, IsTrue, List, None, Some};
 ghost use Rattle.lwp_types.specs.TextFields.{is_text};
 ghost use Rattle.script_lines.specs.Line.{posting, saying};
 ghost use Rattle.script_lines.specs.Reading.{phrase_at};
@@ -40,6 +40,7 @@ fn behind_space(words: &[u8]) -> &[u8]
 #[inline(always)]
 pub fn said_at(line: &[u8]) -> Option<&[u8]>
     ensures said { IfSome result (λ text. phrase_at line.now ≡ Some (saying text.now)) }
+    ensures every { (text : List ℕ) → phrase_at line.now ≡ Some (saying text) → result ≡ None → text ≡ [] }
     ensures is_text { IfSome result (λ text. IsTrue (is_text text.now)) }
 {
     let text = behind_say(line);
@@ -53,6 +54,9 @@ pub fn said_at(line: &[u8]) -> Option<&[u8]>
 #[inline(always)]
 pub fn posted_at(line: &[u8]) -> Option<(u8, &[u8])>
     ensures said { IfSome result (λ x. phrase_at line.now ≡ Some (posting x.0 x.1.now)) }
+    ensures every {
+        (client : ℕ) (text : List ℕ) → phrase_at line.now ≡ Some (posting client text) → result ≡ None → text ≡ []
+    }
     ensures is_text { IfSome result (λ x. IsTrue (is_text x.1.now)) }
 {
     let words = behind_post(line);
