@@ -1,5 +1,5 @@
 -- From the clauses of a script's session, whose trace was counted, to the numbers that are told of it.
-use Rattle.byte_count.specs.Counting.{Counting}
+use Rattle.whole_streams.specs.Counting.{Counting}
 use Rattle.lwp_types.specs.Streams.{appended}
 use Rattle.pod_runner.specs.declared.session.Took.{Took}
 use Rattle.script_batch.specs.Report.{counts_of, told_of}

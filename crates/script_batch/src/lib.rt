@@ -7,7 +7,7 @@
 //! (`specs/Report.antt`); or the session's end names what was in the way (`specs/Batch.antt`). No trace is kept.
 //!
 //! The crate stands on the parts and threads of `batch`, the reader of `script_text`, the sessions of `script_plan`, the ends of
-//! `script_session` and the sink of `byte_count`.
+//! `script_session` and the sink that counts, of `whole_streams`.
 #![tactic(auto)]
 
 mod many;

@@ -6,12 +6,12 @@ ghost use Rattle.script_text.specs.Limits.{IsWithinLimits};
 
 use crate::report::{Counts, bad_text, counts_text};
 use batch::Job;
-use byte_count::CountSink;
 use lwp_types::NoMemory;
 use script_plan::{is_over, play_script};
 use script_session::Session;
 use script_text::{ReadErr, Script, read_script};
 use std::alloc::Global;
+use whole_streams::CountSink;
 
 // The numbers that a session to its end tells of itself; its trace has so many bytes.
 fn told_of(script: &Script, session: &Session, trace: u64) -> Counts

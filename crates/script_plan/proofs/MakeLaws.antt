@@ -3,7 +3,7 @@ use Rattle.event_gate.proofs.Lines.{cond_other, cond_same, same_or}
 use Rattle.event_gate.specs.History.{lines_of}
 use Rattle.event_gate.specs.Port.{of}
 use Rattle.script_session.specs.History.{pair_of, pairs_of, taken_as}
-use Rattle.byte_count.specs.Counting.{Counting}
+use Rattle.whole_streams.specs.Counting.{Counting}
 use Rattle.script_session.proofs.SaidLaws.{says-all}
 use Rattle.script_plan.specs.Make.{IsMake, IsOver, IsSummedUp, MakeSays, TellsAll, TellsPart, is_over, make_turns, status_by, summary_by, summary_of, told_of}
 use Rattle.script_session.specs.Outcome.{end_of, status_of}

@@ -7,7 +7,7 @@
 //! instead, from a seed, and the sink is told five lines that sum the session up (`specs/Make.antt`).
 //!
 //! The crate stands on the readings and ends of `script_session`, the gate of `script_gate`, the runs of `pod_runner`, the scripts
-//! of `script_maker` and the sink of `byte_count`.
+//! of `script_maker` and the sink that counts, of `whole_streams`.
 #![tactic(auto)]
 
 mod lines;

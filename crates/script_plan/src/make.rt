@@ -11,14 +11,13 @@ ghost use Rattle.whole_streams.specs.Writing.{AppendsPart};
 ghost use Rattle.whole_streams.specs.Streams.{sides};
 
 use crate::plan::play_script;
-use byte_count::CountSink;
 use lwp_types::{NoMemory, Sink};
 use pod_runner::RunErr;
 use script_maker::{Summary, made_spells, make_script, summary_lines};
 use script_session::{Session, SessionEnd};
 use script_text::{ReadErr, Script, read_script};
 use std::alloc::Global;
-use whole_streams::write_all;
+use whole_streams::{CountSink, write_all};
 
 // How many calls are allowed.
 const MAKE_TURNS: u64 = 1_000_000;

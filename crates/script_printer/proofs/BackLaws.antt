@@ -21,7 +21,7 @@ use Rattle.script_lines.specs.Words.{is_name}
 use Rattle.script_lines.specs.Table.{row_of, role_of, slots_of, says}
 use Rattle.script_lines.specs.Line.{WhoFits, SourceFits, BuiltFits, SlotFits, IsLine, blank, copy_slots}
 use Rattle.script_text.specs.Meaning.{enter, place, place_of, named, spoken, places_of, who_of, from_of, statement_of, native_kind, entered, added_at, added}
-use Rattle.script_line_writer.specs.Building.{proc_line}
+use Rattle.script_printer.specs.Building.{proc_line}
 use Rattle.script_printer.specs.Printing.{with_who, with_source, stmt_line, client_line, native_as}
 use Rattle.script_text.specs.Track.{name_at}
 use Rattle.script_text.proofs.TrackLaws.{name_place, entered_there, place_there, name_stays, few_names}

@@ -23,7 +23,7 @@ use Rattle.script_lines.specs.Table.{row_of, role_of, slots_of}
 use Rattle.script_lines.specs.Line.{phrase_text, IsLine, blank, copy_slots, ended}
 use Rattle.script_text.specs.Grammar.{opened, stage_after, stage_of, follows, declares, declared_of, nothing, keeps_rule, may_stand_at, AllStand, spelling, SpelledBy, Spells}
 use Rattle.script_text.specs.Meaning.{named, places_of, statement_of, grown, raised, pushed, entered, added_at, added, empty_draft, draft_of, script_of, with_last_procedure}
-use Rattle.script_line_writer.specs.Building.{number_line}
+use Rattle.script_printer.specs.Building.{number_line}
 use Rattle.script_printer.specs.Printing.{stmt_line, limit_lines, client_line, client_lines, native_line, proc_lines, post_line, body_lines, lines_of, printed}
 use Rattle.script_lines.proofs.WordLemmas.{both}
 use Rattle.script_text.proofs.TrackLaws.{fold_push, stage_push, declared_push}

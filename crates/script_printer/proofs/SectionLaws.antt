@@ -8,7 +8,7 @@ use Rattle.script_lines.specs.declared.table.Op.TheVariants as op
 use Rattle.script_lines.specs.Line.{phrase_text, ended}
 use Rattle.script_text.specs.Grammar.{spelling}
 use Rattle.script_lines.specs.Phrase.{Phrase}
-use Rattle.script_line_writer.specs.Building.{number_line}
+use Rattle.script_printer.specs.Building.{number_line}
 use Rattle.script_printer.specs.Printing.{limit_lines, client_lines, native_line, proc_lines, post_line, body_lines, printed}
 use Rattle.script_text.specs.declared.script.Names.{Names}
 use Rattle.script_lines.specs.Table.{row_of}

@@ -19,7 +19,7 @@ use Rattle.script_lines.specs.declared.table.Whom.TheVariants as whom
 use Rattle.script_lines.specs.Phrase.{Phrase}
 use Rattle.script_lines.specs.Line.{blank}
 use Rattle.script_text.specs.Grammar.{spelling}
-use Rattle.script_line_writer.specs.Building.{number_line, proc_line, mon_line, cond_line, text_line, with_whom}
+use Rattle.script_printer.specs.Building.{number_line, proc_line, mon_line, cond_line, text_line, with_whom}
 use Rattle.text_list.specs.Texts.{text_at}
 use Rattle.script_text.specs.Track.{name_at}
 

@@ -3,11 +3,16 @@
 //! `printed script` is the text of a script, line by line, and `print_script` writes it. Where some text spells the script, the
 //! printed one does too, so what is printed is read as it was; that is a law (`printed_is_spelt`).
 //!
-//! The crate stands on the scripts of `script_text` and on its grammar, on the lines of `script_lines` and `script_line_writer`, and on
-//! `trace_text` for texts and numbers.
+//! A line that is printed is a phrase, made of what its slots hold (`specs/Building.antt`), and `add_line` puts the phrase's text
+//! behind the bytes so far. What a phrase and its text are is a matter of `script_lines`.
+//!
+//! The crate stands on the scripts of `script_text` and on its grammar, on the lines of `script_lines`, and on `trace_text` for texts
+//! and numbers.
 #![tactic(auto)]
 
 mod laws;
+mod line_text;
+mod lines;
 mod printing;
 
 pub use laws::printed_is_spelt;

@@ -7,11 +7,12 @@ ghost use Rattle.script_text.specs.Grammar.{spelling};
 ghost use Rattle.script_printer.specs.Printing.{with_who, with_source, exit_line, plain_line, lock_line, stmt_line, limit_lines, client_line, client_lines, native_line, proc_lines, post_line, printed};
 ghost use Rattle.script_text.specs.Track.{name_at};
 
-use lwp_types::NoMemory;
-use script_line_writer::{
-    add_line, agent_line, cond_line, create_line, cv_create_line, handle_line, mon_line,
-    number_line, proc_line, receive_line, send_line, skip_line, text_line, with_session, with_whom,
+use crate::line_text::add_line;
+use crate::lines::{
+    agent_line, cond_line, create_line, cv_create_line, handle_line, mon_line, number_line,
+    proc_line, receive_line, send_line, skip_line, text_line, with_session, with_whom,
 };
+use lwp_types::NoMemory;
 use script_lines::{Op, Phrase, Whom, blank};
 use script_text::{ExitStmt, NameList, Names, Native, NativeKind, Post, Proc, Script, Stmt, Who};
 use std::alloc::Global;
@@ -273,7 +274,7 @@ fn add_procs(
 fn post_line<'s>(texts: &'s TextList, post: Post) -> Phrase<'s>
     ensures { result ≡ post_line texts.now post }
 {
-    script_line_writer::post_line(post.client, texts.bytes(post.text as usize))
+    crate::lines::post_line(post.client, texts.bytes(post.text as usize))
 }
 
 fn add_posts(out: &mut Vec<u8>, texts: &TextList, posts: &[Post]) -> Result<(), NoMemory>

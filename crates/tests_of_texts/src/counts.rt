@@ -1,4 +1,4 @@
-use byte_count::*;
+use whole_streams::*;
 use lwp_types::Sink;
 use std::test::Fail;
 

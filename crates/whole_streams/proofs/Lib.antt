@@ -1,3 +1,4 @@
 pub mod LimitLaws
 pub mod ReadLaws
 pub mod WriteLaws
+pub mod Walks

@@ -2,3 +2,4 @@ pub mod Streams
 pub mod Reading
 pub mod Limited
 pub mod Writing
+pub mod Counting

@@ -1,7 +1,7 @@
 // The phrases of a script that is printed.
 ghost use Rattle.std.specs.Prelude.{◌≡◌, IsTrue};
 ghost use Rattle.lwp_types.specs.TextFields.{is_text};
-ghost use Rattle.script_line_writer.specs.Building.{number_line, proc_line, mon_line, cond_line, text_line, with_whom, with_session, handle_line, skip_line, cv_create_line, create_line, agent_line, send_line, receive_line, post_line};
+ghost use Rattle.script_printer.specs.Building.{number_line, proc_line, mon_line, cond_line, text_line, with_whom, with_session, handle_line, skip_line, cv_create_line, create_line, agent_line, send_line, receive_line, post_line};
 
 use lwp_types::{Flags, Func, Mode, Pattern};
 use script_lines::{Op, Phrase, Test, Whom, blank};
@@ -9,7 +9,7 @@ use script_lines::{Op, Phrase, Test, Whom, blank};
 // ---- Lines of one slot.
 
 /// A line whose slot is this number.
-pub fn number_line<'s>(op: Op, number: u32) -> Phrase<'s>
+pub(crate) fn number_line<'s>(op: Op, number: u32) -> Phrase<'s>
     ensures { result ≡ number_line op number }
 {
     let mut line = blank(op);
@@ -18,7 +18,7 @@ pub fn number_line<'s>(op: Op, number: u32) -> Phrase<'s>
 }
 
 /// A line that names this procedure.
-pub fn proc_line(op: Op, name: &[u8]) -> Phrase<'_>
+pub(crate) fn proc_line(op: Op, name: &[u8]) -> Phrase<'_>
     ensures { result ≡ proc_line op name.now }
 {
     let mut line = blank(op);
@@ -27,7 +27,7 @@ pub fn proc_line(op: Op, name: &[u8]) -> Phrase<'_>
 }
 
 /// A line that names this monitor.
-pub fn mon_line(op: Op, name: &[u8]) -> Phrase<'_>
+pub(crate) fn mon_line(op: Op, name: &[u8]) -> Phrase<'_>
     ensures { result ≡ mon_line op name.now }
 {
     let mut line = blank(op);
@@ -36,7 +36,7 @@ pub fn mon_line(op: Op, name: &[u8]) -> Phrase<'_>
 }
 
 /// A line that names this condition.
-pub fn cond_line(op: Op, name: &[u8]) -> Phrase<'_>
+pub(crate) fn cond_line(op: Op, name: &[u8]) -> Phrase<'_>
     ensures { result ≡ cond_line op name.now }
 {
     let mut line = blank(op);
@@ -45,7 +45,7 @@ pub fn cond_line(op: Op, name: &[u8]) -> Phrase<'_>
 }
 
 /// A line that ends with this text.
-pub fn text_line(op: Op, text: &[u8]) -> Phrase<'_>
+pub(crate) fn text_line(op: Op, text: &[u8]) -> Phrase<'_>
     requires { IsTrue (is_text text.now) }
     ensures { result ≡ text_line op text.now }
 {
@@ -55,7 +55,7 @@ pub fn text_line(op: Op, text: &[u8]) -> Phrase<'_>
 }
 
 /// A line with this word for a thread.
-pub fn with_whom<'s>(whom: Whom, name: &'s [u8], line: Phrase<'s>) -> Phrase<'s>
+pub(crate) fn with_whom<'s>(whom: Whom, name: &'s [u8], line: Phrase<'s>) -> Phrase<'s>
     ensures { result ≡ with_whom whom name.now line.entry }
 {
     let mut line = line;
@@ -65,7 +65,7 @@ pub fn with_whom<'s>(whom: Whom, name: &'s [u8], line: Phrase<'s>) -> Phrase<'s>
 }
 
 /// A line with the event and the store of a session.
-pub fn with_session<'s>(event: u8, store: &'s [u8], line: Phrase<'s>) -> Phrase<'s>
+pub(crate) fn with_session<'s>(event: u8, store: &'s [u8], line: Phrase<'s>) -> Phrase<'s>
     ensures { result ≡ with_session event store.now line.entry }
 {
     let mut line = line;
@@ -77,7 +77,7 @@ pub fn with_session<'s>(event: u8, store: &'s [u8], line: Phrase<'s>) -> Phrase<
 // ---- Lines of several.
 
 /// A handler of these exceptions.
-pub fn handle_line<'s>(pattern: Pattern, func: Func, arg: u32) -> Phrase<'s>
+pub(crate) fn handle_line<'s>(pattern: Pattern, func: Func, arg: u32) -> Phrase<'s>
     ensures { result ≡ handle_line pattern func arg }
 {
     let mut line = blank(Op::Handle);
@@ -88,7 +88,7 @@ pub fn handle_line<'s>(pattern: Pattern, func: Func, arg: u32) -> Phrase<'s>
 }
 
 /// A line that passes over the next one.
-pub fn skip_line<'s>(test: Test) -> Phrase<'s>
+pub(crate) fn skip_line<'s>(test: Test) -> Phrase<'s>
     ensures { result ≡ skip_line test }
 {
     let mut line = blank(Op::Skip);
@@ -97,7 +97,7 @@ pub fn skip_line<'s>(test: Test) -> Phrase<'s>
 }
 
 /// A new condition of a monitor.
-pub fn cv_create_line<'s>(cond: &'s [u8], mon: &'s [u8]) -> Phrase<'s>
+pub(crate) fn cv_create_line<'s>(cond: &'s [u8], mon: &'s [u8]) -> Phrase<'s>
     ensures { result ≡ cv_create_line cond.now mon.now }
 {
     let mut line = blank(Op::CvCreate);
@@ -107,7 +107,12 @@ pub fn cv_create_line<'s>(cond: &'s [u8], mon: &'s [u8]) -> Phrase<'s>
 }
 
 /// A new thread.
-pub fn create_line<'s>(name: &'s [u8], procedure: &'s [u8], prio: u32, flags: Flags) -> Phrase<'s>
+pub(crate) fn create_line<'s>(
+    name: &'s [u8],
+    procedure: &'s [u8],
+    prio: u32,
+    flags: Flags,
+) -> Phrase<'s>
     ensures { result ≡ create_line name.now procedure.now prio flags }
 {
     let mut line = blank(Op::Create);
@@ -119,7 +124,7 @@ pub fn create_line<'s>(name: &'s [u8], procedure: &'s [u8], prio: u32, flags: Fl
 }
 
 /// A new agent.
-pub fn agent_line(name: &[u8], event: u32) -> Phrase<'_>
+pub(crate) fn agent_line(name: &[u8], event: u32) -> Phrase<'_>
     ensures { result ≡ agent_line name.now event }
 {
     let mut line = blank(Op::Agent);
@@ -129,7 +134,7 @@ pub fn agent_line(name: &[u8], event: u32) -> Phrase<'_>
 }
 
 /// A letter, but for whom.
-pub fn send_line(room: u8, text: &[u8]) -> Phrase<'_>
+pub(crate) fn send_line(room: u8, text: &[u8]) -> Phrase<'_>
     requires { IsTrue (is_text text.now) }
     ensures { result ≡ send_line room text.now }
 {
@@ -140,7 +145,7 @@ pub fn send_line(room: u8, text: &[u8]) -> Phrase<'_>
 }
 
 /// Waiting for a letter, or not; but for from whom.
-pub fn receive_line<'s>(mode: Mode) -> Phrase<'s>
+pub(crate) fn receive_line<'s>(mode: Mode) -> Phrase<'s>
     ensures { result ≡ receive_line mode }
 {
     let mut line = blank(Op::Recv);
@@ -149,7 +154,7 @@ pub fn receive_line<'s>(mode: Mode) -> Phrase<'s>
 }
 
 /// A line that a client posts.
-pub fn post_line(client: u8, text: &[u8]) -> Phrase<'_>
+pub(crate) fn post_line(client: u8, text: &[u8]) -> Phrase<'_>
     requires { IsTrue (is_text text.now) }
     ensures { result ≡ post_line client text.now }
 {

@@ -16,7 +16,7 @@ pub struct CountSink {
 
 impl Model for CountSink {
     ghost use Rattle.std.specs.Prelude.{◌≡◌, length};
-    ghost use Rattle.byte_count.specs.Counting.{Counting};
+    ghost use Rattle.whole_streams.specs.Counting.{Counting};
 
     ghost Value = { Counting };
 
@@ -47,7 +47,7 @@ impl CountSink {
 
 impl Sink for CountSink {
     ghost use Rattle.std.specs.Prelude.{Some};
-    ghost use Rattle.byte_count.specs.Counting.{Counting};
+    ghost use Rattle.whole_streams.specs.Counting.{Counting};
 
     ghost written = { λ s. Some s.bytes };
 

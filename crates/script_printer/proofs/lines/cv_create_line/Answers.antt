@@ -1,4 +1,4 @@
-use Rattle.script_line_writer.proofs.lines.cv_create_line.Goals as goal
+use Rattle.script_printer.proofs.lines.cv_create_line.Goals as goal
 use Rattle.std.proofs.Common.{rules}
 
 pub returns : goal.returns

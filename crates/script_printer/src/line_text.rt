@@ -87,7 +87,7 @@ fn add_slots(out: &mut Vec<u8>, phrase: &Phrase<'_>, kinds: &[Kind]) -> Result<(
 }
 
 /// A line with its end.
-pub fn add_line(out: &mut Vec<u8>, phrase: &Phrase<'_>) -> Result<(), NoMemory>
+pub(crate) fn add_line(out: &mut Vec<u8>, phrase: &Phrase<'_>) -> Result<(), NoMemory>
     ensures { OnOk result (out.new.items ≡ out.old.items ++ ended (phrase_text phrase.now)) }
 {
     add_text(out, phrase.op.key())?;

@@ -1,4 +1,4 @@
-use Rattle.script_line_writer.proofs.lines.with_session.Goals as goal
+use Rattle.script_printer.proofs.lines.post_line.Goals as goal
 use Rattle.std.proofs.Common.{rules}
 
 pub returns : goal.returns

@@ -1,4 +1,4 @@
-use Rattle.byte_count.proofs.count.CountSinkSink.write.Goals as goal
+use Rattle.whole_streams.proofs.count.CountSinkSink.write.Goals as goal
 use Rattle.std.proofs.Common.{rules}
 
 pub returns-in_default-clause-cause : goal.returns-in_default-clause-cause
