@@ -1,1 +1,4 @@
 pub mod StockLaws
+mod InputLaws
+mod EndLaws
+mod ToldLaws

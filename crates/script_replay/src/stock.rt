@@ -16,7 +16,7 @@ use std::marker::Model;
 /// The lines of a script's clients, seen as those that each has left, in order. Of each client the places of its posts are kept, from
 /// the last to the next one.
 #[derive(Drop)]
-pub struct ScriptLines<'s> {
+pub(crate) struct ScriptLines<'s> {
     script: &'s Script,
     places: Vec<Places>,
 }
@@ -96,7 +96,7 @@ fn places_of(alloc: Global, script: &Script) -> Result<Vec<Places>, NoMemory>
 
 impl<'s> ScriptLines<'s> {
     /// All lines of a script, none of which was taken.
-    pub fn new(alloc: Global, script: &'s Script) -> Result<ScriptLines<'s>, NoMemory>
+    pub(crate) fn new(alloc: Global, script: &'s Script) -> Result<ScriptLines<'s>, NoMemory>
         requires { IsPosted script.now }
         ensures clients { IfOk result (λ lines. lines.lines.clients ≡ script.now.clients) }
         ensures posts { IfOk result (λ lines. lines.posts ≡ lines_posted script.now) }

@@ -2,7 +2,7 @@
 ghost use Rattle.pod_runner.specs.Run.{names_like};
 ghost use Rattle.replay.specs.Replayed.{Says};
 ghost use Rattle.script_gate.specs.Posted.{IsPosted};
-ghost use Rattle.script_replay.specs.Replay.{asked_for};
+ghost use Rattle.script_replay.specs.Compared.{asked_for};
 ghost use Rattle.script_text.specs.Limits.{IsWithinLimits};
 ghost use Rattle.std.specs.Prelude.{IfOk, length, ◌≡◌, ◌≤◌};
 
@@ -14,7 +14,7 @@ use std::alloc::Global;
 
 /// Whether the bytes are a trace of a session of this program in which the clients of the script post their lines, and of at most so
 /// many calls; or which of their lines is the first that differs, and what was to come in its place.
-pub fn replay<'s, B: Polled<'s>, P: Program<B>>(
+pub(crate) fn replay<'s, B: Polled<'s>, P: Program<B>>(
     alloc: Global,
     script: &'s Script,
     program: P,

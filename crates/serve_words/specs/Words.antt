@@ -1,7 +1,7 @@
 -- What the program's words ask for.
 use Rattle.script_answers.specs.Answers.{IsAnswers}
 use Rattle.script_batch.specs.Batch.{IsBatch}
-use Rattle.script_checked.specs.Replay.{IsReplay}
+use Rattle.script_replay.specs.Replay.{IsReplay}
 use Rattle.script_run.specs.Live.{IsLive}
 use Rattle.script_plan.specs.Make.{IsMake}
 use Rattle.script_session.specs.Outcome.{outcome_of}

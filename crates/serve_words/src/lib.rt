@@ -9,7 +9,7 @@
 //! `replay_main`. Other words are no command, and nothing is read or written then.
 //!
 //! The crate hands on what a program needs besides. It stands on `script_plan`, `script_run`, `script_batch`, `script_answers` and
-//! `script_checked`, on the sessions and ends of `script_session`, and on the words that `script_maker` and `script_text` read.
+//! `script_replay`, on the sessions and ends of `script_session`, and on the words that `script_maker` and `script_text` read.
 #![tactic(auto)]
 
 mod command;
@@ -17,8 +17,8 @@ mod command;
 pub use command::top;
 pub use script_answers::answers_main;
 pub use script_batch::batch_main;
-pub use script_checked::replay_main;
 pub use script_plan::{make_main, plan_main};
 pub use script_program::{ScriptProgram, ThreadBody};
+pub use script_replay::replay_main;
 pub use script_run::{LiveSession, no_gates, run_main};
 pub use script_session::{SCRIPT_MAX, Session, SessionEnd, Taken, TakenLines, fault_text};

@@ -1,17 +1,18 @@
 // A script and recorded bytes are put before a replay, and what is to be written of its verdict is worked out.
 ghost use Rattle.batch.specs.Parts.{LiesIn};
-ghost use Rattle.script_checked.specs.Found.{IsNotTold, IsTold, IsToldOf};
-ghost use Rattle.script_checked.specs.Texts.{differs_text, end_of, got_word, line_text, same_text, text_of};
+ghost use Rattle.script_replay.specs.Found.{IsNotTold, IsTold, IsToldOf};
+ghost use Rattle.script_replay.specs.Texts.{differs_text, end_of, got_word, line_text, same_text, text_of};
 ghost use Rattle.script_gate.specs.Posted.{IsPosted};
 ghost use Rattle.script_session.specs.SoFar.{opening_names};
 ghost use Rattle.script_text.specs.Limits.{IsWithinLimits};
 ghost use Rattle.std.specs.Prelude.{IfErr, IfOk, OnOk, codes, decimal, option_map, ◌++◌, ◌≡◌};
 
+use crate::traced::replay;
 use batch::Part;
 use lwp_types::{Env, NoMemory};
 use pod_runner::TakeList;
+use replay::Verdict;
 use script_program::ScriptProgram;
-use script_replay::{Verdict, replay};
 use script_session::SessionEnd;
 use script_text::{ReadErr, Script, read_script};
 use std::alloc::Global;

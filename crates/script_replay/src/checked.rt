@@ -1,5 +1,5 @@
 // An input is read, a replay made of it, and its verdict written.
-ghost use Rattle.script_checked.specs.Replay.{IsReplay};
+ghost use Rattle.script_replay.specs.Replay.{IsReplay};
 ghost use Rattle.std.specs.Prelude.{◌≤◌};
 ghost use Rattle.whole_streams.specs.Streams.{sides};
 

@@ -4,11 +4,11 @@ use Rattle.lwp_types.specs.Streams.{appended}
 use Rattle.pod_runner.specs.declared.session.Took.{Took}
 use Rattle.replay.specs.declared.verdict.Verdict.{Verdict}
 use Rattle.replay.specs.declared.verdict.Verdict.TheVariants as verdict
-use Rattle.script_checked.proofs.InputLaws.{holds-of}
-use Rattle.script_checked.specs.Found.{IsInput, IsToldOf}
-use Rattle.script_checked.specs.Input.{recorded_in}
-use Rattle.script_checked.specs.Replay.{IsFound, IsReplay, IsWritten, ReplaySays}
-use Rattle.script_checked.specs.Texts.{end_of}
+use Rattle.script_replay.proofs.InputLaws.{holds-of}
+use Rattle.script_replay.specs.Found.{IsInput, IsToldOf}
+use Rattle.script_replay.specs.Input.{recorded_in}
+use Rattle.script_replay.specs.Replay.{IsFound, IsReplay, IsWritten, ReplaySays}
+use Rattle.script_replay.specs.Texts.{end_of}
 use Rattle.script_session.specs.Outcome.{outcome_of}
 use Rattle.script_session.specs.declared.session.Session.{Session}
 use Rattle.script_session.specs.declared.session.SessionEnd.{SessionEnd}

@@ -1,9 +1,9 @@
 -- What was read of an input, and what there was.
 use Rattle.batch.specs.Parts.{content}
 use Rattle.batch.specs.declared.part.Part.{Part}
-use Rattle.script_checked.specs.Found.{IsInput}
-use Rattle.script_checked.specs.Input.{recorded_in, script_in}
-use Rattle.script_checked.specs.Replay.{Holds, HoldsNone}
+use Rattle.script_replay.specs.Found.{IsInput}
+use Rattle.script_replay.specs.Input.{recorded_in, script_in}
+use Rattle.script_replay.specs.Replay.{Holds, HoldsNone}
 use Rattle.script_text.specs.Spelling.{verdict}
 use Rattle.script_text.specs.declared.script.Script.{Script}
 use Rattle.std.proofs.Common.{List, None, Ok, Option, Some, ap, arith, inl, inr, length, length-take, refl, sym, take, take_all, ℕ, ◌<◌, ◌∙◌, ◌≡◌}

@@ -1,7 +1,7 @@
 // The input of a replay is read, and its script found in it.
 ghost use Rattle.batch.specs.Parts.{LiesIn, line_length};
-ghost use Rattle.script_checked.specs.Found.{IsInput, IsNoInput};
-ghost use Rattle.script_checked.specs.Input.{said_by, script_behind, script_in, size_by};
+ghost use Rattle.script_replay.specs.Found.{IsInput, IsNoInput};
+ghost use Rattle.script_replay.specs.Input.{said_by, script_behind, script_in, size_by};
 ghost use Rattle.std.specs.Prelude.{IfErr, IfOk, IfSome, OnOk, length, ◌≡◌, ◌≤◌};
 ghost use Rattle.whole_streams.specs.Limited.{IsReadUp};
 ghost use Rattle.whole_streams.specs.Streams.{sides};

@@ -1,8 +1,8 @@
 use Rattle.std.proofs.Common.{List, subst, sym, ℕ}
-use Rattle.script_checked.proofs.EndLaws.{says-cut, says-whole}
-use Rattle.script_checked.specs.Found.{IsToldOf}
+use Rattle.script_replay.proofs.EndLaws.{says-cut, says-whole}
+use Rattle.script_replay.specs.Found.{IsToldOf}
 use Rattle.whole_streams.specs.Streams.{Stream}
-use Rattle.script_checked.proofs.checked.replay_main.Goals as goal
+use Rattle.script_replay.proofs.checked.replay_main.Goals as goal
 
 pub returns-in-Ok-write_all : goal.returns-in-Ok-write_all
 returns-in-Ok-write_all g c =

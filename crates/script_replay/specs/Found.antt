@@ -4,9 +4,9 @@ use Rattle.batch.specs.declared.part.Part.{Part}
 use Rattle.pod_runner.specs.declared.session.Took.{Took}
 use Rattle.replay.specs.Replayed.{Says}
 use Rattle.replay.specs.declared.verdict.Verdict.{Verdict}
-use Rattle.script_checked.specs.Input.{recorded_in, script_in}
-use Rattle.script_checked.specs.Replay.{HoldsNone, asked_of, most_read}
-use Rattle.script_checked.specs.Texts.{end_of, text_of}
+use Rattle.script_replay.specs.Input.{recorded_in, script_in}
+use Rattle.script_replay.specs.Replay.{HoldsNone, asked_of, most_read}
+use Rattle.script_replay.specs.Texts.{end_of, text_of}
 use Rattle.script_session.specs.declared.session.SessionEnd.{SessionEnd}
 use Rattle.script_session.specs.declared.session.SessionEnd.TheVariants as end
 use Rattle.script_text.specs.Spelling.{verdict}

@@ -1,7 +1,7 @@
 use Rattle.std.proofs.Common.{ap, refl, sym, ◌∙◌}
-use Rattle.script_checked.proofs.InputLaws.{input-of, none-of}
-use Rattle.script_checked.specs.Input.{script_in}
-use Rattle.script_checked.proofs.input.read_input.Goals as goal
+use Rattle.script_replay.proofs.InputLaws.{input-of, none-of}
+use Rattle.script_replay.specs.Input.{script_in}
+use Rattle.script_replay.proofs.input.read_input.Goals as goal
 
 pub returns-in-Some-clause-input : goal.returns-in-Some-clause-input
 returns-in-Some-clause-input g c =

@@ -1,8 +1,8 @@
 use Rattle.std.proofs.Common.{length, refl, subst, sym, ◌≤◌}
-use Rattle.script_checked.proofs.ToldLaws.{like-opening, some-bodies}
+use Rattle.script_replay.proofs.ToldLaws.{like-opening, some-bodies}
 use Rattle.script_program.specs.Bodies.{bodies_of}
 use Rattle.script_text.specs.declared.script.Script.{Script}
-use Rattle.script_checked.proofs.told.told_by.Goals as goal
+use Rattle.script_replay.proofs.told.told_by.Goals as goal
 
 pub replay-requires : goal.replay-requires
 replay-requires c =

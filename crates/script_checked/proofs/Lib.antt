@@ -1,3 +1,0 @@
-mod InputLaws
-mod EndLaws
-mod ToldLaws

@@ -1,4 +1,0 @@
-pub mod Input
-pub mod Texts
-pub mod Replay
-pub mod Found
