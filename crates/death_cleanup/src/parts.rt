@@ -73,8 +73,6 @@ impl<'s> Drop for Parts<'s> {
 pub fn is_thread(parts: &Parts, tid: Tid) -> bool
     ensures { result ≡ is_thread (state_of parts.now) tid }
 {
-    // The check learns here that the living stand in birth order, so that a number finds one of them.
-    let _living = parts.ids.len();
     match parts.ids.get(tid.number) {
         Some(Kind::Thread(_)) => true,
         Some(Kind::Agent) => false,

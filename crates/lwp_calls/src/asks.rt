@@ -108,8 +108,6 @@ pub fn receivers(parts: &Parts, alloc: Global, from: Tid) -> Result<IdList, NoMe
 pub fn flags_of(parts: &Parts, tid: Tid) -> Option<Flags>
     ensures { result ≡ flags_of (state_of parts.now) tid }
 {
-    // The check learns here that the living stand in birth order, so that a number finds one of them.
-    let _living = parts.ids.len();
     match parts.ids.get(tid.number) {
         Some(Kind::Thread(rec)) => Some(rec.flags),
         Some(Kind::Agent) => None,

@@ -294,8 +294,6 @@ fn found(parts: &Parts, tid: Tid, pattern: u32) -> Option<Found>
     ensures value { result ≡ found (state_of parts.now) tid pattern }
     ensures in_reach { IfSome result (IsInReach (marks_in (state_of parts.now) tid)) }
 {
-    // The check learns here that the living stand in birth order, so that a number finds one of them.
-    let _living = parts.ids.len();
     let Some(kind) = parts.ids.get(tid.number) else {
         return None;
     };
@@ -358,8 +356,6 @@ fn frames(parts: &Parts, tid: Tid) -> u32
     requires may_run { IsTrue (is_eligible_in (state_of parts.now) tid) }
     ensures { result ≡ frames (marks_in (state_of parts.now) tid) }
 {
-    // The check learns here that the living stand in birth order, so that a number finds one of them.
-    let _living = parts.ids.len();
     let Some(kind) = parts.ids.get(tid.number) else {
         return 0;
     };

@@ -94,8 +94,6 @@ fn receiver(parts: &Parts, tid: Tid, sender: Tid) -> Option<bool>
     ensures { result
         ≡ option_map (λ row. takes_from sender row.block) (thread_of (state_of parts.now) tid) }
 {
-    // The check learns here that the living stand in birth order, so that a number finds one of them.
-    let _living = parts.ids.len();
     match parts.ids.get(tid.number) {
         Some(Kind::Thread(rec)) => Some(block_takes(rec.block, sender)),
         Some(Kind::Agent) => None,

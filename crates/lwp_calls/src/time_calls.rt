@@ -33,8 +33,6 @@ fn is_sleeping(why: Block) -> bool
 fn is_asleep(parts: &Parts, tid: Tid) -> bool
     ensures { result ≡ is_asleep_in (state_of parts.now) tid }
 {
-    // The check learns here that the living stand in birth order, so that a number finds one of them.
-    let _living = parts.ids.len();
     match parts.ids.get(tid.number) {
         Some(Kind::Thread(rec)) => is_sleeping(rec.block),
         Some(Kind::Agent) => false,

@@ -100,7 +100,8 @@ impl<T> Registry<T> {
 
     /// The value that lives under the number.
     pub fn get(&self, n: u64) -> Option<&T>
-        ensures { option_copied result ≡ value_of n self.now.live }
+        ensures value { option_copied result ≡ value_of n self.now.live }
+        ensures rising { AreRising self.now.live }
     {
         let at = place_of(&self.index, n)?;
         self.values.get(self.index[at].slot)
