@@ -257,45 +257,32 @@ checked {s = s} t checks otherwise mild = mild_toll t None 0 (unless_mild s chec
 quiet : {s after : State} → numbers after.threads ≡ numbers s.threads → Mild s after []
 quiet {s = s} {after = after} same = mild_quiet s after same
 
--- of every call
+-- of every call: the last line is for each that is refused by its checks or else leaves the threads' numbers as they are
 pub case_toll : (s : State) (t : ℕ) (c : Call) → Toll s t (victim t c) (births_by c) (case_of s t c).after (case_of s t c).others
 case_toll s t (call.Create number prio flags) = create_toll s t number prio flags _ _
 case_toll s t (call.Destroy u) = destroy_toll s t u
-case_toll s t (call.Ping u) = checked t _ _ (quiet refl)
-case_toll s t (call.Yield u) = checked t _ _ (quiet refl)
-case_toll s t (call.Resched p) = checked t _ _ (quiet refl)
 case_toll s t (call.SetPri u p) = checked t _ _ (quiet (priority_numbers u p s.threads))
 case_toll s t (call.Suspend u) = checked t _ _ (quiet (suspension_numbers u true s.threads))
 case_toll s t (call.Resume u) = checked t _ _ (quiet (suspension_numbers u false s.threads))
 case_toll s t (call.Join u) = checked t _ _ (quiet (block_numbers t (block.Joining u) s.threads))
 case_toll s t (call.Sleep ticks) = mild_toll t None 0 (cond_mild s (eqb ticks 0) (valued s 0) (unanswered (still (blocked_for s t block.Sleeping ticks))) (mild_quiet s s refl) (mild_quiet s _ (block_numbers t block.Sleeping s.threads)))
 case_toll s t call.Me = mild_toll t None 0 (mild_quiet s s refl)
-case_toll s t (call.SetMaxPri p) = checked t _ _ (quiet refl)
-case_toll s t (call.SetExit code) = checked t _ _ (quiet refl)
 case_toll s t call.GetExit = mild_toll t None 0 (mild_quiet s s refl)
-case_toll s t (call.PodExit code) = checked t _ _ (quiet refl)
 case_toll s t call.Threads = mild_toll t None 0 (mild_quiet s s refl)
 case_toll s t (call.Send u room text) = checked t _ _ (send_mild s (record { from = t; to = u; text = text; room = room; received = false }) t)
 case_toll s t (call.Recv from how) = checked t _ _ (received_mild s t from how (unreceived s.letters t from))
 case_toll s t (call.Reply u text) = checked t _ _ (mild_replied u text s)
 case_toll s t call.Senders = mild_toll t None 0 (mild_quiet s s refl)
 case_toll s t call.Receivers = mild_toll t None 0 (mild_quiet s s refl)
-case_toll s t call.MonCreate = checked t _ _ (quiet refl)
-case_toll s t (call.MonDestroy m) = checked t _ _ (quiet refl)
 case_toll s t (call.Enter m) = checked t _ _ (cond_mild s (is_owned_by_other s.locks t m) (unanswered (still (requested s t m))) (entered s t m) (mild_quiet s _ (block_numbers t (block.Entering m) s.threads)) (mild_quiet s _ refl))
-case_toll s t (call.CondEnter m) = checked t _ _ (quiet refl)
 case_toll s t (call.MonExit m) = checked t _ _ (mild_exited m s)
 case_toll s t (call.MonBreak m) = checked t _ _ (mild_release m s)
 case_toll s t call.Monitors = mild_toll t None 0 (mild_quiet s s refl)
-case_toll s t (call.MonWaiters m) = checked t _ _ (quiet refl)
-case_toll s t (call.CvCreate m) = checked t _ _ (quiet refl)
-case_toll s t (call.CvDestroy c) = checked t _ _ (quiet refl)
 case_toll s t (call.Wait c) = checked t _ _ (mild_waited t c (last_lock s.locks t) s)
 case_toll s t (call.Notify c) = mild_toll t None 0 (mild_waking s t c [] _)
 case_toll s t (call.Broadcast c) = mild_toll t None 0 (mild_waking s t c [] _)
 case_toll s t (call.CvSend c u) = mild_toll t None 0 (mild_waking s t c _ _)
 case_toll s t call.Conditions = mild_toll t None 0 (mild_quiet s s refl)
-case_toll s t (call.CvWaiters c) = checked t _ _ (quiet refl)
 case_toll s t (call.CallProc number) = checked t _ _ (quiet (mark_numbers t _ s.threads))
 case_toll s t call.Return = return_toll s t
 case_toll s t (call.Handle pat func arg) = checked t _ _ (quiet (mark_numbers t _ s.threads))
@@ -304,8 +291,7 @@ case_toll s t (call.OnExit x) = checked t _ _ (quiet (mark_numbers t _ s.threads
 case_toll s t (call.Raise p) = checked t _ _ (match_mild s (caught s t p) (found s t p) (caught_mild s t p))
 case_toll s t (call.ExcNotify p) = checked t _ _ (match_mild s (λ f. notified_by s t p f f.func) (found s t p) (λ f. notified_mild s t p f f.func))
 case_toll s t (call.Bound p) = checked t _ _ (match_mild s _ (found s t p) (λ f. mild_quiet s s refl))
-case_toll s t call.UniqPatt = checked t _ _ (quiet refl)
-case_toll s t (call.Agent e) = checked t _ _ (quiet refl)
 case_toll s t call.Agents = mild_toll t None 0 (mild_quiet s s refl)
 case_toll s t (call.Trap e) = mild_toll t None 0 (mild_quiet s s refl)
 case_toll s t (call.Say text) = mild_toll t None 0 (mild_quiet s s refl)
+case_toll s t _ = checked t _ _ (quiet refl)

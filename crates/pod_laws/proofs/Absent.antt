@@ -23,7 +23,7 @@ use Rattle.lwp_types.specs.declared.call.ExitCall.{ExitCall}
 use Rattle.lwp_types.specs.declared.call.ExitCall.TheVariants as exit
 use Rattle.pod_laws.specs.Forgotten.{CondSendRefusesTheAbsent, DeliveriesAreQuiet, ExitsRefuseTheAbsent, IsQuiet, TheAbsentAreRefused, asks_for, exit_asks_for, is_died}
 use Rattle.pod_laws.specs.Once.{exited_passes}
-use Rattle.std.proofs.Common.{Bool, List, None, Some, [], ap, arith, cond, eqb, false, not, refl, true, ℕ, ◌++◌, ◌+◌, ◌∙◌, ◌∷◌, ◌≡◌}
+use Rattle.std.proofs.Common.{Bool, List, Some, [], ap, arith, cond, eqb, false, not, refl, true, ℕ, ◌++◌, ◌+◌, ◌∙◌, ◌∷◌, ◌≡◌}
 use Rattle.std.proofs.lemmas.Bool.{eqb-true, or_parts}
 
 -- the first check strikes
@@ -39,59 +39,19 @@ module _ (s : State) (t n : ℕ) (absent : is_id s n ≡ false) where
   no_id : (u : ℕ) → eqb u n ≡ true → not (is_id s u) ≡ true
   no_id u same = not_of _ (ap (is_id s) (eqb-true u n same) ∙ absent)
 
-  -- of every call that asks for it
+  -- of every call that asks for it: the last line is for those that ask for nobody
   absent_refused : (c : Call) → asks_for n c ≡ true → case_of s t c ≡ refused s error.NonExist
-  absent_refused (call.Create number prio flags) asks = absurd (cc)
   absent_refused (call.Destroy u) asks = first_strikes s _ _ _ _ (no_id u asks)
   absent_refused (call.Ping u) asks = first_strikes s _ _ _ _ (no_id u asks)
   absent_refused (call.Yield u) asks = first_strikes s _ _ _ _ (no_thread u asks)
-  absent_refused (call.Resched q) asks = absurd (cc)
   absent_refused (call.SetPri u q) asks = first_strikes s _ _ _ _ (no_thread u asks)
   absent_refused (call.Suspend u) asks = first_strikes s _ _ _ _ (no_thread u asks)
   absent_refused (call.Resume u) asks = first_strikes s _ _ _ _ (no_thread u asks)
   absent_refused (call.Join u) asks = first_strikes s _ _ _ _ (no_thread u asks)
-  absent_refused (call.Sleep ticks) asks = absurd (cc)
-  absent_refused call.Me asks = absurd (cc)
-  absent_refused (call.SetMaxPri q) asks = absurd (cc)
-  absent_refused (call.SetExit code) asks = absurd (cc)
-  absent_refused call.GetExit asks = absurd (cc)
-  absent_refused (call.PodExit code) asks = absurd (cc)
-  absent_refused call.Threads asks = absurd (cc)
   absent_refused (call.Send u room text) asks = first_strikes s _ _ _ _ (no_thread u asks)
-  absent_refused (call.Recv None how) asks = absurd (cc)
   absent_refused (call.Recv (Some u) how) asks = first_strikes s _ _ _ _ (no_id u asks)
   absent_refused (call.Reply u text) asks = first_strikes s _ _ _ _ (no_id u asks)
-  absent_refused call.Senders asks = absurd (cc)
-  absent_refused call.Receivers asks = absurd (cc)
-  absent_refused call.MonCreate asks = absurd (cc)
-  absent_refused (call.MonDestroy m) asks = absurd (cc)
-  absent_refused (call.Enter m) asks = absurd (cc)
-  absent_refused (call.CondEnter m) asks = absurd (cc)
-  absent_refused (call.MonExit m) asks = absurd (cc)
-  absent_refused (call.MonBreak m) asks = absurd (cc)
-  absent_refused call.Monitors asks = absurd (cc)
-  absent_refused (call.MonWaiters m) asks = absurd (cc)
-  absent_refused (call.CvCreate m) asks = absurd (cc)
-  absent_refused (call.CvDestroy c) asks = absurd (cc)
-  absent_refused (call.Wait c) asks = absurd (cc)
-  absent_refused (call.Notify c) asks = absurd (cc)
-  absent_refused (call.Broadcast c) asks = absurd (cc)
-  absent_refused (call.CvSend c u) asks = absurd (cc)
-  absent_refused call.Conditions asks = absurd (cc)
-  absent_refused (call.CvWaiters c) asks = absurd (cc)
-  absent_refused (call.CallProc number) asks = absurd (cc)
-  absent_refused call.Return asks = absurd (cc)
-  absent_refused (call.Handle pat func arg) asks = absurd (cc)
-  absent_refused call.Unhandle asks = absurd (cc)
-  absent_refused (call.OnExit e) asks = absurd (cc)
-  absent_refused (call.Raise q) asks = absurd (cc)
-  absent_refused (call.ExcNotify q) asks = absurd (cc)
-  absent_refused (call.Bound q) asks = absurd (cc)
-  absent_refused call.UniqPatt asks = absurd (cc)
-  absent_refused (call.Agent e) asks = absurd (cc)
-  absent_refused call.Agents asks = absurd (cc)
-  absent_refused (call.Trap e) asks = absurd (cc)
-  absent_refused (call.Say text) asks = absurd (cc)
+  absent_refused _ asks = absurd (cc)
 
   -- of every exit procedure that asks for it
   exit_absent_refused : (x : ExitCall) → exit_asks_for n x ≡ true → exit_case s t x ≡ refused s error.NonExist

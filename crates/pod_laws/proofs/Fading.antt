@@ -260,39 +260,29 @@ module _ (n : ℕ) where
   fades_destroyed s t u = cond_fades s (is_agent s u) (with_zero (end_agent u s)) _ (fades_end_agent u s)
       (cond_fades s (eqb t u) (unanswered (death u s)) (with_zero (death u s)) (fades_death u s) (fades_death u s))
 
-  -- of every call
+  -- of every call: the last line is for each that is refused by its checks or else leaves threads, agents and births as they are
   case_fades : (s : State) (t : ℕ) (c : Call) → Fades n s (case_of s t c).after
   case_fades s t (call.Create number prio flags) = unless_fades s _ _ (fades_created s prio flags)
   case_fades s t (call.Destroy u) = unless_fades s _ _ (fades_destroyed s t u)
   case_fades s t (call.Ping u) = unless_fades s _ _ (fades_still s)
-  case_fades s t (call.Yield u) = unless_fades s _ _ (fades_plain s _ refl refl refl)
-  case_fades s t (call.Resched q) = unless_fades s _ _ (fades_plain s _ refl refl refl)
   case_fades s t (call.SetPri u q) = unless_fades s _ _ (rows_fade s _ (priority_set u q) (λ row. refl) refl refl refl)
   case_fades s t (call.Suspend u) = unless_fades s _ _ (fades_suspension s _ u true refl refl refl)
   case_fades s t (call.Resume u) = unless_fades s _ _ (fades_suspension s _ u false refl refl refl)
   case_fades s t (call.Join u) = unless_fades s _ _ (fades_block s _ t (block.Joining u) refl refl refl)
   case_fades s t (call.Sleep ticks) = cond_fades s (eqb ticks 0) (valued s 0) (unanswered (still (blocked_for s t block.Sleeping ticks))) (fades_still s) (fades_block s _ t block.Sleeping refl refl refl)
   case_fades s t call.Me = fades_still s
-  case_fades s t (call.SetMaxPri q) = unless_fades s _ _ (fades_plain s _ refl refl refl)
-  case_fades s t (call.SetExit code) = unless_fades s _ _ (fades_plain s _ refl refl refl)
   case_fades s t call.GetExit = fades_still s
-  case_fades s t (call.PodExit code) = unless_fades s _ _ (fades_plain s _ refl refl refl)
   case_fades s t call.Threads = fades_still s
   case_fades s t (call.Send u room text) = unless_fades s _ _ (fades_then s (blocked s t block.Sending) _ (fades_block s _ t block.Sending refl refl refl) (fades_post (record { from = t; to = u; text = text; room = room; received = false }) (blocked s t block.Sending)))
   case_fades s t (call.Recv from how) = unless_fades s _ _ (fades_received s t from how (unreceived s.letters t from))
   case_fades s t (call.Reply u text) = unless_fades s _ _ (fades_replied u text s)
   case_fades s t call.Senders = fades_still s
   case_fades s t call.Receivers = fades_still s
-  case_fades s t call.MonCreate = unless_fades s _ _ (fades_plain s _ refl refl refl)
-  case_fades s t (call.MonDestroy m) = unless_fades s _ _ (fades_plain s _ refl refl refl)
   case_fades s t (call.Enter m) = unless_fades s _ _ (cond_fades s (is_owned_by_other s.locks t m) (unanswered (still (requested s t m))) (entered s t m) (fades_block s _ t (block.Entering m) refl refl refl) (fades_plain s _ refl refl refl))
-  case_fades s t (call.CondEnter m) = unless_fades s _ _ (fades_plain s _ refl refl refl)
   case_fades s t (call.MonExit m) = unless_fades s _ _ (fades_exited m s)
   case_fades s t (call.MonBreak m) = unless_fades s _ _ (fades_release m s)
   case_fades s t call.Monitors = fades_still s
   case_fades s t (call.MonWaiters m) = unless_fades s _ _ (fades_still s)
-  case_fades s t (call.CvCreate m) = unless_fades s _ _ (fades_plain s _ refl refl refl)
-  case_fades s t (call.CvDestroy c) = unless_fades s _ _ (fades_plain s _ refl refl refl)
   case_fades s t (call.Wait c) = unless_fades s _ _ (fades_waited t c (last_lock s.locks t) s)
   case_fades s t (call.Notify c) = unless_fades s _ _ (fades_woken_all (condition_of s.conditions c) _ s)
   case_fades s t (call.Broadcast c) = unless_fades s _ _ (fades_woken_all (condition_of s.conditions c) _ s)
@@ -307,11 +297,11 @@ module _ (n : ℕ) where
   case_fades s t (call.Raise q) = unless_fades s _ _ (fades_match s (caught s t q) (found s t q) (λ f. fades_caught s t q f))
   case_fades s t (call.ExcNotify q) = unless_fades s _ _ (fades_match s (λ f. notified_by s t q f f.func) (found s t q) (λ f. fades_notified s t q f f.func))
   case_fades s t (call.Bound q) = unless_fades s _ _ (fades_match s _ (found s t q) (λ f. fades_still s))
-  case_fades s t call.UniqPatt = unless_fades s _ _ (fades_plain s _ refl refl refl)
   case_fades s t (call.Agent e) = unless_fades s _ _ (fades_agent_born s t e)
   case_fades s t call.Agents = fades_still s
   case_fades s t (call.Trap e) = fades_still s
   case_fades s t (call.Say text) = fades_still s
+  case_fades s t _ = unless_fades s _ _ (fades_plain s _ refl refl refl)
 
   pub step_fades : (s : State) (c : Call) → Fades n s (step s c).after
   unfolding step step_by

@@ -205,49 +205,29 @@ bearing s t c checks otherwise never is number clock count = record {
   born = λ off. let bad : true ≡ false = sym is ∙ off in absurd (cc);
 }
 
--- of every call
+-- of every call: the last line is for each that is refused by its checks or else leaves these counts as they are
 case_numbers : (s : State) (t : ℕ) (c : Call) → Numbers s t c (case_of s t c)
 case_numbers s t (call.Create number prio flags) = bearing s t _ _ _ refl refl refl refl refl
 case_numbers s t (call.Destroy u) = plain s t _ _ refl (none_unless s _ _ (none_destroyed s t u))
-case_numbers s t (call.Ping u) = plain s t _ _ refl (none_unless s _ _ refl)
-case_numbers s t (call.Yield u) = plain s t _ _ refl (none_unless s _ _ refl)
-case_numbers s t (call.Resched q) = plain s t _ _ refl (none_unless s _ _ refl)
-case_numbers s t (call.SetPri u q) = plain s t _ _ refl (none_unless s _ _ refl)
-case_numbers s t (call.Suspend u) = plain s t _ _ refl (none_unless s _ _ refl)
-case_numbers s t (call.Resume u) = plain s t _ _ refl (none_unless s _ _ refl)
-case_numbers s t (call.Join u) = plain s t _ _ refl (none_unless s _ _ refl)
 case_numbers s t (call.Sleep ticks) = plain s t _ _ refl (none_cond s (eqb ticks 0) (valued s 0) (unanswered (still (blocked_for s t block.Sleeping ticks))) refl refl)
 case_numbers s t call.Me = plain s t _ _ refl refl
-case_numbers s t (call.SetMaxPri q) = plain s t _ _ refl (none_unless s _ _ refl)
-case_numbers s t (call.SetExit code) = plain s t _ _ refl (none_unless s _ _ refl)
 case_numbers s t call.GetExit = plain s t _ _ refl refl
-case_numbers s t (call.PodExit code) = plain s t _ _ refl (none_unless s _ _ refl)
 case_numbers s t call.Threads = plain s t _ _ refl refl
 case_numbers s t (call.Send u room text) = plain s t _ _ refl (none_unless s _ _ (none_posted (record { from = t; to = u; text = text; room = room; received = false }) (blocked s t block.Sending)))
 case_numbers s t (call.Recv from how) = plain s t _ _ refl (none_unless s _ _ (none_received s t from how (unreceived s.letters t from)))
 case_numbers s t (call.Reply u text) = plain s t _ _ refl (none_unless s _ _ (none_replied u text s))
 case_numbers s t call.Senders = plain s t _ _ refl refl
 case_numbers s t call.Receivers = plain s t _ _ refl refl
-case_numbers s t call.MonCreate = plain s t _ _ refl (none_unless s _ _ refl)
-case_numbers s t (call.MonDestroy m) = plain s t _ _ refl (none_unless s _ _ refl)
 case_numbers s t (call.Enter m) = plain s t _ _ refl (none_unless s _ _ (none_cond s (is_owned_by_other s.locks t m) (unanswered (still (requested s t m))) (entered s t m) refl refl))
-case_numbers s t (call.CondEnter m) = plain s t _ _ refl (none_unless s _ _ refl)
 case_numbers s t (call.MonExit m) = plain s t _ _ refl (none_unless s _ _ (none_exited m s))
 case_numbers s t (call.MonBreak m) = plain s t _ _ refl (none_unless s _ _ (none_released m s))
 case_numbers s t call.Monitors = plain s t _ _ refl refl
-case_numbers s t (call.MonWaiters m) = plain s t _ _ refl (none_unless s _ _ refl)
-case_numbers s t (call.CvCreate m) = plain s t _ _ refl (none_unless s _ _ refl)
-case_numbers s t (call.CvDestroy c) = plain s t _ _ refl (none_unless s _ _ refl)
 case_numbers s t (call.Wait c) = plain s t _ _ refl (none_unless s _ _ (none_waited t c (last_lock s.locks t) s))
 case_numbers s t (call.Notify c) = plain s t _ _ refl (none_unless s _ _ (none_woken_all (condition_of s.conditions c) _ s))
 case_numbers s t (call.Broadcast c) = plain s t _ _ refl (none_unless s _ _ (none_woken_all (condition_of s.conditions c) _ s))
 case_numbers s t (call.CvSend c u) = plain s t _ _ refl (none_unless s _ _ (none_woken_all (condition_of s.conditions c) _ s))
 case_numbers s t call.Conditions = plain s t _ _ refl refl
-case_numbers s t (call.CvWaiters c) = plain s t _ _ refl (none_unless s _ _ refl)
-case_numbers s t (call.CallProc number) = plain s t _ _ refl (none_unless s _ _ refl)
 case_numbers s t call.Return = plain s t _ _ refl (none_cond s (nat_le 2 (frames (marks_in s t))) (leave_frame s t) (unanswered (death t s)) (none_unwound t (first_frames (frames (marks_in s t) - 1) (marks_in s t)) (later_frames (frames (marks_in s t) - 1) (marks_in s t)) s) (none_died t s))
-case_numbers s t (call.Handle pat func arg) = plain s t _ _ refl (none_unless s _ _ refl)
-case_numbers s t call.Unhandle = plain s t _ _ refl (none_unless s _ _ refl)
 case_numbers s t (call.OnExit x) = record {
   next = exit_numbered s t x;
   still = unless_keeps (λ (after : State). after.now ≡ s.now) s _ _ refl (λ passed. refl);
@@ -257,11 +237,11 @@ case_numbers s t (call.OnExit x) = record {
 case_numbers s t (call.Raise q) = plain s t _ _ refl (none_unless s _ _ (none_matched s (caught s t q) (found s t q) (λ f. none_caught s t q f)))
 case_numbers s t (call.ExcNotify q) = plain s t _ _ refl (none_unless s _ _ (none_matched s (λ f. notified_by s t q f f.func) (found s t q) (λ f. none_notified s t q f f.func)))
 case_numbers s t (call.Bound q) = plain s t _ _ refl (none_unless s _ _ (none_matched s _ (found s t q) (λ f. refl)))
-case_numbers s t call.UniqPatt = plain s t _ _ refl (none_unless s _ _ refl)
 case_numbers s t (call.Agent e) = bearing s t _ _ _ refl refl refl refl refl
 case_numbers s t call.Agents = plain s t _ _ refl refl
 case_numbers s t (call.Trap e) = plain s t _ _ refl refl
 case_numbers s t (call.Say text) = plain s t _ _ refl refl
+case_numbers s t _ = plain s t _ _ refl (none_unless s _ _ refl)
 
 pub steps_number_exits : StepsNumberExits
 unfolding step step_by
