@@ -2,8 +2,9 @@
 use Rattle.lwp_types.specs.Choice.{better_by}
 use Rattle.lwp_types.specs.CountLaws.{count-cons, count_found_by, count_not_found, one}
 use Rattle.lwp_types.specs.OnlyLaws.{count_at}
-use Rattle.std.proofs.Common.{Bool, List, MatchOption, None, Option, Some, [], ap, arith, cond, count_by, eqb, false, get_or, inl, inr, leb, length, map, refl, suc, sym, true, zero, ℕ, ◌&&◌, ◌<◌, ◌∙◌, ◌∷◌, ◌≡◌, ◌≤◌}
+use Rattle.std.proofs.Common.{Bool, List, MatchOption, None, Option, Some, [], ap, arith, cond, count_by, eqb, false, get_or, inl, inr, leb, length, map, refl, set, suc, sym, true, zero, ℕ, ◌&&◌, ◌<◌, ◌∙◌, ◌∷◌, ◌≡◌, ◌≤◌}
 use Rattle.std.proofs.lemmas.Bool.{and_parts, cases_eq, cases_lt, cases_order, eq-eqb, eqb-false, eqb-true, le-leb, lt-leb}
+use Rattle.std.proofs.lemmas.List.{get_or-set_same}
 use Rattle.std.specs.List.{AllByRecursion, filter, find, fold}
 use Rattle.std.specs.List.Sorted.{IsNonDecreasingBy}
 use Rattle.std.specs.Prelude.{option_map}
@@ -16,7 +17,7 @@ use Rattle.waiting_list.specs.declared.rows.Entry.{Entry}
 use Rattle.waiting_list.specs.declared.rows.Waiting.{Waiting}
 
 abbrev pub no_entry : Entry
-no_entry = record { arrival = 0; what = 0; tid = 0; prio = 0; depth = 0 }
+no_entry = record { arrival = 0; what = 0; tid = 0; prio = 0; depth = 0; filed = 0 }
 
 -- ---- arrivals
 
@@ -49,6 +50,26 @@ pub any_default : (es : List Entry) (i : ℕ) (d d' : Entry) → i < length es �
 any_default [] i d d' within = absurd (omega arith)
 any_default (e ∷ es) zero d d' within = refl
 any_default (e ∷ es) (suc i) d d' within = any_default es i d d' (omega arith)
+
+-- whoever has that priority keeps it
+pub prioritized_itself : (es : List Entry) (i p : ℕ) (e : Entry) → i < length es → e ≡ get_or es i e → e.prio ≡ p → es ≡ set es i (record e { prio = p; filed = (get_or es i e).filed })
+prioritized_itself es i p e within here same =
+    sym (ap (λ q. set es i (record e { prio = q; filed = (get_or es i e).filed })) (sym same)
+    ∙ ap (λ (x : Entry). set es i (record e { filed = x.filed })) (sym here)
+    ∙ set_itself es i e within here)
+  where
+    set_itself : (xs : List Entry) (j : ℕ) (x : Entry) → j < length xs → x ≡ get_or xs j x → set xs j x ≡ xs
+    set_itself [] j x within is = absurd (omega (arith, within))
+    set_itself (y ∷ ys) zero x within is = ap (λ z. z ∷ ys) is
+    set_itself (y ∷ ys) (suc j) x within is = ap (λ zs. y ∷ zs) (set_itself ys j x (omega (arith, within)) is)
+
+-- whoever stood there, read in two ways
+pub prioritized_set : (es : List Entry) (i p q : ℕ) (b e : Entry) → i < length es → b ≡ get_or es i b → e ≡ get_or es i e
+    → set es i (record b { prio = p; filed = q }) ≡ set es i (record e { prio = p; filed = (get_or (set es i (record b { prio = p; filed = q })) i e).filed })
+prioritized_set es i p q b e within was here =
+    let same : b ≡ e = was ∙ any_default es i b e within ∙ sym here in
+    let filed : q ≡ (get_or (set es i (record b { prio = p; filed = q })) i e).filed = sym (ap (λ (x : Entry). x.filed) (get_or-set_same es i (record b { prio = p; filed = q }) e within)) in
+    ap (λ (x : Entry). set es i (record x { prio = p; filed = q })) same ∙ ap (λ n. set es i (record e { prio = p; filed = n })) filed
 
 -- ---- what is filed
 

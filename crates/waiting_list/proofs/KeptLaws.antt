@@ -192,39 +192,28 @@ module _ (es : List Entry) (ranks arrived : List Key) (index : Found) (room rank
     }
 
     -- it has another priority
-    abbrev with_prio : ℕ → Entry → Entry
-    with_prio p x = record x { prio = cond (is_entry_of t x) p x.prio }
+    abbrev with_prio : ℕ → ℕ → Entry → Entry
+    with_prio p q x = record x { prio = cond (is_entry_of t x) p x.prio; filed = cond (is_entry_of t x) q x.filed }
 
-    waits_prio : (p : ℕ) (xs : List Entry) → map waiting_of (map (with_prio p) xs) ≡ map (priority_set t p) (map waiting_of xs)
-    waits_prio p [] = refl
-    waits_prio p (x ∷ xs) = ap (λ ws. waiting_of (with_prio p x) ∷ ws) (waits_prio p xs)
+    waits_prio : (p q : ℕ) (xs : List Entry) → map waiting_of (map (with_prio p q) xs) ≡ map (priority_set t p) (map waiting_of xs)
+    waits_prio p q [] = refl
+    waits_prio p q (x ∷ xs) = ap (λ ws. waiting_of (with_prio p q x) ∷ ws) (waits_prio p q xs)
 
-    pub prioritized_there : (p : ℕ) → map waiting_of (set es i (record e { prio = p })) ≡ map (priority_set t p) (map waiting_of es)
-    prioritized_there p =
-        ap (λ b. map waiting_of (set es i (record e { prio = cond b p e.prio }))) (sym is_t)
-        ∙ ap (map waiting_of) (set_only (is_entry_of t) (with_prio p) (λ x other. ap (λ b. record x { prio = cond b p x.prio }) other) es i e (was.once t) there.within here is_t)
-        ∙ waits_prio p es
+    pub prioritized_there : (p q : ℕ) → map waiting_of (set es i (record e { prio = p; filed = q })) ≡ map (priority_set t p) (map waiting_of es)
+    prioritized_there p q =
+        ap (λ b. map waiting_of (set es i (record e { prio = cond b p e.prio; filed = cond b q e.filed }))) (sym is_t)
+        ∙ ap (map waiting_of) (set_only (is_entry_of t) (with_prio p q) (λ x other. ap (λ b. record x { prio = cond b p x.prio; filed = cond b q x.filed }) other) es i e (was.once t) there.within here is_t)
+        ∙ waits_prio p q es
 
-    -- whoever has that priority keeps it
-    pub prioritized_same : (p : ℕ) → e.prio ≡ p → map waiting_of es ≡ map (priority_set t p) (map waiting_of es)
-    prioritized_same p same =
-        let is : set es i (record e { prio = p }) ≡ es = ap (λ q. set es i (record e { prio = q })) (sym same) ∙ set_itself es i e there.within here in
-        ap (map waiting_of) (sym is) ∙ prioritized_there p
-      where
-        set_itself : (xs : List Entry) (j : ℕ) (x : Entry) → j < length xs → x ≡ get_or xs j x → set xs j x ≡ xs
-        set_itself [] j x within is = absurd (omega (arith, within))
-        set_itself (y ∷ ys) zero x within is = ap (λ z. z ∷ ys) is
-        set_itself (y ∷ ys) (suc j) x within is = ap (λ zs. y ∷ zs) (set_itself ys j x (omega (arith, within)) is)
-
-    pub IsKept-prioritized : (p : ℕ) (ranks' arrived' : List Key) (rank_room' arrived_room' : ℕ)
-        → IsSortedOut (set es i (record e { prio = p })) ranks' arrived'
+    pub IsKept-prioritized : (p q : ℕ) (ranks' arrived' : List Key) (rank_room' arrived_room' : ℕ)
+        → IsSortedOut (set es i (record e { prio = p; filed = q })) ranks' arrived'
         → places ≤ rank_room' → places ≤ arrived_room'
-        → IsKept (set es i (record e { prio = p })) ranks' arrived' index room rank_room' arrived_room' places
-    IsKept-prioritized p ranks' arrived' rank_room' arrived_room' sorted rank_fits arrived_fits = record {
-      once = λ u. omega (arith, was.once u, sum_by-set (λ x. one (is_entry_of u x)) es i (record e { prio = p }) e there.within, ap (λ x. one (is_entry_of u x)) here);
-      indexed = IsIndexed-set es ranks arrived was.indexed i e (record e { prio = p }) ranks' arrived' there.within here refl sorted;
-      known = IsKnown-set es index was.known i p e there.within here;
-      fits = omega (arith, was.fits, length-set es i (record e { prio = p }));
+        → IsKept (set es i (record e { prio = p; filed = q })) ranks' arrived' index room rank_room' arrived_room' places
+    IsKept-prioritized p q ranks' arrived' rank_room' arrived_room' sorted rank_fits arrived_fits = record {
+      once = λ u. omega (arith, was.once u, sum_by-set (λ x. one (is_entry_of u x)) es i (record e { prio = p; filed = q }) e there.within, ap (λ x. one (is_entry_of u x)) here);
+      indexed = IsIndexed-set es ranks arrived was.indexed i e (record e { prio = p; filed = q }) ranks' arrived' there.within here refl sorted;
+      known = IsKnown-set es index was.known i p q e there.within here;
+      fits = omega (arith, was.fits, length-set es i (record e { prio = p; filed = q }));
       places_fit = was.places_fit;
       ranks_fit = rank_fits;
       arrived_fit = arrived_fits;

@@ -8,7 +8,7 @@ use Rattle.std.proofs.lemmas.List.Sums.{sum_by-remove, sum_by-set}
 use Rattle.std.specs.List.{AllByRecursion, find, insert, remove}
 use Rattle.std.specs.List.Sorted.{IsNonDecreasingBy, IsPartitionPoint, IsPartitionedBy}
 use Rattle.waiting_list.proofs.SearchLaws.{none_pass}
-use Rattle.waiting_list.specs.Keys.{GoesBack, GoesForward, IsAhead, IsBehind, IsEnd, IsPlace, IsSorted, IsStart, by_numbers, is_before, is_key, is_of}
+use Rattle.waiting_list.specs.Keys.{GoesBack, GoesForward, IsAhead, IsBehind, IsEnd, IsPlace, IsSorted, IsStart, StandsAt, by_numbers, is_before, is_key, is_of}
 use Rattle.waiting_list.specs.declared.keys.Key.{Key}
 
 -- ---- the order
@@ -264,6 +264,18 @@ pub behind_both : (ks : List Key) (at : ℕ) (k : Key) → IsSorted ks → GoesB
 behind_both ks at k sorted goes j d next =
     before_one_way (get_or ks j d) k (before_mixed (get_or ks j d) (get_or ks (suc at) d) k (ordered ks j (suc at) d sorted (omega (arith, next)) goes.some) (goes.before d))
 
+-- what stands before the key at a place belongs no further back
+pub ahead_before : (ks : List Key) (at : ℕ) (k l : Key) → IsSorted ks → StandsAt l ks at → is_before k l ≡ true → IsAhead k ks at
+ahead_before ks at k l sorted stands less d lt =
+    let here : get_or ks at d ≡ l = other_default ks at d l stands.within ∙ stands.here in
+    never_between (get_or ks (suc at) d) l k (ap (is_before (get_or ks (suc at) d)) (sym here) ∙ ordered ks at (suc at) d sorted (omega arith) lt) (before_one_way k l less)
+
+-- what doesn't stand before it belongs no further forward
+pub behind_after : (ks : List Key) (at : ℕ) (k l : Key) → IsSorted ks → StandsAt l ks at → is_before k l ≡ false → IsBehind k ks at
+behind_after ks at k l sorted stands more j d next =
+    let here : get_or ks at d ≡ l = other_default ks at d l stands.within ∙ stands.here in
+    never_between k l (get_or ks j d) more (ap (λ m. is_before m (get_or ks j d)) (sym here) ∙ ordered ks j at d sorted (omega (arith, next)) stands.within)
+
 module _ {X : Type 0} (p : X → Bool) where
   -- where some pass, one stands somewhere
   pub some_at : (xs : List X) (d : X) → 1 ≤ count_by p xs → (i : ℕ) × (i < length xs) × (p (get_or xs i d) ≡ true)
@@ -319,6 +331,9 @@ module _ (k : Key) (ks : List Key) (at : ℕ) (sorted : IsSorted ks) (place : Is
       let early = place.after at k (omega arith) within_there in
       let late = ordered ks at stands.0 k sorted not_past stands.1 in
       key_from k (get_or ks at k) (before_same (get_or ks at k) k early (rw is_there at late))
+
+  pub stands_there : StandsAt k ks at
+  stands_there = record { within = within_there; here = key_there }
 
 -- ---- the first of n
 

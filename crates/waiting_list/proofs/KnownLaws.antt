@@ -55,15 +55,15 @@ module _ (es : List Entry) (index index' : Found) (was : IsKnown es index) where
         other u (Some n) away some = omega (arith, some, sum_by-remove (λ x. one (is_arrival_of u n x)) es i e within, ap (λ x. one (is_arrival_of u n x)) (sym here), ap one (apart u n e (λ same. away (sym same ∙ is))))
 
 -- it has another priority
-pub IsKnown-set : (es : List Entry) (index : Found) → IsKnown es index → (i p : ℕ) (e : Entry) → i < length es → e ≡ get_or es i e → IsKnown (set es i (record e { prio = p })) index
-IsKnown-set es index was i p e within here = record {
+pub IsKnown-set : (es : List Entry) (index : Found) → IsKnown es index → (i p q : ℕ) (e : Entry) → i < length es → e ≡ get_or es i e → IsKnown (set es i (record e { prio = p; filed = q })) index
+IsKnown-set es index was i p q e within here = record {
   each = λ t. other t (place_of index t) (was.each t);
-  counted = omega (arith, was.counted, length-set es i (record e { prio = p }));
+  counted = omega (arith, was.counted, length-set es i (record e { prio = p; filed = q }));
 }
   where
-    other : (t : ℕ) (o : Option ℕ) → IsArrivalOf es t o → IsArrivalOf (set es i (record e { prio = p })) t o
-    other t None none = omega (arith, none, sum_by-set (λ x. one (is_entry_of t x)) es i (record e { prio = p }) e within, ap (λ x. one (is_entry_of t x)) here)
-    other t (Some n) some = omega (arith, some, sum_by-set (λ x. one (is_arrival_of t n x)) es i (record e { prio = p }) e within, ap (λ x. one (is_arrival_of t n x)) here)
+    other : (t : ℕ) (o : Option ℕ) → IsArrivalOf es t o → IsArrivalOf (set es i (record e { prio = p; filed = q })) t o
+    other t None none = omega (arith, none, sum_by-set (λ x. one (is_entry_of t x)) es i (record e { prio = p; filed = q }) e within, ap (λ x. one (is_entry_of t x)) here)
+    other t (Some n) some = omega (arith, some, sum_by-set (λ x. one (is_arrival_of t n x)) es i (record e { prio = p; filed = q }) e within, ap (λ x. one (is_arrival_of t n x)) here)
 
 -- ---- filed one by one
 

@@ -1,7 +1,7 @@
 -- Those that wait with their arrivals, and how keys file them. No public clause cites this module.
 use Rattle.lwp_types.specs.Choice.{best_by}
 use Rattle.std.specs.List.{AllByRecursion, filter, find}
-use Rattle.std.specs.Prelude.{Bool, List, None, Option, Some, [], count_by, length, map, slice_index_or, suc, ℕ, ◌&&◌, ◌<◌, ◌==◌, ◌∷◌, ◌≡◌, ◌≤◌}
+use Rattle.std.specs.Prelude.{Bool, List, None, Option, Some, [], count_by, length, map, slice_index_or, slice_set, suc, ℕ, ◌&&◌, ◌<◌, ◌==◌, ◌∷◌, ◌≡◌, ◌≤◌}
 use Rattle.thread_index.specs.Index.{Found, count_of, place_of}
 use Rattle.waiting_list.specs.Keys.{IsSorted, is_key}
 use Rattle.waiting_list.specs.Line.{is_for}
@@ -11,7 +11,7 @@ use Rattle.waiting_list.specs.declared.rows.Waiting.{Waiting}
 
 -- whoever came n-th
 abbrev pub entry_of : ℕ → Waiting → Entry
-entry_of n w = record { arrival = n; what = w.what; tid = w.tid; prio = w.prio; depth = w.depth }
+entry_of n w = record { arrival = n; what = w.what; tid = w.tid; prio = w.prio; depth = w.depth; filed = 0 }
 
 -- whoever it is, whenever it came
 abbrev pub waiting_of : Entry → Waiting
@@ -113,6 +113,10 @@ pub record IsIndexed (es : List Entry) (ranks arrived : List Key) : Type 0 where
 pub record IsFrontAt (n : ℕ) (es : List Entry) (i : ℕ) : Type 0 where
   pub best : IsBestAt n es i
   pub first : IsFirstAt n es i
+
+-- whoever stands there has this priority, and another guess where its rank stands
+abbrev pub IsPrioritized : ℕ → ℕ → List Entry → List Entry → Type 0
+IsPrioritized i p es es' = (e : Entry) → e ≡ slice_index_or es i e → es' ≡ slice_set es i (record e { prio = p; filed = (slice_index_or es' i e).filed })
 
 -- nobody waits twice
 abbrev pub IsOnce : List Entry → Type 0

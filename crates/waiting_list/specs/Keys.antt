@@ -30,6 +30,11 @@ pub record IsPlace (k : Key) (ks : List Key) (i : ℕ) : Type 0 where
   pub before : (j : ℕ) (d : Key) → j < i → is_before (slice_index_or ks j d) k ≡ true
   pub after : (j : ℕ) (d : Key) → i ≤ j → j < length ks → is_before (slice_index_or ks j d) k ≡ false
 
+-- k stands there
+pub record StandsAt (k : Key) (ks : List Key) (i : ℕ) : Type 0 where
+  pub within : i < length ks
+  pub here : slice_index_or ks i k ≡ k
+
 -- the keys before this place are of less than n, and no others are
 pub record IsStart (n : ℕ) (ks : List Key) (i : ℕ) : Type 0 where
   pub within : i ≤ length ks

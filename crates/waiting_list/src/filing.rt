@@ -1,13 +1,13 @@
 // How those that wait are filed, and numbered anew where no greater number is left.
-ghost use Rattle.std.specs.Prelude.{[], ◌∷◌, ◌++◌, ◌≡◌, ◌<◌, ◌≤◌, ◌^◌, IsTrue, length, map, slice_index_or, slice_set, OnOk};
+ghost use Rattle.std.specs.Prelude.{None, [], ◌∷◌, ◌++◌, ◌+◌, ◌≡◌, ◌<◌, ◌≤◌, ◌^◌, ℕ, IsSome, IsTrue, length, map, slice_index_or, slice_set, OnOk};
 ghost use Rattle.std.specs.List.{AllByRecursion, remove};
 ghost use Rattle.std.specs.VecDeque.{deque_capacity};
-ghost use Rattle.thread_index.specs.Index.{IsEmpty, width_of};
-ghost use Rattle.waiting_list.specs.Entries.{AreRising, IsFiled, IsIndexed, IsKnown, IsLike, IsOnce, IsSortedOut, arrival_key, arrivals, numbered, rank_of, waiting_of};
+ghost use Rattle.thread_index.specs.Index.{IsEmpty, Puts, count_of, place_of, width_of};
+ghost use Rattle.waiting_list.specs.Entries.{AreRising, IsFiled, IsIndexed, IsKnown, IsLike, IsOnce, IsPrioritized, IsSortedOut, arrival_key, arrivals, numbered, rank_of, waiting_of};
 
 use crate::keys::{self, Key};
-use crate::rows::{Entry, arrival_key, rank_of};
-use lwp_types::NoMemory;
+use crate::rows::{Entry, arrival_key, rank_of, take_out};
+use lwp_types::{NoMemory, Tid};
 use std::collections::VecDeque;
 use thread_index::Index;
 
@@ -136,7 +136,7 @@ pub fn file_next(
 
 // Whoever stands there is to wait no more.
 #[inline(always)]
-pub fn unfile(
+fn unfile(
     entries: &VecDeque<Entry>,
     ranks: &mut VecDeque<Key>,
     arrived: &mut VecDeque<Key>,
@@ -156,14 +156,43 @@ pub fn unfile(
     keys::take(arrived, arrival_key(&gone));
 }
 
-// Whoever stands there is to have this priority.
-pub fn refile(
+// Whoever stands there waits no more. It is this thread.
+#[inline(never)]
+pub fn dismiss(
+    entries: &mut VecDeque<Entry>,
+    ranks: &mut VecDeque<Key>,
+    arrived: &mut VecDeque<Key>,
+    index: &mut Index,
+    at: usize,
+    tid: Tid,
+)
+    requires sorted { IsSortedOut entries.old.items ranks.old.items arrived.old.items }
+    requires within { at < length entries.old.items }
+    requires known { IsSome (place_of index.old tid) }
+    ensures items { entries.new.items ≡ remove entries.old.items at }
+    ensures sorted { IsSortedOut entries.new.items ranks.new.items arrived.new.items }
+    ensures puts { Puts (place_of index.old) (place_of index.new) tid None }
+    ensures count { count_of index.new + 1 ≡ count_of index.old }
+    ensures room { deque_capacity entries.new ≡ deque_capacity entries.old }
+    ensures rank_room { deque_capacity ranks.new ≡ deque_capacity ranks.old }
+    ensures arrived_room { deque_capacity arrived.new ≡ deque_capacity arrived.old }
+    ensures width { width_of index.new ≡ width_of index.old }
+    ensures index_room { index.new.room ≡ index.old.room }
+{
+    unfile(entries, ranks, arrived, at);
+    index.take(tid);
+    take_out(entries, at);
+}
+
+// Whoever stands there is to have this priority. The answer is where its rank stands then, as far as that is known.
+#[inline(always)]
+fn refile(
     entries: &VecDeque<Entry>,
     ranks: &mut VecDeque<Key>,
     arrived: &mut VecDeque<Key>,
     at: usize,
     after: &Entry,
-)
+) -> usize
     requires sorted { IsSortedOut entries.now.items ranks.old.items arrived.old.items }
     requires within { at < length entries.now.items }
     requires same_thing { after.now.what ≡ (slice_index_or entries.now.items at after.now).what }
@@ -171,16 +200,45 @@ pub fn refile(
         ≡ (slice_index_or entries.now.items at after.now).arrival }
     requires ranks_fit { length entries.now.items ≤ deque_capacity ranks.old }
     requires arrived_fit { length entries.now.items ≤ deque_capacity arrived.old }
-    ensures sorted { IsSortedOut (slice_set entries.now.items at after.now) ranks.new.items
+    ensures sorted { (n : ℕ) → IsSortedOut
+        (slice_set entries.now.items at (record after.now { filed = n })) ranks.new.items
         arrived.new.items }
     ensures rank_room { deque_capacity ranks.old ≤ deque_capacity ranks.new }
     ensures arrived_room { deque_capacity arrived.old ≤ deque_capacity arrived.new }
 {
     if ranks.is_empty() && entries.len() == 1 {
-        return;
+        return 0;
     }
     sort_out(entries, ranks, arrived);
-    keys::change(ranks, rank_of(&entries[at]), rank_of(after));
+    keys::change(ranks, after.filed, rank_of(&entries[at]), rank_of(after))
+}
+
+// Whoever stands there has this priority from now on.
+#[inline(never)]
+pub fn prioritize(
+    entries: &mut VecDeque<Entry>,
+    ranks: &mut VecDeque<Key>,
+    arrived: &mut VecDeque<Key>,
+    at: usize,
+    prio: u32,
+)
+    requires sorted { IsSortedOut entries.old.items ranks.old.items arrived.old.items }
+    requires within { at < length entries.old.items }
+    requires ranks_fit { length entries.old.items ≤ deque_capacity ranks.old }
+    requires arrived_fit { length entries.old.items ≤ deque_capacity arrived.old }
+    ensures changed { IsPrioritized at prio entries.old.items entries.new.items }
+    ensures sorted { IsSortedOut entries.new.items ranks.new.items arrived.new.items }
+    ensures room { deque_capacity entries.new ≡ deque_capacity entries.old }
+    ensures rank_room { deque_capacity ranks.old ≤ deque_capacity ranks.new }
+    ensures arrived_room { deque_capacity arrived.old ≤ deque_capacity arrived.new }
+{
+    let before = entries[at];
+    if before.prio == prio {
+        return;
+    }
+    let after = Entry { prio, ..before };
+    let filed = refile(entries, ranks, arrived, at, &after);
+    entries[at] = Entry { filed, ..after };
 }
 
 // A number for whoever comes next, greater than all that were given.

@@ -3,7 +3,7 @@ ghost use Rattle.std.specs.Prelude.{◌≡◌, ◌+◌, ◌<◌, ◌≤◌, IfOk
 ghost use Rattle.lwp_types.specs.CountLaws.{one};
 ghost use Rattle.std.specs.List.{find, insert, remove};
 ghost use Rattle.std.specs.VecDeque.{deque_capacity};
-ghost use Rattle.waiting_list.specs.Keys.{GoesBack, GoesForward, IsAhead, IsBehind, IsEnd, IsFit, IsPlace, IsSorted, IsStart, Walked, is_before, is_key, is_of, place_in};
+ghost use Rattle.waiting_list.specs.Keys.{GoesBack, GoesForward, IsAhead, IsBehind, IsEnd, IsFit, IsPlace, IsSorted, IsStart, StandsAt, Walked, is_before, is_key, is_of, place_in};
 
 use crate::pieces;
 use std::collections::VecDeque;
@@ -31,6 +31,14 @@ pub fn is_before(key: Key, other: Key) -> bool
         return other.prio < key.prio;
     }
     key.arrival < other.arrival
+}
+
+// Whether it is the same key.
+#[inline(always)]
+fn is_same(key: Key, other: Key) -> bool
+    ensures { result ≡ is_key other key }
+{
+    key.what == other.what && (key.prio == other.prio && key.arrival == other.arrival)
 }
 
 // All keys, where they lie in one piece.
@@ -212,7 +220,8 @@ fn replace(keys: &mut VecDeque<Key>, at: usize, key: Key)
 }
 
 // The same where the other belongs no further back: those that it belongs before make room one by one, where they are few.
-fn go_forward(keys: &mut VecDeque<Key>, from: usize, key: Key)
+#[inline(always)]
+fn go_forward(keys: &mut VecDeque<Key>, from: usize, key: Key) -> usize
     requires within { from < length keys.old.items }
     requires sorted { IsSorted (remove keys.old.items from) }
     requires ahead { IsAhead key keys.old.items from }
@@ -228,16 +237,18 @@ fn go_forward(keys: &mut VecDeque<Key>, from: usize, key: Key)
     for _ in 0..STEPS {
         if is_behind(keys, at, key) {
             keys[at] = key;
-            return;
+            return at;
         }
         keys[at] = keys[at - 1];
         at -= 1;
     }
     replace(keys, at, key);
+    at
 }
 
 // The same where the other belongs no further forward.
-fn go_back(keys: &mut VecDeque<Key>, from: usize, key: Key)
+#[inline(always)]
+fn go_back(keys: &mut VecDeque<Key>, from: usize, key: Key) -> usize
     requires within { from < length keys.old.items }
     requires sorted { IsSorted (remove keys.old.items from) }
     requires behind { IsBehind key keys.old.items from }
@@ -253,12 +264,13 @@ fn go_back(keys: &mut VecDeque<Key>, from: usize, key: Key)
     for _ in 0..STEPS {
         if is_ahead(keys, at, key) {
             keys[at] = key;
-            return;
+            return at;
         }
         keys[at] = keys[at + 1];
         at += 1;
     }
     replace(keys, at, key);
+    at
 }
 
 // A place for another key in place of the one there, or the place to which it came, among keys that lie in one piece.
@@ -272,8 +284,10 @@ fn walk(keys: &mut VecDeque<Key>, from: usize, key: Key) -> Result<usize, usize>
     pieces::walk(keys.make_contiguous(), from, key)
 }
 
-// The key there becomes another, which goes where it belongs, where all lie in one piece.
-fn change_in_piece(keys: &mut VecDeque<Key>, at: usize, after: Key)
+// The key there becomes another, which goes where it belongs, where all lie in one piece. The answer is where that is, or where
+// it came by the way.
+#[inline(never)]
+fn change_in_piece(keys: &mut VecDeque<Key>, at: usize, after: Key) -> usize
     requires within { at < length keys.old.items }
     requires sorted { IsSorted keys.old.items }
     requires room { length keys.old.items ≤ deque_capacity keys.old }
@@ -285,15 +299,21 @@ fn change_in_piece(keys: &mut VecDeque<Key>, at: usize, after: Key)
     ensures capacity { deque_capacity keys.old ≤ deque_capacity keys.new }
 {
     match walk(keys, at, after) {
-        Ok(place) => keys[place] = after,
-        Err(place) => replace(keys, place, after),
+        Ok(place) => {
+            keys[place] = after;
+            place
+        }
+        Err(place) => {
+            replace(keys, place, after);
+            place
+        }
     }
 }
 
-// The same wherever they lie.
-#[inline(never)]
-fn change_in_ring(keys: &mut VecDeque<Key>, at: usize, after: Key)
-    requires within { at < length keys.old.items }
+// The same for the key that stands there, wherever they lie.
+#[inline(always)]
+fn change_in_ring(keys: &mut VecDeque<Key>, at: usize, key: Key, after: Key) -> usize
+    requires at { StandsAt key keys.old.items at }
     requires sorted { IsSorted keys.old.items }
     requires room { length keys.old.items ≤ deque_capacity keys.old }
     ensures sorted { IsSorted keys.new.items }
@@ -303,16 +323,29 @@ fn change_in_ring(keys: &mut VecDeque<Key>, at: usize, after: Key)
     ensures len { length keys.new.items ≡ length keys.old.items }
     ensures capacity { deque_capacity keys.old ≤ deque_capacity keys.new }
 {
-    if is_ahead(keys, at, after) {
-        go_forward(keys, at, after);
+    if is_before(after, key) {
+        go_forward(keys, at, after)
     } else {
-        go_back(keys, at, after);
+        go_back(keys, at, after)
     }
 }
 
-// One key becomes another, which goes from its place to where it belongs.
-#[inline(never)]
-pub fn change(keys: &mut VecDeque<Key>, key: Key, after: Key)
+// Where the key stands: at a look where it is likely to, and else by halving.
+#[inline(always)]
+fn place_of(keys: &VecDeque<Key>, likely: usize, key: Key) -> usize
+    requires sorted { IsSorted keys.now.items }
+    requires there { 1 ≤ count_by (is_key key) keys.now.items }
+    ensures { StandsAt key keys.now.items result }
+{
+    match keys.get(likely) {
+        Some(other) if is_same(*other, key) => likely,
+        _ => place_by_halves(keys, key),
+    }
+}
+
+// One key becomes another, which goes from its place to where it belongs. The answer is a place at which it is likely to stand.
+#[inline(always)]
+pub fn change(keys: &mut VecDeque<Key>, likely: usize, key: Key, after: Key) -> usize
     requires sorted { IsSorted keys.old.items }
     requires there { 1 ≤ count_by (is_key key) keys.old.items }
     requires room { length keys.old.items ≤ deque_capacity keys.old }
@@ -323,11 +356,11 @@ pub fn change(keys: &mut VecDeque<Key>, key: Key, after: Key)
     ensures len { length keys.new.items ≡ length keys.old.items }
     ensures capacity { deque_capacity keys.old ≤ deque_capacity keys.new }
 {
-    let at = place_by_halves(keys, key);
+    let at = place_of(keys, likely, key);
     if in_piece(keys).is_some() {
-        change_in_piece(keys, at, after);
+        change_in_piece(keys, at, after)
     } else {
-        change_in_ring(keys, at, after);
+        change_in_ring(keys, at, key, after)
     }
 }
 

@@ -4,11 +4,9 @@ ghost use Rattle.std.specs.List.{list_any};
 ghost use Rattle.waiting_list.specs.Line.{best_for, empty_line, first_for, found_for, has_thread, is_for, joined, left, prioritized, reserved, waiting_for};
 
 use crate::Waiting;
-use crate::filing::{file_next, next_arrival, refile, unfile, widen};
+use crate::filing::{dismiss, file_next, next_arrival, prioritize, widen};
 use crate::keys::Key;
-use crate::rows::{
-    Entry, best_place, entry_of, first_place, place_of_thread, take_out, tids_for, waiting_of,
-};
+use crate::rows::{Entry, best_place, entry_of, first_place, place_of_thread, tids_for, waiting_of};
 use lwp_types::{IdList, NoMemory, Tid};
 use std::alloc::Global;
 use std::collections::VecDeque;
@@ -142,37 +140,38 @@ impl WaitingList {
     }
 
     /// The thread waits no more, if it did.
+    #[inline(always)]
     pub fn leave(&mut self, tid: Tid)
         ensures { self.new ≡ left self.old tid }
     {
         let Some(at) = place_of_thread(&self.entries, &self.index, tid) else {
             return;
         };
-        unfile(&self.entries, &mut self.ranks, &mut self.arrived, at);
-        self.index.take(tid);
-        take_out(&mut self.entries, at);
+        dismiss(
+            &mut self.entries,
+            &mut self.ranks,
+            &mut self.arrived,
+            &mut self.index,
+            at,
+            tid,
+        );
     }
 
     /// Gives the thread a priority, if it waits. It keeps its place.
+    #[inline(always)]
     pub fn set_prio(&mut self, tid: Tid, prio: u32)
         ensures { self.new ≡ prioritized self.old tid prio }
     {
         let Some(at) = place_of_thread(&self.entries, &self.index, tid) else {
             return;
         };
-        let before = self.entries[at];
-        if before.prio == prio {
-            return;
-        }
-        let after = Entry { prio, ..before };
-        refile(
-            &self.entries,
+        prioritize(
+            &mut self.entries,
             &mut self.ranks,
             &mut self.arrived,
             at,
-            &after,
+            prio,
         );
-        self.entries[at] = after;
     }
 
     /// The threads that wait for this, in the order of their arrival.

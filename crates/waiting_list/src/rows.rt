@@ -19,7 +19,8 @@ pub struct Waiting {
     pub depth: u32,
 }
 
-/// The same, and when it came: a greater number than those before it have.
+/// The same, and when it came: a greater number than those before it have. Where its rank stood when its priority was last
+/// changed is only a guess, since others may have moved it meanwhile.
 #[derive(Clone, Copy)]
 pub struct Entry {
     pub arrival: u64,
@@ -27,6 +28,7 @@ pub struct Entry {
     pub tid: Tid,
     pub prio: u32,
     pub depth: u32,
+    pub filed: usize,
 }
 
 // Whoever came then.
@@ -39,6 +41,7 @@ pub fn entry_of(arrival: u64, next: &Waiting) -> Entry
         tid: next.tid,
         prio: next.prio,
         depth: next.depth,
+        filed: 0,
     }
 }
 
@@ -135,7 +138,8 @@ pub fn place_of_thread(entries: &VecDeque<Entry>, index: &Index, tid: Tid) -> Op
 {
     match entries.front() {
         Some(first) if first.tid == tid => Some(0),
-        _ => place_by_index(entries, index, tid),
+        Some(_) => place_by_index(entries, index, tid),
+        None => None,
     }
 }
 

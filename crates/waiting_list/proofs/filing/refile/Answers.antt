@@ -18,6 +18,6 @@ returns-clause-sorted c =
     let default = any_default es c.args.at c.args.after.now e c.requires.within in
     let whats : c.args.after.now.what ≡ e.what = c.requires.same_thing ∙ ap (λ (x : Entry). x.what) (default ∙ sym here) in
     let arrivals : c.args.after.now.arrival ≡ e.arrival = c.requires.same_arrival ∙ ap (λ (x : Entry). x.arrival) (default ∙ sym here) in
-    sorted_out _ _ _
-    (IsFiled-set rank_of es c.sort_out.new.ranks.items _ c.sort_out.ensures.ranked c.args.at e c.requires.within here c.args.after.now c.change.ensures.sorted (rw (c.rank_of.ensures, c.rank_of-2.ensures) at c.change.ensures.counts) c.change.ensures.len)
-    (IsFiled-kept arrival_key es c.sort_out.new.arrived.items c.sort_out.ensures.queued c.args.at e c.args.after.now c.requires.within here (rw (whats, arrivals) refl))
+    λ n. sorted_out _ _ _
+    (IsFiled-set rank_of es c.sort_out.new.ranks.items _ c.sort_out.ensures.ranked c.args.at e c.requires.within here (record c.args.after.now { filed = n }) c.change.ensures.sorted (rw (c.rank_of.ensures, c.rank_of-2.ensures) at c.change.ensures.counts) c.change.ensures.len)
+    (IsFiled-kept arrival_key es c.sort_out.new.arrived.items c.sort_out.ensures.queued c.args.at e (record c.args.after.now { filed = n }) c.requires.within here (rw (whats, arrivals) refl))

@@ -7,8 +7,8 @@ pub returns-in_default : goal.returns-in_default
 returns-in_default c =
     rw (← c.self.view_is) (ap (λ ws. record { waiting = ws; places = c.self.inside.places }) (sym (none_left c.args.tid c.self.inside.entries.items c.in_default.ensures.none)))
 
-pub take-requires : goal.take-requires
-take-requires c =
+pub dismiss-requires-clause-known : goal.dismiss-requires-clause-known
+dismiss-requires-clause-known c =
     let es = c.self.inside.entries.items in
     let there = c.in-Some.ensures.some in
     let e = get_or es c.in-Some.at no_entry in
@@ -22,12 +22,12 @@ invariant_of-self c =
     let e = get_or es c.in-Some.at no_entry in
     let here = any_default es c.in-Some.at no_entry e there.within in
     let was = c.self.invariant in
-    let known = c.take.ensures in
-    rw (c.take_out.ensures.items, c.take_out.ensures.capacity)
+    let after = c.dismiss.ensures in
+    rw (after.items, after.room)
     (IsKept-left es _ _ _ _ _ _ _ was c.args.tid c.in-Some.at e there here _ _ _ _ _
-    c.unfile.ensures.sorted known.puts known.count
-    (omega (arith, c.unfile.ensures.rank_room, was.ranks_fit)) (omega (arith, c.unfile.ensures.arrived_room, was.arrived_fit))
-    (omega (arith, known.width, was.cells)) (omega (arith, known.width, known.room, was.index_room)))
+    (rw after.items at after.sorted) after.puts after.count
+    (omega (arith, after.rank_room, was.ranks_fit)) (omega (arith, after.arrived_room, was.arrived_fit))
+    (omega (arith, after.width, was.cells)) (omega (arith, after.width, after.index_room, was.index_room)))
 
 pub returns : goal.returns
 returns c =
@@ -35,4 +35,4 @@ returns c =
     let there = c.in-Some.ensures.some in
     let e = get_or es c.in-Some.at no_entry in
     let here = any_default es c.in-Some.at no_entry e there.within in
-    rw (← c.self.view_is, c.take_out.ensures.items) (ap (λ ws. record { waiting = ws; places = c.self.inside.places }) (left_there es _ _ _ _ _ _ _ c.self.invariant c.args.tid c.in-Some.at e there here))
+    rw (← c.self.view_is, c.dismiss.ensures.items) (ap (λ ws. record { waiting = ws; places = c.self.inside.places }) (left_there es _ _ _ _ _ _ _ c.self.invariant c.args.tid c.in-Some.at e there here))
