@@ -1,14 +1,14 @@
 -- What the taking in of one more pass does to the ties.
 use Rattle.event_gate.proofs.Lines.{same_or}
 use Rattle.event_gate.proofs.Texts.{length-lines_from}
-use Rattle.event_gate.specs.Inlet.{Intake}
+use Rattle.event_gate.specs.Inlet.{EachInlet, Intake}
 use Rattle.event_gate.specs.Port.{is_noted, is_told, told_of}
 use Rattle.event_gate.specs.Shelves.{event_of}
 use Rattle.live_clients.proofs.Served.{is_client}
 use Rattle.live_clients.proofs.Ties.{IsSame, for_kept, known_again, out_kept, short_again}
 use Rattle.live_clients.specs.Ends.{AnyPosting, IsEnd, IsTakenIn, passed_of}
 use Rattle.live_clients.specs.Inlets.{is_lane}
-use Rattle.live_clients.specs.Served.{EachInlet, FellShort, Hears, clients_of, texts_of}
+use Rattle.live_clients.specs.Served.{FellShort, Hears, clients_of, texts_of}
 use Rattle.live_clients.specs.Ties.{AreTied, IsKnown, IsOut, IsWork, any_intake}
 use Rattle.live_clients.specs.declared.inlet.AnyInlet.{AnyInlet}
 use Rattle.live_clients.specs.declared.outside.Client.{Client}

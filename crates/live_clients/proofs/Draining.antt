@@ -1,7 +1,7 @@
 -- What an inlet has given after several takes.
-use Rattle.event_gate.specs.Inlet.{InletFindsNothing, Intake}
+use Rattle.event_gate.specs.Inlet.{EachInlet, InletFindsNothing, Intake}
 use Rattle.live_clients.proofs.Back.{each_set}
-use Rattle.live_clients.specs.Served.{EachInlet, Gave}
+use Rattle.live_clients.specs.Served.{Gave}
 use Rattle.std.proofs.Common.{List, [], ap, append-nil, arith, length, set, slice_index_or, subst, sym, ℕ, ◌+◌, ◌++◌, ◌<◌, ◌∙◌, ◌≡◌}
 
 pub gave_none : (t : Intake) → Gave t t

@@ -1,8 +1,8 @@
 -- What keeps the inlets tied to the threads that post to them.
-use Rattle.event_gate.specs.Inlet.{Intake}
+use Rattle.event_gate.specs.Inlet.{EachInlet, Intake}
 use Rattle.event_gate.specs.Port.{is_told, told_of}
 use Rattle.live_clients.specs.Inlets.{is_lane}
-use Rattle.live_clients.specs.Served.{AreFor, EachInlet, FellShort, Gave, clients_of, texts_of}
+use Rattle.live_clients.specs.Served.{AreFor, FellShort, Gave, clients_of, texts_of}
 use Rattle.event_gate.specs.Shelves.{event_of}
 use Rattle.live_clients.specs.Ties.{DrawsKeepTies, IsKnown, IsOut, IsWork}
 use Rattle.live_clients.specs.declared.outside.Client.{Client}

@@ -1,11 +1,11 @@
 -- What inlets have of the lines that clients post, once all of these have posted.
-use Rattle.event_gate.specs.Inlet.{Intake, IsInletTaken, IsInletTold}
+use Rattle.event_gate.specs.Inlet.{EventsRise, HasEvent, Intake, IsInletTaken, IsInletTold, drawn_from}
 use Rattle.event_gate.specs.Port.{IsNumbered, of, told_of}
 use Rattle.event_gate.specs.Shelves.{event_of}
 use Rattle.event_gate.specs.Texts.{lines_from}
 use Rattle.live_clients.specs.Inlets.{is_lane}
 use Rattle.lwp_types.specs.declared.call.Line.{Line}
-use Rattle.std.specs.List.{All, AllPairs, HoldsAt, SomeIndex, filter, range_with_len, slice_index_or}
+use Rattle.std.specs.List.{All, filter, range_with_len, slice_index_or}
 use Rattle.std.specs.Prelude.{Bool, List, [], ◌++◌, eqb, false, length, sum_by, take, true, ℕ, ◌<◌, ◌≡◌, ◌≤◌, ◌+◌}
 
 -- the clients that post to an event, in order
@@ -20,31 +20,18 @@ texts_of texts c = slice_index_or texts c []
 abbrev pub lines_in_all : List (List (List ℕ)) → ℕ
 lines_in_all texts = sum_by length texts
 
--- the events rise, up to 31
-abbrev pub EventsRise : List Intake → Type 0
-EventsRise inlets = All (λ t. t.event ≤ 31) inlets × AllPairs (λ t u. t.event < u.event) inlets
-
--- some inlet has the event
-abbrev pub HasEvent : List Intake → ℕ → Type 0
-HasEvent inlets e = SomeIndex inlets (λ k. HoldsAt (λ t. t.event ≡ e) inlets k)
-
 -- there is an inlet of each event that has a client, for just the clients of this event: a lane where there is one, and else a port
 pub record AreFor (events : List ℕ) (inlets : List Intake) : Type 0 where
-  pub rise : EventsRise inlets
+  pub rise : All (λ t. t.event ≤ 31) inlets × EventsRise inlets
   pub clients : All (λ t. t.noted ≡ clients_of events t.event) inlets
   pub found : All (HasEvent inlets) events
   pub lanes : All (λ t. is_lane t.place ≡ eqb (length t.noted) 1) inlets
-
--- so it is of each inlet, before and after, in its place
-abbrev pub EachInlet : (Intake → Intake → Type 0) → List Intake → List Intake → Type 0
-EachInlet R before after = (length after ≡ length before)
-    × ((k : ℕ) (d : Intake) → k < length before → R (slice_index_or before k d) (slice_index_or after k d))
 
 -- an inlet gave lines, and so often none
 pub record Gave (t u : Intake) : Type 0 where
   pub lines : List Line
   pub nothing : ℕ
-  pub after : u ≡ record t { taken = t.taken ++ lines; finds = t.finds + nothing }
+  pub after : u ≡ drawn_from t lines nothing
 
 -- more is known of what its clients have posted in all
 abbrev pub Hears : Intake → Intake → Type 0

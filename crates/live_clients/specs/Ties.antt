@@ -1,11 +1,11 @@
 -- How the inlets and the threads that post to them belong together.
-use Rattle.event_gate.specs.Inlet.{Intake}
+use Rattle.event_gate.specs.Inlet.{EachInlet, Intake}
 use Rattle.event_gate.specs.Port.{is_told, told_of}
 use Rattle.event_gate.specs.Shelves.{event_of}
 use Rattle.event_gate.specs.Texts.{lines_from}
 use Rattle.live_clients.specs.Ends.{IsEnd, posting_of}
 use Rattle.live_clients.specs.Inlets.{intake_of, is_lane}
-use Rattle.live_clients.specs.Served.{AreFor, AreServed, EachInlet, FellShort, Gave, texts_of}
+use Rattle.live_clients.specs.Served.{AreFor, AreServed, FellShort, Gave, texts_of}
 use Rattle.live_clients.specs.declared.inlet.AnyInlet.{AnyInlet}
 use Rattle.live_clients.specs.declared.outside.Client.{Client}
 use Rattle.live_clients.specs.declared.outside.Outside.{Outside}

@@ -6,13 +6,13 @@ use Rattle.std.specs.Slice.Scan.{HoldsNowhere}
 use Rattle.std.proofs.lemmas.Bool.{cases_lt, eq-eqb, eqb-true, ne_eqb}
 use Rattle.std.proofs.lemmas.List.{get_or-map, get_or-set_other, get_or-set_same, length-map, length-set, map-append}
 use Rattle.std.proofs.lemmas.List.Elements.{All-append, filter-append}
-use Rattle.event_gate.specs.Inlet.{Intake, InletFindsNothing, InletTakes, IsInletTaken, IsInletTold}
+use Rattle.event_gate.specs.Inlet.{AllTold, EachInlet, EventsRise, HasEvent, InletFindsNothing, InletTakes, Intake, IsInletTaken, IsInletTold, drawn_from}
 use Rattle.pod_events.specs.Events.{EventState, has_turn, is_takeable, take_event}
 use Rattle.lwp_types.specs.Poll.{Next}
 use Rattle.lwp_types.specs.declared.call.Line.{Line}
 use Rattle.pod_runner.specs.Due.{IsDefined}
 use Rattle.pod_runner.specs.Inlets.{AreBelow, IsCalm, IsSeen, Serves, ServesAt, Takes}
-use Rattle.pod_runner.specs.Live.{AllTold, Answers, Draws, EachInlet, EventsRise, Extends, Gives, Halts, HasEvent, IsQuiet, IsWanted, LivesOn, NoneComes, drawn_from, is_take_of, lines_taken, looks, may_lose}
+use Rattle.pod_runner.specs.Live.{Answers, Draws, Extends, Gives, Halts, IsQuiet, IsWanted, LivesOn, NoneComes, is_take_of, lines_taken, looks, may_lose}
 use Rattle.pod_runner.specs.Over.{can_take, events, halt_if, is_wanted, over}
 use Rattle.pod_runner.specs.Phase.{phase_by, phase_of}
 use Rattle.pod_runner.specs.Play.{play}

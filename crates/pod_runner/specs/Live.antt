@@ -1,5 +1,5 @@
 -- A run over inlets, into which others post while it goes on.
-use Rattle.event_gate.specs.Inlet.{Intake, IsInletTaken, IsInletTold}
+use Rattle.event_gate.specs.Inlet.{AllTold, EachInlet, HasEvent, Intake, IsInletTaken, drawn_from}
 use Rattle.pod_events.specs.Events.{is_takeable}
 use Rattle.lwp_types.specs.Poll.{Next}
 use Rattle.lwp_types.specs.declared.call.Line.{Line}
@@ -11,7 +11,7 @@ use Rattle.pod_runner.specs.declared.live.Live.{Live}
 use Rattle.pod_runner.specs.declared.phase.RunErr.{RunErr}
 use Rattle.pod_runner.specs.declared.session.Took.{Took}
 use Rattle.trace_text.specs.declared.ends.Halt.{Halt}
-use Rattle.std.specs.List.{All, AllPairs, HoldsAt, SomeIndex, filter, slice_index_or}
+use Rattle.std.specs.List.{All, filter}
 use Rattle.std.specs.Prelude.{Bool, Err, List, Ok, OnOk, Option, None, Result, Some, [], false, length, map, true, ℕ, ◌++◌, ◌+◌, ◌<◌, ◌==◌, ◌≡◌, ◌≤◌}
 use Rattle.pod_runner.specs.declared.live.Live.TheVariants as live
 use Rattle.pod_runner.specs.declared.phase.Phase.TheVariants as phase
@@ -30,15 +30,6 @@ pub record Extends {B P : Type 0} (next : Next B) (bodies : P → List B) (old n
 
 -- ---- what inlets gave
 
--- the events rise, so that each has one inlet at most
-abbrev pub EventsRise : List Intake → Type 0
-EventsRise inlets = AllPairs (λ t u. t.event < u.event) inlets
-
--- so it is of each inlet, before and after, in its place
-abbrev pub EachInlet : (Intake → Intake → Type 0) → List Intake → List Intake → Type 0
-EachInlet R before after = (length after ≡ length before)
-    × ((k : ℕ) (d : Intake) → k < length before → R (slice_index_or before k d) (slice_index_or after k d))
-
 -- the take is of this event
 abbrev pub is_take_of : ℕ → Took → Bool
 is_take_of e took = took.event == e
@@ -47,18 +38,10 @@ is_take_of e took = took.event == e
 abbrev pub lines_taken : ℕ → List Took → List Line
 lines_taken e takes = map (λ took. took.line) (filter (is_take_of e) takes)
 
--- an inlet gave these lines, and so often none
-abbrev pub drawn_from : Intake → List Line → ℕ → Intake
-drawn_from t lines nothing = record t { taken = t.taken ++ lines; finds = t.finds + nothing }
-
 -- an inlet gave the lines of its event among these takes, and at times none
 pub record Gives (takes : List Took) (t u : Intake) : Type 0 where
   pub nothing : ℕ
   pub after : u ≡ drawn_from t (lines_taken t.event takes) nothing
-
--- some inlet has the event
-abbrev pub HasEvent : List Intake → ℕ → Type 0
-HasEvent inlets e = SomeIndex inlets (λ k. HoldsAt (λ t. t.event ≡ e) inlets k)
 
 -- how many lines may be lost: one for which memory was wanting
 abbrev pub may_lose : {T : Type 0} → Result T RunErr → ℕ
@@ -108,10 +91,6 @@ LooksAtAll next bodies old new before after = EachInlet (LooksAt next bodies old
 -- a line of the inlet's event can be delivered
 abbrev pub IsWanted : {B P : Type 0} → Next B → (P → List B) → Played P → Intake → Type 0
 IsWanted next bodies run t = is_takeable (session_of next bodies run).live.pod t.event ≡ true
-
--- all passes came back to each
-abbrev pub AllTold : List Intake → Type 0
-AllTold inlets = All (λ t. IsInletTold t) inlets
 
 -- nothing more will come that can be delivered: each pass came back, and of each event that waits every line was taken
 abbrev pub NoneComes : {B P : Type 0} → Next B → (P → List B) → Played P → List Intake → Type 0

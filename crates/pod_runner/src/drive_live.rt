@@ -2,7 +2,8 @@
 ghost use Rattle.std.specs.Prelude.{◌≡◌, ◌≤◌, false, map, IfOk, OnOk, OnErr, IsErrOf};
 ghost use Rattle.lwp_types.specs.Streams.{Rose};
 ghost use Rattle.pod_runner.specs.Due.{IsDefined};
-ghost use Rattle.pod_runner.specs.Live.{Answers, AnswersIf, Draws, EventsRise, LivesOn, LooksAtAll, may_lose};
+ghost use Rattle.event_gate.specs.Inlet.{EventsRise};
+ghost use Rattle.pod_runner.specs.Live.{Answers, AnswersIf, Draws, LivesOn, LooksAtAll, may_lose};
 ghost use Rattle.pod_runner.specs.Run.{setting_of, trace_before, trace_of, Writes, WritesCut, WritesPart, GoesOn};
 ghost use Rattle.whole_streams.specs.Streams.{sides};
 

@@ -5,7 +5,8 @@ ghost use Rattle.pod_events.specs.Events.{is_takeable};
 ghost use Rattle.pod_runner.specs.Due.{IsDefined};
 ghost use Rattle.pod_runner.specs.Run.{session_of, setting_of};
 ghost use Rattle.pod_runner.specs.Inlets.{AreBelow, Serves, ServesAt};
-ghost use Rattle.pod_runner.specs.Live.{AllTold, EventsRise, LivesOn};
+ghost use Rattle.event_gate.specs.Inlet.{AllTold, EventsRise};
+ghost use Rattle.pod_runner.specs.Live.{LivesOn};
 ghost use Rattle.whole_streams.specs.Streams.{sides};
 
 use crate::RunErr;

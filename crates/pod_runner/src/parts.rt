@@ -15,7 +15,7 @@ ghost use Rattle.pod_runner.specs.Session.{move, row_opened, taken};
 use crate::calls::made_among;
 use crate::row_list::RowList;
 use crate::rows::{proc_of, settle};
-use crate::written::{set_lines, set_turn_lines};
+use crate::written::{set_call_lines, set_lines};
 use crate::{Made, Phase, Took};
 use lwp_calls::Pod;
 use lwp_types::{Call, Effects, Env, NoMemory, PodEnd, PodParams, Polled, Program, Tid};
@@ -66,7 +66,7 @@ fn carry_out<'s>(
     match pod.pending() {
         None => {
             pod.call(call, effects)?;
-            set_turn_lines(out, None, tid, call, effects, names)?;
+            set_call_lines(out, tid, call, effects, names)?;
             Ok(Some(tid))
         }
         Some(_) => {

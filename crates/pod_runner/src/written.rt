@@ -1,7 +1,6 @@
 // The lines of a step.
-ghost use Rattle.std.specs.Prelude.{◌≡◌, ◌∷◌, ◌++◌, IfOk, OnOk, None, option_copied};
+ghost use Rattle.std.specs.Prelude.{◌≡◌, ◌∷◌, IfOk, OnOk, None, option_copied};
 ghost use Rattle.lwp_types.specs.declared.call.Effect.TheVariants as Effect;
-ghost use Rattle.pod_events.specs.Traps.{lead};
 ghost use Rattle.trace_text.specs.Lines.{step_lines};
 
 use lwp_types::{Call, Effects, Line, NoMemory, Tid};
@@ -27,7 +26,7 @@ pub(crate) fn set_lines(
 /// Puts the lines of a call in the place of what was there: that of the call itself, and a line for each effect, where the
 /// procedures have these names.
 #[inline(always)]
-fn set_call_lines(
+pub(crate) fn set_call_lines(
     out: &mut Vec<u8>,
     tid: Tid,
     call: &Call,
@@ -40,26 +39,6 @@ fn set_call_lines(
     out.clear();
     add_call_line(out, tid, call, names)?;
     add_step_lines(out, effects, None, names)
-}
-
-/// Puts the lines of a turn in the place of what was there. Where this trap, if any, was raised before the call, the effects tell
-/// whether the call was made.
-#[inline(always)]
-pub(crate) fn set_turn_lines(
-    out: &mut Vec<u8>,
-    trap: Option<u8>,
-    tid: Tid,
-    call: &Call,
-    effects: &Effects,
-    names: &TextList,
-) -> Result<(), NoMemory>
-    ensures { OnOk result
-        (out.new.items ≡ step_lines names.now None (lead trap tid call.now ++ effects.now)) }
-{
-    match trap {
-        None => set_call_lines(out, tid, call, effects, names),
-        Some(_) => set_lines(out, effects, None, names),
-    }
 }
 
 /// The lines of a step: a line for each effect, where this line was taken, if any, and the procedures have these names.

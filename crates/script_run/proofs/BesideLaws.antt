@@ -1,5 +1,5 @@
 -- How a run goes on beside the threads that post to it, part by part.
-use Rattle.event_gate.specs.Inlet.{Intake, IsInletTold}
+use Rattle.event_gate.specs.Inlet.{AllTold, EachInlet, HasEvent, Intake, IsInletTold}
 use Rattle.event_gate.specs.Port.{told_of}
 use Rattle.event_gate.specs.Texts.{lines_from}
 use Rattle.live_clients.specs.Inlets.{fresh}
@@ -10,7 +10,7 @@ use Rattle.script_program.specs.Bodies.{bodies_of, body_next}
 use Rattle.lwp_types.specs.Streams.{Rose}
 use Rattle.pod_runner.proofs.Rounds.{goes-same, goes-then, stream, tells-then}
 use Rattle.pod_runner.specs.Due.{IsDefined}
-use Rattle.pod_runner.specs.Live.{AllTold, Answers, Draws, EachInlet, Gives, HasEvent, lines_taken, may_lose}
+use Rattle.pod_runner.specs.Live.{Answers, Draws, Gives, lines_taken, may_lose}
 use Rattle.pod_runner.specs.Run.{Broke, GoesOn, Played, Tells, Writes, WritesCut, Wrote, setting_of, trace_before, trace_of}
 use Rattle.whole_streams.specs.Streams.{Stream}
 use Rattle.pod_runner.specs.declared.live.Live.{Live}

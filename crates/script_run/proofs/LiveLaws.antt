@@ -1,6 +1,6 @@
 -- From a run beside its threads to what a session of `run` says.
 use Rattle.event_gate.proofs.Lines.{cond_other, cond_same, same_or}
-use Rattle.event_gate.specs.Inlet.{Intake, IsInletTaken}
+use Rattle.event_gate.specs.Inlet.{HasEvent, Intake, IsInletTaken}
 use Rattle.event_gate.specs.Port.{of}
 use Rattle.event_gate.specs.Shelves.{event_of, stocked}
 use Rattle.event_gate.specs.Texts.{lines_from}
@@ -31,7 +31,7 @@ use Rattle.lwp_types.specs.Streams.{appended}
 use Rattle.lwp_types.specs.declared.call.Line.{Line}
 use Rattle.lwp_types.specs.declared.text.Text.{Text}
 use Rattle.pod_runner.specs.Due.{IsDefined}
-use Rattle.pod_runner.specs.Live.{HasEvent, Halts, NoneComes, lines_taken, may_lose}
+use Rattle.pod_runner.specs.Live.{Halts, NoneComes, lines_taken, may_lose}
 use Rattle.pod_runner.specs.Over.{is_wanted, over}
 use Rattle.pod_runner.specs.Run as run
 use Rattle.pod_runner.specs.Run.{AppendsCut, Played}

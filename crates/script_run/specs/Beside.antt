@@ -1,12 +1,12 @@
 -- How a run goes on over inlets to which others post, and what it has taken from them.
-use Rattle.event_gate.specs.Inlet.{Intake}
+use Rattle.event_gate.specs.Inlet.{HasEvent, Intake}
 use Rattle.event_gate.specs.Port.{told_of}
 use Rattle.event_gate.specs.Shelves.{event_of}
 use Rattle.event_gate.specs.Texts.{lines_from}
 use Rattle.live_clients.specs.Served.{AreServed, texts_of}
 use Rattle.script_program.specs.Bodies.{bodies_of, body_next}
 use Rattle.pod_runner.specs.Due.{IsDefined}
-use Rattle.pod_runner.specs.Live.{HasEvent, lines_taken, may_lose}
+use Rattle.pod_runner.specs.Live.{lines_taken, may_lose}
 use Rattle.pod_runner.specs.Run.{GoesOn, Played, Tells, setting_of, trace_before, trace_of}
 use Rattle.whole_streams.specs.Streams.{Stream}
 use Rattle.pod_runner.specs.declared.phase.RunErr.{RunErr}

@@ -1,5 +1,6 @@
 // A run goes on beside the threads that post to it.
-ghost use Rattle.live_clients.specs.Served.{EachInlet, Gave, lines_in_all};
+ghost use Rattle.event_gate.specs.Inlet.{EachInlet};
+ghost use Rattle.live_clients.specs.Served.{Gave, lines_in_all};
 ghost use Rattle.live_clients.specs.Ties.{IsClosed, IsSameOutside, IsTied, all_texts, events_of, intakes};
 ghost use Rattle.script_run.specs.Beside.{AreBack, GoesBeside, KnowAll};
 ghost use Rattle.script_program.specs.Bodies.{bodies_of, body_next};

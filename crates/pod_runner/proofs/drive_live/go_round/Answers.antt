@@ -1,6 +1,6 @@
 use Rattle.std.proofs.Common.{◌≡◌, ◌∙◌, false, length, map, rules, subst, sym, Ok, Err}
 use Rattle.std.proofs.lemmas.Bool.{false≢true}
-use Rattle.pod_runner.specs.Live.{AllTold}
+use Rattle.event_gate.specs.Inlet.{AllTold}
 use Rattle.pod_runner.proofs.Lives.{halts-stuck, idle-still, lives-answer, lives-call, lives-err, lives-same, lives-then, none-comes, quiet-now}
 use Rattle.pod_runner.proofs.Looks.{looks-call, looks-same, looks-still}
 use Rattle.pod_runner.proofs.Rounds.{stream}

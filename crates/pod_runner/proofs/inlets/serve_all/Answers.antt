@@ -2,7 +2,7 @@ use Rattle.std.proofs.Common.{◌≡◌, ◌∙◌, ◌+◌, ◌≤◌, ◌<◌,
 use Rattle.std.specs.Slice.Scan.{HoldsNowhere}
 use Rattle.pod_events.specs.Events.{is_takeable}
 use Rattle.pod_runner.specs.Inlets.{AreBelow}
-use Rattle.pod_runner.specs.Live.{EventsRise}
+use Rattle.event_gate.specs.Inlet.{EventsRise}
 use Rattle.pod_runner.specs.Run.{session_of}
 use Rattle.pod_runner.proofs.Lives.{inlet-at, lives-err, lives-same, lives-then, rise-still, same-length, serves-below, serves-end, serves-more, serves-none}
 use Rattle.pod_runner.proofs.Rounds.{stream}

@@ -2,7 +2,8 @@ use Rattle.live_clients.proofs.Back.{at_place}
 use Rattle.live_clients.proofs.Draining.{one_gave}
 use Rattle.live_clients.proofs.Ties.{draws_keep_ties}
 use Rattle.tests_of_inlets.proofs.three_clients.drain.Goals as goal
-use Rattle.live_clients.specs.Served.{EachInlet, Gave}
+use Rattle.event_gate.specs.Inlet.{EachInlet}
+use Rattle.live_clients.specs.Served.{Gave}
 use Rattle.live_clients.specs.Ties.{all_texts, any_intake, events_of, intakes}
 use Rattle.std.proofs.Common.{arith, length, map, set, subst, sym, ◌<◌}
 use Rattle.std.proofs.lemmas.List.{length-map, map-set}

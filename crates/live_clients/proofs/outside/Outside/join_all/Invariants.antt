@@ -1,5 +1,6 @@
 use Rattle.live_clients.proofs.outside.Outside.join_all.Given as goal
-use Rattle.live_clients.specs.Served.{EachInlet, Hears}
+use Rattle.event_gate.specs.Inlet.{EachInlet}
+use Rattle.live_clients.specs.Served.{Hears}
 use Rattle.live_clients.specs.Ties.{IsSameOutside, IsTied, intakes}
 use Rattle.std.proofs.Common.{length}
 

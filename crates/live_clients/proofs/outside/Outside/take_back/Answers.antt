@@ -1,6 +1,7 @@
 use Rattle.live_clients.proofs.Back.{at_place, end_fits, hears, inside_of, tied_back}
 use Rattle.live_clients.proofs.outside.Outside.take_back.Goals as goal
-use Rattle.live_clients.specs.Served.{EachInlet, Hears}
+use Rattle.event_gate.specs.Inlet.{EachInlet}
+use Rattle.live_clients.specs.Served.{Hears}
 use Rattle.live_clients.specs.Ends.{passed_of}
 use Rattle.live_clients.specs.Ties.{AreTied, all_texts, any_intake, events_of, intakes}
 use Rattle.std.proofs.Common.{subst, sym, ◌&&◌}
