@@ -1,5 +1,5 @@
 -- How the waits that are noted stand.
-use Rattle.death_cleanup.specs.Named.{AreOrdered, IsBefore, IsGap, is_before, is_wait, rank, run, run_of}
+use Rattle.death_cleanup.specs.Named.{AreOrdered, HasNoWaiter, IsBefore, IsBeforeLast, IsGap, is_before, is_wait, rank, run, run_of}
 use Rattle.death_cleanup.specs.declared.rows.Awaited.{Awaited}
 use Rattle.death_cleanup.specs.declared.rows.Awaited.TheVariants as awaited
 use Rattle.death_cleanup.specs.declared.rows.NamedWait.{NamedWait}
@@ -49,6 +49,13 @@ before-not w r n is = by_less (nat_lt (run_of w) r) refl is
     by_less : (c : Bool) → nat_lt (run_of w) r ≡ c → (c || (eqb (run_of w) r && nat_lt w.tid n)) ≡ false → (r ≤ run_of w) × (run_of w ≡ r → n ≤ w.tid)
     by_less true e h = absurd (cc)
     by_less false e h = (ltb-false (run_of w) r e, λ same. ltb-false w.tid n (rw (eq-eqb (run_of w) r same) at h))
+
+pub before-fails : (w : NamedWait) (r n : ℕ) → r ≤ run_of w → (run_of w ≡ r → n ≤ w.tid) → is_before r n w ≡ false
+before-fails w r n low older = rw (le-ltb (run_of w) r low) (by_same (eqb (run_of w) r) refl)
+  where
+    by_same : (c : Bool) → eqb (run_of w) r ≡ c → (c && nat_lt w.tid n) ≡ false
+    by_same true e = le-ltb w.tid n (older (eqb-true (run_of w) r e))
+    by_same false e = refl
 
 pub before-down : (v w : NamedWait) (r n : ℕ) → IsBefore v w → is_before r n w ≡ true → is_before r n v ≡ true
 before-down v w r n order later =
@@ -197,6 +204,38 @@ behind_last ws r n last ordered is passes = record {
   below = λ j d lt. parted ws r n ordered j (length ws - 1) d (omega (arith, lt)) (omega (arith, lt)) (ap (is_before r n) (sym (is d)) ∙ passes);
   above = λ j d ge lt. absurd (omega (arith, ge, lt));
 }
+
+-- what stands behind the one before the last, and not behind the last
+pub behind_others : (ws : List NamedWait) (r n : ℕ) → AreOrdered ws → IsBeforeLast r n ws → 2 ≤ length ws → ((d : NamedWait) → is_before r n (get_or ws (length ws - 2) d) ≡ true) → IsGap r n ws (length ws - 1)
+behind_others ws r n ordered before two passes = record {
+  within = omega arith;
+  below = λ j d lt. parted ws r n ordered j (length ws - 2) d (omega (arith, lt)) (omega (arith, two)) (passes d);
+  above = λ j d ge lt. ap (λ k. is_before r n (get_or ws k d)) (let e : j ≡ length ws - 1 = omega (arith, ge, lt) in e) ∙ before d (omega (arith, two));
+}
+
+-- where nobody waits in a run, the next one begins at the same place
+pub gap-next : (ws : List NamedWait) (r i : ℕ) → AreOrdered ws → IsGap r 0 ws i → HasNoWaiter r ws i → IsGap (r + 1) 0 ws i
+gap-next ws r i ordered gap none = record {
+  within = gap.within;
+  below = λ j d lt.
+      let says = before-says (get_or ws j d) r 0 (gap.below j d lt) in
+      before-holds (get_or ws j d) (r + 1) 0 (omega (arith, says.0)) (λ same. absurd (omega (arith, same, says.0)));
+  above = λ j d ge lt. before-fails (get_or ws j d) (r + 1) 0 (later j d ge lt) (λ same. omega arith);
+}
+  where
+    first : (d : NamedWait) → i < length ws → r + 1 ≤ run_of (get_or ws i d)
+    first d within =
+        let low = (before-not (get_or ws i d) r 0 (gap.above i d (omega arith) within)).0 in
+        elim (cases_lt r (run_of (get_or ws i d))) [
+          | inl less ↦ omega (arith, less)
+          | inr more ↦ absurd (none d within (omega (arith, low, more)))
+        ]
+
+    later : (j : ℕ) (d : NamedWait) → i ≤ j → j < length ws → r + 1 ≤ run_of (get_or ws j d)
+    later j d ge lt = elim (cases_lt i j) [
+      | inl less ↦ omega (arith, first d (omega (arith, ge, lt)), (ordered-at ws i j d ordered less lt).low)
+      | inr more ↦ omega (arith, first d (omega (arith, ge, lt)), ap (λ k. run_of (get_or ws k d)) (let e : i ≡ j = omega (arith, ge, more) in e))
+    ]
 
 pub remove_last : {X : Type 0} (xs : List X) (i : ℕ) → i + 1 ≡ length xs → remove xs i ≡ take i xs
 remove_last [] i e = absurd (omega (arith, e))

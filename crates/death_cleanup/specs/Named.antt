@@ -10,7 +10,7 @@ use Rattle.lwp_types.specs.declared.rows.Block.{Block}
 use Rattle.lwp_types.specs.declared.rows.Block.TheVariants as block
 use Rattle.stale_ids.specs.Register.{value_of}
 use Rattle.std.specs.List.{AllByRecursion, list_all, list_any}
-use Rattle.std.specs.Prelude.{Bool, IsTrue, List, None, Option, Some, [], count_by, false, length, max, nat_lt, option_map, slice_index_or, true, ℕ, ◌&&◌, ◌*◌, ◌+◌, ◌<◌, ◌==◌, ◌||◌, ◌∷◌, ◌≡◌, ◌≢◌, ◌≤◌}
+use Rattle.std.specs.Prelude.{Bool, IsTrue, List, None, Option, Some, [], count_by, false, length, max, nat_lt, option_map, slice_index_or, true, ℕ, ◌&&◌, ◌*◌, ◌+◌, ◌-◌, ◌<◌, ◌==◌, ◌||◌, ◌∷◌, ◌≡◌, ◌≢◌, ◌≤◌}
 
 -- for what of whom a thread waits by name
 abbrev pub block_name : Block → Option (Awaited × ℕ)
@@ -54,10 +54,10 @@ reserved note threads = record note { places = max note.places (2 * threads) }
 
 -- ---- in what order the waits stand
 
--- who waits for a death stands before who waits for a letter
+-- who waits for a letter stands before who waits for a death, since those go on first
 abbrev pub rank : Awaited → ℕ
-rank awaited.Death = 0
-rank awaited.Letter = 1
+rank awaited.Letter = 0
+rank awaited.Death = 1
 
 -- the waits for this of x are one run; the runs have rising numbers
 abbrev pub run : Awaited → ℕ → ℕ
@@ -115,6 +115,10 @@ pub record IsGap (r n : ℕ) (waits : List NamedWait) (i : ℕ) : Type 0 where
   pub within : i ≤ length waits
   pub below : (j : ℕ) (d : NamedWait) → j < i → is_before r n (slice_index_or waits j d) ≡ true
   pub above : (j : ℕ) (d : NamedWait) → i ≤ j → j < length waits → is_before r n (slice_index_or waits j d) ≡ false
+
+-- the last of the waits doesn't stand before that of thread n in this run
+abbrev pub IsBeforeLast : ℕ → ℕ → List NamedWait → Type 0
+IsBeforeLast r n waits = (d : NamedWait) → 1 ≤ length waits → is_before r n (slice_index_or waits (length waits - 1) d) ≡ false
 
 -- this wait of the run stands there
 pub record HasWaiter (r : ℕ) (wait : NamedWait) (waits : List NamedWait) (i : ℕ) : Type 0 where

@@ -75,7 +75,8 @@ pub fn die<'s>(parts: &mut Parts<'s>, tid: Tid, effects: &mut Effects<'s>)
     release_all(parts, tid, effects);
     end_agents(parts, tid, effects);
     refuse_senders(parts, tid, effects);
-    dismiss(parts, Awaited::Letter, tid, effects);
-    dismiss(parts, Awaited::Death, tid, effects);
+    let at = parts.named.start_of(tid);
+    dismiss(parts, Awaited::Letter, tid, at, effects);
+    dismiss(parts, Awaited::Death, tid, at, effects);
     bury(parts, tid, effects);
 }

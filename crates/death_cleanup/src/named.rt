@@ -1,9 +1,10 @@
 // The note of those that wait by name, so that a death goes over those alone that wait for it.
-ghost use Rattle.std.specs.Prelude.{◌≡◌, ◌==◌, ◌<◌, ◌≤◌, ◌*◌, false, map, length, nat_lt, vec_capacity, IfNone, IfOk, IfSome, IsFalse, IsOk, IsTrue, OnErr, OnOk, Option, ℕ};
+ghost use Rattle.std.specs.Prelude.{◌≡◌, ◌==◌, ◌<◌, ◌≤◌, ◌*◌, ◌+◌, ◌-◌, false, map, length, nat_lt, vec_capacity, IfNone, IfOk, IfSome, IsFalse, IsOk, IsTrue, OnErr, OnOk, Option, ℕ};
 ghost use Rattle.death_cleanup.specs.Moves.{block_set};
 ghost use Rattle.std.specs.List.{list_any, remove, slice_index_or};
-ghost use Rattle.death_cleanup.specs.Named.{AreOrdered, HasNoWaiter, HasWaiter, IsGap, IsNoteOf, all_noted, is_before, is_on, is_wait, no_names, reserved, run_of};
+ghost use Rattle.death_cleanup.specs.Named.{AreOrdered, HasNoWaiter, HasWaiter, IsBeforeLast, IsGap, IsNoteOf, all_noted, is_before, is_on, is_wait, no_names, reserved, run, run_of};
 ghost use Rattle.death_cleanup.specs.Waits.{first_waiting};
+ghost use Rattle.death_cleanup.specs.declared.rows.Awaited.TheVariants as awaited;
 
 use crate::rows::{Awaited, Kind, NamedWait, wait_of};
 use lwp_types::{Block, NoMemory, Tid};
@@ -70,7 +71,9 @@ fn is_before(wait: &NamedWait, other: &NamedWait) -> bool
 // Whether the wait would stand behind all others.
 fn is_behind_all(waits: &[NamedWait], wait: &NamedWait) -> bool
     requires { AreOrdered waits.now }
-    ensures { IsTrue result → IsGap (run_of wait.now) wait.now.tid waits.now (length waits.now) }
+    ensures behind { IsTrue result →
+        IsGap (run_of wait.now) wait.now.tid waits.now (length waits.now) }
+    ensures before { IsFalse result → IsBeforeLast (run_of wait.now) wait.now.tid waits.now }
 {
     match waits.last() {
         Some(last) => is_before(last, wait),
@@ -78,13 +81,32 @@ fn is_behind_all(waits: &[NamedWait], wait: &NamedWait) -> bool
     }
 }
 
-// Where the wait stands, or would. Who is waited for is often the youngest of those that anybody waits for.
+// Whether one that doesn't stand behind the last would stand behind all others.
+fn is_behind_others(waits: &[NamedWait], wait: &NamedWait) -> bool
+    requires ordered { AreOrdered waits.now }
+    requires before { IsBeforeLast (run_of wait.now) wait.now.tid waits.now }
+    ensures two { IsTrue result → 2 ≤ length waits.now }
+    ensures gap { IsTrue result →
+        IsGap (run_of wait.now) wait.now.tid waits.now (length waits.now - 1) }
+{
+    let len = waits.len();
+    if len < 2 {
+        return false;
+    }
+    is_before(&waits[len - 2], wait)
+}
+
+// Where the wait stands, or would. Who is waited for is often the youngest of those that anybody waits for, and one thread waits for it.
+#[inline(always)]
 fn gap_of(waits: &[NamedWait], wait: &NamedWait) -> usize
     requires { AreOrdered waits.now }
     ensures { IsGap (run_of wait.now) wait.now.tid waits.now result }
 {
     if is_behind_all(waits, wait) {
         return waits.len();
+    }
+    if is_behind_others(waits, wait) {
+        return waits.len() - 1;
     }
     waits.partition_point(|other| is_before(other, wait))
 }
@@ -127,19 +149,24 @@ fn take_at(waits: &mut Vec<NamedWait>, at: usize)
     }
 }
 
-// The oldest of the living that waits for this of the thread or agent. Waits that are met and go on no longer go, so that each look
-// finds it, or leaves one wait less.
+// The oldest of the living that waits for this of the thread or agent, of which the waits begin at this place. Waits that are met and
+// go on no longer go, so that each look finds it, or leaves one wait less.
+#[inline(always)]
 fn first_in(
     waits: &mut Vec<NamedWait>,
     ids: &Registry<Kind>,
     what: Awaited,
     tid: Tid,
+    at: usize,
 ) -> Option<Tid>
     requires ordered { AreOrdered waits.old.items }
     requires noted { IsTrue (all_noted waits.old.items ids.now.live) }
+    requires start { IsGap (run what tid) 0 waits.old.items at }
     ensures value { result ≡ first_waiting what tid ids.now.live }
     ensures ordered { AreOrdered waits.new.items }
     ensures noted { IsTrue (all_noted waits.new.items ids.now.live) }
+    ensures start { IsGap (run what tid) 0 waits.new.items at }
+    ensures next { IfNone result (IsGap (run what tid + 1) 0 waits.new.items at) }
     ensures capacity { vec_capacity waits.new ≡ vec_capacity waits.old }
 {
     // The check learns here that the living stand in birth order.
@@ -149,7 +176,6 @@ fn first_in(
         of: tid,
         tid: Tid { number: 0 },
     };
-    let at = gap_of(waits, &first);
     while let Some(wait) = waiter_at(waits, at, &first) {
         if goes_on(ids, &wait) {
             return Some(wait.tid);
@@ -233,13 +259,37 @@ impl Named {
         put_in(&mut self.waits, wait);
     }
 
-    /// The oldest of the living that waits for this of the thread or agent. It is found among those that wait for just that.
-    pub fn first(&mut self, ids: &Registry<Kind>, what: Awaited, tid: Tid) -> Option<Tid>
-        requires { IsNoteOf self.old ids.now.live }
+    /// Where the waits for a letter of the thread or agent begin, behind which those for its death stand.
+    #[inline(always)]
+    pub fn start_of(&self, tid: Tid) -> usize
+        ensures { IsGap (run awaited.Letter tid) 0 self.now.waits result }
+    {
+        let first = NamedWait {
+            what: Awaited::Letter,
+            of: tid,
+            tid: Tid { number: 0 },
+        };
+        gap_of(&self.waits, &first)
+    }
+
+    /// The oldest of the living that waits for this of the thread or agent. It is found among those that wait for just that, which
+    /// begin at this place; where nobody does, those that stand next begin there.
+    #[inline(always)]
+    pub fn first_from(
+        &mut self,
+        ids: &Registry<Kind>,
+        what: Awaited,
+        tid: Tid,
+        at: usize,
+    ) -> Option<Tid>
+        requires noted { IsNoteOf self.old ids.now.live }
+        requires start { IsGap (run what tid) 0 self.old.waits at }
         ensures value { result ≡ first_waiting what tid ids.now.live }
         ensures noted { IsNoteOf self.new ids.now.live }
+        ensures start { IsGap (run what tid) 0 self.new.waits at }
+        ensures next { IfNone result (IsGap (run what tid + 1) 0 self.new.waits at) }
     {
-        first_in(&mut self.waits, ids, what, tid)
+        first_in(&mut self.waits, ids, what, tid, at)
     }
 }
 

@@ -128,6 +128,7 @@ pub fn wake_done<'s>(
     requires room { length effects.old < 2048 }
     ensures came { CameTo parts.old parts.new effects.old effects.new
         (unblock (answer_by done) tid (state_of parts.old)) }
+    ensures named { parts.new.named ≡ parts.old.named }
 {
     unblock(parts, tid);
     effects.done(tid, done);

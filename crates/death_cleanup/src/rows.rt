@@ -71,8 +71,8 @@ impl Awaited {
         ensures { result ≡ rank self }
     {
         match self {
-            Awaited::Death => 0,
-            Awaited::Letter => 1,
+            Awaited::Letter => 0,
+            Awaited::Death => 1,
         }
     }
 }

@@ -1,11 +1,12 @@
 // Whoever waits for a thread or an agent that ends goes on.
-ghost use Rattle.std.specs.Prelude.{◌≡◌, ◌<◌, Some, IsTrue, false, length};
+ghost use Rattle.std.specs.Prelude.{◌≡◌, ◌<◌, ◌+◌, Some, IsTrue, false, length};
 ghost use Rattle.std.specs.List.{slice_get};
 ghost use Rattle.lwp_types.specs.Agents.{end_agent};
 ghost use Rattle.lwp_types.specs.Death.{end_agents, refuse_senders, release_all};
 ghost use Rattle.lwp_types.specs.State.{is_agent, is_thread};
 ghost use Rattle.death_cleanup.specs.Comes.{CameTo, HasRoom};
 ghost use Rattle.death_cleanup.specs.Moves.{agent_over};
+ghost use Rattle.death_cleanup.specs.Named.{IsGap, run};
 ghost use Rattle.death_cleanup.specs.Ties.{HasLawfulThreads, InStep, LawfulParts};
 ghost use Rattle.death_cleanup.specs.View.{state_of};
 ghost use Rattle.death_cleanup.specs.Waits.{dismissed};
@@ -27,15 +28,25 @@ pub fn nth_of<'r, 's>(ids: &'r Registry<Kind<'s>>, i: usize) -> (Tid, &'r Kind<'
     (Tid { number }, kind)
 }
 
-/// Whoever waits for this of the thread or agent goes on, in the order of birth.
-pub fn dismiss<'s>(parts: &mut Parts<'s>, what: Awaited, tid: Tid, effects: &mut Effects<'s>)
+/// Whoever waits for this of the thread or agent goes on, in the order of birth. Their waits are noted from this place on, and those
+/// that stand next begin there in the end. It is compiled into the death, where mostly nobody waits.
+#[inline(always)]
+pub fn dismiss<'s>(
+    parts: &mut Parts<'s>,
+    what: Awaited,
+    tid: Tid,
+    at: usize,
+    effects: &mut Effects<'s>,
+)
     requires threads { HasLawfulThreads (state_of parts.old) }
     requires step { InStep parts.old }
+    requires start { IsGap (run what tid) 0 parts.old.named.waits at }
     requires room { HasRoom effects.old (dismissed what tid (state_of parts.old)) 0 }
     ensures came { CameTo parts.old parts.new effects.old effects.new
         (dismissed what tid (state_of parts.old)) }
+    ensures next { IsGap (run what tid + 1) 0 parts.new.named.waits at }
 {
-    while let Some(other) = parts.named.first(&parts.ids, what, tid) {
+    while let Some(other) = parts.named.first_from(&parts.ids, what, tid, at) {
         wake_done(parts, other, what.answer(), effects);
     }
 }
@@ -75,7 +86,8 @@ fn clear_agent<'s>(parts: &mut Parts<'s>, agent: Tid, effects: &mut Effects<'s>)
     ensures came { CameTo parts.old parts.new effects.old effects.new
         (agent_over agent (state_of parts.old)) }
 {
-    dismiss(parts, Awaited::Letter, agent, effects);
+    let at = parts.named.start_of(agent);
+    dismiss(parts, Awaited::Letter, agent, at, effects);
     parts.messages.forget(agent);
     parts.ids.remove(agent.number);
 }

@@ -9,7 +9,7 @@ use Rattle.lwp_types.specs.State.{ThreadRow, agent_numbers}
 use Rattle.lwp_types.specs.declared.rows.AgentRow.{AgentRow}
 use Rattle.pod_events.specs.Rites.{flags_of}
 use Rattle.stale_ids.specs.Register.{AreRising, value_of}
-use Rattle.std.proofs.Common.{Bool, List, Option, [], ap, cond, false, option_map, refl, true, ℕ, ◌||◌, ◌∙◌, ◌∷◌, ◌≡◌}
+use Rattle.std.proofs.Common.{Bool, List, Option, [], ap, arith, cond, false, length, option_map, refl, true, ℕ, ◌||◌, ◌∙◌, ◌∷◌, ◌≡◌}
 use Rattle.std.specs.List.{list_any}
 use Rattle.std.specs.Prelude.{is_some, slice_get}
 
@@ -17,6 +17,11 @@ use Rattle.std.specs.Prelude.{is_some, slice_get}
 pub flags-under : (parts : Parts) (t : ℕ) (o : Option Kind) → AreRising parts.ids.live → value_of t parts.ids.live ≡ o
     → flags_of (state_of parts) t ≡ option_map (λ (row : ThreadRow). row.flags) (row_under parts.last_prio parts.sched.threads t o)
 flags-under parts t o rising e = ap (option_map (λ (row : ThreadRow). row.flags)) (rows-under parts.last_prio parts.sched.threads t parts.ids.live rising ∙ ap (row_under parts.last_prio parts.sched.threads t) e)
+
+-- where there are no agents, no event has one
+pub any-none : (e : ℕ) (rows : List AgentRow) → length rows ≡ 0 → list_any (is_for e) rows ≡ false
+any-none e [] none = refl
+any-none e (row ∷ rows) none = absurd (omega (arith, none))
 
 -- an event has an agent where it has a first one
 pub any-first : (e : ℕ) (rows : List AgentRow) → list_any (is_for e) rows ≡ is_some (nth_of rows e 0)

@@ -119,6 +119,10 @@ pub fn flags_of(parts: &Parts, tid: Tid) -> Option<Flags>
 pub fn has_agent(parts: &Parts, event: u8) -> bool
     ensures { result ≡ has_agent (state_of parts.now) event }
 {
+    // Most pods have no agents.
+    if parts.agents.len() == 0 {
+        return false;
+    }
     match parts.agents.nth_of(event, 0) {
         Some(_) => true,
         None => false,

@@ -350,6 +350,7 @@ fn frames_on(kind: &Kind) -> u32
 }
 
 // How many procedures the thread is in.
+#[inline(always)]
 fn frames(parts: &Parts, tid: Tid) -> u32
     requires lawful { LawfulParts parts.now }
     requires alone { parts.now.dying ≡ None }

@@ -26,9 +26,10 @@ use Rattle.lwp_types.specs.declared.call.Func.TheVariants as func
 use Rattle.lwp_types.specs.declared.call.LwpErr.TheVariants as error
 use Rattle.lwp_types.specs.declared.call.Mode.TheVariants as mode
 use Rattle.lwp_types.specs.declared.rows.Block.TheVariants as block
-use Rattle.pod_events.proofs.Mild.{Mild, block_numbers, is_mild, mark_numbers, mild_agents, mild_end_agent, mild_exited, mild_exits, mild_joiners, mild_post, mild_quiet, mild_receivers, mild_release, mild_releases, mild_replied, mild_senders, mild_unwind, mild_waited, mild_waking, mild_withdraw, priority_numbers, suspension_numbers, unless_mild}
+use Rattle.pod_events.proofs.Mild.{Mild, NoneHears, block_numbers, is_mild, mark_numbers, mild_agents, mild_end_agent, mild_exited, mild_exits, mild_joiners, mild_post, mild_quiet, mild_receivers, mild_release, mild_releases, mild_replied, mild_senders, mild_unwind, mild_waited, mild_waking, mild_withdraw, priority_numbers, suspension_numbers, unless_mild}
 use Rattle.pod_events.specs.Fates.{births_by, victim}
 use Rattle.pod_events.specs.Rites.{deaths}
+use Rattle.pod_events.specs.Traps.{agent_event_of}
 use Rattle.std.proofs.Common.{Bool, List, None, Option, Some, [], ap, arith, cond, count_by, eqb, false, length, length-append, not, refl, sym, true, ℕ, ◌++◌, ◌+◌, ◌-◌, ◌∙◌, ◌∷◌, ◌≡◌, ◌≤◌, ◌||◌}
 use Rattle.std.proofs.lemmas.Bool.{and_from, and_parts}
 use Rattle.std.specs.List.{list_all}
@@ -110,18 +111,21 @@ tame-append (x ∷ xs) ys one two =
     let parts = and_parts (is_tame x) (list_all is_tame xs) one in
     and_from _ _ parts.0 (tame-append xs ys parts.1 two)
 
--- by a call of t nobody, or this thread, dies; and if t lives, no more of the live are left than are paid for
-pub record Toll (s : State) (t : ℕ) (victim : Option ℕ) (births : ℕ) (after : State) (es : List Effect) : Type 0 where
+-- by a call of t nobody, or this thread, dies; if t lives, no more of the live are left than are paid for; and no event has its first
+-- agent, unless one was asked for
+pub record Toll (s : State) (t : ℕ) (victim : Option ℕ) (births : ℕ) (asked : Option ℕ) (after : State) (es : List Effect) : Type 0 where
   pub dead : (deaths es ≡ []) ⊎ ((d : ℕ) × (victim ≡ Some d) × (deaths es ≡ d ∷ []))
   pub live : is_thread s t ≡ true → length after.threads + length (deaths es) ≤ length s.threads + births
-  pub kept : victim ≡ None → length after.threads ≤ length s.threads + births
+  pub kept : length after.threads ≤ length s.threads + births
+  pub heard : asked ≡ None → NoneHears s after
   pub tame : list_all is_tame es ≡ true
 
-pub mild_toll : {s after : State} {es : List Effect} (t : ℕ) (victim : Option ℕ) (births : ℕ) → Mild s after es → Toll s t victim births after es
+pub mild_toll : {s after : State} {es : List Effect} (t : ℕ) (victim : Option ℕ) (births : ℕ) → Mild s after es → Toll s t victim births None after es
 mild_toll {s = s} {after = after} {es = es} t victim births mild = record {
   dead = inl (mild_deathless es mild.tells);
   live = λ lives. omega (arith, ap length (mild_deathless es mild.tells), length-numbers s.threads, length-numbers after.threads, ap length mild.lives);
-  kept = λ nobody. omega (arith, length-numbers s.threads, length-numbers after.threads, ap length mild.lives);
+  kept = omega (arith, length-numbers s.threads, length-numbers after.threads, ap length mild.lives);
+  heard = λ none. mild.heard;
   tame = mild_tame es mild.tells;
 }
 
@@ -131,6 +135,7 @@ mild_toll {s = s} {after = after} {es = es} t victim births mild = record {
 record Buried (s : State) (t : ℕ) (out : Outcome) : Type 0 where
   pub dead : deaths out.effects ≡ t ∷ []
   pub live : length out.after.threads + count_by (is_number t) s.threads ≡ length s.threads
+  pub heard : NoneHears s out.after
   pub tame : list_all is_tame out.effects ≡ true
 
 buried_first : (t : ℕ) (change : State → Outcome) (changes : List (State → Outcome)) (s : State) → Mild s (change s).after (change s).effects → Buried (change s).after t (in_order changes (change s).after) → Buried s t (in_order (change ∷ changes) s)
@@ -138,12 +143,13 @@ unfolding in_order and_then
 buried_first t change changes s mild rest = record {
   dead = deaths-append (change s).effects (in_order changes (change s).after).effects ∙ ap (λ ns. ns ++ deaths (in_order changes (change s).after).effects) (mild_deathless (change s).effects mild.tells) ∙ rest.dead;
   live = omega (arith, rest.live, count-numbers t (change s).after.threads s.threads mild.lives, length-numbers s.threads, length-numbers (change s).after.threads, ap length mild.lives);
+  heard = λ e none. rest.heard e (mild.heard e none);
   tame = tame-append (change s).effects (in_order changes (change s).after).effects (mild_tame (change s).effects mild.tells) rest.tame;
 }
 
 buried_last : (t : ℕ) (s : State) → Buried s t (in_order (bury t ∷ []) s)
 unfolding in_order and_then
-buried_last t s = record { dead = refl; live = length-failed (is_number t) s.threads; tame = refl }
+buried_last t s = record { dead = refl; live = length-failed (is_number t) s.threads; heard = λ e none. none; tame = refl }
 
 death_buries : (t : ℕ) (s : State) → Buried s t (death t s)
 death_buries t s =
@@ -163,13 +169,14 @@ lives_once s t lives = by_row (thread_of s t) refl lives
     by_row None e h = absurd (cc)
     by_row (Some row) e h = count_found (is_number t) s.threads row e
 
-death_toll : (s : State) (t u : ℕ) → (is_thread s t ≡ true → is_thread s u ≡ true) → Toll s t (Some u) 0 (death u s).after (death u s).effects
+death_toll : (s : State) (t u : ℕ) → (is_thread s t ≡ true → is_thread s u ≡ true) → Toll s t (Some u) 0 None (death u s).after (death u s).effects
 death_toll s t u there =
     let buried = death_buries u s in
     record {
       dead = inr (u, refl, buried.dead);
       live = λ lives. omega (arith, buried.live, ap length buried.dead, lives_once s u (there lives));
-      kept = λ nobody. absurd (cc);
+      kept = omega (arith, buried.live);
+      heard = λ none. buried.heard;
       tame = buried.tame;
     }
 
@@ -179,23 +186,23 @@ abbrev Passes : List Check → Type 0
 Passes [] = Unit {0}
 Passes (check ∷ checks) = (check.0 ≡ false) × Passes checks
 
-unless_toll : (t : ℕ) (victim : Option ℕ) (births : ℕ) (s : State) (checks : List Check) (otherwise : Case) → (Passes checks → Toll s t victim births otherwise.after otherwise.others) → Toll s t victim births (unless s checks otherwise).after (unless s checks otherwise).others
+unless_toll : (t : ℕ) (victim : Option ℕ) (births : ℕ) (s : State) (checks : List Check) (otherwise : Case) → (Passes checks → Toll s t victim births None otherwise.after otherwise.others) → Toll s t victim births None (unless s checks otherwise).after (unless s checks otherwise).others
 unfolding unless
 unless_toll t victim births s [] otherwise fine = fine tt
 unless_toll t victim births s (check ∷ checks) otherwise fine = by_test check.0 refl (λ here. unless_toll t victim births s checks otherwise (λ rest. fine (here, rest)))
   where
-    by_test : (b : Bool) → check.0 ≡ b → (check.0 ≡ false → Toll s t victim births (unless s checks otherwise).after (unless s checks otherwise).others) → Toll s t victim births (cond b (refused s check.1) (unless s checks otherwise)).after (cond b (refused s check.1) (unless s checks otherwise)).others
-    by_test true e rest = mild_toll t victim births (mild_quiet s s refl)
+    by_test : (b : Bool) → check.0 ≡ b → (check.0 ≡ false → Toll s t victim births None (unless s checks otherwise).after (unless s checks otherwise).others) → Toll s t victim births None (cond b (refused s check.1) (unless s checks otherwise)).after (cond b (refused s check.1) (unless s checks otherwise)).others
+    by_test true e rest = mild_toll t victim births (mild_quiet s s refl refl)
     by_test false e rest = rest e
 
-destroy_toll : (s : State) (t u : ℕ) → Toll s t (Some u) 0 (destroy s t u).after (destroy s t u).others
+destroy_toll : (s : State) (t u : ℕ) → Toll s t (Some u) 0 None (destroy s t u).after (destroy s t u).others
 destroy_toll s t u = unless_toll t (Some u) 0 s (is_no_id s u ∷ []) _ (λ passed. by_agent (is_agent s u) (true_of passed.0))
   where
     true_of : {b : Bool} → not b ≡ false → b ≡ true
     true_of {b = true} e = refl
     true_of {b = false} e = absurd (cc)
 
-    by_agent : (b : Bool) → (is_thread s u || b) ≡ true → Toll s t (Some u) 0 (cond b (with_zero (end_agent u s)) (cond (eqb t u) (unanswered (death u s)) (with_zero (death u s)))).after (cond b (with_zero (end_agent u s)) (cond (eqb t u) (unanswered (death u s)) (with_zero (death u s)))).others
+    by_agent : (b : Bool) → (is_thread s u || b) ≡ true → Toll s t (Some u) 0 None (cond b (with_zero (end_agent u s)) (cond (eqb t u) (unanswered (death u s)) (with_zero (death u s)))).after (cond b (with_zero (end_agent u s)) (cond (eqb t u) (unanswered (death u s)) (with_zero (death u s)))).others
     by_agent true h = mild_toll t (Some u) 0 (mild_end_agent u s)
     by_agent false h = by_self (eqb t u) (death_toll s t u (λ lives. either (is_thread s u) h))
       where
@@ -203,22 +210,23 @@ destroy_toll s t u = unless_toll t (Some u) 0 s (is_no_id s u ∷ []) _ (λ pass
         either true e = refl
         either false e = e
 
-        by_self : (b : Bool) → Toll s t (Some u) 0 (death u s).after (death u s).effects → Toll s t (Some u) 0 (cond b (unanswered (death u s)) (with_zero (death u s))).after (cond b (unanswered (death u s)) (with_zero (death u s))).others
+        by_self : (b : Bool) → Toll s t (Some u) 0 None (death u s).after (death u s).effects → Toll s t (Some u) 0 None (cond b (unanswered (death u s)) (with_zero (death u s))).after (cond b (unanswered (death u s)) (with_zero (death u s))).others
         by_self true toll = toll
         by_self false toll = toll
 
-return_toll : (s : State) (t : ℕ) → Toll s t (Some t) 0 (return_from s t).after (return_from s t).others
+return_toll : (s : State) (t : ℕ) → Toll s t (Some t) 0 None (return_from s t).after (return_from s t).others
 return_toll s t = by_frames (nat_le 2 (frames (marks_in s t)))
   where
-    by_frames : (b : Bool) → Toll s t (Some t) 0 (cond b (leave_frame s t) (unanswered (death t s))).after (cond b (leave_frame s t) (unanswered (death t s))).others
+    by_frames : (b : Bool) → Toll s t (Some t) 0 None (cond b (leave_frame s t) (unanswered (death t s))).after (cond b (leave_frame s t) (unanswered (death t s))).others
     by_frames true = mild_toll t (Some t) 0 (mild_unwind t (first_frames (frames (marks_in s t) - 1) (marks_in s t)) (later_frames (frames (marks_in s t) - 1) (marks_in s t)) s)
     by_frames false = death_toll s t t (λ lives. lives)
 
-create_toll : (s : State) (t number prio : ℕ) (flags : Flags) (checks : List Check) (own : Answer) → Toll s t None 1 (unless s checks (answered (created s prio flags) own)).after (unless s checks (answered (created s prio flags) own)).others
+create_toll : (s : State) (t number prio : ℕ) (flags : Flags) (checks : List Check) (own : Answer) → Toll s t None 1 None (unless s checks (answered (created s prio flags) own)).after (unless s checks (answered (created s prio flags) own)).others
 create_toll s t number prio flags checks own = unless_toll t None 1 s checks _ (λ passed. record {
   dead = inl refl;
   live = λ lives. omega (arith, length-append s.threads (born s.births prio flags ∷ []));
-  kept = λ nobody. omega (arith, length-append s.threads (born s.births prio flags ∷ []));
+  kept = omega (arith, length-append s.threads (born s.births prio flags ∷ []));
+  heard = λ none e unheard. unheard;
   tame = refl;
 })
 
@@ -227,71 +235,88 @@ cond_mild s true one two first second = first
 cond_mild s false one two first second = second
 
 received_mild : (s : State) (t : ℕ) (from : Option ℕ) (how : Mode) (o : Option Letter) → Mild s (receive_by s t from how o).after (receive_by s t from how o).others
-received_mild s t from mode.Poll None = mild_quiet s s refl
-received_mild s t from mode.Poll (Some letter) = mild_quiet s _ refl
-received_mild s t from mode.Block None = mild_quiet s _ (block_numbers t (block.Receiving from) s.threads)
-received_mild s t from mode.Block (Some letter) = mild_quiet s _ refl
-received_mild s t from (mode.Until ticks) None = cond_mild s (eqb ticks 0) (refused s error.Timeout) (unanswered (still (blocked_for s t (block.Receiving from) ticks))) (mild_quiet s s refl) (mild_quiet s _ (block_numbers t (block.Receiving from) s.threads))
-received_mild s t from (mode.Until ticks) (Some letter) = mild_quiet s _ refl
+received_mild s t from mode.Poll None = mild_quiet s s refl refl
+received_mild s t from mode.Poll (Some letter) = mild_quiet s _ refl refl
+received_mild s t from mode.Block None = mild_quiet s _ (block_numbers t (block.Receiving from) s.threads) refl
+received_mild s t from mode.Block (Some letter) = mild_quiet s _ refl refl
+received_mild s t from (mode.Until ticks) None = cond_mild s (eqb ticks 0) (refused s error.Timeout) (unanswered (still (blocked_for s t (block.Receiving from) ticks))) (mild_quiet s s refl refl) (mild_quiet s _ (block_numbers t (block.Receiving from) s.threads) refl)
+received_mild s t from (mode.Until ticks) (Some letter) = mild_quiet s _ refl refl
 
 match_mild : (s : State) (on_match : Found → Case) (o : Option Found) → ((f : Found) → Mild s (on_match f).after (on_match f).others) → Mild s (with_match s on_match o).after (with_match s on_match o).others
-match_mild s on_match None mild = mild_quiet s s refl
+match_mild s on_match None mild = mild_quiet s s refl refl
 match_mild s on_match (Some f) mild = mild f
 
 caught_mild : (s : State) (t p : ℕ) (f : Found) → Mild s (caught s t p f).after (caught s t p f).others
 caught_mild s t p f = mild_unwind t (caught_marks f (marks_in s t)) (later_frames f.depth (marks_in s t)) s
 
 notified_mild : (s : State) (t p : ℕ) (f : Found) (h : Func) → Mild s (notified_by s t p f h).after (notified_by s t p f h).others
-notified_mild s t p f func.Give = mild_quiet s s refl
-notified_mild s t p f func.Sum = mild_quiet s s refl
+notified_mild s t p f func.Give = mild_quiet s s refl refl
+notified_mild s t p f func.Sum = mild_quiet s s refl refl
 notified_mild s t p f func.Nothing = caught_mild s t p f
 
 send_mild : (s : State) (letter : Letter) (t : ℕ) → Mild s (unanswered (post letter (blocked s t block.Sending))).after (unanswered (post letter (blocked s t block.Sending))).others
 send_mild s letter t =
     let posted = mild_post letter (blocked s t block.Sending) in
-    record { tells = posted.tells; lives = posted.lives ∙ block_numbers t block.Sending s.threads }
+    record { tells = posted.tells; lives = posted.lives ∙ block_numbers t block.Sending s.threads; heard = posted.heard }
 
-checked : {s : State} (t : ℕ) (checks : List Check) (otherwise : Case) → Mild s otherwise.after otherwise.others → Toll s t None 0 (unless s checks otherwise).after (unless s checks otherwise).others
+checked : {s : State} (t : ℕ) (checks : List Check) (otherwise : Case) → Mild s otherwise.after otherwise.others → Toll s t None 0 None (unless s checks otherwise).after (unless s checks otherwise).others
 checked {s = s} t checks otherwise mild = mild_toll t None 0 (unless_mild s checks otherwise mild)
 
-quiet : {s after : State} → numbers after.threads ≡ numbers s.threads → Mild s after []
-quiet {s = s} {after = after} same = mild_quiet s after same
+quiet : {s after : State} → numbers after.threads ≡ numbers s.threads → after.agents ≡ s.agents → Mild s after []
+quiet {s = s} {after = after} same agents = mild_quiet s after same agents
 
--- of every call: the last line is for each that is refused by its checks or else leaves the threads' numbers as they are
-pub case_toll : (s : State) (t : ℕ) (c : Call) → Toll s t (victim t c) (births_by c) (case_of s t c).after (case_of s t c).others
+-- an Agent changes no thread, and it alone brings an agent
+agent_toll : (s : State) (t e : ℕ) (checks : List Check) (otherwise : Case) → numbers otherwise.after.threads ≡ numbers s.threads → list_all is_mild otherwise.others ≡ true → Toll s t None 0 (Some e) (unless s checks otherwise).after (unless s checks otherwise).others
+unfolding unless
+agent_toll s t e [] otherwise same tells = record {
+  dead = inl (mild_deathless otherwise.others tells);
+  live = λ lives. omega (arith, ap length (mild_deathless otherwise.others tells), length-numbers s.threads, length-numbers otherwise.after.threads, ap length same);
+  kept = omega (arith, length-numbers s.threads, length-numbers otherwise.after.threads, ap length same);
+  heard = λ none. absurd (cc);
+  tame = mild_tame otherwise.others tells;
+}
+agent_toll s t e (check ∷ checks) otherwise same tells = by_test check.0 (agent_toll s t e checks otherwise same tells)
+  where
+    by_test : (b : Bool) → Toll s t None 0 (Some e) (unless s checks otherwise).after (unless s checks otherwise).others → Toll s t None 0 (Some e) (cond b (refused s check.1) (unless s checks otherwise)).after (cond b (refused s check.1) (unless s checks otherwise)).others
+    by_test true rest = let toll = mild_toll t None 0 (mild_quiet s s refl refl) in record { dead = toll.dead; live = toll.live; kept = toll.kept; heard = λ none. absurd (cc); tame = toll.tame }
+    by_test false rest = rest
+
+-- of every call: the last line is for each that is refused by its checks or else leaves the threads' numbers and the agents as they are
+pub case_toll : (s : State) (t : ℕ) (c : Call) → Toll s t (victim t c) (births_by c) (agent_event_of c) (case_of s t c).after (case_of s t c).others
 case_toll s t (call.Create number prio flags) = create_toll s t number prio flags _ _
 case_toll s t (call.Destroy u) = destroy_toll s t u
-case_toll s t (call.SetPri u p) = checked t _ _ (quiet (priority_numbers u p s.threads))
-case_toll s t (call.Suspend u) = checked t _ _ (quiet (suspension_numbers u true s.threads))
-case_toll s t (call.Resume u) = checked t _ _ (quiet (suspension_numbers u false s.threads))
-case_toll s t (call.Join u) = checked t _ _ (quiet (block_numbers t (block.Joining u) s.threads))
-case_toll s t (call.Sleep ticks) = mild_toll t None 0 (cond_mild s (eqb ticks 0) (valued s 0) (unanswered (still (blocked_for s t block.Sleeping ticks))) (mild_quiet s s refl) (mild_quiet s _ (block_numbers t block.Sleeping s.threads)))
-case_toll s t call.Me = mild_toll t None 0 (mild_quiet s s refl)
-case_toll s t call.GetExit = mild_toll t None 0 (mild_quiet s s refl)
-case_toll s t call.Threads = mild_toll t None 0 (mild_quiet s s refl)
+case_toll s t (call.SetPri u p) = checked t _ _ (quiet (priority_numbers u p s.threads) refl)
+case_toll s t (call.Suspend u) = checked t _ _ (quiet (suspension_numbers u true s.threads) refl)
+case_toll s t (call.Resume u) = checked t _ _ (quiet (suspension_numbers u false s.threads) refl)
+case_toll s t (call.Join u) = checked t _ _ (quiet (block_numbers t (block.Joining u) s.threads) refl)
+case_toll s t (call.Sleep ticks) = mild_toll t None 0 (cond_mild s (eqb ticks 0) (valued s 0) (unanswered (still (blocked_for s t block.Sleeping ticks))) (mild_quiet s s refl refl) (mild_quiet s _ (block_numbers t block.Sleeping s.threads) refl))
+case_toll s t call.Me = mild_toll t None 0 (mild_quiet s s refl refl)
+case_toll s t call.GetExit = mild_toll t None 0 (mild_quiet s s refl refl)
+case_toll s t call.Threads = mild_toll t None 0 (mild_quiet s s refl refl)
 case_toll s t (call.Send u room text) = checked t _ _ (send_mild s (record { from = t; to = u; text = text; room = room; received = false }) t)
 case_toll s t (call.Recv from how) = checked t _ _ (received_mild s t from how (unreceived s.letters t from))
 case_toll s t (call.Reply u text) = checked t _ _ (mild_replied u text s)
-case_toll s t call.Senders = mild_toll t None 0 (mild_quiet s s refl)
-case_toll s t call.Receivers = mild_toll t None 0 (mild_quiet s s refl)
-case_toll s t (call.Enter m) = checked t _ _ (cond_mild s (is_owned_by_other s.locks t m) (unanswered (still (requested s t m))) (entered s t m) (mild_quiet s _ (block_numbers t (block.Entering m) s.threads)) (mild_quiet s _ refl))
+case_toll s t call.Senders = mild_toll t None 0 (mild_quiet s s refl refl)
+case_toll s t call.Receivers = mild_toll t None 0 (mild_quiet s s refl refl)
+case_toll s t (call.Enter m) = checked t _ _ (cond_mild s (is_owned_by_other s.locks t m) (unanswered (still (requested s t m))) (entered s t m) (mild_quiet s _ (block_numbers t (block.Entering m) s.threads) refl) (mild_quiet s _ refl refl))
 case_toll s t (call.MonExit m) = checked t _ _ (mild_exited m s)
 case_toll s t (call.MonBreak m) = checked t _ _ (mild_release m s)
-case_toll s t call.Monitors = mild_toll t None 0 (mild_quiet s s refl)
+case_toll s t call.Monitors = mild_toll t None 0 (mild_quiet s s refl refl)
 case_toll s t (call.Wait c) = checked t _ _ (mild_waited t c (last_lock s.locks t) s)
 case_toll s t (call.Notify c) = mild_toll t None 0 (mild_waking s t c [] _)
 case_toll s t (call.Broadcast c) = mild_toll t None 0 (mild_waking s t c [] _)
 case_toll s t (call.CvSend c u) = mild_toll t None 0 (mild_waking s t c _ _)
-case_toll s t call.Conditions = mild_toll t None 0 (mild_quiet s s refl)
-case_toll s t (call.CallProc number) = checked t _ _ (quiet (mark_numbers t _ s.threads))
+case_toll s t call.Conditions = mild_toll t None 0 (mild_quiet s s refl refl)
+case_toll s t (call.CallProc number) = checked t _ _ (quiet (mark_numbers t _ s.threads) refl)
 case_toll s t call.Return = return_toll s t
-case_toll s t (call.Handle pat func arg) = checked t _ _ (quiet (mark_numbers t _ s.threads))
-case_toll s t call.Unhandle = checked t _ _ (quiet (mark_numbers t _ s.threads))
-case_toll s t (call.OnExit x) = checked t _ _ (quiet (mark_numbers t _ s.threads))
+case_toll s t (call.Handle pat func arg) = checked t _ _ (quiet (mark_numbers t _ s.threads) refl)
+case_toll s t call.Unhandle = checked t _ _ (quiet (mark_numbers t _ s.threads) refl)
+case_toll s t (call.OnExit x) = checked t _ _ (quiet (mark_numbers t _ s.threads) refl)
 case_toll s t (call.Raise p) = checked t _ _ (match_mild s (caught s t p) (found s t p) (caught_mild s t p))
 case_toll s t (call.ExcNotify p) = checked t _ _ (match_mild s (λ f. notified_by s t p f f.func) (found s t p) (λ f. notified_mild s t p f f.func))
-case_toll s t (call.Bound p) = checked t _ _ (match_mild s _ (found s t p) (λ f. mild_quiet s s refl))
-case_toll s t call.Agents = mild_toll t None 0 (mild_quiet s s refl)
-case_toll s t (call.Trap e) = mild_toll t None 0 (mild_quiet s s refl)
-case_toll s t (call.Say text) = mild_toll t None 0 (mild_quiet s s refl)
-case_toll s t _ = checked t _ _ (quiet refl)
+case_toll s t (call.Bound p) = checked t _ _ (match_mild s _ (found s t p) (λ f. mild_quiet s s refl refl))
+case_toll s t (call.Agent e) = agent_toll s t e _ _ refl refl
+case_toll s t call.Agents = mild_toll t None 0 (mild_quiet s s refl refl)
+case_toll s t (call.Trap e) = mild_toll t None 0 (mild_quiet s s refl refl)
+case_toll s t (call.Say text) = mild_toll t None 0 (mild_quiet s s refl refl)
+case_toll s t _ = checked t _ _ (quiet refl refl)

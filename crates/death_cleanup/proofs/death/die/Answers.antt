@@ -1,5 +1,8 @@
 use Rattle.death_cleanup.proofs.Dying.{died, died_lawful, died_most, forgotten7, lawful1, lawful2, lonely4, room1, room2, room3, room4, room5, room6, room7, threads5, threads6, unowning3}
 use Rattle.death_cleanup.proofs.death.die.Goals as goal
+use Rattle.death_cleanup.specs.Named.{run}
+use Rattle.death_cleanup.specs.declared.rows.Awaited.TheVariants as awaited
+use Rattle.std.proofs.Common.{arith, ◌+◌, ◌≡◌}
 
 pub run_all_exits-requires-clause-lawful : goal.run_all_exits-requires-clause-lawful
 run_all_exits-requires-clause-lawful c = lawful1 c.args.parts.now c.args.tid c.requires.lawful c.requires.alone c.requires.lives c.args.effects.now c.requires.room c.withdraw.new.parts c.withdraw.ensures.after c.withdraw.ensures.dying c.withdraw.ensures.step
@@ -30,6 +33,11 @@ dismiss-requires-clause-threads c = threads5 c.args.parts.now c.args.tid c.requi
 
 pub dismiss-requires-clause-room : goal.dismiss-requires-clause-room
 dismiss-requires-clause-room c = room5 c.args.parts.now c.args.tid c.requires.lawful c.requires.alone c.requires.lives c.args.effects.now c.requires.room c.withdraw.new.parts c.withdraw.ensures.after c.withdraw.ensures.dying c.withdraw.ensures.step c.run_all_exits.new.parts c.run_all_exits.new.effects c.run_all_exits.ensures.came c.release_all.new.parts c.release_all.new.effects c.release_all.ensures.came c.end_agents.new.parts c.end_agents.new.effects c.end_agents.ensures.came c.refuse_senders.new.parts c.refuse_senders.new.effects c.refuse_senders.ensures.came
+
+pub dismiss-requires-2-clause-start : goal.dismiss-requires-2-clause-start
+dismiss-requires-2-clause-start c =
+    let next : run awaited.Letter c.args.tid + 1 ≡ run awaited.Death c.args.tid = omega arith in
+    rw next at c.dismiss.ensures.next
 
 pub dismiss-requires-2-clause-threads : goal.dismiss-requires-2-clause-threads
 dismiss-requires-2-clause-threads c = threads6 c.args.parts.now c.args.tid c.requires.lawful c.requires.alone c.requires.lives c.args.effects.now c.requires.room c.withdraw.new.parts c.withdraw.ensures.after c.withdraw.ensures.dying c.withdraw.ensures.step c.run_all_exits.new.parts c.run_all_exits.new.effects c.run_all_exits.ensures.came c.release_all.new.parts c.release_all.new.effects c.release_all.ensures.came c.end_agents.new.parts c.end_agents.new.effects c.end_agents.ensures.came c.refuse_senders.new.parts c.refuse_senders.new.effects c.refuse_senders.ensures.came c.dismiss.new.parts c.dismiss.new.effects c.dismiss.ensures.came
