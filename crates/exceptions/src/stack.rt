@@ -14,6 +14,9 @@ const MOST_FRAMES: u32 = 64;
 
 const MOST_MARKS: usize = 256;
 
+// For how many marks a stack has room at first.
+const FIRST_MARKS: usize = 4;
+
 /// The marks of one thread, from the bottom to the top.
 #[derive(Drop)]
 pub struct ExceptionStack<'s> {
@@ -37,8 +40,8 @@ impl<'s> ExceptionStack<'s> {
     pub fn new(alloc: Global) -> Result<ExceptionStack<'s>, NoMemory>
         ensures { IfOk result (λ s. s ≡ one_frame) }
     {
-        let mut marks = Vec::new(alloc);
-        marks.push(Mark::Frame)?;
+        let mut marks = Vec::with_capacity(alloc, FIRST_MARKS)?;
+        marks.push_reserved(Mark::Frame);
         Ok(ExceptionStack { marks })
     }
 
