@@ -366,57 +366,36 @@ module _ (a : ℕ) where
       kept_destroy : (v : ℕ) → (not (eqb v a) && not (eqb v row.owner)) ≡ true → Kept s (case_of s t (call.Destroy v)).after
       kept_destroy v h = let w = parts (eqb v a) (eqb v row.owner) h in kept_unless s _ _ (λ passed. kept_destroyed t v (apart_of v a w.0) (flip v row.owner w.1) (true_of _ passed.0))
 
+      -- of every call that spares it: the last line is for each that is refused by its checks or else leaves what is seen of it as it is
       kept_case : (c : Call) → spares_agent a row.owner c ≡ true → Kept s (case_of s t c).after
-      kept_case (call.Create number prio flags) h = kept_unless s _ _ (λ passed. refl)
       kept_case (call.Destroy v) h = kept_destroy v h
-      kept_case (call.Ping v) h = kept_unless s _ _ (λ passed. refl)
-      kept_case (call.Yield v) h = kept_unless s _ _ (λ passed. refl)
-      kept_case (call.Resched q) h = kept_unless s _ _ (λ passed. refl)
-      kept_case (call.SetPri v q) h = kept_unless s _ _ (λ passed. refl)
-      kept_case (call.Suspend v) h = kept_unless s _ _ (λ passed. refl)
-      kept_case (call.Resume v) h = kept_unless s _ _ (λ passed. refl)
-      kept_case (call.Join v) h = kept_unless s _ _ (λ passed. refl)
       kept_case (call.Sleep ticks) h = cond_case s (eqb ticks 0) (valued s 0) (unanswered (still (blocked_for s t block.Sleeping ticks))) refl refl
       kept_case call.Me h = refl
-      kept_case (call.SetMaxPri q) h = kept_unless s _ _ (λ passed. refl)
-      kept_case (call.SetExit code) h = kept_unless s _ _ (λ passed. refl)
       kept_case call.GetExit h = refl
-      kept_case (call.PodExit code) h = kept_unless s _ _ (λ passed. refl)
       kept_case call.Threads h = refl
       kept_case (call.Send v room text) h = kept_unless s _ _ (λ passed. kept_sent v room text)
       kept_case (call.Recv from how) h = kept_unless s _ _ (λ passed. kept_received from how (unreceived s.letters t from) refl)
       kept_case (call.Reply v text) h = kept_unless s _ _ (λ passed. kept_replied s v text (replied_other a Never t s off v passed.1.0))
       kept_case call.Senders h = refl
       kept_case call.Receivers h = refl
-      kept_case call.MonCreate h = kept_unless s _ _ (λ passed. refl)
-      kept_case (call.MonDestroy m) h = kept_unless s _ _ (λ passed. refl)
       kept_case (call.Enter m) h = kept_unless s _ _ (λ passed. cond_case s (is_owned_by_other s.locks t m) (unanswered (still (requested s t m))) (entered s t m) refl refl)
-      kept_case (call.CondEnter m) h = kept_unless s _ _ (λ passed. refl)
       kept_case (call.MonExit m) h = kept_unless s _ _ (λ passed. kept_exited s m)
       kept_case (call.MonBreak m) h = kept_unless s _ _ (λ passed. kept_release m s)
       kept_case call.Monitors h = refl
-      kept_case (call.MonWaiters m) h = kept_unless s _ _ (λ passed. refl)
-      kept_case (call.CvCreate m) h = kept_unless s _ _ (λ passed. refl)
-      kept_case (call.CvDestroy c) h = kept_unless s _ _ (λ passed. refl)
       kept_case (call.Wait c) h = kept_unless s _ _ (λ passed. kept_waited c (last_lock s.locks t))
       kept_case (call.Notify c) h = kept_waking s t c _ _
       kept_case (call.Broadcast c) h = kept_waking s t c _ _
       kept_case (call.CvSend c v) h = kept_waking s t c _ _
       kept_case call.Conditions h = refl
-      kept_case (call.CvWaiters c) h = kept_unless s _ _ (λ passed. refl)
-      kept_case (call.CallProc number) h = kept_unless s _ _ (λ passed. refl)
       kept_case call.Return h = kept_returned
-      kept_case (call.Handle pat f arg) h = kept_unless s _ _ (λ passed. refl)
-      kept_case call.Unhandle h = kept_unless s _ _ (λ passed. refl)
-      kept_case (call.OnExit e) h = kept_unless s _ _ (λ passed. refl)
       kept_case (call.Raise q) h = kept_searched q _ (λ f. kept_caught q f)
       kept_case (call.ExcNotify q) h = kept_searched q _ (λ f. kept_notified q f f.func)
       kept_case (call.Bound q) h = kept_searched q _ (λ f. refl)
-      kept_case call.UniqPatt h = kept_unless s _ _ (λ passed. refl)
       kept_case (call.Agent e) h = kept_made e
       kept_case call.Agents h = refl
       kept_case (call.Trap e) h = refl
       kept_case (call.Say text) h = refl
+      kept_case _ h = kept_unless s _ _ (λ passed. refl)
 
     pub kept_step : (t : ℕ) → choice s ≡ Some t → eqb t row.owner ≡ false → (c : Call) → spares_agent a row.owner c ≡ true → Kept s (step s c).after
     unfolding step step_by

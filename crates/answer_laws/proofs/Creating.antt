@@ -54,56 +54,8 @@ data Creates (c : Call) : Type 0 where
   IsNone : proc_of c ≡ None → Creates c
 
 creates_of : (c : Call) → Creates c
-creates_of (call.Destroy v) = IsNone refl
 creates_of (call.Create number prio flags) = IsCreate number prio flags refl
-creates_of (call.Ping v) = IsNone refl
-creates_of (call.Yield v) = IsNone refl
-creates_of (call.Resched q) = IsNone refl
-creates_of (call.SetPri v q) = IsNone refl
-creates_of (call.Suspend v) = IsNone refl
-creates_of (call.Resume v) = IsNone refl
-creates_of (call.Join v) = IsNone refl
-creates_of (call.Sleep ticks) = IsNone refl
-creates_of call.Me = IsNone refl
-creates_of (call.SetMaxPri q) = IsNone refl
-creates_of (call.SetExit code) = IsNone refl
-creates_of call.GetExit = IsNone refl
-creates_of (call.PodExit code) = IsNone refl
-creates_of call.Threads = IsNone refl
-creates_of (call.Send v room text) = IsNone refl
-creates_of (call.Recv from how) = IsNone refl
-creates_of (call.Reply v text) = IsNone refl
-creates_of call.Senders = IsNone refl
-creates_of call.Receivers = IsNone refl
-creates_of call.MonCreate = IsNone refl
-creates_of (call.MonDestroy m) = IsNone refl
-creates_of (call.Enter m) = IsNone refl
-creates_of (call.CondEnter m) = IsNone refl
-creates_of (call.MonExit m) = IsNone refl
-creates_of (call.MonBreak m) = IsNone refl
-creates_of call.Monitors = IsNone refl
-creates_of (call.MonWaiters m) = IsNone refl
-creates_of (call.CvCreate m) = IsNone refl
-creates_of (call.CvDestroy c) = IsNone refl
-creates_of (call.Wait c) = IsNone refl
-creates_of (call.Notify c) = IsNone refl
-creates_of (call.Broadcast c) = IsNone refl
-creates_of (call.CvSend c v) = IsNone refl
-creates_of call.Conditions = IsNone refl
-creates_of (call.CvWaiters c) = IsNone refl
-creates_of (call.CallProc number) = IsNone refl
-creates_of call.Return = IsNone refl
-creates_of (call.Handle pat f arg) = IsNone refl
-creates_of call.Unhandle = IsNone refl
-creates_of (call.OnExit e) = IsNone refl
-creates_of (call.Raise q) = IsNone refl
-creates_of (call.ExcNotify q) = IsNone refl
-creates_of (call.Bound q) = IsNone refl
-creates_of call.UniqPatt = IsNone refl
-creates_of (call.Agent e) = IsNone refl
-creates_of call.Agents = IsNone refl
-creates_of (call.Trap e) = IsNone refl
-creates_of (call.Say text) = IsNone refl
+creates_of _ = IsNone refl
 
 -- ---- rows of others
 

@@ -215,45 +215,32 @@ module _ (u t : ℕ) (Fits : Option ℕ → Answer → Type 0) (s : State) (nine
     deep = all_filter _ _ (λ (w : WaitRow). eqb w.tid to) (λ w kept h. h) (waits_on s.waits c) (all_among s None nine c).deep;
   }
 
-  -- every call of the caller
+  -- every call of the caller: the last line is for each that is refused by its checks or else leaves threads and letters as they are
   case_turn : (c : Call) → Spares s u c → ((room : ℕ) (text : List ℕ) → c ≡ call.Send u room text → (from : Option ℕ) → takes_from t (block.Receiving from) ≡ true → Fits from (answer.Letter t text room)) → Its (case_of s t c)
   case_turn (call.Create number prio flags) h fits = unless_turn u Fits s _ _ (λ passed. created_now prio flags _ refl refl refl)
   case_turn (call.Destroy v) h fits = unless_turn u Fits s _ _ (λ passed. destroyed_now v h.0 h.1 (true_of _ passed.0))
-  case_turn (call.Ping v) h fits = unless_turn u Fits s _ _ (λ passed. still_now _ refl refl refl)
-  case_turn (call.Yield v) h fits = unless_turn u Fits s _ _ (λ passed. still_now _ refl refl refl)
-  case_turn (call.Resched q) h fits = unless_turn u Fits s _ _ (λ passed. still_now _ refl refl refl)
   case_turn (call.SetPri v q) h fits = unless_turn u Fits s _ _ (λ passed. priority_now v q _ refl refl refl)
   case_turn (call.Suspend v) h fits = unless_turn u Fits s _ _ (λ passed. turn_suspension u Fits s was v true _ refl refl refl)
   case_turn (call.Resume v) h fits = unless_turn u Fits s _ _ (λ passed. turn_suspension u Fits s was v false _ refl refl refl)
   case_turn (call.Join v) h fits = unless_turn u Fits s _ _ (λ passed. blocked_now _ (block.Joining v) refl refl refl)
   case_turn (call.Sleep ticks) h fits = cond_now (eqb ticks 0) (valued s 0) (unanswered (still (blocked_for s t block.Sleeping ticks))) (still_now _ refl refl refl) (blocked_now _ block.Sleeping refl refl refl)
   case_turn call.Me h fits = still_now _ refl refl refl
-  case_turn (call.SetMaxPri q) h fits = unless_turn u Fits s _ _ (λ passed. still_now _ refl refl refl)
-  case_turn (call.SetExit code) h fits = unless_turn u Fits s _ _ (λ passed. still_now _ refl refl refl)
   case_turn call.GetExit h fits = still_now _ refl refl refl
-  case_turn (call.PodExit code) h fits = unless_turn u Fits s _ _ (λ passed. still_now _ refl refl refl)
   case_turn call.Threads h fits = still_now _ refl refl refl
   case_turn (call.Send v room text) h fits = unless_turn u Fits s _ _ (λ passed. posted_now (record { from = t; to = v; text = text; room = room; received = false }) refl (λ e from takes. fits room text (ap (λ n. call.Send n room text) e) from takes))
   case_turn (call.Recv from how) h fits = unless_turn u Fits s _ _ (λ passed. received_now from how (unreceived s.letters t from) refl)
   case_turn (call.Reply v text) h fits = unless_turn u Fits s _ _ (λ passed. turn_replied u Fits s was v text (replied_other u Fits t s ready.away v passed.1.0))
   case_turn call.Senders h fits = still_now _ refl refl refl
   case_turn call.Receivers h fits = still_now _ refl refl refl
-  case_turn call.MonCreate h fits = unless_turn u Fits s _ _ (λ passed. still_now _ refl refl refl)
-  case_turn (call.MonDestroy m) h fits = unless_turn u Fits s _ _ (λ passed. still_now _ refl refl refl)
   case_turn (call.Enter m) h fits = unless_turn u Fits s _ _ (λ passed. cond_now (is_owned_by_other s.locks t m) (unanswered (still (requested s t m))) (entered s t m) (blocked_now _ (block.Entering m) refl refl refl) (still_now _ refl refl refl))
-  case_turn (call.CondEnter m) h fits = unless_turn u Fits s _ _ (λ passed. still_now _ refl refl refl)
   case_turn (call.MonExit m) h fits = unless_turn u Fits s _ _ (λ passed. turn_exited u Fits s None nine was m)
   case_turn (call.MonBreak m) h fits = unless_turn u Fits s _ _ (λ passed. turn_release u Fits s None nine was m)
   case_turn call.Monitors h fits = still_now _ refl refl refl
-  case_turn (call.MonWaiters m) h fits = unless_turn u Fits s _ _ (λ passed. still_now _ refl refl refl)
-  case_turn (call.CvCreate m) h fits = unless_turn u Fits s _ _ (λ passed. still_now _ refl refl refl)
-  case_turn (call.CvDestroy c) h fits = unless_turn u Fits s _ _ (λ passed. still_now _ refl refl refl)
   case_turn (call.Wait c) h fits = unless_turn u Fits s _ _ (λ passed. waited_now c (last_lock s.locks t))
   case_turn (call.Notify c) h fits = waking_turn u Fits s None nine was t c _ _ (best_among s None nine c)
   case_turn (call.Broadcast c) h fits = waking_turn u Fits s None nine was t c _ _ (all_among s None nine c)
   case_turn (call.CvSend c v) h fits = waking_turn u Fits s None nine was t c _ _ (one_among c v)
   case_turn call.Conditions h fits = still_now _ refl refl refl
-  case_turn (call.CvWaiters c) h fits = unless_turn u Fits s _ _ (λ passed. still_now _ refl refl refl)
   case_turn (call.CallProc number) h fits = unless_turn u Fits s _ _ (λ passed. marked_now _ _ refl refl refl)
   case_turn call.Return h fits = returned_now
   case_turn (call.Handle pat func arg) h fits = unless_turn u Fits s _ _ (λ passed. marked_now _ _ refl refl refl)
@@ -262,11 +249,10 @@ module _ (u t : ℕ) (Fits : Option ℕ → Answer → Type 0) (s : State) (nine
   case_turn (call.Raise q) h fits = searched_now q _ (λ f e. caught_now q f e)
   case_turn (call.ExcNotify q) h fits = searched_now q _ (λ f e. notified_now q f e f.func)
   case_turn (call.Bound q) h fits = searched_now q _ (λ f e. still_now _ refl refl refl)
-  case_turn call.UniqPatt h fits = unless_turn u Fits s _ _ (λ passed. still_now _ refl refl refl)
-  case_turn (call.Agent e) h fits = unless_turn u Fits s _ _ (λ passed. still_now _ refl refl refl)
   case_turn call.Agents h fits = still_now _ refl refl refl
   case_turn (call.Trap e) h fits = still_now _ refl refl refl
   case_turn (call.Say text) h fits = still_now _ refl refl refl
+  case_turn _ h fits = unless_turn u Fits s _ _ (λ passed. still_now _ refl refl refl)
 
   finished_turn : (c : Call) (made : Case) → Its made → IsLeft u s (finished t c made) ⊎ IsWoken u Fits s (finished t c made)
   finished_turn c made (Left a) = inl (record { same = a.same; quiet = finished_told u t other c made ∙ a.quiet })

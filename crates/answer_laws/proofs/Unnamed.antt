@@ -269,58 +269,34 @@ return_names s t = by_frames (nat_le 2 (frames (marks_in s t)))
     by_frames true = quiet (λ m. named_unwind m t (first_frames (frames (marks_in s t) - 1) (marks_in s t)) (later_frames (frames (marks_in s t) - 1) (marks_in s t)) s) refl
     by_frames false = quiet (λ m. named_death m t s) refl
 
--- of every call
+-- of every call: the last line is for each that is refused by its checks or else names nobody
 case_names : (s : State) (t : ℕ) → t < s.births → (c : Call) → CaseNames (case_of s t c)
 case_names s t born (call.Create number prio flags) = checked s _ _ (record { others = λ m. tt; own = omega arith })
 case_names s t born (call.Destroy u) = destroy_names s t u
-case_names s t born (call.Ping u) = checked s _ _ (quiet (λ m. tt) refl)
-case_names s t born (call.Yield u) = checked s _ _ (quiet (λ m. tt) refl)
-case_names s t born (call.Resched p) = checked s _ _ (quiet (λ m. tt) refl)
-case_names s t born (call.SetPri u p) = checked s _ _ (quiet (λ m. tt) refl)
-case_names s t born (call.Suspend u) = checked s _ _ (quiet (λ m. tt) refl)
-case_names s t born (call.Resume u) = checked s _ _ (quiet (λ m. tt) refl)
-case_names s t born (call.Join u) = checked s _ _ (quiet (λ m. tt) refl)
 case_names s t born (call.Sleep ticks) = either_case (eqb ticks 0) (valued s 0) (unanswered (still (blocked_for s t block.Sleeping ticks))) (quiet (λ m. tt) refl) (quiet (λ m. tt) refl)
 case_names s t born call.Me = record { others = λ m. tt; own = born }
-case_names s t born (call.SetMaxPri p) = checked s _ _ (quiet (λ m. tt) refl)
-case_names s t born (call.SetExit code) = checked s _ _ (quiet (λ m. tt) refl)
 case_names s t born call.GetExit = quiet (λ m. tt) refl
-case_names s t born (call.PodExit code) = checked s _ _ (quiet (λ m. tt) refl)
 case_names s t born call.Threads = quiet (λ m. tt) refl
 case_names s t born (call.Send u room text) = checked s _ _ (quiet (λ m. named_post m (record { from = t; to = u; text = text; room = room; received = false }) (blocked s t block.Sending)) refl)
 case_names s t born (call.Recv from how) = checked s _ _ (received_names s t from how (unreceived s.letters t from))
 case_names s t born (call.Reply u text) = checked s _ _ (quiet (λ m. named_replied m u text s) refl)
 case_names s t born call.Senders = quiet (λ m. tt) refl
 case_names s t born call.Receivers = quiet (λ m. tt) refl
-case_names s t born call.MonCreate = checked s _ _ (quiet (λ m. tt) refl)
-case_names s t born (call.MonDestroy m) = checked s _ _ (quiet (λ m. tt) refl)
 case_names s t born (call.Enter m) = checked s _ _ (either_case (is_owned_by_other s.locks t m) (unanswered (still (requested s t m))) (entered s t m) (quiet (λ m. tt) refl) (quiet (λ m. tt) refl))
-case_names s t born (call.CondEnter m) = checked s _ _ (quiet (λ m. tt) refl)
 case_names s t born (call.MonExit m) = checked s _ _ (quiet (λ n. named_exited n m s) refl)
 case_names s t born (call.MonBreak m) = checked s _ _ (quiet (λ n. named_release n m s) refl)
 case_names s t born call.Monitors = quiet (λ m. tt) refl
-case_names s t born (call.MonWaiters m) = checked s _ _ (quiet (λ m. tt) refl)
-case_names s t born (call.CvCreate m) = checked s _ _ (quiet (λ m. tt) refl)
-case_names s t born (call.CvDestroy c) = checked s _ _ (quiet (λ m. tt) refl)
 case_names s t born (call.Wait c) = checked s _ _ (quiet (λ m. named_waited m t c (last_lock s.locks t) s) refl)
-case_names s t born (call.Notify c) = checked s _ _ (quiet (λ m. tt) refl)
-case_names s t born (call.Broadcast c) = checked s _ _ (quiet (λ m. tt) refl)
-case_names s t born (call.CvSend c u) = checked s _ _ (quiet (λ m. tt) refl)
 case_names s t born call.Conditions = quiet (λ m. tt) refl
-case_names s t born (call.CvWaiters c) = checked s _ _ (quiet (λ m. tt) refl)
-case_names s t born (call.CallProc number) = checked s _ _ (quiet (λ m. tt) refl)
 case_names s t born call.Return = return_names s t
-case_names s t born (call.Handle pat func arg) = checked s _ _ (quiet (λ m. tt) refl)
-case_names s t born call.Unhandle = checked s _ _ (quiet (λ m. tt) refl)
-case_names s t born (call.OnExit x) = checked s _ _ (quiet (λ m. tt) refl)
 case_names s t born (call.Raise p) = checked s _ _ (match_names s (caught s t p) (found s t p) (caught_names s t p))
 case_names s t born (call.ExcNotify p) = checked s _ _ (match_names s (λ f. notified_by s t p f f.func) (found s t p) (λ f. notified_names s t p f f.func))
 case_names s t born (call.Bound p) = checked s _ _ (match_names s _ (found s t p) (λ f. quiet (λ m. tt) refl))
-case_names s t born call.UniqPatt = checked s _ _ (quiet (λ m. tt) refl)
 case_names s t born (call.Agent e) = checked s _ _ (record { others = λ m. tt; own = omega arith })
 case_names s t born call.Agents = quiet (λ m. tt) refl
 case_names s t born (call.Trap e) = quiet (λ m. tt) refl
 case_names s t born (call.Say text) = quiet (λ m. tt) refl
+case_names s t born _ = checked s _ _ (quiet (λ m. tt) refl)
 
 -- ---- a step
 

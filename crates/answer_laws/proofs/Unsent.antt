@@ -61,56 +61,8 @@ pub data Sent (c : Call) : Type 0 where
   IsSend : (to room : ℕ) (text : List ℕ) → c ≡ call.Send to room text → Sent c
 
 pub sent_of : (c : Call) → Sent c
-sent_of (call.Destroy v) = IsNone refl
-sent_of (call.Create number prio flags) = IsNone refl
-sent_of (call.Ping v) = IsNone refl
-sent_of (call.Yield v) = IsNone refl
-sent_of (call.Resched q) = IsNone refl
-sent_of (call.SetPri v q) = IsNone refl
-sent_of (call.Suspend v) = IsNone refl
-sent_of (call.Resume v) = IsNone refl
-sent_of (call.Join v) = IsNone refl
-sent_of (call.Sleep ticks) = IsNone refl
-sent_of call.Me = IsNone refl
-sent_of (call.SetMaxPri q) = IsNone refl
-sent_of (call.SetExit code) = IsNone refl
-sent_of call.GetExit = IsNone refl
-sent_of (call.PodExit code) = IsNone refl
-sent_of call.Threads = IsNone refl
 sent_of (call.Send v room text) = IsSend v room text refl
-sent_of (call.Recv from how) = IsNone refl
-sent_of (call.Reply v text) = IsNone refl
-sent_of call.Senders = IsNone refl
-sent_of call.Receivers = IsNone refl
-sent_of call.MonCreate = IsNone refl
-sent_of (call.MonDestroy m) = IsNone refl
-sent_of (call.Enter m) = IsNone refl
-sent_of (call.CondEnter m) = IsNone refl
-sent_of (call.MonExit m) = IsNone refl
-sent_of (call.MonBreak m) = IsNone refl
-sent_of call.Monitors = IsNone refl
-sent_of (call.MonWaiters m) = IsNone refl
-sent_of (call.CvCreate m) = IsNone refl
-sent_of (call.CvDestroy c) = IsNone refl
-sent_of (call.Wait c) = IsNone refl
-sent_of (call.Notify c) = IsNone refl
-sent_of (call.Broadcast c) = IsNone refl
-sent_of (call.CvSend c v) = IsNone refl
-sent_of call.Conditions = IsNone refl
-sent_of (call.CvWaiters c) = IsNone refl
-sent_of (call.CallProc number) = IsNone refl
-sent_of call.Return = IsNone refl
-sent_of (call.Handle pat f arg) = IsNone refl
-sent_of call.Unhandle = IsNone refl
-sent_of (call.OnExit e) = IsNone refl
-sent_of (call.Raise q) = IsNone refl
-sent_of (call.ExcNotify q) = IsNone refl
-sent_of (call.Bound q) = IsNone refl
-sent_of call.UniqPatt = IsNone refl
-sent_of (call.Agent e) = IsNone refl
-sent_of call.Agents = IsNone refl
-sent_of (call.Trap e) = IsNone refl
-sent_of (call.Say text) = IsNone refl
+sent_of _ = IsNone refl
 
 module _ (s : ℕ) where
   any_before : (xs ys : List Effect) → list_any (is_send_of s) xs ≡ true → list_any (is_send_of s) (xs ++ ys) ≡ true

@@ -455,56 +455,9 @@ pub data Kind (c : Call) : Type 0 where
   IsOther : ((agents : List ℕ) → reply_line agents c ≡ []) → ((a : ℕ) → reply_to a c ≡ []) → agent_event c ≡ None → Kind c
 
 pub kind_of : (c : Call) → Kind c
-kind_of (call.Destroy v) = IsOther (λ agents. refl) (λ a. refl) refl
-kind_of (call.Create number prio flags) = IsOther (λ agents. refl) (λ a. refl) refl
-kind_of (call.Ping v) = IsOther (λ agents. refl) (λ a. refl) refl
-kind_of (call.Yield v) = IsOther (λ agents. refl) (λ a. refl) refl
-kind_of (call.Resched q) = IsOther (λ agents. refl) (λ a. refl) refl
-kind_of (call.SetPri v q) = IsOther (λ agents. refl) (λ a. refl) refl
-kind_of (call.Suspend v) = IsOther (λ agents. refl) (λ a. refl) refl
-kind_of (call.Resume v) = IsOther (λ agents. refl) (λ a. refl) refl
-kind_of (call.Join v) = IsOther (λ agents. refl) (λ a. refl) refl
-kind_of (call.Sleep ticks) = IsOther (λ agents. refl) (λ a. refl) refl
-kind_of call.Me = IsOther (λ agents. refl) (λ a. refl) refl
-kind_of (call.SetMaxPri q) = IsOther (λ agents. refl) (λ a. refl) refl
-kind_of (call.SetExit code) = IsOther (λ agents. refl) (λ a. refl) refl
-kind_of call.GetExit = IsOther (λ agents. refl) (λ a. refl) refl
-kind_of (call.PodExit code) = IsOther (λ agents. refl) (λ a. refl) refl
-kind_of call.Threads = IsOther (λ agents. refl) (λ a. refl) refl
-kind_of (call.Send v room text) = IsOther (λ agents. refl) (λ a. refl) refl
-kind_of (call.Recv from how) = IsOther (λ agents. refl) (λ a. refl) refl
 kind_of (call.Reply v text) = IsReply v text refl
-kind_of call.Senders = IsOther (λ agents. refl) (λ a. refl) refl
-kind_of call.Receivers = IsOther (λ agents. refl) (λ a. refl) refl
-kind_of call.MonCreate = IsOther (λ agents. refl) (λ a. refl) refl
-kind_of (call.MonDestroy m) = IsOther (λ agents. refl) (λ a. refl) refl
-kind_of (call.Enter m) = IsOther (λ agents. refl) (λ a. refl) refl
-kind_of (call.CondEnter m) = IsOther (λ agents. refl) (λ a. refl) refl
-kind_of (call.MonExit m) = IsOther (λ agents. refl) (λ a. refl) refl
-kind_of (call.MonBreak m) = IsOther (λ agents. refl) (λ a. refl) refl
-kind_of call.Monitors = IsOther (λ agents. refl) (λ a. refl) refl
-kind_of (call.MonWaiters m) = IsOther (λ agents. refl) (λ a. refl) refl
-kind_of (call.CvCreate m) = IsOther (λ agents. refl) (λ a. refl) refl
-kind_of (call.CvDestroy c) = IsOther (λ agents. refl) (λ a. refl) refl
-kind_of (call.Wait c) = IsOther (λ agents. refl) (λ a. refl) refl
-kind_of (call.Notify c) = IsOther (λ agents. refl) (λ a. refl) refl
-kind_of (call.Broadcast c) = IsOther (λ agents. refl) (λ a. refl) refl
-kind_of (call.CvSend c v) = IsOther (λ agents. refl) (λ a. refl) refl
-kind_of call.Conditions = IsOther (λ agents. refl) (λ a. refl) refl
-kind_of (call.CvWaiters c) = IsOther (λ agents. refl) (λ a. refl) refl
-kind_of (call.CallProc number) = IsOther (λ agents. refl) (λ a. refl) refl
-kind_of call.Return = IsOther (λ agents. refl) (λ a. refl) refl
-kind_of (call.Handle pat f arg) = IsOther (λ agents. refl) (λ a. refl) refl
-kind_of call.Unhandle = IsOther (λ agents. refl) (λ a. refl) refl
-kind_of (call.OnExit e) = IsOther (λ agents. refl) (λ a. refl) refl
-kind_of (call.Raise q) = IsOther (λ agents. refl) (λ a. refl) refl
-kind_of (call.ExcNotify q) = IsOther (λ agents. refl) (λ a. refl) refl
-kind_of (call.Bound q) = IsOther (λ agents. refl) (λ a. refl) refl
-kind_of call.UniqPatt = IsOther (λ agents. refl) (λ a. refl) refl
 kind_of (call.Agent e) = IsAgent e refl
-kind_of call.Agents = IsOther (λ agents. refl) (λ a. refl) refl
-kind_of (call.Trap e) = IsOther (λ agents. refl) (λ a. refl) refl
-kind_of (call.Say text) = IsOther (λ agents. refl) (λ a. refl) refl
+kind_of _ = IsOther (λ agents. refl) (λ a. refl) refl
 
 -- the agent of the event that a call has made, if there is one
 abbrev pub asked : Option ℕ → Option Made → Option ℕ

@@ -10,7 +10,7 @@ use Rattle.script_lines.specs.declared.table.Role.{Role}
 use Rattle.script_lines.specs.declared.table.Role.TheVariants as role
 use Rattle.script_lines.specs.Phrase.{Phrase}
 use Rattle.script_lines.specs.Reading.{phrase_at}
-use Rattle.script_lines.specs.Table.{role_of, starts}
+use Rattle.script_lines.specs.Table.{ranks, role_of, starts}
 use Rattle.script_text.specs.Meaning.{contains_name, enter}
 use Rattle.script_text.specs.Spelling.{cut}
 use Rattle.script_line_faults.specs.Near.{nearest, or_else}
@@ -81,10 +81,7 @@ priority_given _ p = 0
 
 -- the priority that a line gives a thread, or speaks of; 0 for a line that has none
 abbrev pub priority_used : Op → Phrase → ℕ
-priority_used op.Create p = p.number
-priority_used op.SetPri p = p.number
-priority_used op.Resched p = p.number
-priority_used _ p = 0
+priority_used o p = if ranks o then p.number else 0
 
 -- the greater of two
 abbrev pub greater : ℕ → ℕ → ℕ
@@ -238,7 +235,7 @@ doubted_words doubt.Kept o line = slot_at o kind.Monitor line
 doubted_words doubt.Condition o line = slot_at o kind.Condition line
 doubted_words doubt.Procedure o line = slot_at o kind.Procedure line
 doubted_words doubt.Client o line = slot_at o kind.Event line
-doubted_words doubt.Priority o line = slot_at o kind.Number line
+doubted_words doubt.Priority o line = slot_at o kind.Priority line
 doubted_words doubt.Statement o line = line
 
 -- the name that is set and nearly the doubtful one

@@ -105,7 +105,7 @@ fn doubted_words(doubt: Doubt, op: Op, line: &[u8]) -> &[u8]
         Doubt::Condition => slot_at(op, Kind::Condition, line),
         Doubt::Procedure => slot_at(op, Kind::Procedure, line),
         Doubt::Client => slot_at(op, Kind::Event, line),
-        Doubt::Priority => slot_at(op, Kind::Number, line),
+        Doubt::Priority => slot_at(op, Kind::Priority, line),
         Doubt::Statement => line,
     }
 }

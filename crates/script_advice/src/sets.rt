@@ -141,10 +141,7 @@ fn priority_given(phrase: &Phrase<'_>) -> u32
 pub fn priority_used(phrase: &Phrase<'_>) -> u32
     ensures { result ≡ priority_used phrase.now.op phrase.now }
 {
-    match phrase.op {
-        Op::Create | Op::SetPri | Op::Resched => phrase.number,
-        _ => 0,
-    }
+    if phrase.op.ranks() { phrase.number } else { 0 }
 }
 
 fn greater(m: u32, n: u32) -> u32

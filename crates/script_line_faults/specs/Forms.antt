@@ -1,24 +1,17 @@
 -- How lines are written: each kind of line by its key and a word for each of its slots.
-use Rattle.std.specs.Prelude.{ℕ, Bool, List, [], ◌∷◌, ◌++◌, Option, Some, None, codes, map, if◌then◌else◌}
+use Rattle.std.specs.Prelude.{ℕ, Bool, List, [], ◌∷◌, ◌++◌, Option, Some, None, codes, if◌then◌else◌}
 use Rattle.std.specs.List.{flat_map}
 use Rattle.script_lines.specs.declared.table.Kind.{Kind}
 use Rattle.script_lines.specs.declared.table.Kind.TheVariants as kind
 use Rattle.script_lines.specs.declared.table.Op.{Op}
 use Rattle.script_lines.specs.declared.table.Op.TheVariants as op
-use Rattle.script_lines.specs.Table.{key_of, rows, slots_of}
+use Rattle.script_lines.specs.Table.{all_ops, key_of, slots_of}
 use Rattle.script_line_faults.specs.Near.{one_apart, or_else, two_apart}
-
--- all kinds of lines, in the order of the table
-abbrev pub all_ops : List Op
-all_ops = map (λ r. r.op) rows
 
 -- what the number of a line is called
 abbrev pub number_word : Op → List ℕ
 number_word op.Lwp = codes "1"
 number_word op.Pod = codes "P"
-number_word op.Create = codes "PRIO"
-number_word op.Resched = codes "P"
-number_word op.SetPri = codes "P"
 number_word op.SetMaxPri = codes "P"
 number_word op.Raise = codes "P"
 number_word op.ExcNotify = codes "P"
@@ -27,6 +20,11 @@ number_word op.Handle = codes "ARG"
 number_word op.Agent = codes "E"
 number_word op.Trap = codes "E"
 number_word _ = codes "N"
+
+-- what the priority of a line is called
+abbrev pub priority_word : Op → List ℕ
+priority_word op.Create = codes "PRIO"
+priority_word _ = codes "P"
 
 -- what the procedure of a line is called
 abbrev pub procedure_word : Op → List ℕ
@@ -43,6 +41,7 @@ slot_word o kind.Procedure = procedure_word o
 slot_word o kind.Monitor = codes "M"
 slot_word o kind.Condition = codes "C"
 slot_word o kind.Number = number_word o
+slot_word o kind.Priority = priority_word o
 slot_word o kind.Room = codes "ROOM"
 slot_word o kind.Client = codes "C"
 slot_word o kind.Event = codes "E"

@@ -14,6 +14,7 @@ kind_text kind.Procedure = codes "no name: 1 to 16 of a to z, digits and _, a le
 kind_text kind.Monitor = codes "no name: 1 to 16 of a to z, digits and _, a letter first, and none of self, first, sender, none and any"
 kind_text kind.Condition = codes "no name: 1 to 16 of a to z, digits and _, a letter first, and none of self, first, sender, none and any"
 kind_text kind.Number = codes "no number: decimal, no zeros in front, at most 4294967295"
+kind_text kind.Priority = codes "no number: decimal, no zeros in front, at most 4294967295"
 kind_text kind.Room = codes "no room: a number of at most 240"
 kind_text kind.Client = codes "no client: a number of at most 15"
 kind_text kind.Event = codes "no event: a number of at most 31"

@@ -1,89 +1,13 @@
 // How lines are written.
 ghost use Rattle.std.specs.Prelude.{◌≡◌, ◌∷◌, ◌++◌, OnOk};
 ghost use Rattle.std.specs.List.{flat_map};
-ghost use Rattle.script_line_faults.specs.Forms.{all_ops, first_op, form, nearest_op, number_word, procedure_word, slot_word};
+ghost use Rattle.script_line_faults.specs.Forms.{first_op, form, nearest_op, number_word, priority_word, procedure_word, slot_word};
 ghost use Rattle.script_line_faults.specs.Near.{one_apart, two_apart};
 
 use crate::near::{one_apart, two_apart};
 use lwp_types::NoMemory;
 use script_lines::{Kind, Op};
 use trace_text::add_text;
-
-// All kinds of lines, in the order of the table of lines.
-static OPS: [Op; 66] = [
-    Op::Agent,
-    Op::Agents,
-    Op::Again,
-    Op::Broadcast,
-    Op::Bound,
-    Op::Create,
-    Op::Client,
-    Op::CvCreate,
-    Op::CondEnter,
-    Op::CvDestroy,
-    Op::CvSend,
-    Op::CvWaiters,
-    Op::Conditions,
-    Op::CallProc,
-    Op::Destroy,
-    Op::Enter,
-    Op::ExcNotify,
-    Op::GetExit,
-    Op::Handle,
-    Op::Join,
-    Op::Lwp,
-    Op::Limit,
-    Op::MonCreate,
-    Op::MonDestroy,
-    Op::MonExit,
-    Op::MonBreak,
-    Op::MonWaiters,
-    Op::Monitors,
-    Op::Native,
-    Op::Notify,
-    Op::ExitMonExit,
-    Op::ExitMonBreak,
-    Op::ExitNotify,
-    Op::ExitBroadcast,
-    Op::ExitReply,
-    Op::ExitResume,
-    Op::ExitSetExit,
-    Op::ExitNote,
-    Op::Post,
-    Op::Pod,
-    Op::Proc,
-    Op::Ping,
-    Op::PodExit,
-    Op::Resume,
-    Op::Resched,
-    Op::Recv,
-    Op::Reply,
-    Op::Receivers,
-    Op::Return,
-    Op::Raise,
-    Op::Say,
-    Op::Send,
-    Op::Skip,
-    Op::Suspend,
-    Op::SetPri,
-    Op::SetMaxPri,
-    Op::Me,
-    Op::SetExit,
-    Op::Senders,
-    Op::Sleep,
-    Op::Threads,
-    Op::Trap,
-    Op::Unhandle,
-    Op::UniqPatt,
-    Op::Wait,
-    Op::Yield,
-];
-
-fn all_ops() -> &'static [Op]
-    ensures { result.now ≡ all_ops }
-{
-    &OPS
-}
 
 // What the number of a line is called.
 fn number_word(op: Op) -> &'static [u8]
@@ -92,9 +16,6 @@ fn number_word(op: Op) -> &'static [u8]
     match op {
         Op::Lwp => b"1",
         Op::Pod => b"P",
-        Op::Create => b"PRIO",
-        Op::Resched => b"P",
-        Op::SetPri => b"P",
         Op::SetMaxPri => b"P",
         Op::Raise => b"P",
         Op::ExcNotify => b"P",
@@ -103,6 +24,16 @@ fn number_word(op: Op) -> &'static [u8]
         Op::Agent => b"E",
         Op::Trap => b"E",
         _ => b"N",
+    }
+}
+
+// What the priority of a line is called.
+fn priority_word(op: Op) -> &'static [u8]
+    ensures { result.now ≡ priority_word op }
+{
+    match op {
+        Op::Create => b"PRIO",
+        _ => b"P",
     }
 }
 
@@ -129,6 +60,7 @@ fn slot_word(op: Op, kind: Kind) -> &'static [u8]
         Kind::Monitor => b"M",
         Kind::Condition => b"C",
         Kind::Number => number_word(op),
+        Kind::Priority => priority_word(op),
         Kind::Room => b"ROOM",
         Kind::Client => b"C",
         Kind::Event => b"E",
@@ -190,8 +122,8 @@ fn first_two_apart(ops: &[Op], words: &[u8]) -> Option<Op>
 pub fn nearest_op(words: &[u8]) -> Option<Op>
     ensures { result ≡ nearest_op words.now }
 {
-    match first_one_apart(all_ops(), words) {
+    match first_one_apart(Op::all(), words) {
         Some(op) => Some(op),
-        None => first_two_apart(all_ops(), words),
+        None => first_two_apart(Op::all(), words),
     }
 }

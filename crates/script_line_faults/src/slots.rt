@@ -87,7 +87,7 @@ pub fn fits(kind: Kind, word: &[u8]) -> bool
         Kind::Thread | Kind::Procedure | Kind::Monitor | Kind::Condition => is_name(word),
         Kind::Who => is_who(word),
         Kind::Source => is_source(word),
-        Kind::Number => number_at(word).is_some(),
+        Kind::Number | Kind::Priority => number_at(word).is_some(),
         Kind::Room => is_room(word),
         Kind::Client => is_client(word),
         Kind::Event => is_event(word),

@@ -101,6 +101,7 @@ field_number kind.Procedure = 1
 field_number kind.Monitor = 2
 field_number kind.Condition = 3
 field_number kind.Number = 4
+field_number kind.Priority = 4
 field_number kind.Room = 5
 field_number kind.Client = 6
 field_number kind.Event = 0
@@ -124,6 +125,7 @@ takes_rest kind.Procedure = false
 takes_rest kind.Monitor = false
 takes_rest kind.Condition = false
 takes_rest kind.Number = false
+takes_rest kind.Priority = false
 takes_rest kind.Room = false
 takes_rest kind.Client = false
 takes_rest kind.Event = false
@@ -163,6 +165,7 @@ text_from_value p q kind.Procedure e = ap (λ (v : Phrase). slot_text v kind.Pro
 text_from_value p q kind.Monitor e = ap (λ (v : Phrase). slot_text v kind.Monitor) e
 text_from_value p q kind.Condition e = ap (λ (v : Phrase). slot_text v kind.Condition) e
 text_from_value p q kind.Number e = ap (λ (v : Phrase). slot_text v kind.Number) e
+text_from_value p q kind.Priority e = ap (λ (v : Phrase). slot_text v kind.Priority) e
 text_from_value p q kind.Room e = ap (λ (v : Phrase). slot_text v kind.Room) e
 text_from_value p q kind.Client e = ap (λ (v : Phrase). slot_text v kind.Client) e
 text_from_value p q kind.Event e = ap (λ (v : Phrase). slot_text v kind.Event) e
@@ -182,6 +185,7 @@ fits_from_value p q kind.Procedure e h = subst (λ (v : Phrase). SlotFits v kind
 fits_from_value p q kind.Monitor e h = subst (λ (v : Phrase). SlotFits v kind.Monitor) e h
 fits_from_value p q kind.Condition e h = subst (λ (v : Phrase). SlotFits v kind.Condition) e h
 fits_from_value p q kind.Number e h = subst (λ (v : Phrase). SlotFits v kind.Number) e h
+fits_from_value p q kind.Priority e h = subst (λ (v : Phrase). SlotFits v kind.Priority) e h
 fits_from_value p q kind.Room e h = subst (λ (v : Phrase). SlotFits v kind.Room) e h
 fits_from_value p q kind.Client e h = subst (λ (v : Phrase). SlotFits v kind.Client) e h
 fits_from_value p q kind.Event e h = subst (λ (v : Phrase). SlotFits v kind.Event) e h
@@ -217,7 +221,10 @@ fills_condition : (p : Phrase) (x : List ℕ) → Filled kind.Condition p (recor
 fills_condition p x = record { op = refl; others = λ j ne. elim j as (λ i. same_field i kind.Condition ≡ false → slot_value (record p { condition = x }) i ≡ slot_value p i) [ kind.Condition ↦ λ f. absurd cc | _ ↦ λ f. refl ] ne }
 
 fills_number : (p : Phrase) (x : ℕ) → Filled kind.Number p (record p { number = x })
-fills_number p x = record { op = refl; others = λ j ne. elim j as (λ i. same_field i kind.Number ≡ false → slot_value (record p { number = x }) i ≡ slot_value p i) [ kind.Number ↦ λ f. absurd cc | _ ↦ λ f. refl ] ne }
+fills_number p x = record { op = refl; others = λ j ne. elim j as (λ i. same_field i kind.Number ≡ false → slot_value (record p { number = x }) i ≡ slot_value p i) [ kind.Number ↦ λ f. absurd cc | kind.Priority ↦ λ f. absurd cc | _ ↦ λ f. refl ] ne }
+
+fills_priority : (p : Phrase) (x : ℕ) → Filled kind.Priority p (record p { number = x })
+fills_priority p x = record { op = refl; others = λ j ne. elim j as (λ i. same_field i kind.Priority ≡ false → slot_value (record p { number = x }) i ≡ slot_value p i) [ kind.Number ↦ λ f. absurd cc | kind.Priority ↦ λ f. absurd cc | _ ↦ λ f. refl ] ne }
 
 fills_room : (p : Phrase) (x : ℕ) → Filled kind.Room p (record p { room = x })
 fills_room p x = record { op = refl; others = λ j ne. elim j as (λ i. same_field i kind.Room ≡ false → slot_value (record p { room = x }) i ≡ slot_value p i) [ kind.Room ↦ λ f. absurd cc | _ ↦ λ f. refl ] ne }
@@ -588,6 +595,10 @@ word_found kind.Number p q w e =
     let m = map_some (λ (x : ℕ). record p { number = x }) (number_at w) q e in
     let g = number_found w m.0 m.1 in
     subst (λ x. FilledWith kind.Number p x (32 ∷ w)) m.2 (record { filled = fills_number p m.0; text_is = ap (λ t. 32 ∷ t) g.0; fits = g.1 })
+word_found kind.Priority p q w e =
+    let m = map_some (λ (x : ℕ). record p { number = x }) (number_at w) q e in
+    let g = number_found w m.0 m.1 in
+    subst (λ x. FilledWith kind.Priority p x (32 ∷ w)) m.2 (record { filled = fills_priority p m.0; text_is = ap (λ t. 32 ∷ t) g.0; fits = g.1 })
 word_found kind.Room p q w e =
     let m = map_some (λ (x : ℕ). record p { room = x }) (room_at w) q e in
     let g = room_found w m.0 m.1 in
@@ -687,6 +698,7 @@ slot_found kind.Procedure p rest x e = spaced_found kind.Procedure p rest x e
 slot_found kind.Monitor p rest x e = spaced_found kind.Monitor p rest x e
 slot_found kind.Condition p rest x e = spaced_found kind.Condition p rest x e
 slot_found kind.Number p rest x e = spaced_found kind.Number p rest x e
+slot_found kind.Priority p rest x e = spaced_found kind.Priority p rest x e
 slot_found kind.Room p rest x e = spaced_found kind.Room p rest x e
 slot_found kind.Client p rest x e = spaced_found kind.Client p rest x e
 slot_found kind.Event p rest x e = spaced_found kind.Event p rest x e
@@ -802,6 +814,8 @@ slot_again kind.Monitor p q after h s l = spaced_again kind.Monitor q (record q 
 slot_again kind.Condition p q after h s l = spaced_again kind.Condition q (record q { condition = p.condition }) p.condition after (name_is_whole p.condition h) s (rw h refl)
 slot_again kind.Number p q after h s l =
     spaced_again kind.Number q (record q { number = p.number }) (decimal p.number) after (digits_are_whole (decimal p.number) (digits_decimal own p.number (omega arith))) s (rw (number_again p.number h) refl)
+slot_again kind.Priority p q after h s l =
+    spaced_again kind.Priority q (record q { number = p.number }) (decimal p.number) after (digits_are_whole (decimal p.number) (digits_decimal own p.number (omega arith))) s (rw (number_again p.number h) refl)
 slot_again kind.Room p q after h s l =
     spaced_again kind.Room q (record q { room = p.room }) (decimal p.room) after (digits_are_whole (decimal p.room) (digits_decimal own p.room (omega arith))) s (rw (room_again p.room h) refl)
 slot_again kind.Client p q after h s l =
@@ -832,6 +846,7 @@ places_stop p (kind.Procedure ∷ ks) r = refl
 places_stop p (kind.Monitor ∷ ks) r = refl
 places_stop p (kind.Condition ∷ ks) r = refl
 places_stop p (kind.Number ∷ ks) r = refl
+places_stop p (kind.Priority ∷ ks) r = refl
 places_stop p (kind.Room ∷ ks) r = refl
 places_stop p (kind.Client ∷ ks) r = refl
 places_stop p (kind.Event ∷ ks) r = refl

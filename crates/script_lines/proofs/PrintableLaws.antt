@@ -112,6 +112,7 @@ slot_is_printable p kind.Procedure h = name_is_printable p.procedure h
 slot_is_printable p kind.Monitor h = name_is_printable p.monitor h
 slot_is_printable p kind.Condition h = name_is_printable p.condition h
 slot_is_printable p kind.Number h = number_is_printable p.number h
+slot_is_printable p kind.Priority h = number_is_printable p.number h
 slot_is_printable p kind.Room h = number_is_printable p.room (omega (arith, h))
 slot_is_printable p kind.Client h = number_is_printable p.client (omega (arith, h))
 slot_is_printable p kind.Event h = number_is_printable p.event (omega (arith, h))

@@ -50,6 +50,7 @@ slot_text p kind.Procedure = 32 ∷ p.procedure
 slot_text p kind.Monitor = 32 ∷ p.monitor
 slot_text p kind.Condition = 32 ∷ p.condition
 slot_text p kind.Number = 32 ∷ decimal p.number
+slot_text p kind.Priority = 32 ∷ decimal p.number
 slot_text p kind.Room = 32 ∷ decimal p.room
 slot_text p kind.Client = 32 ∷ decimal p.client
 slot_text p kind.Event = 32 ∷ decimal p.event
@@ -122,6 +123,7 @@ SlotFits p kind.Procedure = IsTrue (is_name p.procedure)
 SlotFits p kind.Monitor = IsTrue (is_name p.monitor)
 SlotFits p kind.Condition = IsTrue (is_name p.condition)
 SlotFits p kind.Number = p.number < 2 ^ 32
+SlotFits p kind.Priority = p.number < 2 ^ 32
 SlotFits p kind.Room = p.room ≤ 240
 SlotFits p kind.Client = p.client ≤ 15
 SlotFits p kind.Event = IsEvent p.event
@@ -175,6 +177,7 @@ copy_slot kind.Procedure p q = record q { procedure = p.procedure }
 copy_slot kind.Monitor p q = record q { monitor = p.monitor }
 copy_slot kind.Condition p q = record q { condition = p.condition }
 copy_slot kind.Number p q = record q { number = p.number }
+copy_slot kind.Priority p q = record q { number = p.number }
 copy_slot kind.Room p q = record q { room = p.room }
 copy_slot kind.Client p q = record q { client = p.client }
 copy_slot kind.Event p q = record q { event = p.event }

@@ -112,6 +112,7 @@ fill_word kind.Procedure p w = option_map (λ n. record p { procedure = n }) (na
 fill_word kind.Monitor p w = option_map (λ n. record p { monitor = n }) (name_in w)
 fill_word kind.Condition p w = option_map (λ n. record p { condition = n }) (name_in w)
 fill_word kind.Number p w = option_map (λ n. record p { number = n }) (number_at w)
+fill_word kind.Priority p w = option_map (λ n. record p { number = n }) (number_at w)
 fill_word kind.Room p w = option_map (λ n. record p { room = n }) (room_at w)
 fill_word kind.Client p w = option_map (λ n. record p { client = n }) (client_at w)
 fill_word kind.Event p w = option_map (λ n. record p { event = n }) (event_at w)
@@ -168,6 +169,7 @@ slot_at kind.Procedure = fill_spaced kind.Procedure
 slot_at kind.Monitor = fill_spaced kind.Monitor
 slot_at kind.Condition = fill_spaced kind.Condition
 slot_at kind.Number = fill_spaced kind.Number
+slot_at kind.Priority = fill_spaced kind.Priority
 slot_at kind.Room = fill_spaced kind.Room
 slot_at kind.Client = fill_spaced kind.Client
 slot_at kind.Event = fill_spaced kind.Event

@@ -1,5 +1,5 @@
 -- The table of lines: how each kind of line begins, the part that it plays in a script, and its slots. A new kind of line is one row.
-use Rattle.std.specs.Prelude.{ℕ, suc, ◌+◌, Bool, true, ◌&&◌, ◌||◌, List, [], ◌∷◌, nat_le, get_or, take, drop, Option, Some, None, codes, if◌then◌else◌}
+use Rattle.std.specs.Prelude.{ℕ, suc, ◌+◌, Bool, true, ◌&&◌, ◌||◌, List, [], ◌∷◌, nat_le, get_or, map, take, drop, Option, Some, None, codes, if◌then◌else◌}
 use Rattle.std.specs.List.{list_any}
 use Rattle.std.specs.Str.{bytes_eq}
 use denote.Enum.Bare.{sameb}
@@ -35,7 +35,7 @@ rows =
     row op.Again (codes "again") role.Again [] ∷
     row op.Broadcast (codes "broadcast") role.Statement (kind.Condition ∷ []) ∷
     row op.Bound (codes "bound") role.Statement (kind.Number ∷ []) ∷
-    row op.Create (codes "create") role.Statement (kind.Thread ∷ kind.Procedure ∷ kind.Number ∷ kind.Flags ∷ []) ∷
+    row op.Create (codes "create") role.Statement (kind.Thread ∷ kind.Procedure ∷ kind.Priority ∷ kind.Flags ∷ []) ∷
     row op.Client (codes "client") role.Client (kind.Client ∷ kind.Event ∷ []) ∷
     row op.CvCreate (codes "cvcreate") role.Statement (kind.Condition ∷ kind.Monitor ∷ []) ∷
     row op.CondEnter (codes "condenter") role.Statement (kind.Monitor ∷ []) ∷
@@ -74,7 +74,7 @@ rows =
     row op.Ping (codes "ping") role.Statement (kind.Who ∷ []) ∷
     row op.PodExit (codes "podexit") role.Statement (kind.Number ∷ []) ∷
     row op.Resume (codes "resume") role.Statement (kind.Who ∷ []) ∷
-    row op.Resched (codes "resched") role.Statement (kind.Number ∷ []) ∷
+    row op.Resched (codes "resched") role.Statement (kind.Priority ∷ []) ∷
     row op.Recv (codes "recv") role.Statement (kind.Source ∷ kind.Mode ∷ []) ∷
     row op.Reply (codes "reply") role.Statement (kind.Who ∷ kind.Text ∷ []) ∷
     row op.Receivers (codes "receivers") role.Statement [] ∷
@@ -84,7 +84,7 @@ rows =
     row op.Send (codes "send") role.Statement (kind.Who ∷ kind.Room ∷ kind.Text ∷ []) ∷
     row op.Skip (codes "skip") role.Skip (kind.Test ∷ []) ∷
     row op.Suspend (codes "suspend") role.Statement (kind.Who ∷ []) ∷
-    row op.SetPri (codes "setpri") role.Statement (kind.Who ∷ kind.Number ∷ []) ∷
+    row op.SetPri (codes "setpri") role.Statement (kind.Who ∷ kind.Priority ∷ []) ∷
     row op.SetMaxPri (codes "setmaxpri") role.Statement (kind.Number ∷ []) ∷
     row op.Me (codes "self") role.Statement [] ∷
     row op.SetExit (codes "setexit") role.Statement (kind.Number ∷ []) ∷
@@ -97,6 +97,10 @@ rows =
     row op.Wait (codes "wait") role.Statement (kind.Condition ∷ []) ∷
     row op.Yield (codes "yield") role.Statement (kind.Who ∷ []) ∷
     []
+
+-- all operations, in the order of the table
+abbrev pub all_ops : List Op
+all_ops = map (λ r. r.op) rows
 
 -- the row of an operation stands at its number
 unfoldable pub row_of : Op → Row
@@ -121,6 +125,10 @@ has k ks = list_any (λ j. sameb kind_type j k) ks
 -- the line ends with a text
 abbrev pub says : Op → Bool
 says o = has kind.Text (slots_of o)
+
+-- the line gives a thread a priority, or speaks of one
+abbrev pub ranks : Op → Bool
+ranks o = has kind.Priority (slots_of o)
 
 -- the line starts a procedure that some line must declare: it is a statement that names one
 abbrev pub starts : Op → Bool

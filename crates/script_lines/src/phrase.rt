@@ -332,7 +332,7 @@ fn fill_word<'l>(kind: Kind, phrase: &mut Phrase<'l>, word: &'l [u8]) -> Option<
         Kind::Procedure => put(&mut phrase.procedure, name_in(word)),
         Kind::Monitor => put(&mut phrase.monitor, name_in(word)),
         Kind::Condition => put(&mut phrase.condition, name_in(word)),
-        Kind::Number => put(&mut phrase.number, number_at(word)),
+        Kind::Number | Kind::Priority => put(&mut phrase.number, number_at(word)),
         Kind::Room => put(&mut phrase.room, room_at(word)),
         Kind::Client => put(&mut phrase.client, client_at(word)),
         Kind::Event => put(&mut phrase.event, event_at(word)),

@@ -1,7 +1,7 @@
-// The table of lines. A new kind of line is a variant of `Op` and a row of `ROWS` at the same place, among those of its first letter,
-// and the same row in `rows` of specs/Table.antt. If the first of its two words is a new one, `is_half` needs it.
+// The table of lines. A new kind of line is a variant of `Op`, a row of `ROWS` and an entry of `OPS` at the same place, among those of
+// its first letter, and the same row in `rows` of specs/Table.antt. If the first of its two words is a new one, `is_half` needs it.
 ghost use Rattle.std.specs.Prelude.{◌≡◌, ◌<◌, ℕ, List, map, IsTrue};
-ghost use Rattle.script_lines.specs.Table.{read, rows, row_of, key_of, role_of, slots_of, has, says, starts, starts_any, first_letter, rises, op_in, op_at};
+ghost use Rattle.script_lines.specs.Table.{read, rows, all_ops, row_of, key_of, role_of, slots_of, has, says, ranks, starts, starts_any, first_letter, rises, op_in, op_at};
 
 /// What stands in a slot of a line.
 #[derive(Clone, Copy, PartialEq, Eq)]
@@ -20,6 +20,8 @@ pub enum Kind {
     Condition,
     /// A number in decimal.
     Number,
+    /// The priority of a thread: a number in decimal.
+    Priority,
     /// How many bytes a reply may have.
     Room,
     /// The number of a client, at most 15.
@@ -153,7 +155,7 @@ static ROWS: [Row; 66] = [
         Op::Create,
         b"create",
         Role::Statement,
-        &[Kind::Thread, Kind::Procedure, Kind::Number, Kind::Flags],
+        &[Kind::Thread, Kind::Procedure, Kind::Priority, Kind::Flags],
     ),
     (
         Op::Client,
@@ -288,7 +290,7 @@ static ROWS: [Row; 66] = [
     (Op::Ping, b"ping", Role::Statement, &[Kind::Who]),
     (Op::PodExit, b"podexit", Role::Statement, &[Kind::Number]),
     (Op::Resume, b"resume", Role::Statement, &[Kind::Who]),
-    (Op::Resched, b"resched", Role::Statement, &[Kind::Number]),
+    (Op::Resched, b"resched", Role::Statement, &[Kind::Priority]),
     (
         Op::Recv,
         b"recv",
@@ -317,7 +319,7 @@ static ROWS: [Row; 66] = [
         Op::SetPri,
         b"setpri",
         Role::Statement,
-        &[Kind::Who, Kind::Number],
+        &[Kind::Who, Kind::Priority],
     ),
     (
         Op::SetMaxPri,
@@ -337,6 +339,76 @@ static ROWS: [Row; 66] = [
     (Op::Yield, b"yield", Role::Statement, &[Kind::Who]),
 ];
 
+// The operations, in the order of the table.
+static OPS: [Op; 66] = [
+    Op::Agent,
+    Op::Agents,
+    Op::Again,
+    Op::Broadcast,
+    Op::Bound,
+    Op::Create,
+    Op::Client,
+    Op::CvCreate,
+    Op::CondEnter,
+    Op::CvDestroy,
+    Op::CvSend,
+    Op::CvWaiters,
+    Op::Conditions,
+    Op::CallProc,
+    Op::Destroy,
+    Op::Enter,
+    Op::ExcNotify,
+    Op::GetExit,
+    Op::Handle,
+    Op::Join,
+    Op::Lwp,
+    Op::Limit,
+    Op::MonCreate,
+    Op::MonDestroy,
+    Op::MonExit,
+    Op::MonBreak,
+    Op::MonWaiters,
+    Op::Monitors,
+    Op::Native,
+    Op::Notify,
+    Op::ExitMonExit,
+    Op::ExitMonBreak,
+    Op::ExitNotify,
+    Op::ExitBroadcast,
+    Op::ExitReply,
+    Op::ExitResume,
+    Op::ExitSetExit,
+    Op::ExitNote,
+    Op::Post,
+    Op::Pod,
+    Op::Proc,
+    Op::Ping,
+    Op::PodExit,
+    Op::Resume,
+    Op::Resched,
+    Op::Recv,
+    Op::Reply,
+    Op::Receivers,
+    Op::Return,
+    Op::Raise,
+    Op::Say,
+    Op::Send,
+    Op::Skip,
+    Op::Suspend,
+    Op::SetPri,
+    Op::SetMaxPri,
+    Op::Me,
+    Op::SetExit,
+    Op::Senders,
+    Op::Sleep,
+    Op::Threads,
+    Op::Trap,
+    Op::Unhandle,
+    Op::UniqPatt,
+    Op::Wait,
+    Op::Yield,
+];
+
 // The whole table.
 fn table() -> &'static [Row]
     ensures { map read result.now ≡ rows }
@@ -345,6 +417,13 @@ fn table() -> &'static [Row]
 }
 
 impl Op {
+    /// All kinds of lines, in the order of the table.
+    pub fn all() -> &'static [Op]
+        ensures { result.now ≡ all_ops }
+    {
+        &OPS
+    }
+
     // The row of the table.
     fn row(self) -> &'static Row
         ensures { read result.now ≡ row_of self }
@@ -378,6 +457,13 @@ impl Op {
         ensures { result ≡ says self }
     {
         has(self.slots(), Kind::Text)
+    }
+
+    /// Whether the line gives a thread a priority, or speaks of one.
+    pub fn ranks(self) -> bool
+        ensures { result ≡ ranks self }
+    {
+        has(self.slots(), Kind::Priority)
     }
 
     /// Whether the line starts a procedure that some line must declare.

@@ -61,7 +61,7 @@ fn add_word(out: &mut Vec<u8>, phrase: &Phrase<'_>, kind: Kind) -> Result<(), No
         Kind::Procedure => add_text(out, phrase.procedure),
         Kind::Monitor => add_text(out, phrase.monitor),
         Kind::Condition => add_text(out, phrase.condition),
-        Kind::Number => add_number(out, u64::from(phrase.number)),
+        Kind::Number | Kind::Priority => add_number(out, u64::from(phrase.number)),
         Kind::Room => add_number(out, u64::from(phrase.room)),
         Kind::Client => add_number(out, u64::from(phrase.client)),
         Kind::Event => add_number(out, u64::from(phrase.event)),

@@ -15,6 +15,7 @@ use Rattle.std.proofs.Common.{Bool, List, None, Option, Some, [], ap, arith, cod
 use Rattle.std.proofs.lemmas.Bool.{eqb-false, eqb-true}
 use Rattle.std.specs.Fmt.{decimal, digits}
 use Rattle.std.specs.Prelude.{IsTrue, bytes_eq, negsuc, not, pos}
+use Rattle.script_lines.specs.Table.{op_at, row_of}
 use Rattle.trace_lines.proofs.WordLaws.{EndsDigits, behind_again, id_again, id_alone, not_number, not_number_on, number_again, number_alone, number_is_word, rest_again, who_again, who_alone, whole_alone}
 use Rattle.trace_lines.specs.Entries.{also_told, call_entry, entry_of, event_told, exited, gain_of, id_of, is_suspended, posted, rites_told, target_of, thread_entry, tick_told, trap_told, verb_of, who_of}
 use Rattle.trace_lines.specs.Told.{AlsoIsRead, AnswersAreRead, CallsAreRead, DeathsAreRead, EndsAreRead, EventsAreRead, ExitsAreRead, IsAnswer, IsPrinted, RitesAreRead, TicksAreRead, TrapsAreRead, exit_target, exit_verb, gain_told, is_outcome, is_refused, suspended_told, target_told, verb_told}
@@ -48,69 +49,39 @@ created procs number prio flags one lt =
     rw (rest_again (proc_text procs number) (decimal prio ++ (codes " " ++ flags_text flags)) one, rest_again (decimal prio) (flags_text flags) (number_is_word prio (omega (arith, lt)))) (flags_again flags.suspended flags.nolastrites flags.server)
 
 said : (t : ℕ) (text : List ℕ) → call_entry t (codes "say" ++ spaced text) ≡ Some (entry.Called t verb.Say null_id false)
+unfolding op_at row_of
 said t [] = refl
 said t (b ∷ bs) = refl
 
 received : (procs : List (List ℕ)) (t : ℕ) (from : Option ℕ) (mode : _) → target_told (call.Recv from mode) ≤ null_id
     → call_entry t (call_text procs (Some t) (call.Recv from mode)) ≡ Some (entry.Called t verb.Receive (target_told (call.Recv from mode)) false)
+unfolding op_at row_of
 received procs t None mode le = refl
 received procs t (Some u) mode le = rw (who_again t u _ le refl) refl
 
 replied : (procs : List (List ℕ)) (t u : ℕ) (text : List ℕ) → call_entry t (call_text procs (Some t) (call.Reply u text)) ≡ Some (entry.Called t verb.Other null_id false)
+unfolding op_at row_of
 replied procs t u text = refl
 
 asked : (procs : List (List ℕ)) (t : ℕ) (c : Call) → IsPrinted procs c
     → call_entry t (call_text procs (Some t) c) ≡ Some (entry.Called t (verb_told c) (target_told c) (suspended_told c))
+unfolding op_at row_of
 asked procs t (call.Create number prio flags) h = ap (λ s. Some (entry.Called t verb.Create null_id s)) (created procs number prio flags h.0 h.1)
 asked procs t (call.Destroy u) h = ap (λ n. Some (entry.Called t verb.Destroy n false)) (who_alone t u h)
-asked procs t (call.Ping u) h = refl
-asked procs t (call.Yield u) h = refl
-asked procs t (call.Resched p) h = refl
-asked procs t (call.SetPri u p) h = refl
 asked procs t (call.Suspend u) h = ap (λ n. Some (entry.Called t verb.Suspend n false)) (who_alone t u h)
 asked procs t (call.Resume u) h = ap (λ n. Some (entry.Called t verb.Resume n false)) (who_alone t u h)
 asked procs t (call.Join u) h = ap (λ n. Some (entry.Called t verb.Join n false)) (who_alone t u h)
-asked procs t (call.Sleep ticks) h = refl
-asked procs t call.Me h = refl
-asked procs t (call.SetMaxPri p) h = refl
-asked procs t (call.SetExit code) h = refl
-asked procs t call.GetExit h = refl
-asked procs t (call.PodExit code) h = refl
-asked procs t call.Threads h = refl
 asked procs t (call.Send u room text) h = ap (λ n. Some (entry.Called t verb.Send n false)) (who_again t u (codes " " ++ (decimal room ++ spaced text)) h refl)
 asked procs t (call.Recv from mode) h = received procs t from mode h
 asked procs t (call.Reply u text) h = replied procs t u text
-asked procs t call.Senders h = refl
-asked procs t call.Receivers h = refl
-asked procs t call.MonCreate h = refl
-asked procs t (call.MonDestroy m) h = refl
 asked procs t (call.Enter m) h = ap (λ n. Some (entry.Called t verb.Enter n false)) (id_alone 109 m h)
 asked procs t (call.CondEnter m) h = ap (λ n. Some (entry.Called t verb.CondEnter n false)) (id_alone 109 m h)
 asked procs t (call.MonExit m) h = ap (λ n. Some (entry.Called t verb.MonExit n false)) (id_alone 109 m h)
 asked procs t (call.MonBreak m) h = ap (λ n. Some (entry.Called t verb.MonBreak n false)) (id_alone 109 m h)
-asked procs t call.Monitors h = refl
-asked procs t (call.MonWaiters m) h = refl
-asked procs t (call.CvCreate m) h = refl
-asked procs t (call.CvDestroy c) h = refl
 asked procs t (call.Wait c) h = ap (λ n. Some (entry.Called t verb.Wait n false)) (id_alone 99 c h)
-asked procs t (call.Notify c) h = refl
-asked procs t (call.Broadcast c) h = refl
-asked procs t (call.CvSend c u) h = refl
-asked procs t call.Conditions h = refl
-asked procs t (call.CvWaiters c) h = refl
-asked procs t (call.CallProc number) h = refl
-asked procs t call.Return h = refl
-asked procs t (call.Handle pat func arg) h = refl
-asked procs t call.Unhandle h = refl
-asked procs t (call.OnExit x) h = refl
-asked procs t (call.Raise p) h = refl
-asked procs t (call.ExcNotify p) h = refl
-asked procs t (call.Bound p) h = refl
-asked procs t call.UniqPatt h = refl
 asked procs t (call.Agent e) h = rw (number_alone e (omega (arith, h))) refl
-asked procs t call.Agents h = refl
-asked procs t (call.Trap e) h = refl
 asked procs t (call.Say text) h = said t text
+asked procs t _ h = refl
 
 pub called_again : (procs : List (List ℕ)) (took : Option Line) (t : ℕ) (c : Call) → CallsAreRead procs took t c
 called_again procs took t c lt h = thread_line t (58 ∷ 32 ∷ call_text procs (Some t) c) lt refl ∙ asked procs t c h
@@ -307,6 +278,7 @@ noted [] a = rw (headed a) refl
 noted (b ∷ bs) a = refl
 
 exit_named : (x : ExitCall) (a : Answer) → verb_of (word (exit_text None x ++ answer_text a)) ≡ Some (exit_verb x)
+unfolding op_at row_of
 exit_named (exit.MonExit m) a = refl
 exit_named (exit.MonBreak m) a = refl
 exit_named (exit.Notify c) a = refl

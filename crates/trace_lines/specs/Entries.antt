@@ -1,5 +1,10 @@
 -- What a line of a trace tells.
 use Rattle.lwp_types.specs.Names.{null_id}
+use Rattle.script_lines.specs.Table.{op_at, role_of}
+use Rattle.script_lines.specs.declared.table.Op.{Op}
+use Rattle.script_lines.specs.declared.table.Op.TheVariants as op
+use Rattle.script_lines.specs.declared.table.Role.{Role}
+use Rattle.script_lines.specs.declared.table.Role.TheVariants as role
 use Rattle.std.specs.Prelude.{Bool, List, None, Option, Some, bytes_eq, codes, drop, false, if◌then◌else◌, not, unwrap_or, ℕ, ◌||◌}
 use Rattle.trace_lines.specs.Words.{behind, ends, number, rest, starts, whole_number, word}
 use Rattle.trace_lines.specs.declared.entry.Entry.{Entry}
@@ -9,59 +14,41 @@ use Rattle.trace_lines.specs.declared.entry.Gain.TheVariants as gain
 use Rattle.trace_lines.specs.declared.entry.Verb.{Verb}
 use Rattle.trace_lines.specs.declared.entry.Verb.TheVariants as verb
 
--- the calls on threads that show as themselves
-abbrev pub thread_verb : List ℕ → Option Verb
-thread_verb w =
-    if bytes_eq w (codes "create") then Some verb.Create
-    else if bytes_eq w (codes "destroy") then Some verb.Destroy
-    else if bytes_eq w (codes "suspend") then Some verb.Suspend
-    else if bytes_eq w (codes "resume") then Some verb.Resume
-    else if bytes_eq w (codes "join") then Some verb.Join
-    else if bytes_eq w (codes "sleep") then Some verb.Sleep
-    else if bytes_eq w (codes "send") then Some verb.Send
-    else if bytes_eq w (codes "recv") then Some verb.Receive
-    else None
+-- what is called by a statement of this kind
+abbrev pub statement_verb : Op → Verb
+statement_verb op.Create = verb.Create
+statement_verb op.Destroy = verb.Destroy
+statement_verb op.Suspend = verb.Suspend
+statement_verb op.Resume = verb.Resume
+statement_verb op.Join = verb.Join
+statement_verb op.Sleep = verb.Sleep
+statement_verb op.Send = verb.Send
+statement_verb op.Recv = verb.Receive
+statement_verb op.Enter = verb.Enter
+statement_verb op.CondEnter = verb.CondEnter
+statement_verb op.MonExit = verb.MonExit
+statement_verb op.MonBreak = verb.MonBreak
+statement_verb op.Wait = verb.Wait
+statement_verb op.Agent = verb.Agent
+statement_verb op.Say = verb.Say
+statement_verb _ = verb.Other
 
--- the other calls that do
-abbrev pub monitor_verb : List ℕ → Option Verb
-monitor_verb w =
-    if bytes_eq w (codes "enter") then Some verb.Enter
-    else if bytes_eq w (codes "condenter") then Some verb.CondEnter
-    else if bytes_eq w (codes "monexit") then Some verb.MonExit
-    else if bytes_eq w (codes "monbreak") then Some verb.MonBreak
-    else if bytes_eq w (codes "wait") then Some verb.Wait
-    else if bytes_eq w (codes "agent") then Some verb.Agent
-    else if bytes_eq w (codes "onexit") then Some verb.OnExit
-    else if bytes_eq w (codes "say") then Some verb.Say
-    else None
+-- a line of a script makes a call where it is a statement
+abbrev pub line_verb : Role → Op → Option Verb
+line_verb role.Statement o = Some (statement_verb o)
+line_verb _ o = None
 
--- words of calls that don't
-abbrev pub is_quiet : List ℕ → Bool
-is_quiet w = bytes_eq w (codes "ping") || bytes_eq w (codes "yield") || bytes_eq w (codes "resched") || bytes_eq w (codes "setpri")
-    || bytes_eq w (codes "self") || bytes_eq w (codes "setmaxpri") || bytes_eq w (codes "setexit") || bytes_eq w (codes "getexit")
-    || bytes_eq w (codes "podexit") || bytes_eq w (codes "threads") || bytes_eq w (codes "reply") || bytes_eq w (codes "trap")
+abbrev pub key_verb : Option Op → Option Verb
+key_verb None = None
+key_verb (Some o) = line_verb (role_of o) o
 
-abbrev pub is_list : List ℕ → Bool
-is_list w = bytes_eq w (codes "senders") || bytes_eq w (codes "receivers") || bytes_eq w (codes "monitors") || bytes_eq w (codes "monwaiters")
-    || bytes_eq w (codes "conditions") || bytes_eq w (codes "cvwaiters") || bytes_eq w (codes "agents") || bytes_eq w (codes "moncreate")
-    || bytes_eq w (codes "mondestroy") || bytes_eq w (codes "cvcreate") || bytes_eq w (codes "cvdestroy")
-
-abbrev pub is_mark : List ℕ → Bool
-is_mark w = bytes_eq w (codes "notify") || bytes_eq w (codes "broadcast") || bytes_eq w (codes "cvsend") || bytes_eq w (codes "call")
-    || bytes_eq w (codes "return") || bytes_eq w (codes "handle") || bytes_eq w (codes "unhandle") || bytes_eq w (codes "raise")
-    || bytes_eq w (codes "excnotify") || bytes_eq w (codes "bound") || bytes_eq w (codes "uniqpatt") || bytes_eq w (codes "note")
-
--- the first of these that there is
-abbrev pub either : Option Verb → Option Verb → Option Verb
-either None other = other
-either (Some v) other = Some v
-
-abbrev pub plain_verb : List ℕ → Option Verb
-plain_verb w = if is_quiet w || is_list w || is_mark w then Some verb.Other else None
-
--- the call of a word, if it is one
+-- the call of a word, if it is one: a trace has the words of a script's statements, `onexit` for all that set an exit procedure, and `note`,
+-- which an exit procedure alone does
 abbrev pub verb_of : List ℕ → Option Verb
-verb_of w = either (thread_verb w) (either (monitor_verb w) (plain_verb w))
+verb_of w =
+    if bytes_eq w (codes "onexit") then Some verb.OnExit
+    else if bytes_eq w (codes "note") then Some verb.Other
+    else key_verb (op_at w)
 
 -- a number behind a letter, or nobody
 abbrev pub id_of : List ℕ → ℕ

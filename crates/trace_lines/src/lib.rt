@@ -5,7 +5,7 @@
 //! further than that, so what stands behind the words that are needed may be anything; a line of which they can't be read is no
 //! line of a trace. `called_again` and its neighbours say that whatever `trace_text` prints is read back.
 //!
-//! The crate stands on `lwp_types`, and its laws on `trace_text`.
+//! The crate stands on `lwp_types`, on `script_lines` for the words of calls, and its laws on `trace_text`.
 #![tactic(auto)]
 
 mod entry;

@@ -1,137 +1,60 @@
 // What a line tells.
 ghost use Rattle.std.specs.Prelude.{◌≡◌, ◌&&◌, bytes_eq};
-ghost use Rattle.trace_lines.specs.Entries.{also_entry, answer_entry, call_entry, entry_of, event_entry, exit_entry, exited, gain_of, id_of, is_closing, is_list, is_mark, is_quiet, is_suspended, monitor_verb, plain_verb, posted, posted_by, rites_entry, target_of, thread_entry, thread_verb, tick_entry, trap_entry, verb_of, who_of};
+ghost use Rattle.trace_lines.specs.Entries.{also_entry, answer_entry, call_entry, entry_of, event_entry, exit_entry, exited, gain_of, id_of, is_closing, is_suspended, line_verb, posted, posted_by, rites_entry, statement_verb, target_of, thread_entry, tick_entry, trap_entry, verb_of, who_of};
 ghost use Rattle.trace_lines.specs.Words.{behind, number, rest, word};
 
 use crate::entry::{Entry, Gain, NOBODY, Verb};
 use crate::words::{behind, ends, number, rest, skip, starts, whole_number, word};
+use script_lines::{Op, Role};
 
-// Whether a word is this.
-#[inline]
-fn is(word: &[u8], name: &[u8]) -> bool
-    ensures { result ≡ bytes_eq word.now name.now }
+// What is called by a statement of this kind.
+fn statement_verb(op: Op) -> Verb
+    ensures { result ≡ statement_verb op }
 {
-    word == name
-}
-
-fn thread_verb(word: &[u8]) -> Option<Verb>
-    ensures { result ≡ thread_verb word.now }
-{
-    if is(word, b"create") {
-        Some(Verb::Create)
-    } else if is(word, b"destroy") {
-        Some(Verb::Destroy)
-    } else if is(word, b"suspend") {
-        Some(Verb::Suspend)
-    } else if is(word, b"resume") {
-        Some(Verb::Resume)
-    } else if is(word, b"join") {
-        Some(Verb::Join)
-    } else if is(word, b"sleep") {
-        Some(Verb::Sleep)
-    } else if is(word, b"send") {
-        Some(Verb::Send)
-    } else if is(word, b"recv") {
-        Some(Verb::Receive)
-    } else {
-        None
+    match op {
+        Op::Create => Verb::Create,
+        Op::Destroy => Verb::Destroy,
+        Op::Suspend => Verb::Suspend,
+        Op::Resume => Verb::Resume,
+        Op::Join => Verb::Join,
+        Op::Sleep => Verb::Sleep,
+        Op::Send => Verb::Send,
+        Op::Recv => Verb::Receive,
+        Op::Enter => Verb::Enter,
+        Op::CondEnter => Verb::CondEnter,
+        Op::MonExit => Verb::MonExit,
+        Op::MonBreak => Verb::MonBreak,
+        Op::Wait => Verb::Wait,
+        Op::Agent => Verb::Agent,
+        Op::Say => Verb::Say,
+        _ => Verb::Other,
     }
 }
 
-fn monitor_verb(word: &[u8]) -> Option<Verb>
-    ensures { result ≡ monitor_verb word.now }
+// A line of a script makes a call where it is a statement.
+fn line_verb(role: Role, op: Op) -> Option<Verb>
+    ensures { result ≡ line_verb role op }
 {
-    if is(word, b"enter") {
-        Some(Verb::Enter)
-    } else if is(word, b"condenter") {
-        Some(Verb::CondEnter)
-    } else if is(word, b"monexit") {
-        Some(Verb::MonExit)
-    } else if is(word, b"monbreak") {
-        Some(Verb::MonBreak)
-    } else if is(word, b"wait") {
-        Some(Verb::Wait)
-    } else if is(word, b"agent") {
-        Some(Verb::Agent)
-    } else if is(word, b"onexit") {
-        Some(Verb::OnExit)
-    } else if is(word, b"say") {
-        Some(Verb::Say)
-    } else {
-        None
+    match role {
+        Role::Statement => Some(statement_verb(op)),
+        _ => None,
     }
 }
 
-fn is_quiet(word: &[u8]) -> bool
-    ensures { result ≡ is_quiet word.now }
-{
-    is(word, b"ping")
-        || is(word, b"yield")
-        || is(word, b"resched")
-        || is(word, b"setpri")
-        || is(word, b"self")
-        || is(word, b"setmaxpri")
-        || is(word, b"setexit")
-        || is(word, b"getexit")
-        || is(word, b"podexit")
-        || is(word, b"threads")
-        || is(word, b"reply")
-        || is(word, b"trap")
-}
-
-fn is_list(word: &[u8]) -> bool
-    ensures { result ≡ is_list word.now }
-{
-    is(word, b"senders")
-        || is(word, b"receivers")
-        || is(word, b"monitors")
-        || is(word, b"monwaiters")
-        || is(word, b"conditions")
-        || is(word, b"cvwaiters")
-        || is(word, b"agents")
-        || is(word, b"moncreate")
-        || is(word, b"mondestroy")
-        || is(word, b"cvcreate")
-        || is(word, b"cvdestroy")
-}
-
-fn is_mark(word: &[u8]) -> bool
-    ensures { result ≡ is_mark word.now }
-{
-    is(word, b"notify")
-        || is(word, b"broadcast")
-        || is(word, b"cvsend")
-        || is(word, b"call")
-        || is(word, b"return")
-        || is(word, b"handle")
-        || is(word, b"unhandle")
-        || is(word, b"raise")
-        || is(word, b"excnotify")
-        || is(word, b"bound")
-        || is(word, b"uniqpatt")
-        || is(word, b"note")
-}
-
-fn plain_verb(word: &[u8]) -> Option<Verb>
-    ensures { result ≡ plain_verb word.now }
-{
-    if is_quiet(word) || is_list(word) || is_mark(word) {
-        Some(Verb::Other)
-    } else {
-        None
-    }
-}
-
+// The call of a word, if it is one: a trace has the words of a script's statements, and two of its own.
 fn verb_of(word: &[u8]) -> Option<Verb>
     ensures { result ≡ verb_of word.now }
 {
-    if let Some(verb) = thread_verb(word) {
-        return Some(verb);
+    if word == b"onexit".as_slice() {
+        return Some(Verb::OnExit);
     }
-    if let Some(verb) = monitor_verb(word) {
-        return Some(verb);
+    if word == b"note".as_slice() {
+        return Some(Verb::Other);
     }
-    plain_verb(word)
+    match Op::at(word) {
+        Some(op) => line_verb(op.role(), op),
+        None => None,
+    }
 }
 
 // A number behind a letter, or nobody.

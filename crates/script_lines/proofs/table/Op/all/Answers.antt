@@ -1,5 +1,5 @@
 use Rattle.std.proofs.Common.{refl}
-use Rattle.script_line_faults.proofs.forms.all_ops.Goals as goal
+use Rattle.script_lines.proofs.table.Op.all.Goals as goal
 
 pub returns : goal.returns
 returns c = refl
