@@ -1,9 +1,9 @@
 -- The index: what stands before a place and what behind it, what is read there, and what each change leaves.
-use Rattle.agents.specs.Index.{AreOrdered, IsBefore, IsCut, Puts, is_before, is_below, is_under, is_up_to, numbers_under}
+use Rattle.agents.specs.Index.{AreOrdered, IsBefore, IsCut, IsPastLesser, Puts, is_before, is_below, is_under, is_up_to, numbers_under}
 use Rattle.agents.specs.declared.index.Entry.{Entry}
 use Rattle.lwp_types.specs.State.{all_below, member, without}
 use Rattle.std.proofs.Common.{Bool, List, None, Option, Some, [], ap, arith, cond, drop, eqb, false, get_or, length, ltb, map, not, refl, slice_get, suc, sym, take, true, zero, ℕ, ◌++◌, ◌-◌, ◌<◌, ◌∙◌, ◌∷◌, ◌||◌, ◌≡◌, ◌≢◌, ◌≤◌}
-use Rattle.std.proofs.lemmas.Bool.{and_parts, eq-eqb, eqb-true, ltb-true, ne_eqb}
+use Rattle.std.proofs.lemmas.Bool.{and_parts, eq-eqb, eqb-true, lt-ltb, ltb-true, ne_eqb}
 use Rattle.std.proofs.lemmas.Bool.Decides.{nat_tests}
 use Rattle.std.proofs.lemmas.List.{take_rest}
 use Rattle.std.proofs.lemmas.List.Elements.{recursion_from_All}
@@ -11,6 +11,12 @@ use Rattle.std.specs.List.{AllByRecursion, AllWithin, filter, insert, remove}
 use Rattle.std.specs.List.Sorted.{IsPartitionPoint, IsPartitionedBy}
 
 -- ---- places
+
+-- what is read past the end doesn't matter before it
+any_default : (es : List Entry) (i : ℕ) (d d' : Entry) → i < length es → get_or es i d ≡ get_or es i d'
+any_default [] i d d' within = absurd (omega (arith, within))
+any_default (e ∷ es) zero d d' within = refl
+any_default (e ∷ es) (suc i) d d' within = any_default es i d d' (omega (arith, within))
 
 module _ (P : Entry → Type 0) where
   All-at : (es : List Entry) (i : ℕ) (d : Entry) → i < length es → AllByRecursion P es → P (get_or es i d)
@@ -42,6 +48,19 @@ cut p es i within point = record { within = within; before = All-front (λ e. p 
 
 pub below_down : (k : ℕ) (e f : Entry) → IsBefore e f → is_below k f ≡ true → is_below k e ≡ true
 below_down k e f before passed = grind (arith, nat_tests, before.key)
+
+-- the entries of a key begin where one of it stands behind one of a lesser key
+pub start_there : (es : List Entry) (k i : ℕ) (e : Entry) → AreOrdered es → i < length es → e ≡ get_or es i e → e.key ≡ k → IsPastLesser k es i → IsCut (is_below k) es i
+start_there es k i e ordered within here same past = cut (is_below k) es i (omega (arith, within)) (
+  (λ j d least lt. parted (is_below k) (below_down k) es ordered j (i - 1) d (omega (arith, lt)) (omega (arith, lt, within)) (lt-ltb (get_or es (i - 1) d).key k (past (i - 1) d (omega (arith, lt))))),
+  (λ j d ge lt. by_answer j d ge lt (is_below k (get_or es j d)) refl),
+)
+  where
+    by_answer : (j : ℕ) (d : Entry) → i ≤ j → j < length es → (b : Bool) → is_below k (get_or es j d) ≡ b → b ≡ false
+    by_answer j d ge lt false is = refl
+    by_answer j d ge lt true is =
+        let less : (get_or es i d).key < k = ltb-true (get_or es i d).key k (parted (is_below k) (below_down k) es ordered i j d ge lt is) in
+        absurd (omega (arith, less, same, ap (λ (x : Entry). x.key) (here ∙ any_default es i e d within)))
 
 pub up_to_down : (k : ℕ) (e f : Entry) → IsBefore e f → is_up_to k f ≡ true → is_up_to k e ≡ true
 up_to_down k e f before passed = grind (arith, nat_tests, before.key)

@@ -1,7 +1,7 @@
 -- An index: the numbers of the agents under each key, by which they are looked for. No public clause cites this module.
 use Rattle.agents.specs.declared.index.Entry.{Entry}
 use Rattle.std.specs.List.{AllByRecursion, filter}
-use Rattle.std.specs.Prelude.{Bool, List, [], drop, false, length, map, nat_le, nat_lt, take, true, ℕ, ◌&&◌, ◌<◌, ◌==◌, ◌||◌, ◌∷◌, ◌≡◌, ◌≢◌, ◌≤◌}
+use Rattle.std.specs.Prelude.{Bool, List, [], drop, false, length, map, nat_le, nat_lt, slice_index_or, suc, take, true, ℕ, ◌&&◌, ◌<◌, ◌==◌, ◌||◌, ◌∷◌, ◌≡◌, ◌≢◌, ◌≤◌}
 
 -- what a contract sees of an index
 pub record Entries : Type 0 where
@@ -43,6 +43,10 @@ pub record IsCut (p : Entry → Bool) (es : List Entry) (i : ℕ) : Type 0 where
   pub within : i ≤ length es
   pub before : AllByRecursion (λ e. p e ≡ true) (take i es)
   pub behind : AllByRecursion (λ e. p e ≡ false) (drop i es)
+
+-- the entry before this place, if there is one, stands under a lesser key
+abbrev pub IsPastLesser : ℕ → List Entry → ℕ → Type 0
+IsPastLesser k es i = (j : ℕ) (d : Entry) → suc j ≡ i → (slice_index_or es j d).key < k
 
 -- under this key stand these numbers from now on, and under the others what stood there
 pub record Puts (before after : List Entry) (k : ℕ) (numbers : List ℕ) : Type 0 where

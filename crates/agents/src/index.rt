@@ -1,7 +1,7 @@
 // The agents under each key, which is their event or their owner.
-ghost use Rattle.std.specs.Prelude.{◌≡◌, ◌++◌, ◌+◌, ◌<◌, ◌≤◌, IsTrue, OnOk, OnErr, [], ◌∷◌, length, slice_get, vec_capacity};
+ghost use Rattle.std.specs.Prelude.{◌≡◌, ◌++◌, ◌+◌, ◌<◌, ◌≤◌, IsTrue, OnOk, OnErr, [], ◌∷◌, length, slice_get, true, vec_capacity};
 ghost use Rattle.lwp_types.specs.State.{all_below, member, without};
-ghost use Rattle.agents.specs.Index.{AreOrdered, IsCut, Puts, is_before, is_below, is_up_to, numbers_under};
+ghost use Rattle.agents.specs.Index.{AreOrdered, IsCut, IsPastLesser, Puts, is_before, is_below, is_up_to, numbers_under};
 
 use lwp_types::NoMemory;
 use std::alloc::Global;
@@ -32,12 +32,44 @@ impl Model for Index {
     ghost invariant = { λ i. AreOrdered i.entries.items };
 }
 
-// How many entries stand under lesser keys.
-fn start_of(entries: &[Entry], key: u64) -> usize
+// Where the entries of the key begin, if each key from the least on has one.
+#[inline(always)]
+fn likely_start(entries: &[Entry], key: u64) -> usize {
+    match entries.first() {
+        Some(first) => key.saturating_sub(first.key) as usize,
+        None => 0,
+    }
+}
+
+// Whether the entry before this place, if there is one, stands under a lesser key.
+#[inline(always)]
+fn is_past_lesser(entries: &[Entry], at: usize, key: u64) -> bool
+    requires { at < length entries.now }
+    ensures { result ≡ true → IsPastLesser key entries.now at }
+{
+    at == 0 || entries[at - 1].key < key
+}
+
+// How many entries stand under lesser keys, by halving.
+#[inline(never)]
+fn start_by_halves(entries: &[Entry], key: u64) -> usize
     requires { AreOrdered entries.now }
     ensures { IsCut (is_below key) entries.now result }
 {
     entries.partition_point(|entry| entry.key < key)
+}
+
+// The same: at a look where each key from the least on has one entry, and else by halving.
+#[inline(always)]
+fn start_of(entries: &[Entry], key: u64) -> usize
+    requires { AreOrdered entries.now }
+    ensures { IsCut (is_below key) entries.now result }
+{
+    let at = likely_start(entries, key);
+    match entries.get(at) {
+        Some(entry) if entry.key == key && is_past_lesser(entries, at, key) => at,
+        _ => start_by_halves(entries, key),
+    }
 }
 
 // How many entries stand under lesser keys or under this one.

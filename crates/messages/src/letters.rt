@@ -63,7 +63,8 @@ pub fn remove(slots: &mut Vec<Option<Letter>>, directory: &mut Directory, slot: 
     slots::empty(slots, slot);
 }
 
-// The empty slots go, and the letters are filed anew.
+// The empty slots go, and the letters are filed anew. This is rare, and stands apart.
+#[inline(never)]
 fn pack(slots: &mut Vec<Option<Letter>>, directory: &mut Directory)
     requires tied { IsTied slots.old.items directory.old (vec_capacity slots.old) }
     ensures tied { IsTied slots.new.items directory.new (vec_capacity slots.new) }

@@ -77,7 +77,8 @@ fn halving(strays: &Vec<Entry>, number: u64) -> Option<usize>
     }
 }
 
-// All entries but that of a number.
+// All entries but that of a number. Like `put_in` it stands apart, so that a thread in its own cell saves no registers for it.
+#[inline(never)]
 fn take_out(strays: &mut Vec<Entry>, number: u64)
     requires { IsRising strays.old.items }
     ensures items { strays.new.items ≡ without_entry number strays.old.items }
@@ -89,6 +90,7 @@ fn take_out(strays: &mut Vec<Entry>, number: u64)
 }
 
 // One entry more, where its number belongs.
+#[inline(never)]
 fn put_in(strays: &mut Vec<Entry>, number: u64, place: usize)
     requires rising { IsRising strays.old.items }
     requires new { place_in strays.old.items number ≡ None }
