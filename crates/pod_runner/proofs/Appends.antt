@@ -1,15 +1,11 @@
 -- Appending to what is told.
 use Rattle.std.proofs.Common.{◌≡◌, ℕ, ◌+◌, arith, length-append, List, ◌++◌, length, take, ◌∙◌}
-use Rattle.std.proofs.Math.Seq.{take-append-add, take-length}
-use Rattle.pod_runner.specs.Run.{Writes, WritesCut, WritesPart}
-use Rattle.std.specs.Prelude.{Option, Result, OnErr, Ok, Err}
+use Rattle.std.proofs.Math.Seq.{take-append-add}
+use Rattle.pod_runner.specs.Run.{Writes, WritesCut}
+use Rattle.std.specs.Prelude.{Option}
 use Rattle.lwp_types.specs.Streams.{appended}
 use Rattle.whole_streams.proofs.WriteLaws.{appended-append}
 use Rattle.whole_streams.specs.Writing.{AppendsPart}
-
--- nothing was written, in the same trace
-pub part_same : (w : Option (List ℕ)) (t : List ℕ) → WritesPart w w t t
-part_same w t base h = (length t, rw take-length h)
 
 pub writes_on : (old new : Option (List ℕ)) (before out after : List ℕ) → after ≡ before ++ out → new ≡ appended old out → Writes old new before after
 writes_on old new before out after e h base g = h ∙ rw (g, e) (appended-append base before out)
@@ -22,11 +18,3 @@ cut_on old new before out after e h base g = record {
   some = omega arith;
   not_all = rw e (omega (arith, length-append before out, h.not_all));
 }
-
-pub writes_same : (w : Option (List ℕ)) (t : List ℕ) → Writes w w t t
-writes_same w t base h = h
-
--- a fact of an error holds where there is one
-pub on_err : {X E : Type 0} (r : Result X E) (P : Type 0) → P → OnErr r P
-on_err (Ok x) P h = tt
-on_err (Err e) P h = h

@@ -34,7 +34,7 @@ use Rattle.pod_runner.specs.declared.session.Took.{Took}
 use Rattle.pod_runner.proofs.Armed.{take-fewer}
 use Rattle.pod_runner.proofs.Kept.{phase-kept, phase-runs, take-kept}
 use Rattle.pod_runner.proofs.Plays.{LastBy-of, play-call, play-take}
-use Rattle.pod_runner.proofs.Rounds.{but_last-extended, goes-same, goes-then, stream, tells-then}
+use Rattle.pod_runner.proofs.Rounds.{but_last-extended, goes-same, ran-answer, ran-behind, ran-nothing, ran-other, ran-step, stream}
 
 -- ---- takes
 
@@ -237,11 +237,7 @@ module _ {B P : Type 0} (next : Next B) (bodies : P → List B) (procs : P → L
       → run.failed ≡ false → IsDefined (setting_of next bodies run) run.takes run.calls → run.calls ≤ run.turns
       → Lived (stream w w f f) run run inlets inlets (Ok x)
   lives-same w f run inlets x sound made room = record {
-    same = goes-same next bodies procs run;
-    made = made;
-    room = room;
-    told = (λ base is. is, refl);
-    sound = sound;
+    ran = ran-nothing next bodies procs w f run x sound made room;
     draws = draws-same run inlets 0;
   }
 
@@ -258,16 +254,12 @@ module _ {B P : Type 0} (next : Next B) (bodies : P → List B) (procs : P → L
   pub living-then : {U : Type 0} (a b c : Option (List ℕ)) (i j k : ℕ) (old mid new : Played P) (before some after : List Intake) (r : Result U RunErr)
       → Living (stream a b i j) old mid before some → Lived (stream b c j k) mid new some after r → Lived (stream a c i k) old new before after r
   living-then a b c i j k old mid new before some after r p q = record {
-    same = goes-then next bodies procs old mid new p.same q.same;
-    made = q.made;
-    room = q.room;
-    told = tells-then a b c i j k (trace_of next bodies procs old) (trace_of next bodies procs mid) (trace_before next bodies procs new) (trace_of next bodies procs new) r p.told q.told;
-    sound = q.sound;
+    ran = ran-behind next bodies procs a b c i j k old mid new r p.same p.told q.ran;
     draws = draws-then old mid new before some after (may_lose r) p.draws q.draws;
   }
 
   pub living-of : {T : Type 0} (s : Stream) (old mid : Played P) (before some : List Intake) (x : T) → Lived s old mid before some (Ok x) → Living s old mid before some
-  living-of s old mid before some x h = record { same = h.same; sound = h.sound; told = h.told; draws = h.draws }
+  living-of s old mid before some x h = record { same = h.ran.same; sound = h.ran.sound; told = h.ran.told; draws = h.draws }
 
   pub lives-then : {T U : Type 0} (a b c : Option (List ℕ)) (i j k : ℕ) (old mid new : Played P) (before some after : List Intake) (x : T) (r : Result U RunErr)
       → Lived (stream a b i j) old mid before some (Ok x) → Lived (stream b c j k) mid new some after r → Lived (stream a c i k) old new before after r
@@ -275,12 +267,12 @@ module _ {B P : Type 0} (next : Next B) (bodies : P → List B) (procs : P → L
 
   pub lives-answer : {T U : Type 0} (s : Stream) (old new : Played P) (before after : List Intake) (x : T) (y : U)
       → Lived s old new before after (Ok x) → Lived s old new before after (Ok y)
-  lives-answer s old new before after x y h = record { same = h.same; made = h.made; room = h.room; told = h.told; sound = h.sound; draws = h.draws }
+  lives-answer s old new before after x y h = record { ran = ran-answer next bodies procs s old new x y h.ran; draws = h.draws }
 
   lives-other : (T U : Type 0) (s : Stream) (old new : Played P) (before after : List Intake) (e : RunErr)
       → Lived {T = T} s old new before after (Err e) → Lived {T = U} s old new before after (Err e)
-  lives-other T U s old new before after fails.NoMemory h = record { same = h.same; made = h.made; room = h.room; told = h.told; sound = tt; draws = h.draws }
-  lives-other T U s old new before after fails.WriteFault h = record { same = h.same; made = h.made; room = h.room; told = h.told; sound = tt; draws = h.draws }
+  lives-other T U s old new before after fails.NoMemory h = record { ran = ran-other next bodies procs T U s old new fails.NoMemory h.ran; draws = h.draws }
+  lives-other T U s old new before after fails.WriteFault h = record { ran = ran-other next bodies procs T U s old new fails.WriteFault h.ran; draws = h.draws }
 
   -- where the last part fails, so does the whole
   pub lives-err : (T U : Type 0) (s : Stream) (old new : Played P) (before after : List Intake) (r : Result U RunErr) (e : RunErr)
@@ -306,11 +298,7 @@ module _ {B P : Type 0} (next : Next B) (bodies : P → List B) (procs : P → L
       → IsDefined (setting_of next bodies new) new.takes new.calls → new.calls ≤ new.turns
       → Lived s old new before after r
   lives-step s old counted new before after later (Ok x) h is told made room = record {
-    same = subst (λ n. GoesOn old n) (sym is) h.same;
-    made = made;
-    room = room;
-    told = told;
-    sound = subst (λ (n : Played P). n.failed ≡ false) (sym is) h.sound;
+    ran = ran-step next bodies procs s old counted new (Ok x) h.same h.sound h.least is told made room;
     draws = record {
       later = later;
       lost = [];
@@ -321,11 +309,7 @@ module _ {B P : Type 0} (next : Next B) (bodies : P → List B) (procs : P → L
     };
   }
   lives-step s old counted new before after later (Err fails.NoMemory) h is told made room = record {
-    same = subst (λ n. GoesOn old n) (sym is) (record { program = refl; params = refl; names = refl; turns = refl });
-    made = made;
-    room = room;
-    told = told;
-    sound = tt;
+    ran = ran-step next bodies procs s old counted new (Err fails.NoMemory) h.same h.sound h.least is told made room;
     draws = record {
       later = [];
       lost = later;
@@ -336,11 +320,7 @@ module _ {B P : Type 0} (next : Next B) (bodies : P → List B) (procs : P → L
     };
   }
   lives-step s old counted new before after later (Err fails.WriteFault) h is told made room = record {
-    same = subst (λ n. GoesOn old n) (sym is) (record { program = h.same.program; params = h.same.params; names = h.same.names; turns = h.same.turns });
-    made = made;
-    room = room;
-    told = subst (λ least. Broke s (trace_of next bodies procs old) least (trace_of next bodies procs new)) (sym least) told;
-    sound = tt;
+    ran = ran-step next bodies procs s old counted new (Err fails.WriteFault) h.same h.sound h.least is told made room;
     draws = record {
       later = later;
       lost = [];
@@ -350,9 +330,6 @@ module _ {B P : Type 0} (next : Next B) (bodies : P → List B) (procs : P → L
       known = subst (All (λ (took : Took). HasEvent before took.event)) (sym (append-nil later)) h.known;
     };
   }
-    where
-      least : trace_before next bodies procs new ≡ trace_of next bodies procs old
-      least = ap (λ n. trace_before next bodies procs n) is ∙ (λ t. lines (procs (h.same.program t)) (h.least t))
 
   call-last : (run : Played P) → IsDefined (setting_of next bodies run) run.takes run.calls → session_of next bodies (with_call run) ≡ call_step (setting_of next bodies run) (session_of next bodies run)
   call-last run made = play-call (setting_of next bodies run) run.takes run.calls (LastBy-of (setting_of next bodies run) run.takes run.calls made)
@@ -408,11 +385,7 @@ module _ {B P : Type 0} (next : Next B) (bodies : P → List B) (procs : P → L
       → run.failed ≡ false → IsDefined (setting_of next bodies run) run.takes run.calls → run.calls ≤ run.turns
       → Lived (stream w w f f) run run before after (Ok x)
   lives-none w f i t u run before after x within at set gives sound made room = record {
-    same = goes-same next bodies procs run;
-    made = made;
-    room = room;
-    told = (λ base is. is, refl);
-    sound = sound;
+    ran = ran-nothing next bodies procs w f run x sound made room;
     draws = record {
       later = [];
       lost = [];
@@ -619,7 +592,7 @@ module _ {B P : Type 0} (next : Next B) (bodies : P → List B) (procs : P → L
       let e : length new.takes ≡ length (old.takes ++ h.draws.later) = ap length h.draws.extends.takes in
       let none = none-of h.draws.later (omega (arith, e, same, length-append old.takes h.draws.later)) in
       let still : new.takes ≡ old.takes = h.draws.extends.takes ∙ ap (λ l. old.takes ++ l) none ∙ append-nil old.takes in
-      (λ i. phase_of (play (record { next = next; bodies = bodies (h.same.program i); params = h.same.params i; names = h.same.names i }) (still i) (takes.still i)).live.pod.state (h.same.turns i) (takes.still i))
+      (λ i. phase_of (play (record { next = next; bodies = bodies (h.ran.same.program i); params = h.ran.same.params i; names = h.ran.same.names i }) (still i) (takes.still i)).live.pod.state (h.ran.same.turns i) (takes.still i))
 
   pub none-comes : {T : Type 0} (s : Stream) (old new : Played P) (before after : List Intake) (r : Result T RunErr) → Lived s old new before after r → Serves next bodies (length before) old new before after
       → length new.takes ≡ length old.takes → AllTold after → NoneComes next bodies new after

@@ -121,7 +121,7 @@ module _ {B P : Type 0} (next : Next B) (bodies : P → List B) (procs : P → L
     λ k d low.
         let t = slice_index_or before k d in
         let more = gives-looks (h.draws.later ++ h.draws.lost) t (slice_index_or after k d) (h.draws.given.1 k d low) in
-        let still = count-still old new before after _ t.event h.same h.draws takes.still in
+        let still = count-still old new before after _ t.event h.ran.same h.draws takes.still in
         omega (arith, more, still),
   )
 
@@ -153,10 +153,10 @@ module _ {B P : Type 0} (next : Next B) (bodies : P → List B) (procs : P → L
           let gives = h.draws.given.1 k d low in
           let more = gives-looks (h.draws.later ++ h.draws.lost) t u gives in
           let event = gives-event (h.draws.later ++ h.draws.lost) t u gives in
-          let still = count-still old mid before after 0 t.event h.same h.draws serves.takes.still in
+          let still = count-still old mid before after 0 t.event h.ran.same h.draws serves.takes.still in
           let added : armed_count next bodies new t.event ≡ length (armed_calls (setting_of next bodies mid) mid.takes mid.calls t.event ++ cond b (mid.calls ∷ []) [])
           = ap (λ n. armed_count next bodies n t.event) is
-          ∙ ap length (armed-call (setting_of next bodies mid) mid.takes t.event mid.calls h.made)
+          ∙ ap length (armed-call (setting_of next bodies mid) mid.takes t.event mid.calls h.ran.made)
           ∙ ap (λ c. length (armed_calls (setting_of next bodies mid) mid.takes mid.calls t.event ++ cond c (mid.calls ∷ []) [])) waits in
           by b t u more still added (λ yes_b. (serves.seen k d low low).looked turn (ap (λ e. is_takeable (session_of next bodies mid).live.pod e) event ∙ waits ∙ yes_b))
         where

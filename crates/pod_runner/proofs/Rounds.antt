@@ -1,7 +1,7 @@
 -- What a run, a gate and a sink come to together, part by part.
 use Rattle.std.proofs.Common.{◌≢◌, ◌≡◌, ◌≤◌, ◌<◌, ℕ, zero, suc, ◌+◌, ◌-◌, List, [], ◌∷◌, true, false, None, Some, ap, ◌∙◌, refl, sym, subst, ◌++◌, length, length-append, take, arith}
 use Rattle.std.proofs.Math.Seq.{take-append_seam, take-length}
-use Rattle.std.specs.Prelude.{Option, Result, Ok, Err, OnOk, OnErr, IsErrAnd}
+use Rattle.std.specs.Prelude.{Option, Result, Ok, Err, OnOk, OnErr, IsErrAnd, IsErrOf}
 use Rattle.std.specs.List.{fold, range_with_len}
 use Rattle.std.specs.Slice.Scan.{HoldsNowhere}
 use Rattle.std.proofs.lemmas.List.Sums.{fold-append}
@@ -9,7 +9,7 @@ use Rattle.event_gate.specs.Shelves.{Shelves, first_left, left_in_all, taken_fro
 use Rattle.pod_events.specs.Events.{is_takeable}
 use Rattle.lwp_types.specs.Poll.{Next}
 use Rattle.lwp_types.specs.declared.call.Line.{Line}
-use Rattle.pod_runner.specs.Does.{Does}
+use Rattle.pod_runner.specs.Does.{Does, RunsOn}
 use Rattle.pod_runner.specs.Due.{IsDefined}
 use Rattle.pod_runner.specs.Eager.{IsFirstPart, Plan, Planned, advanced, boundary, finished, offered, one_call, opening_plan, plan_over, plan_whole, round, pod_of}
 use Rattle.pod_runner.specs.Phase.{phase_of}
@@ -44,6 +44,20 @@ pub tells-other : (T U : Type 0) (s : Stream) (t least v : List ℕ) (e : RunErr
 tells-other T U s t least v fails.NoMemory h = h
 tells-other T U s t least v fails.WriteFault h = h
 
+-- where memory was wanting, what was done until then was written
+pub tells-wrote : {T : Type 0} (s : Stream) (t least v : List ℕ) (r : Result T RunErr) → Tells s t least v r → IsErrOf r fails.NoMemory → Wrote s t v
+tells-wrote s t least v r told is = subst (λ x. Tells s t least v x) is told
+
+-- where a write failed, it broke off
+pub tells-broke : {T : Type 0} (s : Stream) (t least v : List ℕ) (r : Result T RunErr) → Tells s t least v r → IsErrOf r fails.WriteFault → Broke s t least v
+tells-broke s t least v r told is = subst (λ x. Tells s t least v x) is told
+
+-- after an error, a first part was written
+pub tells-part : {T : Type 0} (s : Stream) (t least v : List ℕ) (r : Result T RunErr) → Tells s t least v r → OnErr r (WritesPart s.old s.new t v)
+tells-part s t least v (Ok x) h = tt
+tells-part s t least v (Err fails.NoMemory) h = λ base is. (length v, h.0 base is ∙ rw take-length refl)
+tells-part s t least v (Err fails.WriteFault) h = λ base is. let cut = h.0 base is in (cut.kept, cut.told)
+
 -- ---- all steps but the last
 
 but_last-step : (steps : List Made) (made : Made) → but_last (steps ++ made ∷ []) ≡ steps
@@ -66,6 +80,79 @@ module _ {B P : Type 0} (next : Next B) (bodies : P → List B) (procs : P → L
   pub planned-same : (old new : Played P) → GoesOn old new → planned_of next bodies new ≡ planned_of next bodies old
   planned-same old new h = rw (h.program, h.params, h.names, h.turns) refl
 
+  -- ---- a run and its sink
+
+  abbrev Runs : {T : Type 0} → Stream → Played P → Played P → Result T RunErr → Type 0
+  Runs s old new r = RunsOn next bodies procs s old new r
+
+  pub ran-nothing : {T : Type 0} (w : Option (List ℕ)) (f : ℕ) (run : Played P) (x : T)
+      → run.failed ≡ false → IsDefined (setting_of next bodies run) run.takes run.calls → run.calls ≤ run.turns
+      → Runs (stream w w f f) run run (Ok x)
+  ran-nothing w f run x sound made room = record {
+    same = goes-same run;
+    made = made;
+    room = room;
+    told = (λ base is. is, refl);
+    sound = sound;
+  }
+
+  -- behind a part that was written whole
+  pub ran-behind : {U : Type 0} (a b c : Option (List ℕ)) (i j k : ℕ) (old mid new : Played P) (r : Result U RunErr)
+      → GoesOn old mid → Wrote (stream a b i j) (trace_of next bodies procs old) (trace_of next bodies procs mid) → Runs (stream b c j k) mid new r
+      → Runs (stream a c i k) old new r
+  ran-behind a b c i j k old mid new r same told q = record {
+    same = goes-then old mid new same q.same;
+    made = q.made;
+    room = q.room;
+    told = tells-then a b c i j k (trace_of next bodies procs old) (trace_of next bodies procs mid) (trace_before next bodies procs new) (trace_of next bodies procs new) r told q.told;
+    sound = q.sound;
+  }
+
+  -- an answer, or an error, may be of another type
+  pub ran-answer : {T U : Type 0} (s : Stream) (old new : Played P) (x : T) (y : U) → Runs s old new (Ok x) → Runs s old new (Ok y)
+  ran-answer s old new x y h = record { same = h.same; made = h.made; room = h.room; told = h.told; sound = h.sound }
+
+  pub ran-other : (T U : Type 0) (s : Stream) (old new : Played P) (e : RunErr) → Runs {T = T} s old new (Err e) → Runs {T = U} s old new (Err e)
+  ran-other T U s old new e h = record {
+    same = h.same;
+    made = h.made;
+    room = h.room;
+    told = tells-other T U s (trace_of next bodies procs old) (trace_before next bodies procs new) (trace_of next bodies procs new) e h.told;
+    sound = tt;
+  }
+
+  -- one step, if it counts
+  pub ran-step : {T : Type 0} (s : Stream) (old counted new : Played P) (r : Result T RunErr)
+      → GoesOn old counted → counted.failed ≡ false → but_last (session_of next bodies counted).steps ≡ (session_of next bodies old).steps
+      → new ≡ stepped old counted r
+      → Tells s (trace_of next bodies procs old) (trace_of next bodies procs old) (trace_of next bodies procs new) r
+      → IsDefined (setting_of next bodies new) new.takes new.calls → new.calls ≤ new.turns
+      → Runs s old new r
+  ran-step s old counted new (Ok x) same sound before is told made room = record {
+    same = subst (λ n. GoesOn old n) (sym is) same;
+    made = made;
+    room = room;
+    told = told;
+    sound = subst (λ (n : Played P). n.failed ≡ false) (sym is) sound;
+  }
+  ran-step s old counted new (Err fails.NoMemory) same sound before is told made room = record {
+    same = subst (λ n. GoesOn old n) (sym is) (record { program = refl; params = refl; names = refl; turns = refl });
+    made = made;
+    room = room;
+    told = told;
+    sound = tt;
+  }
+  ran-step s old counted new (Err fails.WriteFault) same sound before is told made room = record {
+    same = subst (λ n. GoesOn old n) (sym is) (record { program = same.program; params = same.params; names = same.names; turns = same.turns });
+    made = made;
+    room = room;
+    told = subst (λ least. Broke s (trace_of next bodies procs old) least (trace_of next bodies procs new)) (sym least) told;
+    sound = tt;
+  }
+    where
+      least : trace_before next bodies procs new ≡ trace_of next bodies procs old
+      least = ap (λ n. trace_before next bodies procs n) is ∙ (λ t. lines (procs (same.program t)) (before t))
+
   -- ---- one after the other
 
   abbrev Came : {T : Type 0} → Stream → (Planned B → Plan B → Plan B) → Played P → Played P → Shelves → Shelves → Result T RunErr → Type 0
@@ -75,11 +162,7 @@ module _ {B P : Type 0} (next : Next B) (bodies : P → List B) (procs : P → L
       → run.failed ≡ false → IsDefined (setting_of next bodies run) run.takes run.calls → run.calls ≤ run.turns
       → Came (stream w w f f) (λ planned plan. plan) run run stock stock (Ok x)
   does-nothing w f run stock x sound made room = record {
-    same = goes-same run;
-    made = made;
-    room = room;
-    told = (λ base is. is, refl);
-    sound = sound;
+    ran = ran-nothing w f run x sound made room;
     comes = refl;
     part = tt;
   }
@@ -89,11 +172,7 @@ module _ {B P : Type 0} (next : Next B) (bodies : P → List B) (procs : P → L
       → f (planned_of next bodies old) (plan_now next bodies old stock) ≡ g (planned_of next bodies old) (plan_now next bodies old stock)
       → Came s f old new stock left r → Came s g old new stock left r
   does-by s f g old new stock left r e h = record {
-    same = h.same;
-    made = h.made;
-    room = h.room;
-    told = h.told;
-    sound = h.sound;
+    ran = h.ran;
     comes = subst (λ p. OnOk r (plan_now next bodies new left ≡ p)) e h.comes;
     part = subst (λ p. OnErr r (IsFirstPart (plan_now next bodies new left) p)) e h.part;
   }
@@ -103,13 +182,9 @@ module _ {B P : Type 0} (next : Next B) (bodies : P → List B) (procs : P → L
       → Came (stream a c i k) (λ planned plan. g planned (f planned plan)) old new stock left r
   does-then a b c i j k f g old mid new stock some left x r p q =
       let e : g (planned_of next bodies mid) (plan_now next bodies mid some) ≡ g (planned_of next bodies old) (f (planned_of next bodies old) (plan_now next bodies old stock))
-      = (λ t. g (planned-same old mid p.same t) (p.comes t)) in
+      = (λ t. g (planned-same old mid p.ran.same t) (p.comes t)) in
       record {
-        same = goes-then old mid new p.same q.same;
-        made = q.made;
-        room = q.room;
-        told = tells-then a b c i j k (trace_of next bodies procs old) (trace_of next bodies procs mid) (trace_before next bodies procs new) (trace_of next bodies procs new) r p.told q.told;
-        sound = q.sound;
+        ran = ran-behind a b c i j k old mid new r p.ran.same p.ran.told q.ran;
         comes = subst (λ p. OnOk r (plan_now next bodies new left ≡ p)) e q.comes;
         part = subst (λ p. OnErr r (IsFirstPart (plan_now next bodies new left) p)) e q.part;
       }
@@ -120,11 +195,7 @@ module _ {B P : Type 0} (next : Next B) (bodies : P → List B) (procs : P → L
       → Came {T = T} s f old new stock left (Err e)
       → Came {T = U} s (λ planned plan. g planned (f planned plan)) old new stock left (Err e)
   does-part T U s f g old new stock left e more p = record {
-    same = p.same;
-    made = p.made;
-    room = p.room;
-    told = tells-other T U s (trace_of next bodies procs old) (trace_before next bodies procs new) (trace_of next bodies procs new) e p.told;
-    sound = tt;
+    ran = ran-other T U s old new e p.ran;
     comes = tt;
     part = first-then (plan_now next bodies new left) (f (planned_of next bodies old) (plan_now next bodies old stock)) _ p.part more;
   }
@@ -229,37 +300,22 @@ module _ {B P : Type 0} (next : Next B) (bodies : P → List B) (procs : P → L
       → IsDefined (setting_of next bodies new) new.takes new.calls → new.calls ≤ new.turns
       → Came s by old new stock left r
   does-step s by old counted new stock left (Ok x) h is told made room = record {
-    same = subst (λ n. GoesOn old n) (sym is) h.same;
-    made = made;
-    room = room;
-    told = told;
-    sound = subst (λ (n : Played P). n.failed ≡ false) (sym is) h.sound;
+    ran = ran-step s old counted new (Ok x) h.same h.sound h.before is told made room;
     comes = ap (λ n. plan_now next bodies n left) is ∙ h.comes;
     part = tt;
   }
   does-step s by old counted new stock left (Err fails.NoMemory) h is told made room = record {
-    same = subst (λ n. GoesOn old n) (sym is) (record { program = refl; params = refl; names = refl; turns = refl });
-    made = made;
-    room = room;
-    told = told;
-    sound = tt;
+    ran = ran-step s old counted new (Err fails.NoMemory) h.same h.sound h.before is told made room;
     comes = tt;
     part = subst (λ n. IsFirstPart (plan_now next bodies n left) (by (planned_of next bodies old) (plan_now next bodies old stock))) (sym is)
         (record { rest = h.more.rest; steps = h.more.steps; later = h.more.later; takes = h.more.takes; calls_up = h.more.calls_up });
   }
   does-step s by old counted new stock left (Err fails.WriteFault) h is told made room = record {
-    same = subst (λ n. GoesOn old n) (sym is) (record { program = h.same.program; params = h.same.params; names = h.same.names; turns = h.same.turns });
-    made = made;
-    room = room;
-    told = subst (λ least. Broke s (trace_of next bodies procs old) least (trace_of next bodies procs new)) (sym least) told;
-    sound = tt;
+    ran = ran-step s old counted new (Err fails.WriteFault) h.same h.sound h.before is told made room;
     comes = tt;
     part = subst (λ p. IsFirstPart p (by (planned_of next bodies old) (plan_now next bodies old stock))) (sym (ap (λ n. plan_now next bodies n left) is ∙ h.comes))
         (first-same (by (planned_of next bodies old) (plan_now next bodies old stock)));
   }
-    where
-      least : trace_before next bodies procs new ≡ trace_of next bodies procs old
-      least = ap (λ n. trace_before next bodies procs n) is ∙ (λ t. lines (procs (h.same.program t)) (h.before t))
 
   -- ---- a call
 
@@ -316,7 +372,7 @@ module _ {B P : Type 0} (next : Next B) (bodies : P → List B) (procs : P → L
   -- an answer, or an error, may be of another type
   does-answer : {T U : Type 0} (s : Stream) (f : Planned B → Plan B → Plan B) (old new : Played P) (stock left : Shelves) (x : T) (y : U)
       → Came s f old new stock left (Ok x) → Came s f old new stock left (Ok y)
-  does-answer s f old new stock left x y h = record { same = h.same; made = h.made; room = h.room; told = h.told; sound = h.sound; comes = h.comes; part = tt }
+  does-answer s f old new stock left x y h = record { ran = ran-answer s old new x y h.ran; comes = h.comes; part = tt }
 
   -- lines are taken, and then a call is made
   pub does-turn : {T : Type 0} (a b c : Option (List ℕ)) (i j k : ℕ) (old mid new : Played P) (stock left : Shelves) (x y : Unit {0}) (z : T) → phase_now next bodies old ≡ phase.Turn
@@ -371,7 +427,7 @@ module _ {B P : Type 0} (next : Next B) (bodies : P → List B) (procs : P → L
   pub due-still : (s : Stream) (old new : Played P) (stock left : Shelves) (x : Unit {0}) → phase_now next bodies old ≡ phase.Turn
       → Came s (λ planned plan. boundary planned plan) old new stock left (Ok x) → phase_now next bodies new ≡ phase.Turn
   due-still s old new stock left x due p =
-      (λ t. phase_of (pod_of (p.comes t)).state (p.same.turns t) (p.comes t).calls) ∙ boundary-turn (planned_of next bodies old) (plan_now next bodies old stock) due
+      (λ t. phase_of (pod_of (p.comes t)).state (p.ran.same.turns t) (p.comes t).calls) ∙ boundary-turn (planned_of next bodies old) (plan_now next bodies old stock) due
 
   -- ---- round after round
 
@@ -390,9 +446,9 @@ module _ {B P : Type 0} (next : Next B) (bodies : P → List B) (procs : P → L
       → Going (stream a b i j) old now stock some → Came (stream b c j k) (λ planned plan. round planned plan) now new some left (Ok x)
       → Going (stream a c i k) old new stock left
   going-on a b c i j k old now new stock some left x g p = record {
-    same = goes-then old now new g.same p.same;
-    sound = p.sound;
-    told = tells-then {T = Unit {0}} a b c i j k (trace_of next bodies procs old) (trace_of next bodies procs now) (trace_of next bodies procs new) (trace_of next bodies procs new) (Ok tt) g.told p.told;
+    same = goes-then old now new g.same p.ran.same;
+    sound = p.ran.sound;
+    told = tells-then {T = Unit {0}} a b c i j k (trace_of next bodies procs old) (trace_of next bodies procs now) (trace_of next bodies procs new) (trace_of next bodies procs new) (Ok tt) g.told p.ran.told;
     ends = ap (finished (planned_of next bodies old)) (going-round old now new some left g.same p.comes)
         ∙ finished-round (planned_of next bodies old) (plan_now next bodies now some)
         ∙ g.ends;
@@ -406,7 +462,7 @@ module _ {B P : Type 0} (next : Next B) (bodies : P → List B) (procs : P → L
       let plan = plan_now next bodies now some in
       let e : to_do planned (plan_now next bodies new left) ≡ to_do planned (advanced planned plan) = ap (to_do planned) (p.comes ∙ ap (λ (o : Option Halt). elim o as (λ _. Plan B) [ None ↦ advanced planned plan | Some halt ↦ plan ]) is) in
       let f = falls planned plan is in
-      omega (arith, e, f, p.same.turns)
+      omega (arith, e, f, p.ran.same.turns)
 
   -- at the end
   still-over : {T : Type 0} (s : Stream) (old now new : Played P) (some left : Shelves) (halt : Halt) (x : T) → GoesOn old now
@@ -436,14 +492,27 @@ module _ {B P : Type 0} (next : Next B) (bodies : P → List B) (procs : P → L
       (subst (λ given. IsFirstPart (plan_now next bodies new left) (round given plan)) (planned-same old now g.same) p.part)
       (finished-grows planned (round planned plan)))
 
-  pub going-told : (T U : Type 0) (a b c : Option (List ℕ)) (i j k : ℕ) (old now new : Played P) (stock some left : Shelves) (e : RunErr) (r : Result U RunErr) → IsErrAnd r (λ given. given ≡ e)
+  -- a run to the end, whose last round failed
+  pub going-fails : (T U : Type 0) (a b c : Option (List ℕ)) (i j k : ℕ) (old now new : Played P) (stock some left : Shelves) (e : RunErr) (r : Result U RunErr) → IsErrAnd r (λ given. given ≡ e)
       → Going (stream a b i j) old now stock some → Came {T = T} (stream b c j k) (λ planned plan. round planned plan) now new some left (Err e)
-      → Tells {T = U} (stream a c i k) (trace_of next bodies procs old) (trace_before next bodies procs new) (trace_of next bodies procs new) r
-  going-told T U a b c i j k old now new stock some left e (Ok x) is g p = absurd is
-  going-told T U a b c i j k old now new stock some left e (Err given) is g p =
-      subst (λ given. Tells {T = U} (stream a c i k) (trace_of next bodies procs old) (trace_before next bodies procs new) (trace_of next bodies procs new) (Err given)) (sym is)
-      (tells-other T U (stream a c i k) (trace_of next bodies procs old) (trace_before next bodies procs new) (trace_of next bodies procs new) e
-      (tells-then {T = T} a b c i j k (trace_of next bodies procs old) (trace_of next bodies procs now) (trace_before next bodies procs new) (trace_of next bodies procs new) (Err e) g.told p.told))
+      → Came (stream a c i k) (λ planned plan. finished planned plan) old new stock left r
+  going-fails T U a b c i j k old now new stock some left e r is g p =
+      does-err U (stream a c i k) (λ planned plan. finished planned plan) old new stock left r e is (record {
+        ran = ran-other T U (stream a c i k) old new e (ran-behind a b c i j k old now new (Err e) g.same g.told p.ran);
+        comes = tt;
+        part = going-part (stream a b i j) (stream b c j k) old now new stock some left e g p;
+      })
+
+  -- a run to the end, which its last round found
+  pub going-ends : {T U : Type 0} (a b c : Option (List ℕ)) (i j k : ℕ) (old now new : Played P) (stock some left : Shelves) (halt : Halt) (x : T) (y : U)
+      → Going (stream a b i j) old now stock some → Came (stream b c j k) (λ planned plan. round planned plan) now new some left (Ok x)
+      → plan_over (planned_of next bodies now) (plan_now next bodies now some) ≡ Some halt
+      → Came (stream a c i k) (λ planned plan. finished planned plan) old new stock left (Ok y)
+  going-ends a b c i j k old now new stock some left halt x y g p is = record {
+    ran = ran-answer (stream a c i k) old new x y (ran-behind a b c i j k old now new (Ok x) g.same g.told p.ran);
+    comes = going-finishes (stream a b i j) (stream b c j k) old now new stock some left halt x g p is;
+    part = tt;
+  }
 
   -- a new run has done nothing yet
   new-opens : (run : Played P) (stock : Shelves) → IsNew run → plan_now next bodies run stock ≡ opening_plan (planned_of next bodies run) stock
@@ -454,10 +523,3 @@ module _ {B P : Type 0} (next : Next B) (bodies : P → List B) (procs : P → L
   pub new-whole : (run : Played P) (stock : Shelves) → IsNew run → finished (planned_of next bodies run) (plan_now next bodies run stock) ≡ plan_whole (planned_of next bodies run) stock
   unfolding plan_whole
   new-whole run stock h = ap (finished (planned_of next bodies run)) (new-opens run stock h)
-
-  -- ---- what is told at the end of a run
-
-  pub told-part : {T : Type 0} (s : Stream) (t least v : List ℕ) (r : Result T RunErr) → Tells s t least v r → OnErr r (WritesPart s.old s.new t v)
-  told-part s t least v (Ok x) h = tt
-  told-part s t least v (Err fails.NoMemory) h = λ base is. (length v, h.0 base is ∙ rw take-length refl)
-  told-part s t least v (Err fails.WriteFault) h = λ base is. let cut = h.0 base is in (cut.kept, cut.told)

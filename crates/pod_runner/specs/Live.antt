@@ -3,8 +3,9 @@ use Rattle.event_gate.specs.Inlet.{AllTold, EachInlet, HasEvent, Intake, IsInlet
 use Rattle.pod_events.specs.Events.{is_takeable}
 use Rattle.lwp_types.specs.Poll.{Next}
 use Rattle.lwp_types.specs.declared.call.Line.{Line}
-use Rattle.pod_runner.specs.Due.{IsDefined, armed_calls}
-use Rattle.pod_runner.specs.Run.{EndsAt, GoesOn, Played, Tells, phase_now, session_of, setting_of, trace_before, trace_of}
+use Rattle.pod_runner.specs.Does.{RunsOn}
+use Rattle.pod_runner.specs.Due.{armed_calls}
+use Rattle.pod_runner.specs.Run.{EndsAt, Played, phase_now, session_of, setting_of}
 use Rattle.whole_streams.specs.Streams.{Stream}
 use Rattle.pod_runner.specs.Session.{Made}
 use Rattle.pod_runner.specs.declared.live.Live.{Live}
@@ -12,7 +13,7 @@ use Rattle.pod_runner.specs.declared.phase.RunErr.{RunErr}
 use Rattle.pod_runner.specs.declared.session.Took.{Took}
 use Rattle.trace_text.specs.declared.ends.Halt.{Halt}
 use Rattle.std.specs.List.{All, filter}
-use Rattle.std.specs.Prelude.{Bool, Err, List, Ok, OnOk, Option, None, Result, Some, [], false, length, map, true, ℕ, ◌++◌, ◌+◌, ◌<◌, ◌==◌, ◌≡◌, ◌≤◌}
+use Rattle.std.specs.Prelude.{Bool, Err, List, Ok, Option, None, Result, Some, [], length, map, true, ℕ, ◌++◌, ◌+◌, ◌<◌, ◌==◌, ◌≡◌, ◌≤◌}
 use Rattle.pod_runner.specs.declared.live.Live.TheVariants as live
 use Rattle.pod_runner.specs.declared.phase.Phase.TheVariants as phase
 use Rattle.pod_runner.specs.declared.phase.RunErr.TheVariants as fails
@@ -58,14 +59,12 @@ pub record Draws {B P : Type 0} (next : Next B) (bodies : P → List B) (old new
   pub given : EachInlet (Gives (later ++ lost)) before after
   pub known : All (λ took. HasEvent before took.event) (later ++ lost)
 
--- what a run, its inlets and a sink come to together: it goes on, and tells the lines of its steps
+-- what a run, its inlets and a sink come to together
 pub record LivesOn {B P T : Type 0} (next : Next B) (bodies : P → List B) (proc_names : P → List (List ℕ)) (stream : Stream)
     (old new : Played P) (before after : List Intake) (result : Result T RunErr) : Type 0 where
-  pub same : GoesOn old new
-  pub made : IsDefined (setting_of next bodies new) new.takes new.calls
-  pub room : new.calls ≤ new.turns
-  pub told : Tells stream (trace_of next bodies proc_names old) (trace_before next bodies proc_names new) (trace_of next bodies proc_names new) result
-  pub sound : OnOk result (new.failed ≡ false)
+  -- it went on, and told its steps
+  pub ran : RunsOn next bodies proc_names stream old new result
+  -- what it took is what its inlets gave; one line is lost at most, where memory was wanting for it
   pub draws : Draws next bodies old new before after (may_lose result)
 
 -- ---- looks

@@ -1,13 +1,12 @@
 // A run over a gate, from step to step, until its end.
-ghost use Rattle.std.specs.Prelude.{◌≡◌, ◌<◌, ◌≤◌, false, IfNone, IfOk, IfSome, IsTrue, OnOk, OnErr, IsErrOf};
+ghost use Rattle.std.specs.Prelude.{◌≡◌, ◌<◌, ◌≤◌, false, IfNone, IfOk, IfSome, IsTrue, OnOk};
 ghost use Rattle.std.specs.Slice.Scan.{HoldsNowhere, IsFirstPlace};
 ghost use Rattle.pod_events.specs.Events.{is_takeable};
-ghost use Rattle.lwp_types.specs.Streams.{Rose};
 ghost use Rattle.pod_runner.specs.Does.{Does};
 ghost use Rattle.pod_runner.specs.Due.{IsDefined};
 ghost use Rattle.pod_runner.specs.Eager.{IsFirstPart, boundary, finished, offered, plan_over, plan_whole, round};
 ghost use Rattle.pod_runner.specs.Over.{can_take};
-ghost use Rattle.pod_runner.specs.Run.{setting_of, session_of, plan_now, planned_of, trace_before, trace_of, EndsAt, IsNew, Writes, WritesCut, WritesPart, GoesOn};
+ghost use Rattle.pod_runner.specs.Run.{setting_of, session_of, plan_now, planned_of, EndsAt, IsNew};
 ghost use Rattle.whole_streams.specs.Streams.{sides};
 
 use crate::playing::Run;
@@ -151,16 +150,10 @@ pub fn run<'s, B: Polled<'s>, P: Program<B>, G: Gate<'s>, K: Sink>(
     sink: &mut K,
 ) -> Result<Halt, RunErr>
     requires sound { run.old.failed ≡ false }
-    ensures same { GoesOn run.old run.new }
+    ensures does { Does B.next P.bodies P.proc_names (sides K.written K.faults sink.old sink.new)
+        (λ planned plan. finished planned plan) run.old run.new (G.stock gate.old)
+        (G.stock gate.new) result }
     ensures ends { IfOk result (EndsAt B.next P.bodies run.new (G.stock gate.new)) }
-    ensures finishes { OnOk result
-        (plan_now B.next P.bodies run.new (G.stock gate.new)
-        ≡ finished (planned_of B.next P.bodies run.old)
-        (plan_now B.next P.bodies run.old (G.stock gate.old))) }
-    ensures first_part { OnErr result
-        (IsFirstPart (plan_now B.next P.bodies run.new (G.stock gate.new))
-        (finished (planned_of B.next P.bodies run.old)
-        (plan_now B.next P.bodies run.old (G.stock gate.old)))) }
     ensures eager { IsNew run.old →
         OnOk result
         (plan_now B.next P.bodies run.new (G.stock gate.new)
@@ -168,30 +161,6 @@ pub fn run<'s, B: Polled<'s>, P: Program<B>, G: Gate<'s>, K: Sink>(
     ensures begun { IsNew run.old →
         IsFirstPart (plan_now B.next P.bodies run.new (G.stock gate.new))
         (plan_whole (planned_of B.next P.bodies run.old) (G.stock gate.old)) }
-    ensures calls { run.new.calls ≤ run.old.turns }
-    ensures made { IsDefined (setting_of B.next P.bodies run.new) run.new.takes run.new.calls }
-    ensures unfailed { OnOk result (run.new.failed ≡ false) }
-    ensures whole { OnOk result
-        (Writes (K.written sink.old) (K.written sink.new)
-        (trace_of B.next P.bodies P.proc_names run.old)
-        (trace_of B.next P.bodies P.proc_names run.new)) }
-    ensures part { OnErr result
-        (WritesPart (K.written sink.old) (K.written sink.new)
-        (trace_of B.next P.bodies P.proc_names run.old)
-        (trace_of B.next P.bodies P.proc_names run.new)) }
-    ensures stopped { IsErrOf result RunErr.NoMemory →
-        Writes (K.written sink.old) (K.written sink.new)
-        (trace_of B.next P.bodies P.proc_names run.old)
-        (trace_of B.next P.bodies P.proc_names run.new) }
-    ensures cut { IsErrOf result RunErr.WriteFault →
-        WritesCut (K.written sink.old) (K.written sink.new)
-        (trace_of B.next P.bodies P.proc_names run.old)
-        (trace_before B.next P.bodies P.proc_names run.new)
-        (trace_of B.next P.bodies P.proc_names run.new) }
-    ensures faults { OnOk result (K.faults sink.new ≡ K.faults sink.old) }
-    ensures later { K.faults sink.old ≤ K.faults sink.new }
-    ensures cause { IsErrOf result RunErr.WriteFault → Rose (K.faults sink.old) (K.faults sink.new) }
-    ensures memory { IsErrOf result RunErr.NoMemory → K.faults sink.new ≡ K.faults sink.old }
 {
     loop {
         if let Some(halt) = go_round(run, gate, sink)? {

@@ -1,10 +1,7 @@
 // A run over inlets, into which other threads post while it goes on.
-ghost use Rattle.std.specs.Prelude.{◌≡◌, ◌≤◌, false, map, IfOk, OnOk, OnErr, IsErrOf};
-ghost use Rattle.lwp_types.specs.Streams.{Rose};
-ghost use Rattle.pod_runner.specs.Due.{IsDefined};
+ghost use Rattle.std.specs.Prelude.{◌≡◌, false, map, IfOk, OnOk};
 ghost use Rattle.event_gate.specs.Inlet.{EventsRise};
-ghost use Rattle.pod_runner.specs.Live.{Answers, AnswersIf, Draws, LivesOn, LooksAtAll, may_lose};
-ghost use Rattle.pod_runner.specs.Run.{setting_of, trace_before, trace_of, Writes, WritesCut, WritesPart, GoesOn};
+ghost use Rattle.pod_runner.specs.Live.{Answers, AnswersIf, LivesOn, LooksAtAll};
 ghost use Rattle.whole_streams.specs.Streams.{sides};
 
 use crate::inlets::{all_told, serve_all};
@@ -56,8 +53,10 @@ fn go_round<'s, B: Polled<'s>, P: Program<B>, I: Inlet<'s>, K: Sink, R: Wait>(
     }
 }
 
-// Round after round, until there is an answer.
-fn go_on<'s, B: Polled<'s>, P: Program<B>, I: Inlet<'s>, K: Sink, R: Wait>(
+/// Makes calls, and takes each line that an inlet has as soon as it can be delivered, until the end; or until nobody may run, no
+/// line is there that can be delivered, and some client's pass is out still. Lines that come later can be taken by another call.
+/// An event without an inlet has no lines. Where memory is wanting for a line that was taken, that line is lost.
+pub fn run_live<'s, B: Polled<'s>, P: Program<B>, I: Inlet<'s>, K: Sink, R: Wait>(
     rt: &R,
     run: &mut Run<'s, B, P>,
     inlets: &mut Vec<I>,
@@ -81,52 +80,4 @@ fn go_on<'s, B: Polled<'s>, P: Program<B>, I: Inlet<'s>, K: Sink, R: Wait>(
         }
     }
     unreachable!()
-}
-
-/// Makes calls, and takes each line that an inlet has as soon as it can be delivered, until the end; or until nobody may run, no
-/// line is there that can be delivered, and some client's pass is out still. Lines that come later can be taken by another call.
-/// An event without an inlet has no lines. Where memory is wanting for a line that was taken, that line is lost.
-pub fn run_live<'s, B: Polled<'s>, P: Program<B>, I: Inlet<'s>, K: Sink, R: Wait>(
-    rt: &R,
-    run: &mut Run<'s, B, P>,
-    inlets: &mut Vec<I>,
-    sink: &mut K,
-) -> Result<Live, RunErr>
-    requires sound { run.old.failed ≡ false }
-    requires rise { EventsRise (map I.intake inlets.old.items) }
-    ensures same { GoesOn run.old run.new }
-    ensures made { IsDefined (setting_of B.next P.bodies run.new) run.new.takes run.new.calls }
-    ensures calls { run.new.calls ≤ run.old.turns }
-    ensures unfailed { OnOk result (run.new.failed ≡ false) }
-    ensures draws { Draws B.next P.bodies run.old run.new (map I.intake inlets.old.items)
-        (map I.intake inlets.new.items) (may_lose result) }
-    ensures looked { OnOk result
-        (LooksAtAll B.next P.bodies run.old run.new (map I.intake inlets.old.items)
-        (map I.intake inlets.new.items)) }
-    ensures answers { IfOk result
-        (Answers B.next P.bodies run.new (map I.intake inlets.old.items)
-        (map I.intake inlets.new.items)) }
-    ensures whole { OnOk result
-        (Writes (K.written sink.old) (K.written sink.new)
-        (trace_of B.next P.bodies P.proc_names run.old)
-        (trace_of B.next P.bodies P.proc_names run.new)) }
-    ensures part { OnErr result
-        (WritesPart (K.written sink.old) (K.written sink.new)
-        (trace_of B.next P.bodies P.proc_names run.old)
-        (trace_of B.next P.bodies P.proc_names run.new)) }
-    ensures stopped { IsErrOf result RunErr.NoMemory →
-        Writes (K.written sink.old) (K.written sink.new)
-        (trace_of B.next P.bodies P.proc_names run.old)
-        (trace_of B.next P.bodies P.proc_names run.new) }
-    ensures cut { IsErrOf result RunErr.WriteFault →
-        WritesCut (K.written sink.old) (K.written sink.new)
-        (trace_of B.next P.bodies P.proc_names run.old)
-        (trace_before B.next P.bodies P.proc_names run.new)
-        (trace_of B.next P.bodies P.proc_names run.new) }
-    ensures faults { OnOk result (K.faults sink.new ≡ K.faults sink.old) }
-    ensures later { K.faults sink.old ≤ K.faults sink.new }
-    ensures cause { IsErrOf result RunErr.WriteFault → Rose (K.faults sink.old) (K.faults sink.new) }
-    ensures memory { IsErrOf result RunErr.NoMemory → K.faults sink.new ≡ K.faults sink.old }
-{
-    go_on(rt, run, inlets, sink)
 }

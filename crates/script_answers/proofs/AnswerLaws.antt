@@ -78,7 +78,7 @@ no-rise h = omega (arith, h)
 -- in silence no write fails
 pub never-fails : {T : Type 0} (now new : Played Script) (some left : Shelves) (e : RunErr) → Round {T = T} now new some left (Err e) → e ≡ fails.NoMemory
 never-fails now new some left fails.NoMemory h = refl
-never-fails now new some left fails.WriteFault h = absurd (no-rise h.told.1)
+never-fails now new some left fails.WriteFault h = absurd (no-rise h.ran.told.1)
 
 -- each round but the last brings the end nearer
 pub falls-so : (now new : Played Script) (some left : Shelves) (x : Option Halt) → Round now new some left (Ok x) → plan_over (planned_by now) (plan_at now some) ≡ None
@@ -168,15 +168,15 @@ module _ (client : ℕ) (script : Script) (o : Played Script) (stock : Shelves) 
 
   -- a round failed, and with it the run
   pub came-failing : (now new : Played Script) (some left : Shelves) (e : RunErr) → Goes o now stock some → Round {T = Option Halt} now new some left (Err e) → Came script o.turns new left
-  came-failing now new some left e going p = came-by new left (goes-then body_next bodies_of proc_names o now new going.same p.same)
-      (going-part body_next bodies_of proc_names silence silence o now new stock some left e going p) p.made
+  came-failing now new some left e going p = came-by new left (goes-then body_next bodies_of proc_names o now new going.same p.ran.same)
+      (going-part body_next bodies_of proc_names silence silence o now new stock some left e going p) p.ran.made
 
   -- a round was made
   pub came-going : (now new : Played Script) (some left : Shelves) (x : Option Halt) → Goes o now stock some → Round now new some left (Ok x) → Came script o.turns new left
   came-going now new some left x going p =
       let on = going-on body_next bodies_of proc_names None None None 0 0 0 o now new stock some left x going p in
       came-by new left on.same
-      (subst (λ (whole : Plan ThreadBody). IsFirstPart (plan_at new left) whole) on.ends (finished-grows (planned_by o) (plan_at new left))) p.made
+      (subst (λ (whole : Plan ThreadBody). IsFirstPart (plan_at new left) whole) on.ends (finished-grows (planned_by o) (plan_at new left))) p.ran.made
 
   -- what is written is the first part of all that the client is told
   prefix-by : (now : Played Script) (some : Shelves) (w v : Option (List ℕ)) → IsFirstPart (plan_at now some) (plan_of script o.turns)
@@ -219,7 +219,7 @@ module _ (client : ℕ) (script : Script) (o : Played Script) (stock : Shelves) 
       whole-by halt x p is =
           let still : plan_at new left ≡ plan_at now some = p.comes ∙ round-ends (event_of script client) (planned_by now) (plan_at now some) halt is in
           let over-new : plan_over (planned_by now) (plan_at new left) ≡ Some halt = ap (plan_over (planned_by now)) still ∙ is in
-          let ends : EndsAt body_next bodies_of new left halt = ap (λ t. over t (run.session_of body_next bodies_of new).live.pod new.calls left) p.same.turns ∙ over-new in
+          let ends : EndsAt body_next bodies_of new left halt = ap (λ t. over t (run.session_of body_next bodies_of new).live.pod new.calls left) p.ran.same.turns ∙ over-new in
           let eagerly : IsNew o → plan_at new left ≡ plan_whole (planned_by o) stock = λ fresh. going-finishes body_next bodies_of proc_names silence silence o now new stock some left halt x so.going p is
           ∙ new-whole body_next bodies_of proc_names o stock fresh in
           let done = finished script o.turns o new stock left halt (came-going now new some left x so.going p) opening stocked eagerly ends in

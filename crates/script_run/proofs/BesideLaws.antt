@@ -7,11 +7,9 @@ use Rattle.live_clients.specs.Served.{AreServed, Gave, Hears}
 use Rattle.script_run.proofs.LeftLaws.{taken-append}
 use Rattle.script_run.specs.Beside.{GoesBeside, IsFed, KnowAll}
 use Rattle.script_program.specs.Bodies.{bodies_of, body_next}
-use Rattle.lwp_types.specs.Streams.{Rose}
-use Rattle.pod_runner.proofs.Rounds.{goes-same, goes-then, stream, tells-then}
-use Rattle.pod_runner.specs.Due.{IsDefined}
-use Rattle.pod_runner.specs.Live.{Answers, Draws, Gives, lines_taken, may_lose}
-use Rattle.pod_runner.specs.Run.{Broke, GoesOn, Played, Tells, Writes, WritesCut, Wrote, setting_of, trace_before, trace_of}
+use Rattle.pod_runner.proofs.Rounds.{goes-same, ran-answer, ran-behind, ran-other, stream, tells-broke, tells-wrote}
+use Rattle.pod_runner.specs.Live.{Answers, Draws, Gives, LivesOn, lines_taken, may_lose}
+use Rattle.pod_runner.specs.Run.{Broke, GoesOn, Played, Wrote, trace_before, trace_of}
 use Rattle.whole_streams.specs.Streams.{Stream}
 use Rattle.pod_runner.specs.declared.live.Live.{Live}
 use Rattle.pod_runner.specs.declared.live.Live.TheVariants as live
@@ -21,7 +19,7 @@ use Rattle.pod_runner.specs.declared.session.Took.{Took}
 use Rattle.script_text.specs.Script.{proc_names}
 use Rattle.script_text.specs.declared.script.Script.{Script}
 use Rattle.std.specs.List.{All, AllByRecursion}
-use Rattle.std.specs.Prelude.{Bool, Err, IsErrAnd, IsErrOf, Ok, OnOk, Option, Result}
+use Rattle.std.specs.Prelude.{Bool, Err, IsErrAnd, IsErrOf, Ok, Option, Result}
 use Rattle.std.proofs.Common.{List, [], ap, append-nil, append_assoc, arith, false, length, refl, slice_index_or, subst, sym, true, ℕ, ◌++◌, ◌<◌, ◌∙◌, ◌∷◌, ◌≡◌, ◌≤◌}
 use Rattle.std.proofs.lemmas.List.Elements.{All-append, All-from_recursion, recursion_from_All}
 
@@ -105,26 +103,9 @@ gave-drawn old new a b most p = (
 
 -- ---- one after the other
 
-tells-of : {T : Type 0} (s : Stream) (before least after : List ℕ) (r : Result T RunErr) → OnOk r (Writes s.old s.new before after) → (IsErrOf r fails.NoMemory → Writes s.old s.new before after)
-    → (IsErrOf r fails.WriteFault → WritesCut s.old s.new before least after) → OnOk r (s.faults_new ≡ s.faults_old) → s.faults_old ≤ s.faults_new
-    → (IsErrOf r fails.WriteFault → Rose s.faults_old s.faults_new) → (IsErrOf r fails.NoMemory → s.faults_new ≡ s.faults_old) → Tells s before least after r
-tells-of s before least after (Ok x) whole stopped cut faults later cause memory = (whole, faults)
-tells-of s before least after (Err fails.NoMemory) whole stopped cut faults later cause memory = (stopped refl, memory refl)
-tells-of s before least after (Err fails.WriteFault) whole stopped cut faults later cause memory = (cut refl, cause refl, later)
-
 -- what a run comes to over its inlets alone
-pub goes-live : {T : Type 0} (s : Stream) (old new : Played Script) (a b : List Intake) (r : Result T RunErr) → GoesOn old new → IsDefined (setting_of body_next bodies_of new) new.takes new.calls → new.calls ≤ old.turns
-    → OnOk r (new.failed ≡ false) → Draws body_next bodies_of old new a b (may_lose r) → OnOk r (Writes s.old s.new (told_by old) (told_by new)) → (IsErrOf r fails.NoMemory → Writes s.old s.new (told_by old) (told_by new))
-    → (IsErrOf r fails.WriteFault → WritesCut s.old s.new (told_by old) (told_before new) (told_by new)) → OnOk r (s.faults_new ≡ s.faults_old) → s.faults_old ≤ s.faults_new
-    → (IsErrOf r fails.WriteFault → Rose s.faults_old s.faults_new) → (IsErrOf r fails.NoMemory → s.faults_new ≡ s.faults_old) → GoesBeside s old new a b r
-goes-live s old new a b r same made calls sound draws whole stopped cut faults later cause memory = record {
-  same = same;
-  made = made;
-  room = omega (arith, calls, same.turns);
-  told = tells-of s (told_by old) (told_before new) (told_by new) r whole stopped cut faults later cause memory;
-  sound = sound;
-  fed = fed-drawn old new a b (may_lose r) draws;
-}
+pub goes-live : {T : Type 0} (s : Stream) (old new : Played Script) (a b : List Intake) (r : Result T RunErr) → LivesOn body_next bodies_of proc_names s old new a b r → GoesBeside s old new a b r
+goes-live s old new a b r h = record { ran = h.ran; fed = fed-drawn old new a b (may_lose r) h.draws }
 
 -- so far, a run has gone on
 pub record WentBeside (s : Stream) (old now : Played Script) (before some : List Intake) : Type 0 where
@@ -137,7 +118,7 @@ pub went-same : (w : Option (List ℕ)) (f : ℕ) (r : Played Script) (inlets : 
 went-same w f r inlets sound = record { same = goes-same body_next bodies_of proc_names r; sound = sound; told = (λ base is. is, refl); fed = λ h. h }
 
 pub went-of : {T : Type 0} (s : Stream) (old now : Played Script) (before some : List Intake) (x : T) → GoesBeside s old now before some (Ok x) → WentBeside s old now before some
-went-of s old now before some x h = record { same = h.same; sound = h.sound; told = h.told; fed = h.fed }
+went-of s old now before some x h = record { same = h.ran.same; sound = h.ran.sound; told = h.ran.told; fed = h.fed }
 
 -- what was told and what failed is the same for whoever hands it on
 pub went-handed : (a b c : Option (List ℕ)) (i j k : ℕ) (old now : Played Script) (before some : List Intake) → c ≡ b → k ≡ j → WentBeside (stream a b i j) old now before some → WentBeside (stream a c i k) old now before some
@@ -148,25 +129,21 @@ went-heard s old now before some heard h p = record { same = p.same; sound = p.s
 
 pub goes-heard : {T : Type 0} (s : Stream) (old new : Played Script) (before after heard : List Intake) (r : Result T RunErr) → EachInlet Hears after heard → GoesBeside s old new before after r → GoesBeside s old new before heard r
 goes-heard s old new before after heard r h p =
-    record { same = p.same; made = p.made; room = p.room; told = p.told; sound = p.sound; fed = λ f. fed-heard new.takes after heard (may_lose r) h (p.fed f) }
+    record { ran = p.ran; fed = λ f. fed-heard new.takes after heard (may_lose r) h (p.fed f) }
 
 pub went-then : {T : Type 0} (a b c : Option (List ℕ)) (i j k : ℕ) (old mid new : Played Script) (before some after : List Intake) (r : Result T RunErr)
     → WentBeside (stream a b i j) old mid before some → GoesBeside (stream b c j k) mid new some after r → GoesBeside (stream a c i k) old new before after r
 went-then a b c i j k old mid new before some after r p q = record {
-  same = goes-then body_next bodies_of proc_names old mid new p.same q.same;
-  made = q.made;
-  room = q.room;
-  told = tells-then a b c i j k (told_by old) (told_by mid) (told_before new) (told_by new) r p.told q.told;
-  sound = q.sound;
+  ran = ran-behind body_next bodies_of proc_names a b c i j k old mid new r p.same p.told q.ran;
   fed = λ f. q.fed (p.fed f);
 }
 
 pub goes-answer : {T U : Type 0} (s : Stream) (old new : Played Script) (before after : List Intake) (x : T) (y : U) → GoesBeside s old new before after (Ok x) → GoesBeside s old new before after (Ok y)
-goes-answer s old new before after x y h = record { same = h.same; made = h.made; room = h.room; told = h.told; sound = h.sound; fed = h.fed }
+goes-answer s old new before after x y h = record { ran = ran-answer body_next bodies_of proc_names s old new x y h.ran; fed = h.fed }
 
 goes-other : (T U : Type 0) (s : Stream) (old new : Played Script) (before after : List Intake) (e : RunErr) → GoesBeside {T = T} s old new before after (Err e) → GoesBeside {T = U} s old new before after (Err e)
-goes-other T U s old new before after fails.NoMemory h = record { same = h.same; made = h.made; room = h.room; told = h.told; sound = tt; fed = h.fed }
-goes-other T U s old new before after fails.WriteFault h = record { same = h.same; made = h.made; room = h.room; told = h.told; sound = tt; fed = h.fed }
+goes-other T U s old new before after fails.NoMemory h = record { ran = ran-other body_next bodies_of proc_names T U s old new fails.NoMemory h.ran; fed = h.fed }
+goes-other T U s old new before after fails.WriteFault h = record { ran = ran-other body_next bodies_of proc_names T U s old new fails.WriteFault h.ran; fed = h.fed }
 
 -- where the last part fails, so does the whole
 pub goes-err : (T U : Type 0) (s : Stream) (old new : Played Script) (before after : List Intake) (r : Result U RunErr) (e : RunErr)
@@ -177,11 +154,7 @@ goes-err T U s old new before after (Err given) e is h = subst (λ given. GoesBe
 -- a post was refused: what was done until then stands
 pub goes-refused : (T U : Type 0) (s : Stream) (old new : Played Script) (before after : List Intake) (x : T) → GoesBeside s old new before after (Ok x) → GoesBeside {T = U} s old new before after (Err fails.NoMemory)
 goes-refused T U s old new before after x h = record {
-  same = h.same;
-  made = h.made;
-  room = h.room;
-  told = h.told;
-  sound = tt;
+  ran = record { same = h.ran.same; made = h.ran.made; room = h.ran.room; told = h.ran.told; sound = tt };
   fed = λ f. let g = h.fed f in record { lost = g.lost; few = omega (arith, g.few); given = g.given; known = g.known };
 }
 
@@ -207,7 +180,7 @@ never-quiet r before after answer is h told = let quiet = subst (λ (x : Live). 
 -- ---- what an error says
 
 pub wrote-of : {T : Type 0} (s : Stream) (old new : Played Script) (before after : List Intake) (r : Result T RunErr) → GoesBeside s old new before after r → IsErrOf r fails.NoMemory → Wrote s (told_by old) (told_by new)
-wrote-of s old new before after r h is = subst (λ x. Tells s (told_by old) (told_before new) (told_by new) x) is h.told
+wrote-of s old new before after r h is = tells-wrote s (told_by old) (told_before new) (told_by new) r h.ran.told is
 
 pub broke-of : {T : Type 0} (s : Stream) (old new : Played Script) (before after : List Intake) (r : Result T RunErr) → GoesBeside s old new before after r → IsErrOf r fails.WriteFault → Broke s (told_by old) (told_before new) (told_by new)
-broke-of s old new before after r h is = subst (λ x. Tells s (told_by old) (told_before new) (told_by new) x) is h.told
+broke-of s old new before after r h is = tells-broke s (told_by old) (told_before new) (told_by new) r h.ran.told is

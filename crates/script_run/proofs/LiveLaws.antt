@@ -194,12 +194,12 @@ pub record Ran (script : Script) (turns : ℕ) (r : Played Script) (inlets : Lis
 pub ran-of : {T : Type 0} (script : Script) (turns : ℕ) (s : Stream) (o r : Played Script) (before after : List Intake) (texts : List (List (List ℕ))) (result : Result T RunErr) → GoesBeside s o r before after result
     → o ≡ opening_run script turns → All (λ t. t ≡ fresh t.place t.event t.noted) before → texts ≡ texts_from 0 script.clients (lines_posted script) → IsPosted script → AreBack script.clients texts after → Ran script turns r after
 ran-of script turns s o r before after texts result h opening new is posted back =
-    let it = plays script turns o r opening h.same in
+    let it = plays script turns o r opening h.ran.same in
     let fed = h.fed (subst (λ (takes : List Took). IsFed takes before 0) (sym (ap (λ (x : Played Script). x.takes) opening)) (fed-fresh before new)) in
     record {
       plays_it = it;
-      due = subst (λ (x : Setting ThreadBody). IsDefined x r.takes r.calls) (setting-is script turns r it) h.made;
-      room = omega (arith, h.room, it.turns_same);
+      due = subst (λ (x : Setting ThreadBody). IsDefined x r.takes r.calls) (setting-is script turns r it) h.ran.made;
+      room = omega (arith, h.ran.room, it.turns_same);
       lost = fed.lost;
       given = given-of script.clients (lines_posted script) texts after is (are-posts script posted) r.takes (may_lose result) fed back;
     }

@@ -5,16 +5,16 @@ use Rattle.event_gate.specs.Shelves.{event_of}
 use Rattle.event_gate.specs.Texts.{lines_from}
 use Rattle.live_clients.specs.Served.{AreServed, texts_of}
 use Rattle.script_program.specs.Bodies.{bodies_of, body_next}
-use Rattle.pod_runner.specs.Due.{IsDefined}
+use Rattle.pod_runner.specs.Does.{RunsOn}
 use Rattle.pod_runner.specs.Live.{lines_taken, may_lose}
-use Rattle.pod_runner.specs.Run.{GoesOn, Played, Tells, setting_of, trace_before, trace_of}
+use Rattle.pod_runner.specs.Run.{Played}
 use Rattle.whole_streams.specs.Streams.{Stream}
 use Rattle.pod_runner.specs.declared.phase.RunErr.{RunErr}
 use Rattle.pod_runner.specs.declared.session.Took.{Took}
 use Rattle.script_text.specs.Script.{proc_names}
 use Rattle.script_text.specs.declared.script.Script.{Script}
 use Rattle.std.specs.List.{All, slice_index_or}
-use Rattle.std.specs.Prelude.{Bool, List, OnOk, Result, false, length, ℕ, ◌++◌, ◌<◌, ◌≡◌, ◌≤◌}
+use Rattle.std.specs.Prelude.{Bool, List, Result, length, ℕ, ◌++◌, ◌<◌, ◌≡◌, ◌≤◌}
 
 -- The lines that an inlet gave are those that were taken of its event, in order, and then perhaps one that was lost. Each take is of
 -- an inlet's event.
@@ -26,11 +26,7 @@ pub record IsFed (takes : List Took) (inlets : List Intake) (most : ℕ) : Type 
 
 -- a run has gone on, and has told its steps; what was fed to it before and now is what its inlets gave
 pub record GoesBeside {T : Type 0} (stream : Stream) (old new : Played Script) (before after : List Intake) (result : Result T RunErr) : Type 0 where
-  pub same : GoesOn old new
-  pub made : IsDefined (setting_of body_next bodies_of new) new.takes new.calls
-  pub room : new.calls ≤ new.turns
-  pub told : Tells stream (trace_of body_next bodies_of proc_names old) (trace_before body_next bodies_of proc_names new) (trace_of body_next bodies_of proc_names new) result
-  pub sound : OnOk result (new.failed ≡ false)
+  pub ran : RunsOn body_next bodies_of proc_names stream old new result
   pub fed : IsFed old.takes before 0 → IsFed new.takes after (may_lose result)
 
 -- all threads have ended, whether or not they have posted all their lines

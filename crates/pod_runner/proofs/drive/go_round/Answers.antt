@@ -7,7 +7,7 @@ pub turn-requires : goal.turn-requires
 turn-requires g c = λ k. (
   (refl, tt),
   (
-    c.in_ok-serve_all-in-Turn.ensures.sound,
+    c.in_ok-serve_all-in-Turn.ensures.ran.sound,
     due-still g.B.Body.next g.P.Program.bodies g.P.Program.proc_names (stream (g.K.Sink.written c.args.sink.now) (g.K.Sink.written c.serve_all.new.sink) (g.K.Sink.faults c.args.sink.now) (g.K.Sink.faults c.serve_all.new.sink)) c.args.run.now c.serve_all.new.run (g.G.Gate.stock c.args.gate.now) (g.G.Gate.stock c.serve_all.new.gate) _ (sym c.phase.ensures.phase ∙ c.in-Turn.is) c.in_ok-serve_all-in-Turn.ensures,
   ),
 )
@@ -16,14 +16,14 @@ pub returns-in_ok-turn-in-Turn-clause-does : goal.returns-in_ok-turn-in-Turn-cla
 returns-in_ok-turn-in-Turn-clause-does g c = does-turn g.B.Body.next g.P.Program.bodies g.P.Program.proc_names (g.K.Sink.written c.args.sink.now) (g.K.Sink.written c.serve_all.new.sink) (g.K.Sink.written c.turn.new.sink) (g.K.Sink.faults c.args.sink.now) (g.K.Sink.faults c.serve_all.new.sink) (g.K.Sink.faults c.turn.new.sink)
     c.args.run.now c.serve_all.new.run c.turn.new.self (g.G.Gate.stock c.args.gate.now) (g.G.Gate.stock c.serve_all.new.gate) _ c.in_ok-turn-in-Turn.field-0 _ (sym c.phase.ensures.phase ∙ c.in-Turn.is) c.in_ok-serve_all-in-Turn.ensures
     (does-call g.B.Body.next g.P.Program.bodies g.P.Program.proc_names (stream (g.K.Sink.written c.serve_all.new.sink) (g.K.Sink.written c.turn.new.sink) (g.K.Sink.faults c.serve_all.new.sink) (g.K.Sink.faults c.turn.new.sink)) c.serve_all.new.run c.turn.new.self (g.G.Gate.stock c.serve_all.new.gate) (Ok c.in_ok-turn-in-Turn.field-0)
-    c.in_ok-serve_all-in-Turn.ensures.sound c.serve_all.ensures.made c.in_ok-turn-in-Turn.ensures.after c.in_ok-turn-in-Turn.ensures.told c.turn.ensures.made c.turn.ensures.room)
+    c.in_ok-serve_all-in-Turn.ensures.ran.sound c.serve_all.ensures.ran.made c.in_ok-turn-in-Turn.ensures.after c.in_ok-turn-in-Turn.ensures.told c.turn.ensures.made c.turn.ensures.room)
 
 pub returns-in_err-turn-in-Turn-clause-does : goal.returns-in_err-turn-in-Turn-clause-does
 returns-in_err-turn-in-Turn-clause-does g c = does-err g.B.Body.next g.P.Program.bodies g.P.Program.proc_names _ (stream (g.K.Sink.written c.args.sink.now) (g.K.Sink.written c.turn.new.sink) (g.K.Sink.faults c.args.sink.now) (g.K.Sink.faults c.turn.new.sink)) (λ planned plan. round planned plan) c.args.run.now c.turn.new.self (g.G.Gate.stock c.args.gate.now) (g.G.Gate.stock c.serve_all.new.gate) c.from_residual-in_err-turn-in-Turn.result c.in_err-turn-in-Turn.field-0.0 c.from_residual-in_err-turn-in-Turn.ensures.1
     (does-turn-call g.B.Body.next g.P.Program.bodies g.P.Program.proc_names (g.K.Sink.written c.args.sink.now) (g.K.Sink.written c.serve_all.new.sink) (g.K.Sink.written c.turn.new.sink) (g.K.Sink.faults c.args.sink.now) (g.K.Sink.faults c.serve_all.new.sink) (g.K.Sink.faults c.turn.new.sink)
     c.args.run.now c.serve_all.new.run c.turn.new.self (g.G.Gate.stock c.args.gate.now) (g.G.Gate.stock c.serve_all.new.gate) _ c.in_err-turn-in-Turn.field-0.0 (sym c.phase.ensures.phase ∙ c.in-Turn.is) c.in_ok-serve_all-in-Turn.ensures
     (does-call g.B.Body.next g.P.Program.bodies g.P.Program.proc_names (stream (g.K.Sink.written c.serve_all.new.sink) (g.K.Sink.written c.turn.new.sink) (g.K.Sink.faults c.serve_all.new.sink) (g.K.Sink.faults c.turn.new.sink)) c.serve_all.new.run c.turn.new.self (g.G.Gate.stock c.serve_all.new.gate) (Err c.in_err-turn-in-Turn.field-0.0)
-    c.in_ok-serve_all-in-Turn.ensures.sound c.serve_all.ensures.made c.in_err-turn-in-Turn.ensures.after c.in_err-turn-in-Turn.ensures.told c.turn.ensures.made c.turn.ensures.room))
+    c.in_ok-serve_all-in-Turn.ensures.ran.sound c.serve_all.ensures.ran.made c.in_err-turn-in-Turn.ensures.after c.in_err-turn-in-Turn.ensures.told c.turn.ensures.made c.turn.ensures.room))
 
 pub returns-in_err-serve_all-in-Idle-clause-does : goal.returns-in_err-serve_all-in-Idle-clause-does
 returns-in_err-serve_all-in-Idle-clause-does g c = does-err g.B.Body.next g.P.Program.bodies g.P.Program.proc_names _ (stream (g.K.Sink.written c.args.sink.now) (g.K.Sink.written c.serve_all-in-Idle.new.sink) (g.K.Sink.faults c.args.sink.now) (g.K.Sink.faults c.serve_all-in-Idle.new.sink)) (λ planned plan. round planned plan) c.args.run.now c.serve_all-in-Idle.new.run (g.G.Gate.stock c.args.gate.now) (g.G.Gate.stock c.serve_all-in-Idle.new.gate) c.from_residual-in_err-serve_all-in-Idle.result _ c.from_residual-in_err-serve_all-in-Idle.ensures.1

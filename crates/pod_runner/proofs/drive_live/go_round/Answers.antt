@@ -16,13 +16,13 @@ pub returns-in_ok-turn-in-Turn-clause-lives : goal.returns-in_ok-turn-in-Turn-cl
 returns-in_ok-turn-in-Turn-clause-lives g c = lives-answer g.B.Body.next g.P.Program.bodies g.P.Program.proc_names (stream (g.K.Sink.written c.args.sink.now) (g.K.Sink.written c.turn.new.sink) (g.K.Sink.faults c.args.sink.now) (g.K.Sink.faults c.turn.new.sink)) c.args.run.now c.turn.new.self (map g.I.Inlet.intake c.args.inlets.now.items) (map g.I.Inlet.intake c.serve_all.new.inlets.items) c.in_ok-turn-in-Turn.field-0 _
     (lives-then g.B.Body.next g.P.Program.bodies g.P.Program.proc_names (g.K.Sink.written c.args.sink.now) (g.K.Sink.written c.serve_all.new.sink) (g.K.Sink.written c.turn.new.sink) (g.K.Sink.faults c.args.sink.now) (g.K.Sink.faults c.serve_all.new.sink) (g.K.Sink.faults c.turn.new.sink) c.args.run.now c.serve_all.new.run c.turn.new.self (map g.I.Inlet.intake c.args.inlets.now.items) (map g.I.Inlet.intake c.serve_all.new.inlets.items) (map g.I.Inlet.intake c.serve_all.new.inlets.items) c.in_ok-serve_all-in-Turn.field-0 (Ok c.in_ok-turn-in-Turn.field-0) c.in_ok-serve_all-in-Turn.ensures.lives
     (lives-call g.B.Body.next g.P.Program.bodies g.P.Program.proc_names (stream (g.K.Sink.written c.serve_all.new.sink) (g.K.Sink.written c.turn.new.sink) (g.K.Sink.faults c.serve_all.new.sink) (g.K.Sink.faults c.turn.new.sink)) c.serve_all.new.run c.turn.new.self (map g.I.Inlet.intake c.serve_all.new.inlets.items) (Ok c.in_ok-turn-in-Turn.field-0)
-    c.in_ok-serve_all-in-Turn.ensures.lives.sound c.in_ok-serve_all-in-Turn.ensures.lives.made c.in_ok-turn-in-Turn.ensures.after c.in_ok-turn-in-Turn.ensures.told c.turn.ensures.made c.turn.ensures.room))
+    c.in_ok-serve_all-in-Turn.ensures.lives.ran.sound c.in_ok-serve_all-in-Turn.ensures.lives.ran.made c.in_ok-turn-in-Turn.ensures.after c.in_ok-turn-in-Turn.ensures.told c.turn.ensures.made c.turn.ensures.room))
 
 pub returns-in_err-turn-in-Turn-clause-lives : goal.returns-in_err-turn-in-Turn-clause-lives
 returns-in_err-turn-in-Turn-clause-lives g c = lives-err g.B.Body.next g.P.Program.bodies g.P.Program.proc_names (Unit {0}) _ (stream (g.K.Sink.written c.args.sink.now) (g.K.Sink.written c.turn.new.sink) (g.K.Sink.faults c.args.sink.now) (g.K.Sink.faults c.turn.new.sink)) c.args.run.now c.turn.new.self (map g.I.Inlet.intake c.args.inlets.now.items) (map g.I.Inlet.intake c.serve_all.new.inlets.items) c.from_residual-in_err-turn-in-Turn.result c.in_err-turn-in-Turn.field-0.0 c.from_residual-in_err-turn-in-Turn.ensures.1
     (lives-then g.B.Body.next g.P.Program.bodies g.P.Program.proc_names (g.K.Sink.written c.args.sink.now) (g.K.Sink.written c.serve_all.new.sink) (g.K.Sink.written c.turn.new.sink) (g.K.Sink.faults c.args.sink.now) (g.K.Sink.faults c.serve_all.new.sink) (g.K.Sink.faults c.turn.new.sink) c.args.run.now c.serve_all.new.run c.turn.new.self (map g.I.Inlet.intake c.args.inlets.now.items) (map g.I.Inlet.intake c.serve_all.new.inlets.items) (map g.I.Inlet.intake c.serve_all.new.inlets.items) c.in_ok-serve_all-in-Turn.field-0 (Err c.in_err-turn-in-Turn.field-0.0) c.in_ok-serve_all-in-Turn.ensures.lives
     (lives-call g.B.Body.next g.P.Program.bodies g.P.Program.proc_names (stream (g.K.Sink.written c.serve_all.new.sink) (g.K.Sink.written c.turn.new.sink) (g.K.Sink.faults c.serve_all.new.sink) (g.K.Sink.faults c.turn.new.sink)) c.serve_all.new.run c.turn.new.self (map g.I.Inlet.intake c.serve_all.new.inlets.items) (Err c.in_err-turn-in-Turn.field-0.0)
-    c.in_ok-serve_all-in-Turn.ensures.lives.sound c.in_ok-serve_all-in-Turn.ensures.lives.made c.in_err-turn-in-Turn.ensures.after c.in_err-turn-in-Turn.ensures.told c.turn.ensures.made c.turn.ensures.room))
+    c.in_ok-serve_all-in-Turn.ensures.lives.ran.sound c.in_ok-serve_all-in-Turn.ensures.lives.ran.made c.in_err-turn-in-Turn.ensures.after c.in_err-turn-in-Turn.ensures.told c.turn.ensures.made c.turn.ensures.room))
 
 pub returns-then-all_told-clause-answers : goal.returns-then-all_told-clause-answers
 returns-then-all_told-clause-answers g c =

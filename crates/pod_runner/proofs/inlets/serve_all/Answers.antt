@@ -31,7 +31,7 @@ pub serve-requires : goal.serve-requires
 serve-requires g c = λ k. (
   (refl, tt),
   (
-    c.loop-i.invariant.2.sound,
+    c.loop-i.invariant.2.ran.sound,
     (
       rise-still g.B.Body.next g.P.Program.bodies g.P.Program.proc_names (stream (g.K.Sink.written c.args.sink.now) (g.K.Sink.written c.loop-i.sink) (g.K.Sink.faults c.args.sink.now) (g.K.Sink.faults c.loop-i.sink)) c.args.run.now c.loop-i.run (map g.I.Inlet.intake c.args.inlets.now.items) (map g.I.Inlet.intake c.loop-i.inlets.items) (Ok tt) c.loop-i.invariant.2 c.requires.rise,
       search rules,
