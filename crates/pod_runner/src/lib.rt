@@ -20,7 +20,6 @@ mod row_list;
 mod rows;
 mod session;
 mod take_list;
-mod written;
 
 pub use drive::{go_round, run};
 pub use drive_live::run_live;
@@ -30,4 +29,3 @@ pub use phase::{Phase, RunErr};
 pub use playing::Run;
 pub use session::{Made, Row, Took};
 pub use take_list::TakeList;
-pub use written::lines_of;

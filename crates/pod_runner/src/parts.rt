@@ -15,13 +15,13 @@ ghost use Rattle.pod_runner.specs.Session.{move, row_opened, taken};
 use crate::calls::made_among;
 use crate::row_list::RowList;
 use crate::rows::{proc_of, settle};
-use crate::written::{set_call_lines, set_lines};
 use crate::{Made, Phase, Took};
 use lwp_calls::Pod;
 use lwp_types::{Call, Effects, Env, NoMemory, PodEnd, PodParams, Polled, Program, Tid};
 use pod_events::EventPod;
 use std::alloc::Global;
 use text_list::TextList;
+use trace_text::StepLines;
 
 // A call before which a trap is raised, and `out` has the lines of what that did: the effects tell the call themselves, if it was
 // made. It stands apart from the way of most calls.
@@ -31,17 +31,16 @@ fn call_behind_trap<'s>(
     call: &Call<'s>,
     effects: &mut Effects<'s>,
     names: &TextList,
-    out: &mut Vec<u8>,
+    out: &mut StepLines,
 ) -> Result<(), NoMemory>
     requires { IsSome (current_of pod.old.state) }
     ensures after { OnOk result (pod.new ≡ (event_step pod.old call.now).after) }
     ensures effects { OnOk result
         (leads pod.old call.now ++ effects.new ≡ (event_step pod.old call.now).effects) }
-    ensures lines { OnOk result (out.new.items ≡ step_lines names.now None effects.new) }
+    ensures lines { OnOk result (out.new ≡ step_lines names.now None effects.new) }
 {
     pod.call(call, effects)?;
-    set_lines(out, effects, None, names)?;
-    Ok(())
+    out.set_step(effects, None, names)
 }
 
 // A call, and `out` has the lines of what that did. Answers whose call stands before the effects.
@@ -52,21 +51,21 @@ fn carry_out<'s>(
     call: &Call<'s>,
     effects: &mut Effects<'s>,
     names: &TextList,
-    out: &mut Vec<u8>,
+    out: &mut StepLines,
 ) -> Result<Option<Tid>, NoMemory>
     requires { IsSome (current_of pod.old.state) }
     ensures after { OnOk result (pod.new ≡ (event_step pod.old call.now).after) }
     ensures effects { OnOk result
         (leads pod.old call.now ++ effects.new ≡ (event_step pod.old call.now).effects) }
     ensures lines { OnOk result
-        (out.new.items
+        (out.new
         ≡ step_lines names.now None (lead pod.old.pending tid call.now ++ effects.new)) }
     ensures caller { IfOk result (λ caller. caller ≡ caller_of pod.old.pending tid) }
 {
     match pod.pending() {
         None => {
             pod.call(call, effects)?;
-            set_call_lines(out, tid, call, effects, names)?;
+            out.set_call(tid, call, effects, names)?;
             Ok(Some(tid))
         }
         Some(_) => {
@@ -189,18 +188,18 @@ impl<'s, B: Polled<'s>> RunParts<'s, B> {
         program: &P,
         names: &TextList,
         took: &Took<'s>,
-        out: &mut Vec<u8>,
+        out: &mut StepLines,
     ) -> Result<(), NoMemory>
         requires { IsTrue (is_takeable self.old.pod took.now.event) }
         ensures { OnOk result
             (Moves names.now (Some took.now.line)
             (taken (P.bodies program.now) took.now (live_of self.old)) (live_of self.new)
-            (told_of self.new) out.new.items) }
+            (told_of self.new) out.new) }
     {
         self.caller = None;
         self.pod
             .deliver(took.event, took.line.text.again(), &mut self.effects);
-        set_lines(out, &self.effects, Some(&took.line), names)?;
+        out.set_step(&self.effects, Some(&took.line), names)?;
         settle(&mut self.rows, program, None, &self.effects)?;
         Ok(())
     }
@@ -212,12 +211,12 @@ impl<'s, B: Polled<'s>> RunParts<'s, B> {
         &mut self,
         program: &P,
         names: &TextList,
-        out: &mut Vec<u8>,
+        out: &mut StepLines,
     ) -> Result<(), NoMemory>
         requires current { IsSome (current_of self.old.pod.state) }
         ensures { OnOk result
             (Moves names.now None (move B.next (P.bodies program.now) (live_of self.old))
-            (live_of self.new) (told_of self.new) out.new.items) }
+            (live_of self.new) (told_of self.new) out.new) }
     {
         let tid = self.pod.current().unwrap();
         let i = self.rows.place(tid);
@@ -238,14 +237,14 @@ impl<'s, B: Polled<'s>> RunParts<'s, B> {
         names: &TextList,
         tid: Tid,
         i: usize,
-        out: &mut Vec<u8>,
+        out: &mut StepLines,
     ) -> Result<(), NoMemory>
         requires current { current_of self.old.pod.state ≡ Some tid }
         requires place { i ≡ place_of tid self.old.rows }
         requires within { i < length self.old.rows }
         ensures { OnOk result
             (Moves names.now None (move B.next (P.bodies program.now) (live_of self.old))
-            (live_of self.new) (told_of self.new) out.new.items) }
+            (live_of self.new) (told_of self.new) out.new) }
     {
         self.env.set_me(tid);
         self.rows.poll_at(i, &mut self.env, &mut self.call)?;

@@ -14,6 +14,7 @@ use lwp_types::{Body, Env, Line, NoMemory, PodParams, Polled, Program, Sink};
 use std::alloc::Global;
 use std::marker::Model;
 use text_list::TextList;
+use trace_text::StepLines;
 use whole_streams::write_all;
 
 /// A run of a program, seen as what it plays and how far it is; its session is the definition's.
@@ -31,7 +32,7 @@ pub struct Run<'s, B: Body, P: Program<B>> {
     takes: TakeList,
     failed: bool,
     // The lines of the last step, in memory that the next step's are put into.
-    out: Vec<u8>,
+    out: StepLines,
 }
 
 // By hand, so that whoever drops one calls this.
@@ -124,7 +125,7 @@ impl<'s, B: Polled<'s>, P: Program<B>> Run<'s, B, P> {
             calls: 0,
             takes: TakeList::new(alloc),
             failed: false,
-            out: Vec::new(alloc),
+            out: StepLines::new(alloc),
         })
     }
 
@@ -237,7 +238,7 @@ impl<'s, B: Polled<'s>, P: Program<B>> Run<'s, B, P> {
         self.parts
             .deliver(&self.program, &self.procs, &took, &mut self.out)?;
         self.takes.push(&took)?;
-        match write_all(sink, &self.out) {
+        match write_all(sink, self.out.bytes()) {
             Ok(()) => {
                 self.failed = false;
                 Ok(())
@@ -262,7 +263,7 @@ impl<'s, B: Polled<'s>, P: Program<B>> Run<'s, B, P> {
         self.failed = true;
         self.parts.turn(&self.program, &self.procs, &mut self.out)?;
         self.calls += 1;
-        match write_all(sink, &self.out) {
+        match write_all(sink, self.out.bytes()) {
             Ok(()) => {
                 self.failed = false;
                 Ok(())

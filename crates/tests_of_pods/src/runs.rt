@@ -1,10 +1,10 @@
 ghost use Rattle.std.specs.Prelude.{◌≡◌, []};
 
 use lwp_types::{Effect, Effects, Line, MemSink, NoMemory, Text, Tid};
-use pod_runner::lines_of;
 use std::alloc::Global;
 use std::test::Fail;
 use text_list::TextList;
+use trace_text::StepLines;
 use whole_streams::write_all;
 
 fn push_three(effects: &mut Effects)
@@ -26,7 +26,7 @@ fn text_of(bytes: &[u8]) -> Text<'_> {
 }
 
 // The lines of a step in which a line was taken, which two agents got.
-fn lines_of_three(alloc: Global) -> Result<Vec<u8>, NoMemory> {
+fn lines_of_three(alloc: Global) -> Result<StepLines, NoMemory> {
     let mut effects = Effects::new(alloc)?;
     push_three(&mut effects);
     let line = Line {
@@ -34,13 +34,15 @@ fn lines_of_three(alloc: Global) -> Result<Vec<u8>, NoMemory> {
         seq: 1,
         text: text_of(b"two"),
     };
-    lines_of(alloc, &effects, Some(&line), &TextList::new(alloc))
+    let mut lines = StepLines::new(alloc);
+    lines.set_step(&effects, Some(&line), &TextList::new(alloc))?;
+    Ok(lines)
 }
 
 // What such lines are in a sink that takes three bytes at most at a time.
 fn is_written(alloc: Global) -> Result<bool, NoMemory> {
     let mut sink = MemSink::new(alloc, 60, 3, Vec::new(alloc))?;
-    let is_whole = write_all(&mut sink, &lines_of_three(alloc)?).is_ok();
+    let is_whole = write_all(&mut sink, lines_of_three(alloc)?.bytes()).is_ok();
     let want = b"event 5 client 0 seq 1 two\nalso t3\npod ends 7\n";
     Ok(is_whole && sink.bytes() == want.as_slice())
 }

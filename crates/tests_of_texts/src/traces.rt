@@ -20,7 +20,12 @@ fn add_words(out: &mut Vec<u8>) -> Result<(), NoMemory> {
 }
 
 // What a refusal, a death and a later delivery are written as.
-fn add_step(out: &mut Vec<u8>, effects: &mut Effects, names: &TextList) -> Result<(), NoMemory> {
+fn add_step(
+    out: &mut Vec<u8>,
+    lines: &mut StepLines,
+    effects: &mut Effects,
+    names: &TextList,
+) -> Result<(), NoMemory> {
     effects.clear();
     effects.push(Effect::Answered {
         tid: Tid { number: 0 },
@@ -33,13 +38,19 @@ fn add_step(out: &mut Vec<u8>, effects: &mut Effects, names: &TextList) -> Resul
         agent: Tid { number: 3 },
         event: 5,
     });
-    add_step_lines(out, effects, None, names)
+    lines.set_step(effects, None, names)?;
+    add_text(out, lines.bytes())
 }
 
 fn add_lines(out: &mut Vec<u8>, alloc: Global) -> Result<(), NoMemory> {
     let names = TextList::new(alloc);
     add_words(out)?;
-    add_step(out, &mut Effects::new(alloc)?, &names)?;
+    add_step(
+        out,
+        &mut StepLines::new(alloc),
+        &mut Effects::new(alloc)?,
+        &names,
+    )?;
     add_text(
         out,
         &trace_line(alloc, &Effect::Ended { status: 3 }, None, &names)?,

@@ -1,238 +1,242 @@
 // The line of each effect.
-ghost use Rattle.std.specs.Prelude.{◌≡◌, ◌≤◌, ◌+◌, ◌++◌, [], OnOk, IfOk, None, length, option_copied, take};
+ghost use Rattle.std.specs.Prelude.{◌≡◌, ◌≤◌, ◌<◌, ◌+◌, ◌++◌, [], IfOk, None, length, option_copied, take};
 ghost use Rattle.trace_text.specs.Lines.{spaced, posted_text, taken_text, ticked_text, delivered_text, tick_text, trapped_text, rites_text, line_text, ended_line, step_lines};
 
 use crate::answers::add_answer;
-use crate::calls::{add_call, add_exit, end_line, put_word_number};
-use crate::rows::{put_id, put_number, put_word};
-use crate::words::{
-    add_byte, add_id, add_number, add_spaced_text, add_word, add_word_number, open,
-};
+use crate::calls::{put_call, put_exit, put_word_id, put_word_number};
+use crate::room::make_room;
+use crate::rows::{put_byte, put_id, put_number, put_spaced, put_word};
 use lwp_types::{Answer, Call, Effect, Effects, ExitCall, Line, NoMemory, Tid};
 use std::alloc::Global;
 use text_list::TextList;
 
-// Who posted a line, and as which of its own. Its text stands behind that.
+// Who posted a line, and as which of its own, and the line's text.
 #[inline(always)]
-fn put_poster(row: &mut [u8], at: usize, line: &Line) -> usize
-    requires { at + 60 ≤ length row.old }
+fn put_posted(row: &mut [u8], at: usize, line: &Line) -> usize
+    requires { at + 300 ≤ length row.old }
     ensures len { length row.new ≡ length row.old }
-    ensures end { result ≤ at + 60 }
-    ensures text { take result row.new ++ spaced line.now.text
-        ≡ take at row.old ++ posted_text line.now }
+    ensures end { result ≤ at + 300 }
+    ensures text { take result row.new ≡ take at row.old ++ posted_text line.now }
 {
     let next = put_word_number(row, at, b" client ", u32::from(line.client));
-    put_word_number(row, next, b" seq ", line.seq)
+    let next = put_word_number(row, next, b" seq ", line.seq);
+    put_spaced(row, next, &line.text)
 }
 
 #[inline(never)]
-fn add_taken(out: &mut Vec<u8>, event: u8, line: &Line) -> Result<(), NoMemory>
-    ensures { OnOk result (out.new.items ≡ out.old.items ++ ended_line (taken_text event line.now)) }
+fn put_taken(row: &mut [u8], at: usize, event: u8, line: &Line) -> usize
+    requires { at + 600 ≤ length row.old }
+    ensures len { length row.new ≡ length row.old }
+    ensures end { result ≤ at + 600 }
+    ensures text { take result row.new ≡ take at row.old ++ taken_text event line.now }
 {
-    let from = open(out)?;
-    let row = out.as_mut_slice();
-    let next = put_word_number(row, from, b"event ", u32::from(event));
-    let end = put_poster(row, next, line);
-    out.truncate(end);
-    add_spaced_text(out, &line.text)?;
-    add_byte(out, b'\n')
+    let next = put_word_number(row, at, b"event ", u32::from(event));
+    put_posted(row, next, line)
 }
 
 #[inline(never)]
-fn add_tick(out: &mut Vec<u8>, now: u64, line: &Line) -> Result<(), NoMemory>
-    ensures { OnOk result (out.new.items ≡ out.old.items ++ ended_line (ticked_text now line.now)) }
+fn put_tick(row: &mut [u8], at: usize, now: u64, line: &Line) -> usize
+    requires { at + 600 ≤ length row.old }
+    ensures len { length row.new ≡ length row.old }
+    ensures end { result ≤ at + 600 }
+    ensures text { take result row.new ≡ take at row.old ++ ticked_text now line.now }
 {
-    let from = open(out)?;
-    let row = out.as_mut_slice();
-    let word = put_word(row, from, b"tick ");
+    let word = put_word(row, at, b"tick ");
     let next = put_number(row, word, now);
-    let end = put_poster(row, next, line);
-    out.truncate(end);
-    add_spaced_text(out, &line.text)?;
-    add_byte(out, b'\n')
+    put_posted(row, next, line)
 }
 
 #[inline(always)]
-fn add_called(out: &mut Vec<u8>, procs: &TextList, tid: Tid, call: &Call) -> Result<(), NoMemory>
-    ensures { OnOk result
-        (out.new.items
-        ≡ out.old.items ++ ended_line (line_text procs.now None (Effect.Called tid call.now))) }
+fn put_called(row: &mut [u8], at: usize, procs: &TextList, tid: Tid, call: &Call) -> usize
+    requires { at + 600 ≤ length row.old }
+    ensures len { length row.new ≡ length row.old }
+    ensures end { result ≤ at + 600 }
+    ensures text { take result row.new
+        ≡ take at row.old ++ line_text procs.now None (Effect.Called tid call.now) }
 {
-    let from = open(out)?;
-    let row = out.as_mut_slice();
-    let next = put_id(row, from, b't', tid.number);
-    let at = put_word(row, next, b": ");
-    add_call(out, at, procs, tid, call)
+    let next = put_id(row, at, b't', tid.number);
+    let word = put_word(row, next, b": ");
+    put_call(row, word, procs, tid, call)
 }
 
 #[inline(always)]
-fn add_answered(out: &mut Vec<u8>, tid: Tid, answer: &Answer) -> Result<(), NoMemory>
-    ensures { OnOk result
-        (out.new.items
-        ≡ out.old.items ++ ended_line (line_text [] None (Effect.Answered tid answer.now))) }
+fn add_answered(row: &mut Vec<u8>, at: usize, tid: Tid, answer: &Answer) -> Result<usize, NoMemory>
+    requires { at + 640 ≤ length row.old.items }
+    ensures text { IfOk result
+        (λ end.
+        take end row.new.items
+        ≡ take at row.old.items ++ line_text [] None (Effect.Answered tid answer.now)) }
+    ensures end { IfOk result (λ end. end < length row.new.items) }
 {
-    let from = open(out)?;
-    let at = put_id(out.as_mut_slice(), from, b't', tid.number);
-    add_answer(out, at, answer)
+    let next = put_id(row.as_mut_slice(), at, b't', tid.number);
+    add_answer(row, next, answer)
 }
 
 #[inline(never)]
-fn add_exited(out: &mut Vec<u8>, reg: u64, call: &ExitCall, answer: &Answer) -> Result<(), NoMemory>
-    ensures { OnOk result
-        (out.new.items
-        ≡ out.old.items
-        ++ ended_line (line_text [] None (Effect.Exited 0 reg call.now answer.now))) }
+fn add_exited(
+    row: &mut Vec<u8>,
+    at: usize,
+    reg: u64,
+    call: &ExitCall,
+    answer: &Answer,
+) -> Result<usize, NoMemory>
+    requires { at + 640 ≤ length row.old.items }
+    ensures text { IfOk result
+        (λ end.
+        take end row.new.items
+        ≡ take at row.old.items ++ line_text [] None (Effect.Exited 0 reg call.now answer.now)) }
+    ensures end { IfOk result (λ end. end < length row.new.items) }
 {
-    add_word(out, b"exit x")?;
-    add_number(out, reg)?;
-    add_word(out, b" ")?;
-    add_exit(out, None, call)?;
-    let at = open(out)?;
-    add_answer(out, at, answer)
+    let bytes = row.as_mut_slice();
+    let word = put_word(bytes, at, b"exit x");
+    let next = put_number(bytes, word, reg);
+    let word = put_word(bytes, next, b" ");
+    let next = put_exit(bytes, word, None, call);
+    add_answer(row, next, answer)
 }
 
-fn add_died(out: &mut Vec<u8>, tid: Tid) -> Result<(), NoMemory>
-    ensures { OnOk result
-        (out.new.items ≡ out.old.items ++ ended_line (line_text [] None (Effect.Died tid))) }
+fn put_died(row: &mut [u8], at: usize, tid: Tid) -> usize
+    requires { at + 600 ≤ length row.old }
+    ensures len { length row.new ≡ length row.old }
+    ensures end { result ≤ at + 600 }
+    ensures text { take result row.new ≡ take at row.old ++ line_text [] None (Effect.Died tid) }
 {
-    let from = open(out)?;
-    let row = out.as_mut_slice();
-    let next = put_id(row, from, b't', tid.number);
-    let end = put_word(row, next, b" dies");
-    end_line(out, end);
-    Ok(())
+    let next = put_id(row, at, b't', tid.number);
+    put_word(row, next, b" dies")
 }
 
-#[inline(never)]
-fn add_also(out: &mut Vec<u8>, agent: Tid) -> Result<(), NoMemory>
-    ensures { OnOk result
-        (out.new.items ≡ out.old.items ++ ended_line (delivered_text agent 0 None)) }
-{
-    add_word(out, b"also ")?;
-    add_id(out, b't', agent.number)?;
-    add_byte(out, b'\n')
-}
-
-fn add_delivered(
-    out: &mut Vec<u8>,
-    agent: Tid,
-    event: u8,
-    took: Option<&Line>,
-) -> Result<(), NoMemory>
-    ensures { OnOk result
-        (out.new.items
-        ≡ out.old.items ++ ended_line (delivered_text agent event (option_copied took.entry))) }
+fn put_delivered(row: &mut [u8], at: usize, agent: Tid, event: u8, took: Option<&Line>) -> usize
+    requires { at + 600 ≤ length row.old }
+    ensures len { length row.new ≡ length row.old }
+    ensures end { result ≤ at + 600 }
+    ensures text { take result row.new
+        ≡ take at row.old ++ delivered_text agent event (option_copied took.entry) }
 {
     match took {
-        Some(line) => add_taken(out, event, line),
-        None => add_also(out, agent),
+        Some(line) => put_taken(row, at, event, line),
+        None => put_word_id(row, at, b"also ", b't', agent.number),
     }
 }
 
-fn add_ticked(out: &mut Vec<u8>, now: u64, took: Option<&Line>) -> Result<(), NoMemory>
-    ensures { OnOk result
-        (out.new.items ≡ out.old.items ++ ended_line (tick_text now (option_copied took.entry))) }
+fn put_ticked(row: &mut [u8], at: usize, now: u64, took: Option<&Line>) -> usize
+    requires { at + 600 ≤ length row.old }
+    ensures len { length row.new ≡ length row.old }
+    ensures end { result ≤ at + 600 }
+    ensures text { take result row.new
+        ≡ take at row.old ++ tick_text now (option_copied took.entry) }
 {
     match took {
-        Some(line) => add_tick(out, now, line),
-        None => add_byte(out, b'\n'),
+        Some(line) => put_tick(row, at, now, line),
+        None => at,
     }
 }
 
 #[inline(never)]
-fn add_trapped(out: &mut Vec<u8>, tid: Tid, event: u8) -> Result<(), NoMemory>
-    ensures { OnOk result (out.new.items ≡ out.old.items ++ ended_line (trapped_text tid event)) }
+fn put_trapped(row: &mut [u8], at: usize, tid: Tid, event: u8) -> usize
+    requires { at + 600 ≤ length row.old }
+    ensures len { length row.new ≡ length row.old }
+    ensures end { result ≤ at + 600 }
+    ensures text { take result row.new ≡ take at row.old ++ trapped_text tid event }
 {
-    add_id(out, b't', tid.number)?;
-    add_word_number(out, b" trap ", u32::from(event))?;
-    add_byte(out, b'\n')
+    let next = put_id(row, at, b't', tid.number);
+    put_word_number(row, next, b" trap ", u32::from(event))
 }
 
 #[inline(never)]
-fn add_rites(out: &mut Vec<u8>, agent: Tid, dead: Tid) -> Result<(), NoMemory>
-    ensures { OnOk result (out.new.items ≡ out.old.items ++ ended_line (rites_text agent dead)) }
+fn put_rites(row: &mut [u8], at: usize, agent: Tid, dead: Tid) -> usize
+    requires { at + 600 ≤ length row.old }
+    ensures len { length row.new ≡ length row.old }
+    ensures end { result ≤ at + 600 }
+    ensures text { take result row.new ≡ take at row.old ++ rites_text agent dead }
 {
-    add_word(out, b"rites ")?;
-    add_id(out, b't', dead.number)?;
-    add_word(out, b" to ")?;
-    add_id(out, b't', agent.number)?;
-    add_byte(out, b'\n')
+    let next = put_word_id(row, at, b"rites ", b't', dead.number);
+    put_word_id(row, next, b" to ", b't', agent.number)
 }
 
-#[inline(never)]
-fn add_end(out: &mut Vec<u8>, status: u8) -> Result<(), NoMemory>
-    ensures { OnOk result
-        (out.new.items ≡ out.old.items ++ ended_line (line_text [] None (Effect.Ended status))) }
-{
-    add_word_number(out, b"pod ends ", u32::from(status))?;
-    add_byte(out, b'\n')
-}
-
-// The line of an effect, with its newline.
+// The line of an effect from `at` on, and a newline.
 #[inline(always)]
-fn add_ended(
-    out: &mut Vec<u8>,
+fn add_line(
+    row: &mut Vec<u8>,
+    at: usize,
     e: &Effect,
     took: Option<&Line>,
     names: &TextList,
-) -> Result<(), NoMemory>
-    ensures { OnOk result
-        (out.new.items
-        ≡ out.old.items ++ ended_line (line_text names.now (option_copied took.entry) e.now)) }
+) -> Result<usize, NoMemory>
+    requires { at ≤ length row.old.items }
+    ensures text { IfOk result
+        (λ end.
+        take end row.new.items
+        ≡ take at row.old.items
+        ++ ended_line (line_text names.now (option_copied took.entry) e.now)) }
+    ensures end { IfOk result (λ end. end ≤ length row.new.items) }
 {
-    match e {
-        Effect::Called { tid, call } => add_called(out, names, *tid, call),
-        Effect::Answered { tid, answer } => add_answered(out, *tid, answer),
+    make_room(row, at)?;
+    let bytes = row.as_mut_slice();
+    let end = match e {
+        Effect::Called { tid, call } => put_called(bytes, at, names, *tid, call),
+        Effect::Answered { tid, answer } => add_answered(row, at, *tid, answer)?,
         Effect::Exited {
             tid: _,
             reg,
             call,
             answer,
-        } => add_exited(out, *reg, call, answer),
-        Effect::Died { tid } => add_died(out, *tid),
-        Effect::Delivered { agent, event } => add_delivered(out, *agent, *event, took),
-        Effect::Ticked { now } => add_ticked(out, *now, took),
-        Effect::Ended { status } => add_end(out, *status),
-        Effect::Trapped { tid, event } => add_trapped(out, *tid, *event),
-        Effect::Rites { agent, dead } => add_rites(out, *agent, *dead),
-    }
+        } => add_exited(row, at, *reg, call, answer)?,
+        Effect::Died { tid } => put_died(bytes, at, *tid),
+        Effect::Delivered { agent, event } => put_delivered(bytes, at, *agent, *event, took),
+        Effect::Ticked { now } => put_ticked(bytes, at, *now, took),
+        Effect::Ended { status } => put_word_number(bytes, at, b"pod ends ", u32::from(*status)),
+        Effect::Trapped { tid, event } => put_trapped(bytes, at, *tid, *event),
+        Effect::Rites { agent, dead } => put_rites(bytes, at, *agent, *dead),
+    };
+    Ok(put_byte(row.as_mut_slice(), end, b'\n'))
 }
 
-/// The line of a call that a thread makes, with its newline; `names` are the procedures' names by number. After an error some of it
-/// may stand there.
+// A line for each effect from `at` on, as `StepLines` has them.
 #[inline(always)]
-pub fn add_call_line(
-    out: &mut Vec<u8>,
-    tid: Tid,
-    call: &Call,
-    names: &TextList,
-) -> Result<(), NoMemory>
-    ensures { OnOk result
-        (out.new.items
-        ≡ out.old.items ++ ended_line (line_text names.now None (Effect.Called tid call.now))) }
-{
-    add_called(out, names, tid, call)
-}
-
-/// The lines of a step: a line for each effect. `took` is the line that was taken in that step, if any: the first effect prints
-/// it, and each later delivery its agent. `names` are the procedures' names by number. After an error some of the lines may stand
-/// there.
-#[inline(always)]
-pub fn add_step_lines(
-    out: &mut Vec<u8>,
+pub(crate) fn add_lines(
+    row: &mut Vec<u8>,
+    at: usize,
     effects: &Effects,
     took: Option<&Line>,
     names: &TextList,
-) -> Result<(), NoMemory>
-    ensures { OnOk result
-        (out.new.items
-        ≡ out.old.items ++ step_lines names.now (option_copied took.entry) effects.now) }
+) -> Result<usize, NoMemory>
+    requires { at ≤ length row.old.items }
+    ensures text { IfOk result
+        (λ end.
+        take end row.new.items
+        ≡ take at row.old.items
+        ++ step_lines names.now (option_copied took.entry) effects.now) }
+    ensures end { IfOk result (λ end. end ≤ length row.new.items) }
 {
+    let mut end = at;
     let mut left = took;
     for i in 0..effects.len() {
-        add_ended(out, effects.get(i), left.take(), names)?;
+        end = add_line(row, end, effects.get(i), left.take(), names)?;
     }
-    Ok(())
+    Ok(end)
+}
+
+// The line of a call that a thread makes from `at` on, and a newline.
+#[inline(always)]
+pub(crate) fn add_call_line(
+    row: &mut Vec<u8>,
+    at: usize,
+    tid: Tid,
+    call: &Call,
+    names: &TextList,
+) -> Result<usize, NoMemory>
+    requires { at ≤ length row.old.items }
+    ensures text { IfOk result
+        (λ end.
+        take end row.new.items
+        ≡ take at row.old.items
+        ++ ended_line (line_text names.now None (Effect.Called tid call.now))) }
+    ensures end { IfOk result (λ end. end ≤ length row.new.items) }
+{
+    make_room(row, at)?;
+    let bytes = row.as_mut_slice();
+    let end = put_called(bytes, at, names, tid, call);
+    Ok(put_byte(bytes, end, b'\n'))
 }
 
 /// The line of an effect, with its newline. `took` is the line that was taken, where the effect is a tick or the first delivery
@@ -247,6 +251,7 @@ pub fn trace_line(
         (λ out. out.items ≡ ended_line (line_text names.now (option_copied took.entry) e.now)) }
 {
     let mut out = Vec::new(alloc);
-    add_ended(&mut out, e, took, names)?;
+    let end = add_line(&mut out, 0, e, took, names)?;
+    out.truncate(end);
     Ok(out)
 }

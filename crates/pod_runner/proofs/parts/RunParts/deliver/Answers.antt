@@ -8,5 +8,5 @@ pub returns : goal.returns
 returns g c =
     let pod = c.args.self.now.pod in
     let event = c.args.took.now.event in
-    taken_moves (g.P.Program.bodies c.args.program.now) c.args.names.now (live_of c.args.self.now) c.args.took.now c.deliver.new.self c.deliver.new.effects c.settle.new.rows c.set_lines.new.out.items
-    (c.deliver.ensures.after ∙ ap (λ text. (take_event pod event text).after) c.again.ensures) (c.deliver.ensures.effects ∙ ap (λ text. (take_event pod event text).effects) c.again.ensures) c.in_ok-settle.ensures c.in_ok-set_lines.ensures
+    taken_moves (g.P.Program.bodies c.args.program.now) c.args.names.now (live_of c.args.self.now) c.args.took.now c.deliver.new.self c.deliver.new.effects c.settle.new.rows c.set_step.new.self
+    (c.deliver.ensures.after ∙ ap (λ text. (take_event pod event text).after) c.again.ensures) (c.deliver.ensures.effects ∙ ap (λ text. (take_event pod event text).effects) c.again.ensures) c.in_ok-settle.ensures c.in_ok-set_step.ensures
