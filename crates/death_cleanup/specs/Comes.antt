@@ -3,6 +3,7 @@ use Rattle.death_cleanup.specs.Ties.{InStep}
 use Rattle.death_cleanup.specs.View.{state_of}
 use Rattle.death_cleanup.specs.declared.parts.Parts.{Parts}
 use Rattle.lwp_types.specs.Case.{Case}
+use Rattle.lwp_types.specs.Effects.{effect_places}
 use Rattle.lwp_types.specs.State.{Outcome}
 use Rattle.lwp_types.specs.declared.call.Answer.{Answer}
 use Rattle.lwp_types.specs.declared.call.Effect.{Effect}
@@ -10,7 +11,7 @@ use Rattle.std.specs.Prelude.{List, Some, length, ◌++◌, ◌+◌, ◌≡◌, 
 
 -- the effects so far leave room for those of this outcome, and for some more
 abbrev pub HasRoom : List Effect → Outcome → ℕ → Type 0
-HasRoom effects out more = length effects + (length out.effects + more) ≤ 2048
+HasRoom effects out more = length effects + (length out.effects + more) ≤ effect_places
 
 -- the parts are in the machine's state after this outcome, its effects are told, and they keep step; who is dying stays so
 pub record CameTo (old new : Parts) (before after : List Effect) (out : Outcome) : Type 0 where

@@ -1,6 +1,7 @@
 // The death of a thread.
 ghost use Rattle.std.specs.Prelude.{None, IsTrue, ◌≡◌, ◌<◌, ◌≤◌, ◌+◌, ◌++◌, ◌∷◌, [], Some, length};
 ghost use Rattle.lwp_types.specs.Death.{bury, death, withdraw};
+ghost use Rattle.lwp_types.specs.Effects.{effect_places, most_of_a_death};
 ghost use Rattle.lwp_types.specs.State.{is_thread};
 ghost use Rattle.death_cleanup.specs.Comes.{CameTo};
 ghost use Rattle.death_cleanup.specs.Ties.{InStep, LawfulParts};
@@ -37,7 +38,7 @@ fn withdraw(parts: &mut Parts, tid: Tid)
 
 // A death is told.
 fn tell_death(tid: Tid, effects: &mut Effects)
-    requires { length effects.old < 2048 }
+    requires { length effects.old < effect_places }
     ensures { effects.new ≡ effects.old ++ Effect.Died tid ∷ [] }
 {
     effects.push(Effect::Died { tid });
@@ -48,7 +49,7 @@ fn bury<'s>(parts: &mut Parts<'s>, tid: Tid, effects: &mut Effects<'s>)
     requires forgotten { Forgotten (state_of parts.old) tid }
     requires step { InStep parts.old }
     requires dying { parts.old.dying ≡ Some tid }
-    requires room { length effects.old < 2048 }
+    requires room { length effects.old < effect_places }
     ensures after { state_of parts.new ≡ (bury tid (state_of parts.old)).after }
     ensures effects { effects.new ≡ effects.old ++ (bury tid (state_of parts.old)).effects }
     ensures step { InStep parts.new }
@@ -64,11 +65,11 @@ pub fn die<'s>(parts: &mut Parts<'s>, tid: Tid, effects: &mut Effects<'s>)
     requires lawful { LawfulParts parts.old }
     requires alone { parts.old.dying ≡ None }
     requires lives { IsTrue (is_thread (state_of parts.old) tid) }
-    requires room { length effects.old + 1279 ≤ 2048 }
+    requires room { length effects.old + most_of_a_death ≤ effect_places }
     ensures came { CameTo parts.old parts.new effects.old effects.new
         (death tid (state_of parts.old)) }
     ensures lawful { LawfulParts parts.new }
-    ensures most { length effects.new ≤ length effects.old + 1279 }
+    ensures most { length effects.new ≤ length effects.old + most_of_a_death }
 {
     withdraw(parts, tid);
     run_all_exits(parts, tid, effects);

@@ -1,6 +1,7 @@
 // What an exit procedure does.
 ghost use Rattle.std.specs.Prelude.{◌≡◌, ◌<◌, ◌≤◌, ◌+◌, ◌++◌, ◌∷◌, [], length};
 ghost use Rattle.lwp_types.specs.Case.{answer_by};
+ghost use Rattle.lwp_types.specs.Effects.{effect_places};
 ghost use Rattle.lwp_types.specs.Exits.{exit_case, run_exit};
 ghost use Rattle.lwp_types.specs.Messages.{reply};
 ghost use Rattle.lwp_types.specs.State.{is_id, is_thread};
@@ -62,7 +63,7 @@ pub fn reply<'s>(
     effects: &mut Effects<'s>,
 ) -> Result<i64, LwpErr>
     requires lawful { LawfulParts parts.old }
-    requires room { length effects.old < 2048 }
+    requires room { length effects.old < effect_places }
     ensures answers { Answers parts.old parts.new effects.old effects.new
         (reply (state_of parts.old) tid to text.now) (answer_by result) }
 {
@@ -90,7 +91,7 @@ fn perform<'s>(
     effects: &mut Effects<'s>,
 ) -> Result<i64, LwpErr>
     requires lawful { LawfulParts parts.old }
-    requires room { length effects.old < 2048 }
+    requires room { length effects.old < effect_places }
     ensures answers { Answers parts.old parts.new effects.old effects.new
         (exit_case (state_of parts.old) tid call.now) (answer_by result) }
 {
@@ -113,7 +114,7 @@ fn tell_exit<'s>(
     done: Result<i64, LwpErr>,
     effects: &mut Effects<'s>,
 )
-    requires { length effects.old < 2048 }
+    requires { length effects.old < effect_places }
     ensures { effects.new
         ≡ effects.old ++ Effect.Exited tid mark.now.reg mark.now.call (answer_by done) ∷ [] }
 {
@@ -133,7 +134,7 @@ pub fn exit_call<'s>(
     effects: &mut Effects<'s>,
 )
     requires lawful { LawfulParts parts.old }
-    requires room { length effects.old + 2 ≤ 2048 }
+    requires room { length effects.old + 2 ≤ effect_places }
     ensures came { CameTo parts.old parts.new effects.old effects.new
         (run_exit tid mark.now (state_of parts.old)) }
     ensures lawful { LawfulParts parts.new }

@@ -1,6 +1,7 @@
 // How a monitor becomes free.
 ghost use Rattle.std.specs.Prelude.{◌≡◌, ◌<◌, false, is_none, length, IfSome, IsTrue};
 ghost use Rattle.lwp_types.specs.Case.{answer_by};
+ghost use Rattle.lwp_types.specs.Effects.{effect_places};
 ghost use Rattle.lwp_types.specs.Monitors.{is_owner, monitor_break, monitor_exit};
 ghost use Rattle.lwp_types.specs.MonitorRelease.{lock_of, release};
 ghost use Rattle.lwp_types.specs.State.{is_blocked_in};
@@ -29,7 +30,7 @@ fn holds(mons: &Monitors, tid: Tid, mon: Mid) -> bool
 fn go_on<'s>(parts: &mut Parts<'s>, next: Option<Tid>, effects: &mut Effects<'s>)
     requires step { InStep parts.old }
     requires waits { IfSome next (λ u. IsTrue (is_blocked_in (state_of parts.old) u)) }
-    requires room { length effects.old < 2048 }
+    requires room { length effects.old < effect_places }
     ensures came { CameTo parts.old parts.new effects.old effects.new
         (with_owner next (state_of parts.old)) }
 {
@@ -43,7 +44,7 @@ fn go_on<'s>(parts: &mut Parts<'s>, next: Option<Tid>, effects: &mut Effects<'s>
 pub fn release<'s>(parts: &mut Parts<'s>, mon: Mid, effects: &mut Effects<'s>)
     requires lawful { LawfulParts parts.old }
     requires held { is_none (lock_of parts.old.mons.locks mon) ≡ false }
-    requires room { length effects.old < 2048 }
+    requires room { length effects.old < effect_places }
     ensures came { CameTo parts.old parts.new effects.old effects.new
         (release mon (state_of parts.old)) }
 {
@@ -59,7 +60,7 @@ pub fn monitor_exit<'s>(
     effects: &mut Effects<'s>,
 ) -> Result<i64, LwpErr>
     requires lawful { LawfulParts parts.old }
-    requires room { length effects.old < 2048 }
+    requires room { length effects.old < effect_places }
     ensures answers { Answers parts.old parts.new effects.old effects.new
         (monitor_exit (state_of parts.old) tid mon) (answer_by result) }
 {
@@ -81,7 +82,7 @@ pub fn monitor_break<'s>(
     effects: &mut Effects<'s>,
 ) -> Result<i64, LwpErr>
     requires lawful { LawfulParts parts.old }
-    requires room { length effects.old < 2048 }
+    requires room { length effects.old < effect_places }
     ensures answers { Answers parts.old parts.new effects.old effects.new
         (monitor_break (state_of parts.old) mon) (answer_by result) }
 {

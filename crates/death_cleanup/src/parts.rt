@@ -2,6 +2,7 @@
 ghost use Rattle.std.specs.Prelude.{◌≡◌, ◌<◌, length, map, IsTrue};
 ghost use Rattle.agents.specs.Roster.{is_listed};
 ghost use Rattle.lwp_types.specs.Case.{answer_by};
+ghost use Rattle.lwp_types.specs.Effects.{effect_places};
 ghost use Rattle.lwp_types.specs.State.{is_blocked_in, is_id, is_thread};
 ghost use Rattle.lwp_types.specs.Unblock.{unblock};
 ghost use Rattle.lwp_types.specs.declared.call.Answer.TheVariants as answer;
@@ -125,7 +126,7 @@ pub fn wake_done<'s>(
 )
     requires step { InStep parts.old }
     requires waits { IsTrue (is_blocked_in (state_of parts.old) tid) }
-    requires room { length effects.old < 2048 }
+    requires room { length effects.old < effect_places }
     ensures came { CameTo parts.old parts.new effects.old effects.new
         (unblock (answer_by done) tid (state_of parts.old)) }
     ensures named { parts.new.named ≡ parts.old.named }
@@ -143,7 +144,7 @@ pub fn wake_lettered<'s>(
 )
     requires step { InStep parts.old }
     requires waits { IsTrue (is_blocked_in (state_of parts.old) tid) }
-    requires room { length effects.old < 2048 }
+    requires room { length effects.old < effect_places }
     ensures came { CameTo parts.old parts.new effects.old effects.new
         (unblock (answer.Letter letter.now.from letter.now.text letter.now.room) tid
         (state_of parts.old)) }
@@ -156,7 +157,7 @@ pub fn wake_lettered<'s>(
 pub fn wake_replied<'s>(parts: &mut Parts<'s>, tid: Tid, text: &Text<'s>, effects: &mut Effects<'s>)
     requires step { InStep parts.old }
     requires waits { IsTrue (is_blocked_in (state_of parts.old) tid) }
-    requires room { length effects.old < 2048 }
+    requires room { length effects.old < effect_places }
     ensures came { CameTo parts.old parts.new effects.old effects.new
         (unblock (answer.Reply text.now) tid (state_of parts.old)) }
 {

@@ -5,6 +5,7 @@ ghost use Rattle.death_cleanup.specs.Ties.{InStep, LawfulParts};
 ghost use Rattle.death_cleanup.specs.View.{state_of};
 ghost use Rattle.lwp_types.specs.Agents.{agent_born, make_agent};
 ghost use Rattle.lwp_types.specs.Case.{listed, refused};
+ghost use Rattle.lwp_types.specs.Effects.{most_of_a_call};
 ghost use Rattle.lwp_types.specs.Families.{agent_call};
 ghost use Rattle.lwp_types.specs.State.{agent_numbers, still};
 ghost use Rattle.lwp_types.specs.Step.{case_of};
@@ -37,7 +38,7 @@ pub fn carry_out<'s>(
     ensures ok { OnOk result
         (Told parts.old parts.new effects.old effects.new tid
         (case_of (state_of parts.old) tid (agent_call call))) }
-    ensures most { length effects.new ≤ 1280 }
+    ensures most { length effects.new ≤ most_of_a_call }
     ensures err { OnErr result (IsAsBefore parts.old parts.new) }
     ensures memory { IsErr result → IsTrue (asks_memory (agent_call call)) }
 {

@@ -5,6 +5,7 @@ ghost use Rattle.death_cleanup.specs.Comes.{CameTo};
 ghost use Rattle.death_cleanup.specs.Ties.{InStep, LawfulParts};
 ghost use Rattle.death_cleanup.specs.View.{state_of};
 ghost use Rattle.lwp_types.specs.Choice.{is_eligible_in};
+ghost use Rattle.lwp_types.specs.Effects.{effect_places};
 ghost use Rattle.lwp_types.specs.Messages.{receivers_of};
 ghost use Rattle.lwp_types.specs.State.{is_not_blocked, is_thread, numbers, priority_in, still};
 ghost use Rattle.lwp_types.specs.Unblock.{blocked, blocked_for};
@@ -21,7 +22,7 @@ use std::alloc::Global;
 
 /// Tells a caller a list.
 pub fn tell_ids(tid: Tid, kind: IdKind, list: IdList, effects: &mut Effects)
-    requires { length effects.old < 2048 }
+    requires { length effects.old < effect_places }
     ensures { effects.new ≡ effects.old ++ effect.Answered tid (answer.Ids kind list) ∷ [] }
 {
     effects.answered(tid, Answer::Ids { kind, list });

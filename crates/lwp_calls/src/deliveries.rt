@@ -4,6 +4,7 @@ ghost use Rattle.death_cleanup.specs.Comes.{CameTo};
 ghost use Rattle.death_cleanup.specs.Ties.{LawfulParts};
 ghost use Rattle.death_cleanup.specs.View.{state_of};
 ghost use Rattle.lwp_types.specs.Agents.{deliver_to, event_agents, is_armed};
+ghost use Rattle.lwp_types.specs.Effects.{effect_places};
 ghost use Rattle.lwp_types.specs.State.{agent_of, for_each};
 ghost use Rattle.lwp_calls.specs.Deliveries.{deliver_found, waits_for};
 
@@ -25,12 +26,12 @@ fn deliver_to<'s>(
     requires lawful { LawfulParts parts.old }
     requires alone { parts.old.dying ≡ None }
     requires waits { IsTrue (waits_for event parts.old.agents.agents agent) }
-    requires room { length effects.old + 2 ≤ 2048 }
+    requires room { length effects.old + 2 ≤ effect_places }
     ensures { CameTo parts.old parts.new effects.old effects.new
         (deliver_found text.now (agent_of parts.old.agents.agents agent) (state_of parts.old)) }
 {
     let Some(owner) = parts.agents.owner_of(agent) else {
-        return;
+        unreachable!()
     };
     parts.agents.hold(agent);
     effects.push(Effect::Delivered { agent, event });

@@ -9,6 +9,7 @@ ghost use Rattle.exceptions.specs.Stack.{IsInReach, handlers_on_top, has_all_fra
 ghost use Rattle.lwp_types.specs.Case.{answer_by};
 ghost use Rattle.lwp_types.specs.Choice.{is_eligible_in};
 ghost use Rattle.lwp_types.specs.Death.{return_from};
+ghost use Rattle.lwp_types.specs.Effects.{most_of_a_call, most_of_a_death};
 ghost use Rattle.lwp_types.specs.Exits.{caught, exc_notify, raise};
 ghost use Rattle.lwp_types.specs.Families.{exception_call};
 ghost use Rattle.lwp_types.specs.Exceptions.{bound, call_procedure, check_pattern, found, found_in, frames, handle, is_no_pattern, on_exit, unhandle, unique_pattern};
@@ -44,7 +45,7 @@ pub fn carry_out<'s>(
     ensures ok { OnOk result
         (Told parts.old parts.new effects.old effects.new tid
         (case_of (state_of parts.old) tid (exception_call call.now))) }
-    ensures most { length effects.new ≤ 1280 }
+    ensures most { length effects.new ≤ most_of_a_call }
     ensures err { OnErr result (IsAsBefore parts.old parts.new) }
     ensures memory { IsErr result → IsTrue (asks_memory (exception_call call.now)) }
 {
@@ -376,7 +377,7 @@ fn return_from<'s>(
     requires room { effects.old ≡ [] }
     ensures comes { ComesTo parts.old parts.new effects.old effects.new
         (return_from (state_of parts.old) tid) (option_map answer_by result) }
-    ensures most { length effects.new ≤ 1279 }
+    ensures most { length effects.new ≤ most_of_a_death }
 {
     let count = frames(parts, tid);
     if count < 2 {
@@ -413,7 +414,7 @@ fn catch<'s>(
     requires room { effects.old ≡ [] }
     ensures told { Told parts.old parts.new effects.old effects.new tid
         (caught (state_of parts.old) tid pattern handler) }
-    ensures most { length effects.new ≤ 1280 }
+    ensures most { length effects.new ≤ most_of_a_call }
 {
     leave_frames(parts, tid, handler.depth, effects);
     let Some(kind) = parts.ids.get_mut(tid.number) else {
@@ -438,7 +439,7 @@ fn raise<'s>(parts: &mut Parts<'s>, tid: Tid, pattern: u32, effects: &mut Effect
     requires room { effects.old ≡ [] }
     ensures told { Told parts.old parts.new effects.old effects.new tid
         (raise (state_of parts.old) tid pattern) }
-    ensures most { length effects.new ≤ 1280 }
+    ensures most { length effects.new ≤ most_of_a_call }
 {
     if is_no_pattern(pattern) {
         return effects.done(tid, Err(LwpErr::InvalidArg));
@@ -457,7 +458,7 @@ fn notify<'s>(parts: &mut Parts<'s>, tid: Tid, pattern: u32, effects: &mut Effec
     requires room { effects.old ≡ [] }
     ensures told { Told parts.old parts.new effects.old effects.new tid
         (exc_notify (state_of parts.old) tid pattern) }
-    ensures most { length effects.new ≤ 1280 }
+    ensures most { length effects.new ≤ most_of_a_call }
 {
     if is_no_pattern(pattern) {
         return effects.done(tid, Err(LwpErr::InvalidArg));

@@ -5,6 +5,7 @@ ghost use Rattle.death_cleanup.specs.Ties.{InStep, LawfulParts};
 ghost use Rattle.death_cleanup.specs.View.{state_of};
 ghost use Rattle.lwp_types.specs.Case.{answer_by, listed};
 ghost use Rattle.lwp_types.specs.Choice.{is_eligible_in};
+ghost use Rattle.lwp_types.specs.Effects.{effect_places, most_of_a_call};
 ghost use Rattle.lwp_types.specs.Families.{message_call};
 ghost use Rattle.lwp_types.specs.Messages.{is_no_source, post, receive, receivers_of, send, senders_to, takes_from};
 ghost use Rattle.lwp_types.specs.State.{passes, thread_of};
@@ -35,7 +36,7 @@ pub fn carry_out<'s>(
     ensures ok { OnOk result
         (Told parts.old parts.new effects.old effects.new tid
         (case_of (state_of parts.old) tid (message_call call.now))) }
-    ensures most { length effects.new ≤ 1280 }
+    ensures most { length effects.new ≤ most_of_a_call }
     ensures err { OnErr result (IsAsBefore parts.old parts.new) }
     ensures memory { IsErr result → IsTrue (asks_memory (message_call call.now)) }
 {
@@ -133,7 +134,7 @@ pub fn post<'s>(parts: &mut Parts<'s>, letter: &Letter<'s>, effects: &mut Effect
     requires unread { letter.now.received ≡ false }
     requires new { has_letter_of parts.old.messages.letters letter.now.from ≡ false }
     requires place { length parts.old.messages.letters < parts.old.messages.places }
-    requires room { length effects.old < 2048 }
+    requires room { length effects.old < effect_places }
     ensures { CameTo parts.old parts.new effects.old effects.new
         (post letter.now (state_of parts.old)) }
 {
@@ -158,7 +159,7 @@ fn put<'s>(parts: &mut Parts<'s>, letter: &Letter<'s>, effects: &mut Effects<'s>
         (thread_of (state_of parts.old) letter.now.to) }
     requires new { has_letter_of parts.old.messages.letters letter.now.from ≡ false }
     requires place { length parts.old.messages.letters < parts.old.messages.places }
-    requires room { length effects.old < 2048 }
+    requires room { length effects.old < effect_places }
     ensures { CameTo parts.old parts.new effects.old effects.new
         (post (record letter.now { received = false }) (state_of parts.old)) }
 {

@@ -5,6 +5,7 @@ ghost use Rattle.death_cleanup.specs.Ties.{InStep, LawfulParts};
 ghost use Rattle.death_cleanup.specs.View.{state_of};
 ghost use Rattle.lwp_types.specs.Case.{answer_by, listed, unless};
 ghost use Rattle.lwp_types.specs.Choice.{is_eligible_in};
+ghost use Rattle.lwp_types.specs.Effects.{most_of_a_call};
 ghost use Rattle.lwp_types.specs.Families.{monitor_call};
 ghost use Rattle.lwp_types.specs.Monitors.{cond_enter, enter, entered, is_deepest, is_owned_by_other, monitor_create, monitor_destroy, monitor_waiters};
 ghost use Rattle.lwp_types.specs.State.{member};
@@ -35,7 +36,7 @@ pub fn carry_out<'s>(
     ensures ok { OnOk result
         (Told parts.old parts.new effects.old effects.new tid
         (case_of (state_of parts.old) tid (monitor_call call))) }
-    ensures most { length effects.new ≤ 1280 }
+    ensures most { length effects.new ≤ most_of_a_call }
     ensures err { OnErr result (IsAsBefore parts.old parts.new) }
     ensures memory { IsErr result → IsTrue (asks_memory (monitor_call call)) }
 {

@@ -8,6 +8,7 @@ ghost use Rattle.death_cleanup.specs.View.{state_of};
 ghost use Rattle.lwp_types.specs.Agents.{armed, deliver};
 ghost use Rattle.lwp_types.specs.Choice.{is_eligible_in};
 ghost use Rattle.pod_sched.specs.Schedule.{choice, prio_in};
+ghost use Rattle.lwp_types.specs.Effects.{effect_places, most_of_a_call, most_of_a_delivery, most_of_a_step};
 ghost use Rattle.lwp_types.specs.First.{FindsBest};
 ghost use Rattle.lwp_types.specs.Lawful.{Lawful};
 ghost use Rattle.lwp_types.specs.State.{is_id, opening};
@@ -273,7 +274,7 @@ impl<'s> Pod<'s> {
             ≡ (step self.old call.now).effects) }
         ensures err { OnErr result (self.new ≡ self.old) }
         ensures err_effects { OnErr result (effects.new ≡ []) }
-        ensures most { length effects.new ≤ 1281 }
+        ensures most { length effects.new ≤ most_of_a_step }
         ensures memory { IsErr result → IsTrue (asks_memory call.now) }
         ensures lawful { Lawful self.new None }
         ensures refused { OnOk result (IsTrue (is_refusal self.old call.now) → self.new ≡ self.old) }
@@ -300,7 +301,7 @@ impl<'s> Pod<'s> {
         requires { IsTrue (armed self.old event) }
         ensures after { self.new ≡ (deliver self.old event text.entry).after }
         ensures effects { effects.new ≡ (deliver self.old event text.entry).effects }
-        ensures few { 1 ≤ event → length effects.new ≤ 512 }
+        ensures few { 1 ≤ event → length effects.new ≤ most_of_a_delivery }
         ensures lawful { Lawful self.new None }
     {
         effects.clear();
@@ -342,7 +343,7 @@ fn carry_out<'s>(
     ensures ok { OnOk result
         (Told parts.old parts.new effects.old effects.new tid
         (case_of (state_of parts.old) tid call.now)) }
-    ensures most { length effects.new ≤ 1280 }
+    ensures most { length effects.new ≤ most_of_a_call }
     ensures err { OnErr result (IsAsBefore parts.old parts.new) }
     ensures memory { IsErr result → IsTrue (asks_memory call.now) }
 {
@@ -378,7 +379,7 @@ fn has_ended(parts: &Parts, next: &Option<Tid>) -> bool
 fn finish<'s>(parts: &mut Parts<'s>, effects: &mut Effects<'s>) -> Option<Tid>
     requires step { InStep parts.old }
     requires alone { parts.old.dying ≡ None }
-    requires room { length effects.old < 2048 }
+    requires room { length effects.old < effect_places }
     requires status { parts.old.exit ≤ 99 }
     ensures after { state_of parts.new
         ≡ record (state_of parts.old) { ended = ends (state_of parts.old) } }
@@ -398,7 +399,7 @@ fn finish<'s>(parts: &mut Parts<'s>, effects: &mut Effects<'s>) -> Option<Tid>
 
 // The pod ends.
 fn tell_end(status: u8, effects: &mut Effects)
-    requires { length effects.old < 2048 }
+    requires { length effects.old < effect_places }
     ensures { effects.new ≡ effects.old ++ Effect.Ended status ∷ [] }
 {
     effects.push(Effect::Ended { status });

@@ -4,6 +4,7 @@ ghost use Rattle.death_cleanup.specs.Comes.{Answers};
 ghost use Rattle.death_cleanup.specs.Ties.{InStep};
 ghost use Rattle.death_cleanup.specs.View.{state_of};
 ghost use Rattle.lwp_types.specs.Case.{answer_by};
+ghost use Rattle.lwp_types.specs.Effects.{most_of_a_call};
 ghost use Rattle.lwp_types.specs.Families.{pod_call};
 ghost use Rattle.lwp_types.specs.Step.{case_of};
 ghost use Rattle.lwp_types.specs.Threads.{pod_exit, set_maxpri};
@@ -31,7 +32,7 @@ pub fn carry_out<'s>(
     requires room { effects.old ≡ [] }
     ensures told { Told parts.old parts.new effects.old effects.new tid
         (case_of (state_of parts.old) tid (pod_call call.now)) }
-    ensures most { length effects.new ≤ 1280 }
+    ensures most { length effects.new ≤ most_of_a_call }
 {
     let own = match call {
         PodCall::Me => return tell_itself(tid, effects),

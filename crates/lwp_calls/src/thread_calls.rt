@@ -6,6 +6,7 @@ ghost use Rattle.death_cleanup.specs.View.{state_of};
 ghost use Rattle.lwp_types.specs.Case.{answer_by, is_at_limit, is_full, is_no_priority, listed};
 ghost use Rattle.lwp_types.specs.Choice.{is_eligible_in};
 ghost use Rattle.lwp_types.specs.Death.{destroy};
+ghost use Rattle.lwp_types.specs.Effects.{most_of_a_call, most_of_a_death};
 ghost use Rattle.lwp_types.specs.Families.{thread_call};
 ghost use Rattle.lwp_types.specs.State.{numbers, still};
 ghost use Rattle.lwp_types.specs.Step.{case_of};
@@ -40,7 +41,7 @@ pub fn carry_out<'s>(
     ensures ok { OnOk result
         (Told parts.old parts.new effects.old effects.new tid
         (case_of (state_of parts.old) tid (thread_call call))) }
-    ensures most { length effects.new ≤ 1280 }
+    ensures most { length effects.new ≤ most_of_a_call }
     ensures err { OnErr result (IsAsBefore parts.old parts.new) }
     ensures memory { IsErr result → IsTrue (asks_memory (thread_call call)) }
 {
@@ -171,7 +172,7 @@ fn destroy<'s>(
     requires room { effects.old ≡ [] }
     ensures comes { ComesTo parts.old parts.new effects.old effects.new
         (destroy (state_of parts.old) caller tid) (option_map answer_by result) }
-    ensures most { length effects.new ≤ 1279 }
+    ensures most { length effects.new ≤ most_of_a_death }
 {
     if is_agent(&parts.agents, tid) {
         end_agent(parts, tid, effects);

@@ -3,6 +3,7 @@ ghost use Rattle.std.specs.Prelude.{◌≡◌, ◌<◌, ◌++◌, ◌∷◌, [],
 ghost use Rattle.death_cleanup.specs.Comes.{CameTo};
 ghost use Rattle.death_cleanup.specs.Ties.{InStep, LawfulParts};
 ghost use Rattle.death_cleanup.specs.View.{state_of};
+ghost use Rattle.lwp_types.specs.Effects.{effect_places};
 ghost use Rattle.lwp_types.specs.State.{is_blocked_in};
 ghost use Rattle.lwp_types.specs.Time.{is_asleep_in, is_sleeping, may_tick, tick, time_out};
 
@@ -44,7 +45,7 @@ fn is_asleep(parts: &Parts, tid: Tid) -> bool
 fn time_out<'s>(parts: &mut Parts<'s>, tid: Tid, effects: &mut Effects<'s>)
     requires step { InStep parts.old }
     requires waits { IsTrue (is_blocked_in (state_of parts.old) tid) }
-    requires room { length effects.old < 2048 }
+    requires room { length effects.old < effect_places }
     ensures { CameTo parts.old parts.new effects.old effects.new (time_out tid (state_of parts.old)) }
 {
     let done = if is_asleep(parts, tid) {
@@ -57,7 +58,7 @@ fn time_out<'s>(parts: &mut Parts<'s>, tid: Tid, effects: &mut Effects<'s>)
 
 // A tick is told.
 fn tell_tick(now: u64, effects: &mut Effects)
-    requires { length effects.old < 2048 }
+    requires { length effects.old < effect_places }
     ensures { effects.new ≡ effects.old ++ Effect.Ticked now ∷ [] }
 {
     effects.push(Effect::Ticked { now });

@@ -5,6 +5,7 @@ ghost use Rattle.death_cleanup.specs.Ties.{InStep};
 ghost use Rattle.death_cleanup.specs.View.{state_of};
 ghost use Rattle.lwp_types.specs.Case.{answer_by};
 ghost use Rattle.lwp_types.specs.Choice.{is_eligible_in};
+ghost use Rattle.lwp_types.specs.Effects.{most_of_a_call};
 ghost use Rattle.lwp_types.specs.Families.{turn_call};
 ghost use Rattle.lwp_types.specs.Step.{case_of};
 ghost use Rattle.lwp_calls.specs.Comes.{Told};
@@ -23,7 +24,7 @@ pub fn carry_out<'s>(parts: &mut Parts<'s>, tid: Tid, call: TurnCall, effects: &
     requires room { effects.old ≡ [] }
     ensures told { Told parts.old parts.new effects.old effects.new tid
         (case_of (state_of parts.old) tid (turn_call call)) }
-    ensures most { length effects.new ≤ 1280 }
+    ensures most { length effects.new ≤ most_of_a_call }
 {
     match call {
         TurnCall::Yield(to) => effects.done(tid, yield_to(parts, tid, to)),

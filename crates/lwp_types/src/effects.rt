@@ -1,6 +1,7 @@
 // The effects of one step.
 ghost use Rattle.std.specs.Prelude.{◌≡◌, ◌<◌, ◌≤◌, ◌+◌, [], ◌∷◌, ◌++◌, length, option_map, IfOk, MatchOption, slice_index_or, slice_set, vec_capacity};
 ghost use Rattle.lwp_types.specs.Case.{answer_by};
+ghost use Rattle.lwp_types.specs.Effects.{effect_places};
 ghost use Rattle.lwp_types.specs.Step.{own_effects};
 ghost use Rattle.lwp_types.specs.declared.call.Effect.TheVariants as effect;
 
@@ -26,7 +27,7 @@ impl<'s> Model for Effects<'s> {
 
     ghost view = { λ e. e.places.items };
 
-    ghost invariant = { λ e. 2048 ≤ vec_capacity e.places };
+    ghost invariant = { λ e. effect_places ≤ vec_capacity e.places };
 }
 
 // Takes all out, the last one first. Mostly they are one or two, and the list's own `clear` costs more for these.
@@ -77,7 +78,7 @@ impl<'s> Effects<'s> {
 
     /// One effect more, at the end. It takes no memory.
     pub fn push(&mut self, e: Effect<'s>)
-        requires { length self.old < 2048 }
+        requires { length self.old < effect_places }
         ensures { self.new ≡ self.old ++ e.entry ∷ [] }
     {
         self.places.push_reserved(e);
@@ -93,7 +94,7 @@ impl<'s> Effects<'s> {
 
     /// All effects of another list go behind these, in one piece, and none is left there. It takes no memory.
     pub fn append(&mut self, from: &mut Effects<'s>)
-        requires { length self.old + length from.old ≤ 2048 }
+        requires { length self.old + length from.old ≤ effect_places }
         ensures after { self.new ≡ self.old ++ from.old }
         ensures rest { from.new ≡ [] }
     {
@@ -102,26 +103,16 @@ impl<'s> Effects<'s> {
 
     /// The answer that a thread is given, at the end. It takes no memory.
     pub fn answered(&mut self, tid: Tid, answer: Answer<'s>)
-        requires { length self.old < 2048 }
+        requires { length self.old < effect_places }
         ensures { self.new ≡ self.old ++ effect.Answered tid answer.entry ∷ [] }
     {
         self.push(Effect::Answered { tid, answer });
     }
 
-    /// The same, if the thread has an answer now.
-    pub fn answered_now(&mut self, tid: Tid, own: Option<Answer<'s>>)
-        requires { length self.old < 2048 }
-        ensures { self.new ≡ self.old ++ own_effects tid own.entry }
-    {
-        if let Some(answer) = own {
-            self.answered(tid, answer);
-        }
-    }
-
     /// What a thread's call came to, a number or the error that it is refused for, at the end. It takes no memory.
     #[inline(always)]
     pub fn done(&mut self, tid: Tid, done: Result<i64, LwpErr>)
-        requires { length self.old < 2048 }
+        requires { length self.old < effect_places }
         ensures { self.new ≡ self.old ++ effect.Answered tid (answer_by done) ∷ [] }
     {
         self.answered(tid, Answer::of(done));
@@ -129,7 +120,7 @@ impl<'s> Effects<'s> {
 
     /// The same, if the thread has an answer now.
     pub fn done_now(&mut self, tid: Tid, own: Option<Result<i64, LwpErr>>)
-        requires { length self.old < 2048 }
+        requires { length self.old < effect_places }
         ensures { self.new ≡ self.old ++ own_effects tid (option_map answer_by own) }
     {
         if let Some(done) = own {
@@ -139,7 +130,7 @@ impl<'s> Effects<'s> {
 
     /// The letter that a thread gets, at the end. It takes no memory.
     pub fn lettered(&mut self, tid: Tid, letter: &Letter<'s>)
-        requires { length self.old < 2048 }
+        requires { length self.old < effect_places }
         ensures { self.new
             ≡ self.old
             ++ effect.Answered tid
@@ -151,7 +142,7 @@ impl<'s> Effects<'s> {
 
     /// The reply that a thread gets to its letter, at the end. It takes no memory.
     pub fn replied(&mut self, tid: Tid, text: &Text<'s>)
-        requires { length self.old < 2048 }
+        requires { length self.old < effect_places }
         ensures { self.new ≡ self.old ++ effect.Answered tid (Answer.Reply text.now) ∷ [] }
     {
         self.answered(tid, Answer::Reply(text.again()));

@@ -3,6 +3,7 @@ ghost use Rattle.std.specs.Prelude.{◌≡◌, ◌≤◌, ◌++◌, [], ◌<◌,
 ghost use Rattle.std.specs.Slice.Scan.{HoldsNowhere, IsFirstPlace};
 ghost use Rattle.lwp_types.specs.Agents.{armed, deliver};
 ghost use Rattle.lwp_types.specs.Choice.{is_eligible_in};
+ghost use Rattle.lwp_types.specs.Effects.{most_of_a_delivery, most_of_a_step};
 ghost use Rattle.lwp_types.specs.Lawful.{Lawful};
 ghost use Rattle.lwp_types.specs.State.{State, is_id};
 ghost use Rattle.lwp_types.specs.Step.{step};
@@ -67,7 +68,7 @@ pub trait Driven<'s>: Machine {
         ensures effects { OnOk result
             (called_by (current_of (Self.state self.old)) call.now ++ effects.new
             ≡ (step (Self.state self.old) call.now).effects) }
-        ensures most { length effects.new ≤ 1281 }
+        ensures most { length effects.new ≤ most_of_a_step }
         ensures err { OnErr result (Self.state self.new ≡ Self.state self.old) }
         ensures err_effects { OnErr result (effects.new ≡ []) }
         ensures memory { IsErr result → IsTrue (asks_memory call.now) }
@@ -78,6 +79,6 @@ pub trait Driven<'s>: Machine {
         requires { IsTrue (armed (Self.state self.old) event) }
         ensures after { Self.state self.new ≡ (deliver (Self.state self.old) event text.entry).after }
         ensures effects { effects.new ≡ (deliver (Self.state self.old) event text.entry).effects }
-        ensures most { 1 ≤ event → length effects.new ≤ 512 }
+        ensures most { 1 ≤ event → length effects.new ≤ most_of_a_delivery }
         ensures lawful { Lawful (Self.state self.new) None };
 }
