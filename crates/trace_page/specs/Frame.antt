@@ -4,6 +4,7 @@ use Rattle.std.specs.Fmt.{decimal}
 use Rattle.std.specs.List.{flat_map}
 use Rattle.std.specs.Prelude.{List, [], codes, false, if◌then◌else◌, min, suc, zero, ℕ, ◌*◌, ◌++◌, ◌+◌, ◌-◌, ◌/◌, ◌==◌, ◌^◌, ◌∷◌}
 use Rattle.trace_page.specs.Scene.{Seen}
+use Rattle.trace_page.specs.Measures.{end_width, foot, most_tenths, names_width}
 use Rattle.trace_page.specs.Shapes.{escaped, group_closed, group_open, label_text, shapes_text, x_of, y_of}
 use Rattle.trace_page.specs.declared.scene.Lane.{Lane}
 use Rattle.trace_page.specs.declared.scene.Naming.{Naming}
@@ -134,7 +135,7 @@ unfoldable pub name_words : Seen → Lane → List ℕ
 name_words s lane = codes "t" ++ (decimal lane.id ++ (event_words lane.event ++ procedure_words (procedure_of lane.id s.names)))
 
 unfoldable pub name_text : Seen → Lane → List ℕ
-name_text s lane = label_text (codes "name") 4 (y_of s lane.id + 14) ++ (name_words s lane ++ name_closed)
+name_text s lane = label_text (codes "name") 4 (y_of s lane.id + foot) ++ (name_words s lane ++ name_closed)
 
 -- the names of the lanes stand before the picture, where it is pushed aside too
 unfoldable pub names_text : Seen → List ℕ
@@ -154,7 +155,7 @@ number_text s n = label_text (codes "number") (x_of s (record { call = tenth s n
 
 -- how many tenth calls are drawn
 abbrev pub tenths : Seen → ℕ
-tenths s = min ((s.time.call - 1) / 10 - s.base / 10) 501
+tenths s = min ((s.time.call - 1) / 10 - s.base / 10) most_tenths
 
 -- the numbers stand before the picture too, where it is moved up
 unfoldable pub numbers_text : Seen → List ℕ
@@ -162,7 +163,7 @@ numbers_text s = numbers_open ++ (each_text (number_text s) 0 (tenths s) ++ numb
 
 -- how wide and high the picture is
 abbrev pub width_of : Seen → ℕ
-width_of s = x_of s s.time + 320
+width_of s = x_of s s.time + end_width
 
 abbrev pub height_of : Seen → ℕ
 height_of s = y_of s null_id + 8
@@ -176,7 +177,7 @@ strip_text s = strip_open ++ (decimal (width_of s) ++ (codes " " ++ (decimal (he
 
 -- the whole picture for print, where time goes down: what is higher than a sheet of paper goes on on the next
 unfoldable pub sheet_text : Seen → List ℕ
-sheet_text s = sheet_open ++ (decimal (height_of s) ++ (codes " " ++ (decimal (width_of s + 150) ++ (sheet_turned ++ (decimal (height_of s) ++ sheet_closed)))))
+sheet_text s = sheet_open ++ (decimal (height_of s) ++ (codes " " ++ (decimal (width_of s + names_width) ++ (sheet_turned ++ (decimal (height_of s) ++ sheet_closed)))))
 
 -- says so, where calls behind the last aren't drawn
 unfoldable pub more_text : Seen → List ℕ

@@ -1,3 +1,4 @@
+pub mod Measures
 pub mod Scene
 pub mod Spans
 pub mod Steps

@@ -5,6 +5,7 @@ use Rattle.std.specs.List.{flat_map}
 use Rattle.std.specs.Prelude.{Bool, List, [], codes, false, if◌then◌else◌, min, true, ℕ, ◌%◌, ◌*◌, ◌++◌, ◌+◌, ◌-◌, ◌==◌, ◌∷◌}
 use Rattle.trace_lines.specs.declared.entry.Gain.{Gain}
 use Rattle.trace_lines.specs.declared.entry.Gain.TheVariants as gain
+use Rattle.trace_page.specs.Measures.{below_rows, call_width, end_row, first_call, first_lane, foot, half_call, lane_height, middle, most_calls, most_lanes, outside_row, tick_spot}
 use Rattle.trace_page.specs.Scene.{Seen, need_of, place}
 use Rattle.trace_page.specs.declared.scene.Kind.{Kind}
 use Rattle.trace_page.specs.declared.scene.Kind.TheVariants as kind
@@ -31,16 +32,16 @@ escaped text = flat_map (λ b. escaped_byte b) text
 -- ---- places
 
 unfoldable pub half : Bool → ℕ
-half true = 8
+half true = half_call
 half false = 0
 
--- 16 to the right for each call
+-- where a moment is, from the left
 unfoldable pub x_of : Seen → Moment → ℕ
-x_of s at = 40 + (16 * min (at.call - s.base) 5001 + half at.late)
+x_of s at = first_call + (call_width * min (at.call - s.base) most_calls + half at.late)
 
--- 44 down for each lane
+-- where a lane is, from above
 unfoldable pub y_of : Seen → ℕ → ℕ
-y_of s id = 56 + 44 * min (place id s.lanes) 65535
+y_of s id = first_lane + lane_height * min (place id s.lanes) most_lanes
 
 -- ---- elements
 
@@ -150,7 +151,7 @@ way_class way.Wake = codes "woken"
 way_class way.Also = codes "event"
 
 unfoldable pub arrow_text : Seen → Way → ℕ → Moment → ℕ → Moment → List ℕ
-arrow_text s way from left to at = path_text (way_class way) (x_of s left) (y_of s from + 10) (x_of s at) (y_of s to + 10)
+arrow_text s way from left to at = path_text (way_class way) (x_of s left) (y_of s from + middle) (x_of s at) (y_of s to + middle)
 
 -- a client and the number of its line
 unfoldable pub posted_text : ℕ → ℕ → List ℕ
@@ -158,18 +159,18 @@ posted_text client seq = decimal client ++ (codes ":" ++ decimal seq)
 
 unfoldable pub event_text : Seen → ℕ → ℕ → ℕ → ℕ → Moment → List ℕ
 event_text s client seq nth agent at =
-    label_text (codes "event") (x_of s at) (24 + 11 * (nth % 3)) ++ (posted_text client seq ++ (label_closed ++ path_text (codes "event") (x_of s at) 48 (x_of s at) (y_of s agent + 10)))
+    label_text (codes "event") (x_of s at) (outside_row nth) ++ (posted_text client seq ++ (label_closed ++ path_text (codes "event") (x_of s at) below_rows (x_of s at) (y_of s agent + middle)))
 
 -- a trap comes from above
 unfoldable pub trap_text : Seen → ℕ → Moment → List ℕ
-trap_text s tid at = path_text (codes "woken") (x_of s at) 48 (x_of s at) (y_of s tid + 10)
+trap_text s tid at = path_text (codes "woken") (x_of s at) below_rows (x_of s at) (y_of s tid + middle)
 
 -- a tick has its number above, and a rule from there down through all lanes
 unfoldable pub clock_text : Seen → ℕ → ℕ → Moment → List ℕ
-clock_text s now nth at = label_text (codes "clock") (x_of s at) (24 + 11 * (nth % 3)) ++ (decimal now ++ (label_closed ++ use_text (codes "#clock") (x_of s at) 52))
+clock_text s now nth at = label_text (codes "clock") (x_of s at) (outside_row nth) ++ (decimal now ++ (label_closed ++ use_text (codes "#clock") (x_of s at) tick_spot))
 
 unfoldable pub closing_text : Seen → List ℕ → ℕ → Moment → List ℕ
-closing_text s line nth at = label_text (codes "end") (x_of s at + 24) (14 + 14 * min nth 16) ++ (escaped line ++ label_closed)
+closing_text s line nth at = label_text (codes "end") (x_of s at + 24) (end_row nth) ++ (escaped line ++ label_closed)
 
 -- what it waits for, in words
 unfoldable pub wanted_text : Need → List ℕ
@@ -199,7 +200,7 @@ unfoldable pub waits_text : Need → ℕ → List ℕ
 waits_text need target = codes "waits for " ++ (wanted_text need ++ named_text need target)
 
 unfoldable pub due_text : Seen → Lane → Moment → List ℕ
-due_text s lane at = label_text (codes "due") (x_of s at + 6) (y_of s lane.id + 14) ++ (waits_text (need_of lane.verb) lane.target ++ label_closed)
+due_text s lane at = label_text (codes "due") (x_of s at + 6) (y_of s lane.id + foot) ++ (waits_text (need_of lane.verb) lane.target ++ label_closed)
 
 -- a shape of a line
 unfoldable pub shape_text : Seen → List ℕ → Shape → List ℕ

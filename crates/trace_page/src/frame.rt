@@ -1,8 +1,10 @@
 // What stands around the picture.
-ghost use Rattle.std.specs.Prelude.{◌≡◌, ◌++◌, ◌<◌, ◌≤◌, OnOk};
+ghost use Rattle.std.specs.Prelude.{◌≡◌, ◌+◌, ◌++◌, ◌<◌, ◌≤◌, OnOk};
 ghost use Rattle.std.specs.List.{flat_map};
+ghost use Rattle.trace_page.specs.Measures.{end_width, most_down, most_right, most_tenths};
 ghost use Rattle.trace_page.specs.Frame.{around, beyond, colours, each_text, end_text, event_words, head, head_key, head_style, height_of, height_open, key_marks, key_waits, layout, marks, more_closed, more_open, more_text, name_text, name_words, names_closed, names_open, names_text, number_text, numbers_closed, numbers_open, numbers_text, opening, page_closed, paper_open, patterns, procedure_of, procedure_words, script, sheet_closed, sheet_open, sheet_text, sheet_turned, signs, size_closed, size_open, size_text, strip_closed, strip_open, strip_text, tail, tenth, tenths, waits, ways, width_of};
 
+use crate::measures::{END_WIDTH, FOOT, MOST_TENTHS, NAMES_WIDTH};
 use crate::scene::{Lane, Moment, Naming, Scene};
 use crate::shapes::{add_counted, add_escaped, add_group_closed, add_group_open, add_label};
 use lwp_types::NoMemory;
@@ -275,7 +277,7 @@ impl<'t> Scene<'t> {
     fn add_name(&self, out: &mut Vec<u8>, lane: Lane) -> Result<(), NoMemory>
         ensures { OnOk result (out.new.items ≡ out.old.items ++ name_text self.now lane) }
     {
-        let y = self.y_of(lane.id) + 14;
+        let y = self.y_of(lane.id) + FOOT;
         add_label(out, b"name", 4, y)?;
         self.add_name_words(out, lane)?;
         add_text(out, b"</text>\n")
@@ -303,7 +305,7 @@ impl<'t> Scene<'t> {
 
     // The number of a tenth call.
     fn tenth(&self, n: u64) -> u64
-        requires { n < 501 }
+        requires { n < most_tenths }
         ensures { result ≡ tenth self.now n }
     {
         (self.base / 10 + 1 + n).saturating_mul(10)
@@ -311,7 +313,7 @@ impl<'t> Scene<'t> {
 
     #[tactic(auto, unfolding(crate::specs::Frame::number_text, crate::specs::Frame::name_closed))]
     fn add_call_number(&self, out: &mut Vec<u8>, n: u64) -> Result<(), NoMemory>
-        requires { n < 501 }
+        requires { n < most_tenths }
         ensures { OnOk result (out.new.items ≡ out.old.items ++ number_text self.now n) }
     {
         let call = self.tenth(n);
@@ -324,12 +326,12 @@ impl<'t> Scene<'t> {
     // How many tenth calls are drawn.
     fn tenths(&self) -> u64
         ensures value { result ≡ tenths self.now }
-        ensures most { result ≤ 501 }
+        ensures most { result ≤ most_tenths }
     {
         let before = self.base / 10;
         (self.time.call.saturating_sub(1) / 10)
             .saturating_sub(before)
-            .min(501)
+            .min(MOST_TENTHS)
     }
 
     fn add_all_numbers(&self, out: &mut Vec<u8>) -> Result<(), NoMemory>
@@ -354,14 +356,14 @@ impl<'t> Scene<'t> {
 
     fn width(&self) -> u64
         ensures value { result ≡ width_of self.now }
-        ensures most { result ≤ 80384 }
+        ensures most { result ≤ most_right + end_width }
     {
-        self.x_of(self.time) + 320
+        self.x_of(self.time) + END_WIDTH
     }
 
     fn height(&self) -> u64
         ensures value { result ≡ height_of self.now }
-        ensures most { result ≤ 2883604 }
+        ensures most { result ≤ most_down + 8 }
     {
         self.y_of(NOBODY) + 8
     }
@@ -392,7 +394,7 @@ impl<'t> Scene<'t> {
     {
         let height = self.height();
         add_counted(out, sheet_open(), height)?;
-        add_counted(out, b" ", self.width() + 150)?;
+        add_counted(out, b" ", self.width() + NAMES_WIDTH)?;
         add_counted(out, sheet_turned(), height)?;
         add_text(out, sheet_closed())
     }

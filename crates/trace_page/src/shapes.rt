@@ -1,8 +1,13 @@
 // The text of what is drawn. Each function but those that answer a number or a word puts its part at the end of the bytes so far.
 ghost use Rattle.std.specs.Prelude.{◌≡◌, ◌≤◌, ◌+◌, ◌++◌, OnOk, codes};
 ghost use Rattle.std.specs.Fmt.{decimal};
+ghost use Rattle.trace_page.specs.Measures.{lane_height, most_down, most_right};
 ghost use Rattle.trace_page.specs.Shapes.{class_text, element_closed, group_closed, group_open, label_closed, posted_text, sign_open, tag_text, title_text, use_open, value_text, waits_text, arrow_text, band_text, bar_text, clock_text, closing_text, deep, due_text, escaped, escaped_byte, event_text, group_text, half, held_text, label_text, letter_text, named_text, path_text, rect_text, rule_text, said_text, shape_text, shapes_text, sign_of, tick_text, trap_text, use_text, wait_class, wait_text, wanted_text, way_class, x_of, y_of};
 
+use crate::measures::{
+    BELOW_ROWS, CALL_WIDTH, FIRST_CALL, FIRST_LANE, FOOT, HALF_CALL, LANE_HEIGHT, MIDDLE, MOST_CALLS,
+    MOST_LANES, TICK_SPOT, end_row, outside_row,
+};
 use crate::scene::{Kind, Lane, Moment, Need, Scene, Shape, Span, Way};
 use crate::steps::{need_of, place};
 use lwp_types::NoMemory;
@@ -175,7 +180,7 @@ fn half(late: bool) -> u64
     ensures value { result ≡ half late }
     ensures most { result ≤ 8 }
 {
-    if late { 8 } else { 0 }
+    if late { HALF_CALL } else { 0 }
 }
 
 // How far down the bar of a monitor is.
@@ -321,18 +326,19 @@ impl<'t> Scene<'t> {
     #[tactic(auto, unfolding(crate::specs::Shapes::x_of))]
     pub(crate) fn x_of(&self, at: Moment) -> u64
         ensures value { result ≡ x_of self.now at }
-        ensures most { result ≤ 80064 }
+        ensures most { result ≤ most_right }
     {
-        40 + (16 * at.call.saturating_sub(self.base).min(5001) + half(at.late))
+        let calls = at.call.saturating_sub(self.base).min(MOST_CALLS);
+        FIRST_CALL + (CALL_WIDTH * calls + half(at.late))
     }
 
     /// Where a lane is, from above.
     #[tactic(auto, unfolding(crate::specs::Shapes::y_of))]
     pub(crate) fn y_of(&self, id: u64) -> u64
         ensures value { result ≡ y_of self.now id }
-        ensures most { result ≤ 2883596 }
+        ensures most { result ≤ most_down }
     {
-        56 + 44 * (place(id, &self.lanes).min(65535) as u64)
+        FIRST_LANE + LANE_HEIGHT * (place(id, &self.lanes).min(MOST_LANES) as u64)
     }
 
     #[tactic(auto, unfolding(crate::specs::Shapes::rule_text))]
@@ -398,7 +404,7 @@ impl<'t> Scene<'t> {
         span: Span,
         to: Moment,
     ) -> Result<(), NoMemory>
-        requires { down ≤ 44 }
+        requires { down ≤ lane_height }
         ensures { OnOk result
             (out.new.items ≡ out.old.items ++ band_text self.now class.now down height span to) }
     {
@@ -433,9 +439,9 @@ impl<'t> Scene<'t> {
             (out.new.items ≡ out.old.items ++ arrow_text self.now way from left to at) }
     {
         let x = self.x_of(left);
-        let y = self.y_of(from) + 10;
+        let y = self.y_of(from) + MIDDLE;
         let to_x = self.x_of(at);
-        let to_y = self.y_of(to) + 10;
+        let to_y = self.y_of(to) + MIDDLE;
         add_path(out, way_class(way), x, y, to_x, to_y)
     }
 
@@ -453,11 +459,11 @@ impl<'t> Scene<'t> {
             (out.new.items ≡ out.old.items ++ event_text self.now client seq nth agent at) }
     {
         let x = self.x_of(at);
-        let y = self.y_of(agent) + 10;
-        add_label(out, b"event", x, 24 + 11 * (nth % 3))?;
+        let y = self.y_of(agent) + MIDDLE;
+        add_label(out, b"event", x, outside_row(nth))?;
         add_posted(out, client, seq)?;
         add_label_closed(out)?;
-        add_path(out, b"event", x, 48, x, y)
+        add_path(out, b"event", x, BELOW_ROWS, x, y)
     }
 
     #[tactic(auto, unfolding(crate::specs::Shapes::clock_text))]
@@ -465,10 +471,10 @@ impl<'t> Scene<'t> {
         ensures { OnOk result (out.new.items ≡ out.old.items ++ clock_text self.now now nth at) }
     {
         let x = self.x_of(at);
-        add_label(out, b"clock", x, 24 + 11 * (nth % 3))?;
+        add_label(out, b"clock", x, outside_row(nth))?;
         add_number(out, now)?;
         add_label_closed(out)?;
-        add_use(out, b"#clock", x, 52)
+        add_use(out, b"#clock", x, TICK_SPOT)
     }
 
     #[tactic(auto, unfolding(crate::specs::Shapes::trap_text))]
@@ -476,8 +482,8 @@ impl<'t> Scene<'t> {
         ensures { OnOk result (out.new.items ≡ out.old.items ++ trap_text self.now tid at) }
     {
         let x = self.x_of(at);
-        let y = self.y_of(tid) + 10;
-        add_path(out, b"woken", x, 48, x, y)
+        let y = self.y_of(tid) + MIDDLE;
+        add_path(out, b"woken", x, BELOW_ROWS, x, y)
     }
 
     #[tactic(auto, unfolding(crate::specs::Shapes::closing_text))]
@@ -492,8 +498,7 @@ impl<'t> Scene<'t> {
             (out.new.items ≡ out.old.items ++ closing_text self.now line.now nth at) }
     {
         let x = self.x_of(at) + 24;
-        let y = 14 + 14 * nth.min(16);
-        add_label(out, b"end", x, y)?;
+        add_label(out, b"end", x, end_row(nth))?;
         add_escaped(out, line)?;
         add_label_closed(out)
     }
@@ -503,7 +508,7 @@ impl<'t> Scene<'t> {
         ensures { OnOk result (out.new.items ≡ out.old.items ++ due_text self.now lane at) }
     {
         let x = self.x_of(at) + 6;
-        let y = self.y_of(lane.id) + 14;
+        let y = self.y_of(lane.id) + FOOT;
         add_label(out, b"due", x, y)?;
         add_waits(out, need_of(lane.verb), lane.target)?;
         add_label_closed(out)
