@@ -21,6 +21,7 @@ pub struct Effects<'s> {
 
 impl<'s> Model for Effects<'s> {
     ghost use Rattle.std.specs.Prelude.{List, ◌≤◌, vec_capacity};
+    ghost use Rattle.lwp_types.specs.Effects.{effect_places};
     ghost use Rattle.lwp_types.specs.declared.call.Effect.{Effect};
 
     ghost Value = { List Effect };
