@@ -4,7 +4,7 @@ use Rattle.agents.proofs.Words.{tally-none}
 use Rattle.agents.specs.Board.{is_ready, no_tally, tally_at}
 use Rattle.agents.specs.Index.{Entries, Puts, numbers_under}
 use Rattle.agents.specs.Kept.{IsIndexed, IsKept, IsTallied, holds_for, tally_in}
-use Rattle.agents.specs.Roster.{Roster, created, destroyed, first_of, held, is_idle, is_listed, no_agents, released, without_found}
+use Rattle.agents.specs.Roster.{Roster, after_create, after_destroy, after_hold, after_release, first_of, is_idle, is_listed, no_agents, without_found}
 use Rattle.agents.specs.declared.board.Tally.{Tally}
 use Rattle.agents.specs.declared.index.Entry.{Entry}
 use Rattle.lwp_types.specs.Agents.{belongs_to, is_armed, is_for, new_agent, without_agent}
@@ -241,7 +241,7 @@ module _ {r : Roster} {room : ℕ} {evs ows : Entries} {board : List Tally} (was
   pub IsKept-created : (a e t : ℕ) (evs_now ows_now : Entries) (tally : Tally) → all_below a (agent_numbers r.agents) ≡ true → e ≤ 32 → length r.agents < r.places
       → Puts evs.entries evs_now.entries e (numbers_under e evs.entries ++ a ∷ []) → length evs_now.entries ≡ length evs.entries + 1 → evs_now.room ≡ evs.room
       → Puts ows.entries ows_now.entries t (numbers_under t ows.entries ++ a ∷ []) → length ows_now.entries ≡ length ows.entries + 1 → ows_now.room ≡ ows.room
-      → tally ≡ tally_at board e → IsKept (created r a e t) room evs_now ows_now (set board e (record { agents = tally.agents + 1; holding = tally.holding }))
+      → tally ≡ tally_at board e → IsKept (after_create r a e t) room evs_now ows_now (set board e (record { agents = tally.agents + 1; holding = tally.holding }))
   IsKept-created a e t evs_now ows_now tally newest low free ev_puts ev_len ev_room ow_puts ow_len ow_room is =
       let added = new_agent a e t in
       let known : tally ≡ tally_in r.agents e = is ∙ was.tallied e in
@@ -296,7 +296,7 @@ module _ {r : Roster} {room : ℕ} {evs ows : Entries} {board : List Tally} (was
     holds_own : (b : Bool) → one (holds_for row.event (record row { holding = b })) ≡ one b
     holds_own b = rw (eq-eqb row.event row.event refl) refl
 
-    pub IsKept-held : row.holding ≡ false → IsKept (held r a) room evs ows (set board row.event (record { agents = tally.agents; holding = tally.holding + 1 }))
+    pub IsKept-held : row.holding ≡ false → IsKept (after_hold r a) room evs ows (set board row.event (record { agents = tally.agents; holding = tally.holding + 1 }))
     IsKept-held idle = IsKept-holding a true row _ found (tally_same _ _ _ _
         (omega (arith, ap (λ (x : Tally). x.agents) known, count-holding (is_for row.event) a true r.agents row was.in_order.rises found))
         (omega (arith, ap (λ (x : Tally). x.holding) known, count-holding (holds_for row.event) a true r.agents row was.in_order.rises found, holds_own row.holding, holds_own true, ap one idle)))
@@ -305,7 +305,7 @@ module _ {r : Roster} {room : ℕ} {evs ows : Entries} {board : List Tally} (was
     pub holding_counted : one row.holding ≤ tally.holding
     holding_counted = omega (arith, ap (λ (x : Tally). x.holding) known, count-holding (holds_for row.event) a false r.agents row was.in_order.rises found, holds_own row.holding, holds_own false)
 
-    pub IsKept-released : IsKept (released r a) room evs ows (set board row.event (record { agents = tally.agents; holding = tally.holding - one row.holding }))
+    pub IsKept-released : IsKept (after_release r a) room evs ows (set board row.event (record { agents = tally.agents; holding = tally.holding - one row.holding }))
     IsKept-released = IsKept-holding a false row _ found (tally_same _ _ _ _
         (omega (arith, ap (λ (x : Tally). x.agents) known, count-holding (is_for row.event) a false r.agents row was.in_order.rises found))
         (omega (arith, ap (λ (x : Tally). x.holding) known, count-holding (holds_for row.event) a false r.agents row was.in_order.rises found, holds_own row.holding, holds_own false)))
@@ -317,7 +317,7 @@ module _ {r : Roster} {room : ℕ} {evs ows : Entries} {board : List Tally} (was
     pub IsKept-destroyed : (evs_now ows_now : Entries)
         → Puts evs.entries evs_now.entries row.event (without a (numbers_under row.event evs.entries)) → length evs_now.entries + 1 ≡ length evs.entries → evs_now.room ≡ evs.room
         → Puts ows.entries ows_now.entries row.owner (without a (numbers_under row.owner ows.entries)) → length ows_now.entries + 1 ≡ length ows.entries → ows_now.room ≡ ows.room
-        → IsKept (destroyed r a) room evs_now ows_now (set board row.event (record { agents = tally.agents - 1; holding = tally.holding - one row.holding }))
+        → IsKept (after_destroy r a) room evs_now ows_now (set board row.event (record { agents = tally.agents - 1; holding = tally.holding - one row.holding }))
     IsKept-destroyed evs_now ows_now ev_puts ev_len ev_room ow_puts ow_len ow_room =
         let rest = without_agent a r.agents in
         record {

@@ -38,24 +38,24 @@ abbrev pub no_agents : Roster
 no_agents = record { agents = []; places = 0 }
 
 -- places for n agents at least
-abbrev pub reserved : Roster → ℕ → Roster
-reserved r n = record r { places = max r.places n }
+abbrev pub after_reserve : Roster → ℕ → Roster
+after_reserve r n = record r { places = max r.places n }
 
 -- one agent more, the last, with no message
-abbrev pub created : Roster → ℕ → ℕ → ℕ → Roster
-created r a e t = record r { agents = r.agents ++ new_agent a e t ∷ [] }
+abbrev pub after_create : Roster → ℕ → ℕ → ℕ → Roster
+after_create r a e t = record r { agents = r.agents ++ new_agent a e t ∷ [] }
 
 -- the agent holds a message
-abbrev pub held : Roster → ℕ → Roster
-held r a = record r { agents = with_holding a true r.agents }
+abbrev pub after_hold : Roster → ℕ → Roster
+after_hold r a = record r { agents = with_holding a true r.agents }
 
 -- the agent holds none any more
-abbrev pub released : Roster → ℕ → Roster
-released r a = record r { agents = with_holding a false r.agents }
+abbrev pub after_release : Roster → ℕ → Roster
+after_release r a = record r { agents = with_holding a false r.agents }
 
 -- the agent is gone
-abbrev pub destroyed : Roster → ℕ → Roster
-destroyed r a = record r { agents = without_agent a r.agents }
+abbrev pub after_destroy : Roster → ℕ → Roster
+after_destroy r a = record r { agents = without_agent a r.agents }
 
 -- the agent that was found is gone
 abbrev pub without_found : Option AgentRow → List AgentRow → List AgentRow

@@ -3,7 +3,7 @@ ghost use Rattle.std.specs.Prelude.{◌≡◌, ◌<◌, ◌≤◌, length, optio
 ghost use Rattle.std.specs.Slice.Scan.{HoldsNowhere, IsFirstPlace};
 ghost use Rattle.lwp_types.specs.Agents.{is_armed};
 ghost use Rattle.lwp_types.specs.State.{agent_numbers, agent_of, all_below};
-ghost use Rattle.agents.specs.Roster.{IsInBirthOrder, created, destroyed, first_of, held, is_idle, is_listed, no_agents, nth_of, released, reserved, without_first};
+ghost use Rattle.agents.specs.Roster.{IsInBirthOrder, after_create, after_destroy, after_hold, after_release, after_reserve, first_of, is_idle, is_listed, no_agents, nth_of, without_first};
 
 use crate::board::{Board, Tally, one_if};
 use crate::index::Index;
@@ -64,7 +64,7 @@ impl Agents {
 
     /// Makes places for `n` agents in all; so many can then be created with no more memory.
     pub fn reserve(&mut self, n: usize) -> Result<(), NoMemory>
-        ensures ok { OnOk result (self.new ≡ reserved self.old n) }
+        ensures ok { OnOk result (self.new ≡ after_reserve self.old n) }
         ensures err { OnErr result (self.new ≡ self.old) }
         ensures has_room { n ≤ self.old.places → IsOk result }
     {
@@ -84,7 +84,7 @@ impl Agents {
         requires most { event ≤ 32 }
         requires newest { IsTrue (all_below a (agent_numbers self.old.agents)) }
         requires room { length self.old.agents < self.old.places }
-        ensures { self.new ≡ created self.old a event owner }
+        ensures { self.new ≡ after_create self.old a event owner }
     {
         self.rows.push_reserved(AgentRow {
             number: a,
@@ -141,7 +141,7 @@ impl Agents {
     /// The agent has a message, which it holds until the reply.
     pub fn hold(&mut self, a: Tid)
         requires { IsTrue (is_idle self.old.agents a) }
-        ensures { self.new ≡ held self.old a }
+        ensures { self.new ≡ after_hold self.old a }
     {
         if let Some(row) = set_holding(&mut self.rows, a, true) {
             let before = self.board.tally(row.event);
@@ -153,7 +153,7 @@ impl Agents {
     /// The agent's message is replied to.
     pub fn release(&mut self, a: Tid)
         requires { IsTrue (is_listed self.old.agents a) }
-        ensures { self.new ≡ released self.old a }
+        ensures { self.new ≡ after_release self.old a }
     {
         if let Some(row) = set_holding(&mut self.rows, a, false) {
             let before = self.board.tally(row.event);
@@ -165,7 +165,7 @@ impl Agents {
     /// The agent is gone.
     pub fn destroy(&mut self, a: Tid)
         requires { IsTrue (is_listed self.old.agents a) }
-        ensures { self.new ≡ destroyed self.old a }
+        ensures { self.new ≡ after_destroy self.old a }
     {
         if let Some(row) = take_out(&mut self.rows, a) {
             self.by_event.take(u64::from(row.event), number_of(a));

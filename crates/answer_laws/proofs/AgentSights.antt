@@ -3,21 +3,21 @@ use Rattle.answer_laws.proofs.Replies.{Never, filter_none, unless_passed}
 use Rattle.answer_laws.proofs.Sights.{Away, found_other, pushed_own, received_own, replied_other, without_own}
 use Rattle.answer_laws.specs.Agents.{AgentSight, DestroyedAgentsAreGone, OthersLeaveAgents, agent_sight, no_agent, spares_agent}
 use Rattle.lwp_types.specs.Agents.{agent_gone, agents_of, belongs_to, end_agent, make_agent, new_agent}
-use Rattle.lwp_types.specs.Case.{Case, Check, refused, unanswered, unless, valued, with_zero}
+use Rattle.lwp_types.specs.Case.{Case, Check, refusal_case, silent_case, unless, value_case, with_zero}
 use Rattle.lwp_types.specs.Choice.{choice}
-use Rattle.lwp_types.specs.Conditions.{condition_of, waited, waking, woken, woken_all}
+use Rattle.lwp_types.specs.Conditions.{after_wait, after_wake, after_wake_all, condition_of, waking}
 use Rattle.lwp_types.specs.CountLaws.{count-cons, count-filter, count_agree, count_found_and, one}
 use Rattle.lwp_types.specs.Counts.{goes_well, is_owners}
-use Rattle.lwp_types.specs.Death.{answer_joiners, bury, death, destroyed, end_agents, refuse_receivers, refuse_sender, refuse_senders, release_all, return_from, run_all_exits, withdraw}
-use Rattle.lwp_types.specs.Exceptions.{caught_marks, exits_of, first_frames, found_in, frames, later_frames, searching, with_match}
-use Rattle.lwp_types.specs.Exits.{caught, exit_case, leave_frame, notified_by, run_exit, unwind}
+use Rattle.lwp_types.specs.Death.{answer_joiners, bury, death, destroy_case, end_agents, refuse_receivers, refuse_sender, refuse_senders, release_all, return_from, run_all_exits, withdraw}
+use Rattle.lwp_types.specs.Exceptions.{caught_marks, exits_of, first_frames, frames, handler_in, later_frames, searching, with_match}
+use Rattle.lwp_types.specs.Exits.{catch_case, exit_case, leave_frame, notified_by, run_exit, unwind}
 use Rattle.lwp_types.specs.Lawful.{Lawful, NineParts}
-use Rattle.lwp_types.specs.Messages.{as_received, holding_set, is_letter_of, is_open, is_to, post, receive_by, receivers_of, replied, senders_to, takes_from, unreceived, with_holding, without_letter}
+use Rattle.lwp_types.specs.Messages.{after_reply, as_received, holding_set, is_letter_of, is_open, is_to, next_letter, post, receive_by, receivers_of, senders_to, takes_from, with_holding, without_letter}
 use Rattle.lwp_types.specs.MonitorRelease.{grant, last_lock, next_owner, release, without_lock}
-use Rattle.lwp_types.specs.Monitors.{depth_in, entered, exited, is_owned_by_other, requested, with_depth}
+use Rattle.lwp_types.specs.Monitors.{after_exit, after_request, depth_in, enter_case, is_owned_by_other, with_depth}
 use Rattle.lwp_types.specs.State.{Outcome, State, and_then, for_each, in_order, is_agent, is_agent_row, is_id, is_thread, marks_in, passes, still, thread_of}
 use Rattle.lwp_types.specs.Step.{case_of, step, step_by, step_if}
-use Rattle.lwp_types.specs.Unblock.{blocked, blocked_for, nonexist, unblock, zero_answer}
+use Rattle.lwp_types.specs.Unblock.{after_block, after_block_for, nonexist, unblock, zero_answer}
 use Rattle.lwp_types.specs.declared.call.Call.{Call}
 use Rattle.lwp_types.specs.declared.call.ExitCall.{ExitCall}
 use Rattle.lwp_types.specs.declared.call.Func.{Func}
@@ -70,7 +70,7 @@ module _ (a : ℕ) where
   kept_unless s [] otherwise fine = fine tt
   kept_unless s (check ∷ checks) otherwise fine = by_test check.0 refl (λ here. kept_unless s checks otherwise (λ rest. fine (here, rest)))
     where
-      by_test : (b : Bool) → check.0 ≡ b → (check.0 ≡ false → Kept s (unless s checks otherwise).after) → Kept s (cond b (refused s check.1) (unless s checks otherwise)).after
+      by_test : (b : Bool) → check.0 ≡ b → (check.0 ≡ false → Kept s (unless s checks otherwise).after) → Kept s (cond b (refusal_case s check.1) (unless s checks otherwise)).after
       by_test true e rest = refl
       by_test false e rest = rest e
 
@@ -89,14 +89,14 @@ module _ (a : ℕ) where
   kept_release : (m : ℕ) (s : State) → Kept s (release m s).after
   kept_release m s = kept_grant s m (next_owner s m)
 
-  kept_exited : (s : State) (m : ℕ) → Kept s (exited m s).after
+  kept_exited : (s : State) (m : ℕ) → Kept s (after_exit m s).after
   kept_exited s m = kept_cond s (nat_le (depth_in s.locks m) 1) (release m s) (still (record s { locks = with_depth m (depth_in s.locks m - 1) s.locks })) (kept_release m s) refl
 
-  kept_fold : (m : ℕ) (ws : List WaitRow) (s : State) → Kept s (fold (λ now w. woken m w now) s ws)
+  kept_fold : (m : ℕ) (ws : List WaitRow) (s : State) → Kept s (fold (λ now w. after_wake m w now) s ws)
   kept_fold m [] s = refl
-  kept_fold m (w ∷ ws) s = kept_fold m ws (woken m w s)
+  kept_fold m (w ∷ ws) s = kept_fold m ws (after_wake m w s)
 
-  kept_woken : (o : Option CondRow) (ws : List WaitRow) (s : State) → Kept s (woken_all o ws s)
+  kept_woken : (o : Option CondRow) (ws : List WaitRow) (s : State) → Kept s (after_wake_all o ws s)
   kept_woken None ws s = refl
   kept_woken (Some row) ws s = kept_fold row.mon ws s
 
@@ -104,7 +104,7 @@ module _ (a : ℕ) where
   kept_waking s t c more ws = kept_unless s _ _ (λ passed. kept_woken (condition_of s.conditions c) ws s)
 
   -- a letter of another is done with
-  kept_replied : (s : State) (v : ℕ) (text : List ℕ) → v ≢ a → Kept s (replied v text s).after
+  kept_replied : (s : State) (v : ℕ) (text : List ℕ) → v ≢ a → Kept s (after_reply v text s).after
   kept_replied s v text other = kept_cond s (is_agent s v) _ _ idle (λ i. seen_by (agent_sight s a).row (without_own a Never v other s.letters i))
     where
       unmoved : (o : Option AgentRow) → find (is_agent_row a) s.agents ≡ o → option_map (holding_set v false) o ≡ o
@@ -300,12 +300,12 @@ module _ (a : ℕ) where
     dies : (v : ℕ) → is_thread s v ≡ true → eqb row.owner v ≡ false → Kept s (death v s).after
     dies v lives other = let who = living s v lives in kept_death row v (thread_other v lives) other s was.nine who.row who.known there (off_other v other)
 
-    kept_destroyed : (t v : ℕ) → v ≢ a → eqb row.owner v ≡ false → is_id s v ≡ true → Kept s (destroyed s t v).after
+    kept_destroyed : (t v : ℕ) → v ≢ a → eqb row.owner v ≡ false → is_id s v ≡ true → Kept s (destroy_case s t v).after
     kept_destroyed t v apart other lives = by_agent (is_agent s v) lives
       where
-        by_agent : (b : Bool) → (is_thread s v || b) ≡ true → Kept s (cond b (with_zero (end_agent v s)) (cond (eqb t v) (unanswered (death v s)) (with_zero (death v s)))).after
+        by_agent : (b : Bool) → (is_thread s v || b) ≡ true → Kept s (cond b (with_zero (end_agent v s)) (cond (eqb t v) (silent_case (death v s)) (with_zero (death v s)))).after
         by_agent true h = kept_end v s apart
-        by_agent false h = let died = dies v (either (is_thread s v) h) other in cond_case s (eqb t v) (unanswered (death v s)) (with_zero (death v s)) died died
+        by_agent false h = let died = dies v (either (is_thread s v) h) other in cond_case s (eqb t v) (silent_case (death v s)) (with_zero (death v s)) died died
           where
             either : (b : Bool) → (b || false) ≡ true → b ≡ true
             either true e = refl
@@ -318,11 +318,11 @@ module _ (a : ℕ) where
       kept_leave : Kept s (leave_frame s t).after
       kept_leave = kept_unwind t (first_frames (frames (marks_in s t) - 1) (marks_in s t)) (later_frames (frames (marks_in s t) - 1) (marks_in s t)) s off
 
-      kept_caught : (p : ℕ) (f : Found) → Kept s (caught s t p f).after
+      kept_caught : (p : ℕ) (f : Found) → Kept s (catch_case s t p f).after
       kept_caught p f = kept_unwind t (caught_marks f (marks_in s t)) (later_frames f.depth (marks_in s t)) s off
 
       kept_searched : (p : ℕ) (on_match : Found → Case) → ((f : Found) → Kept s (on_match f).after) → Kept s (searching s t p on_match).after
-      kept_searched p on_match fine = kept_unless s _ _ (λ passed. by_found (found_in p (marks_in s t)))
+      kept_searched p on_match fine = kept_unless s _ _ (λ passed. by_found (handler_in p (marks_in s t)))
         where
           by_found : (o : Option Found) → Kept s (with_match s on_match o).after
           by_found None = refl
@@ -334,20 +334,20 @@ module _ (a : ℕ) where
       kept_notified p f func.Nothing = kept_caught p f
 
       kept_returned : Kept s (return_from s t).after
-      kept_returned = cond_case s (nat_le 2 (frames (marks_in s t))) (leave_frame s t) (unanswered (death t s)) kept_leave (dies t lives other)
+      kept_returned = cond_case s (nat_le 2 (frames (marks_in s t))) (leave_frame s t) (silent_case (death t s)) kept_leave (dies t lives other)
 
-      kept_received : (from : Option ℕ) (how : Mode) (o : Option Letter) → unreceived s.letters t from ≡ o → Kept s (receive_by s t from how o).after
+      kept_received : (from : Option ℕ) (how : Mode) (o : Option Letter) → next_letter s.letters t from ≡ o → Kept s (receive_by s t from how o).after
       kept_received from how (Some letter) e = λ i. seen_by (agent_sight s a).row (received_own a Never letter.from (found_other a Never t s off (is_open from) letter e) s.letters i)
       kept_received from mode.Poll None e = refl
       kept_received from mode.Block None e = refl
-      kept_received from (mode.Until ticks) None e = cond_case s (eqb ticks 0) (refused s error.Timeout) (unanswered (still (blocked_for s t (block.Receiving from) ticks))) refl refl
+      kept_received from (mode.Until ticks) None e = cond_case s (eqb ticks 0) (refusal_case s error.Timeout) (silent_case (still (after_block_for s t (block.Receiving from) ticks))) refl refl
 
-      kept_waited : (c : ℕ) (o : Option Lock) → Kept s (waited t c o s).after
+      kept_waited : (c : ℕ) (o : Option Lock) → Kept s (after_wait t c o s).after
       kept_waited c None = refl
-      kept_waited c (Some lock) = kept_grant (blocked (record s { waits = s.waits ++ record { cond = c; tid = t; depth = lock.depth } ∷ [] }) t (block.Waiting c)) lock.mon _
+      kept_waited c (Some lock) = kept_grant (after_block (record s { waits = s.waits ++ record { cond = c; tid = t; depth = lock.depth } ∷ [] }) t (block.Waiting c)) lock.mon _
 
-      kept_sent : (v room : ℕ) (text : List ℕ) → Kept s (post (record { from = t; to = v; text = text; room = room; received = false }) (blocked s t block.Sending)).after
-      kept_sent v room text = kept_post (blocked s t block.Sending) (record { from = t; to = v; text = text; room = room; received = false }) (thread_other t lives)
+      kept_sent : (v room : ℕ) (text : List ℕ) → Kept s (post (record { from = t; to = v; text = text; room = room; received = false }) (after_block s t block.Sending)).after
+      kept_sent v room text = kept_post (after_block s t block.Sending) (record { from = t; to = v; text = text; room = room; received = false }) (thread_other t lives)
 
       kept_made : (e : ℕ) → Kept s (make_agent s t e).after
       kept_made e = kept_unless s _ _ (λ passed. λ i. seen_by ((find_push_some (is_agent_row a) s.agents row (new_agent s.births e t) there ∙ sym there) i) (agent_sight s a).letters)
@@ -369,16 +369,16 @@ module _ (a : ℕ) where
       -- of every call that spares it: the last line is for each that is refused by its checks or else leaves what is seen of it as it is
       kept_case : (c : Call) → spares_agent a row.owner c ≡ true → Kept s (case_of s t c).after
       kept_case (call.Destroy v) h = kept_destroy v h
-      kept_case (call.Sleep ticks) h = cond_case s (eqb ticks 0) (valued s 0) (unanswered (still (blocked_for s t block.Sleeping ticks))) refl refl
+      kept_case (call.Sleep ticks) h = cond_case s (eqb ticks 0) (value_case s 0) (silent_case (still (after_block_for s t block.Sleeping ticks))) refl refl
       kept_case call.Me h = refl
       kept_case call.GetExit h = refl
       kept_case call.Threads h = refl
       kept_case (call.Send v room text) h = kept_unless s _ _ (λ passed. kept_sent v room text)
-      kept_case (call.Recv from how) h = kept_unless s _ _ (λ passed. kept_received from how (unreceived s.letters t from) refl)
+      kept_case (call.Recv from how) h = kept_unless s _ _ (λ passed. kept_received from how (next_letter s.letters t from) refl)
       kept_case (call.Reply v text) h = kept_unless s _ _ (λ passed. kept_replied s v text (replied_other a Never t s off v passed.1.0))
       kept_case call.Senders h = refl
       kept_case call.Receivers h = refl
-      kept_case (call.Enter m) h = kept_unless s _ _ (λ passed. cond_case s (is_owned_by_other s.locks t m) (unanswered (still (requested s t m))) (entered s t m) refl refl)
+      kept_case (call.Enter m) h = kept_unless s _ _ (λ passed. cond_case s (is_owned_by_other s.locks t m) (silent_case (still (after_request s t m))) (enter_case s t m) refl refl)
       kept_case (call.MonExit m) h = kept_unless s _ _ (λ passed. kept_exited s m)
       kept_case (call.MonBreak m) h = kept_unless s _ _ (λ passed. kept_release m s)
       kept_case call.Monitors h = refl
@@ -429,9 +429,9 @@ destroyed_agents_are_gone s t a row turn there =
     is_there : is_id s a ≡ true
     is_there = either (is_thread s a) (is_agent s a) lives
 
-    is_end : destroyed s t a ≡ with_zero (end_agent a s)
+    is_end : destroy_case s t a ≡ with_zero (end_agent a s)
     is_end = by_agent (is_agent s a) lives
       where
-        by_agent : (b : Bool) → b ≡ true → cond b (with_zero (end_agent a s)) (cond (eqb t a) (unanswered (death a s)) (with_zero (death a s))) ≡ with_zero (end_agent a s)
+        by_agent : (b : Bool) → b ≡ true → cond b (with_zero (end_agent a s)) (cond (eqb t a) (silent_case (death a s)) (with_zero (death a s))) ≡ with_zero (end_agent a s)
         by_agent true e = refl
         by_agent false e = absurd (cc)

@@ -11,7 +11,7 @@ use Rattle.lwp_types.specs.Counts.{has_owner_and_event, is_between, timers_of}
 use Rattle.lwp_types.specs.Lawful.{Lawful}
 use Rattle.lwp_types.specs.Messages.{as_answer, as_received, holding_set, is_letter_of, post, takes_from, with_holding}
 use Rattle.lwp_types.specs.State.{Outcome, State, ThreadRow, agent_of, and_then, block_set, for_each, is_agent_row, is_number, is_thread, passes, still, thread_of, with_block}
-use Rattle.lwp_types.specs.Time.{due_threads, is_due, tick, ticked, time_out}
+use Rattle.lwp_types.specs.Time.{after_tick, due_threads, is_due, tick, time_out}
 use Rattle.lwp_types.specs.Unblock.{is_timer_of, unblock}
 use Rattle.lwp_types.specs.declared.call.Answer.{Answer}
 use Rattle.lwp_types.specs.declared.rows.AgentRow.{AgentRow}
@@ -53,8 +53,8 @@ module _ (a : ℕ) where
   all_true (x ∷ xs) = all_true xs
 
   passed_tick : (s : State) → IsPassedBy a s (tick s)
-  passed_tick s = passed_then s (record { after = ticked s; effects = effect.Ticked (s.now + 1) ∷ [] }) (λ now. for_each time_out (due_threads now) now) (record { seen = refl; none = refl })
-      (passed_each (λ v. true) time_out (λ v now h. record { seen = refl; none = refl }) (due_threads (ticked s)) (all_true (due_threads (ticked s))) (ticked s))
+  passed_tick s = passed_then s (record { after = after_tick s; effects = effect.Ticked (s.now + 1) ∷ [] }) (λ now. for_each time_out (due_threads now) now) (record { seen = refl; none = refl })
+      (passed_each (λ v. true) time_out (λ v now h. record { seen = refl; none = refl }) (due_threads (after_tick s)) (all_true (due_threads (after_tick s))) (after_tick s))
 
   -- a letter posted is no delivery
   post_none : (s : State) (letter : Letter) → deliveries_to a (post letter s).effects ≡ 0
@@ -201,8 +201,8 @@ module _ (u : ℕ) (b : Block) (attends : is_attentive b ≡ true) where
       left_then u s (time_out v s) (for_each time_out vs) one (left_times vs parts.1 (time_out v s).after (ap (λ x. x.waits) one.same ∙ seen))
 
   left_tick : (s : State) → (sight s u).waits ≡ Some b → timers_of s.timers u ≡ 0 → IsLeft u s (tick s)
-  left_tick s seen none = left_then u s (record { after = ticked s; effects = effect.Ticked (s.now + 1) ∷ [] }) (λ now. for_each time_out (due_threads now) now) (record { same = refl; quiet = refl })
-      (left_times (due_threads (ticked s)) (tids_all u Never _ (all_filter _ _ (is_due (s.now + 1)) (λ row kept h. h) s.timers (none_all u Never (is_timer_of u) s.timers none))) (ticked s) seen)
+  left_tick s seen none = left_then u s (record { after = after_tick s; effects = effect.Ticked (s.now + 1) ∷ [] }) (λ now. for_each time_out (due_threads now) now) (record { same = refl; quiet = refl })
+      (left_times (due_threads (after_tick s)) (tids_all u Never _ (all_filter _ _ (is_due (s.now + 1)) (λ row kept h. h) s.timers (none_all u Never (is_timer_of u) s.timers none))) (after_tick s) seen)
 
   pub left_deliver : (a : ℕ) → ((n : ℕ) → n ≢ a → takes_from n b ≡ false) → (s : State) → Lawful s None → (sight s u).waits ≡ Some b → timers_of s.timers u ≡ 0 → (e : ℕ) (text : List ℕ) → passes (is_for e) (agent_of s.agents a) ≡ false → IsLeft u s (deliver s e text)
   unfolding deliver

@@ -19,12 +19,12 @@ use Rattle.answer_laws.specs.Talks.{Mail.Nothing, Stand, Stand.AwaitsLetter, Sta
 use Rattle.line_server.specs.Sessions.{session_opening}
 use Rattle.line_server.specs.declared.session.SessionPlace.TheVariants as at
 use Rattle.line_server.specs.Stores.{StoreBody, store_by, store_next, table_of}
-use Rattle.lwp_types.specs.Agents.{armed, deliver}
+use Rattle.lwp_types.specs.Agents.{deliver, is_event_armed}
 use Rattle.lwp_types.specs.Choice.{choice}
 use Rattle.lwp_types.specs.CountLaws.{count-append, count_not_found}
 use Rattle.lwp_types.specs.Counts.{timers_of}
 use Rattle.lwp_types.specs.Lawful.{Lawful}
-use Rattle.lwp_types.specs.Messages.{as_answer, is_letter_of, is_open, is_to, received_from, replied, unreceived}
+use Rattle.lwp_types.specs.Messages.{after_reply, as_answer, is_letter_of, is_open, is_to, next_letter, received_from}
 use Rattle.lwp_types.specs.Names.{Names}
 use Rattle.lwp_types.specs.State.{Outcome, State, agent_of, is_agent, is_agent_row, is_thread, marks_in, passes}
 use Rattle.lwp_types.specs.Step.{step}
@@ -35,10 +35,10 @@ use Rattle.lwp_types.specs.declared.call.Call.{Call}
 use Rattle.lwp_types.specs.declared.call.Effect.{Effect}
 use Rattle.lwp_types.specs.declared.rows.Letter.{Letter}
 use Rattle.pod_laws.specs.Timers.{timers_asked}
-use Rattle.pod_events.specs.Events.{EventState, is_trapped, passed_on, rites_event, take_event, trap_taken}
-use Rattle.pod_events.specs.Rites.{as_rites, first_reported, report_text, reports_after, rites_said}
+use Rattle.pod_events.specs.Events.{EventState, after_pass_on, after_take_trap, is_trapped, rites_event, take_event}
+use Rattle.pod_events.specs.Rites.{after_first_report, as_rites, report_text, reports_after, rites_said}
 use Rattle.pod_events.specs.Step.{event_step}
-use Rattle.pod_events.specs.Traps.{Trapping, called, stepped}
+use Rattle.pod_events.specs.Traps.{Trapping, after_machine_step, after_trap_and_call}
 use Rattle.pod_laws.proofs.Elements.{differ}
 use Rattle.pod_laws.proofs.EveryStep.{Lawful-step}
 use Rattle.pod_laws.proofs.TimerMoves.{no_timer_comes_unasked}
@@ -118,9 +118,9 @@ heard_then z (x ∷ xs) ys = heard_then x xs ys
 -- with the report behind it
 alone_said : (s k : ℕ) (after : State) (es : List Effect) (reports : List ℕ) (kb : StoreBody) (kz : Answer) → Lawful after None → is_agent after s ≡ false → AloneAt s k after kb (last_heard kz (answers_to k es))
     → AloneAt s k (rites_said after es reports).state kb (last_heard kz (answers_to k (rites_said after es reports).effects))
-alone_said s k after es reports kb kz was away h = by_armed (armed after rites_event) reports
+alone_said s k after es reports kb kz was away h = by_armed (is_event_armed after rites_event) reports
   where
-    by_armed : (b : Bool) (rs : List ℕ) → AloneAt s k (cond b (first_reported after es rs) (record { state = after; reports = rs; effects = es })).state kb (last_heard kz (answers_to k (cond b (first_reported after es rs) (record { state = after; reports = rs; effects = es })).effects))
+    by_armed : (b : Bool) (rs : List ℕ) → AloneAt s k (cond b (after_first_report after es rs) (record { state = after; reports = rs; effects = es })).state kb (last_heard kz (answers_to k (cond b (after_first_report after es rs) (record { state = after; reports = rs; effects = es })).effects))
     by_armed true [] = h
     by_armed false rs = h
     by_armed true (dead ∷ later) =
@@ -151,7 +151,7 @@ module _ (s k : ℕ) (es : EventState) (was : Lawful es.state None) (kb : StoreB
       away e = let bad : true ≡ false = sym (eq-eqb t k e) ∙ t_k in cc
 
       out : Trapping
-      out = called es.state es.trapped t c es.pending
+      out = after_trap_and_call es.state es.trapped t c es.pending
 
       reports : List ℕ
       reports = reports_after es.state out.state es.reports out.effects
@@ -170,7 +170,7 @@ module _ (s k : ℕ) (es : EventState) (was : Lawful es.state None) (kb : StoreB
   unfolding take_event
   alone_taken away e text = by_trapped (is_trapped es.trapped e)
     where
-      by_trapped : (b : Bool) → AloneAt s k (cond b (trap_taken es e) (passed_on es (deliver es.state e text))).after.state kb (last_heard kz (answers_to k (cond b (trap_taken es e) (passed_on es (deliver es.state e text))).effects))
+      by_trapped : (b : Bool) → AloneAt s k (cond b (after_take_trap es e) (after_pass_on es (deliver es.state e text))).after.state kb (last_heard kz (answers_to k (cond b (after_take_trap es e) (after_pass_on es (deliver es.state e text))).effects))
       by_trapped true = h
       by_trapped false = alone_delivered s k es.state was kb kz h away e text
 
@@ -215,20 +215,20 @@ module _ (s k : ℕ) (st : State) (was : Lawful st None) (kb : StoreBody) (kz : 
   After does = AloneAt s k (step st does.0).after does.1 (last_heard kz (answers_to k (step st does.0).effects))
 
   receives : (body : StoreBody) → (table_of s body.tables ≡ []) × (stands s body.place AwaitsLetter ≡ true) → After (call.Recv None mode.Block, body)
-  receives body idle = by_letter (unreceived st.letters k None) refl
+  receives body idle = by_letter (next_letter st.letters k None) refl
     where
-      other_letter : (l : Letter) → unreceived st.letters k None ≡ Some l → (b : Bool) → is_letter_of s l ≡ b → b ≡ false
+      other_letter : (l : Letter) → next_letter st.letters k None ≡ Some l → (b : Bool) → is_letter_of s l ≡ b → b ≡ false
       other_letter l e true is = absurd (found_none (is_open None) (is_to k) (is_letter_of s) st.letters l e is (unborn_silent st was s low))
       other_letter l e false is = refl
 
-      by_letter : (o : Option Letter) → unreceived st.letters k None ≡ o → After (call.Recv None mode.Block, body)
+      by_letter : (o : Option Letter) → next_letter st.letters k None ≡ o → After (call.Recv None mode.Block, body)
       by_letter None e = stood (call.Recv None mode.Block) body AwaitsLetter [] (keeps_waiting k st turn k_seen e) refl tt refl idle.0 idle.1
       by_letter (Some l) e = stood (call.Recv None mode.Block) body (Hears (as_answer l)) (as_answer l ∷ []) (keeps_letter k st turn k_seen l e) refl refl refl idle.0 (ap not (other_letter l e (is_letter_of s l) refl))
 
   replies : (v : ℕ) (text : List ℕ) (body : StoreBody) → table_of s body.tables ≡ [] → After (call.Reply v text, body)
   replies v text body table = by_checks (checked st _ _)
     where
-      by_checks : Checked st (is_no_id st v ∷ (is_none (received_from st.letters k v), error.NoWait) ∷ (passes (λ (letter : Letter). nat_lt letter.room (length text)) (received_from st.letters k v), error.InvalidArg) ∷ []) (with_zero (replied v text st)) → After (call.Reply v text, body)
+      by_checks : Checked st (is_no_id st v ∷ (is_none (received_from st.letters k v), error.NoWait) ∷ (passes (λ (letter : Letter). nat_lt letter.room (length text)) (received_from st.letters k v), error.InvalidArg) ∷ []) (with_zero (after_reply v text st)) → After (call.Reply v text, body)
       by_checks (Struck e is) = stood (call.Reply v text) body (Hears (answer.Refused e)) (answer.Refused e ∷ []) (keeps_refused k st turn k_seen v text e is) refl refl refl table refl
       by_checks (Free passed is) = stood (call.Reply v text) body (Hears zero_answer) (zero_answer ∷ []) (keeps_replied k st turn k_seen v text (replied_other k Never k st (off k st turn k_seen) v passed.1.0) is) refl refl refl table refl
 
@@ -276,14 +276,14 @@ module _ (s k : ℕ) (es : EventState) (was : Lawful es.state None) (kb : StoreB
       gone : (out : Trapping) → IsGone out.state k → Goal (done_by es out)
       gone out off = λ alive free. differ (sym alive ∙ gone_thread (rites_said out.state out.effects (reports_after es.state out.state es.reports out.effects)).state k (gone_said k out.state out.effects (reports_after es.state out.state es.reports out.effects) off))
 
-      by_stop : (b : Bool) → goes_on_with c ≡ b → Goal (done_by es (stepped es.trapped (step es.state c)))
+      by_stop : (b : Bool) → goes_on_with c ≡ b → Goal (done_by es (after_machine_step es.trapped (step es.state c)))
       by_stop true on = λ alive free.
           let reports = reports_after es.state (step es.state c).after es.reports (step es.state c).effects in
           let then = Lawful-step es.state was c in
           alone_said s k (step es.state c).after (step es.state c).effects reports (store_next kb names kz).1 kz then (free_before s k es was kb kz h (step es.state c).after (step es.state c).effects reports then free)
           (alone_step s k es.state was kb kz h turn low names on)
-      by_stop false stops = gone (stepped es.trapped (step es.state c)) (subst (λ c. IsGone (step es.state c).after k) (sym (plain.stop stops)) (returned_is_gone es.state was k turn marks))
+      by_stop false stops = gone (after_machine_step es.trapped (step es.state c)) (subst (λ c. IsGone (step es.state c).after k) (sym (plain.stop stops)) (returned_is_gone es.state was k turn marks))
 
-      by_pending : (p : Option ℕ) → Goal (done_by es (called es.state es.trapped k c p))
+      by_pending : (p : Option ℕ) → Goal (done_by es (after_trap_and_call es.state es.trapped k c p))
       by_pending None = subst (λ out. Goal (done_by es out)) (sym (made_plain es.state es.trapped k c plain.trap plain.agent)) (by_stop (goes_on_with c) refl)
       by_pending (Some e) = subst (λ out. Goal (done_by es out)) (sym (sprung_is es.state es.trapped k c e marks)) (gone (record { state = (step es.state (call.Destroy k)).after; trapped = es.trapped; effects = effect.Trapped k e ∷ drop 1 (step es.state (call.Destroy k)).effects }) (destroyed_is_gone es.state was k k turn lives_k))

@@ -13,15 +13,15 @@ use Rattle.answer_laws.proofs.ThreadRows.{row_settled}
 use Rattle.answer_laws.specs.Births.{born_in, is_named}
 use Rattle.answer_laws.specs.Sights.{IsDelivered, IsLeft, IsWoken, Sight, sight, sight_by}
 use Rattle.answer_laws.specs.Stands.{last_heard}
-use Rattle.lwp_types.specs.Agents.{armed, deliver, deliver_to, event_agents}
+use Rattle.lwp_types.specs.Agents.{deliver, deliver_to, event_agents, is_event_armed}
 use Rattle.lwp_types.specs.declared.rows.AgentRow.{AgentRow}
-use Rattle.lwp_types.specs.Case.{Case, answered, is_at_limit, is_full, is_no_priority, refused}
+use Rattle.lwp_types.specs.Case.{Case, answer_case, is_at_limit, is_full, is_no_priority, refusal_case}
 use Rattle.lwp_types.specs.Choice.{choice}
 use Rattle.lwp_types.specs.CountLaws.{count-append}
 use Rattle.lwp_types.specs.Lawful.{Lawful}
 use Rattle.lwp_types.specs.State.{Outcome, State, ThreadRow, and_then, for_each, is_agent, is_number, is_thread, passes, thread_of}
-use Rattle.lwp_types.specs.Step.{case_of, end_effects, ends, finished, own_effects, step, step_by, step_if}
-use Rattle.lwp_types.specs.Threads.{born, created}
+use Rattle.lwp_types.specs.Step.{case_of, end_effects, ends, own_effects, step, step_by, step_if, step_outcome}
+use Rattle.lwp_types.specs.Threads.{after_create, new_thread}
 use Rattle.lwp_types.specs.Unblock.{zero_answer}
 use Rattle.lwp_types.specs.declared.call.Answer.{Answer}
 use Rattle.lwp_types.specs.declared.call.Call.{Call}
@@ -29,13 +29,13 @@ use Rattle.lwp_types.specs.declared.call.Effect.{Effect}
 use Rattle.lwp_types.specs.declared.call.Flags.{Flags}
 use Rattle.lwp_types.specs.declared.call.LwpErr.{LwpErr}
 use Rattle.pod_events.proofs.MildCalls.{case_toll, is_tame}
-use Rattle.pod_events.specs.Events.{EventState, is_trapped, passed_on, rites_event, take_event, trap_taken}
-use Rattle.pod_events.specs.Rites.{as_rites, first_reported, report_text, reports_after, rites_said}
+use Rattle.pod_events.specs.Events.{EventState, after_pass_on, after_take_trap, is_trapped, rites_event, take_event}
+use Rattle.pod_events.specs.Rites.{after_first_report, as_rites, report_text, reports_after, rites_said}
 use Rattle.pod_events.specs.Step.{event_step}
-use Rattle.pod_events.specs.Traps.{agent_event_of, but_call, called as traps_called, is_catch, is_given, made as traps_made, made_as, notice, refused_by, stepped, trap_made, trap_of, trap_refusal}
+use Rattle.pod_events.specs.Traps.{after_call as traps_made, after_call_as, after_machine_step, after_trap, after_trap_and_call as traps_called, agent_event_of, but_call, is_catch, is_given, notice, refused_by, trap_of, trap_refusal}
 use Rattle.pod_laws.proofs.Elements.{find_push_new}
 use Rattle.pod_laws.specs.Forgotten.{is_died}
-use Rattle.pod_runner.specs.Session.{answered as rows_answered, proc_of, row_of, row_opened, rows_born, settled, settled_by, thread_in, with_row, without_row}
+use Rattle.pod_runner.specs.Session.{after_answer as rows_answered, after_settle, after_settle_by, proc_of, row_of, row_opened, rows_born, thread_in, with_row, without_row}
 use Rattle.pod_runner.specs.declared.session.Row.{Row}
 use Rattle.session_laws.proofs.Pods.{call_moved}
 use Rattle.std.proofs.Common.{Bool, List, None, Option, Some, [], ap, append-nil, arith, cond, count_by, drop, eqb, false, inl, inr, refl, subst, sym, true, ℕ, ◌++◌, ◌∙◌, ◌∷◌, ◌≡◌, ◌≤◌, ◌⊎◌}
@@ -101,7 +101,7 @@ module _ {B : Type 0} (u : ℕ) where
   none_born bodies (Some number) (Some v) e = none_opened v (slice_get bodies number) e
 
   -- who isn't named gets no row
-  pub none_settled : (bodies : List B) (born : Option ℕ) (es : List Effect) (rows : List (Row B)) → row_of u rows ≡ None → is_named u es ≡ false → row_of u (settled bodies born es rows) ≡ None
+  pub none_settled : (bodies : List B) (born : Option ℕ) (es : List Effect) (rows : List (Row B)) → row_of u rows ≡ None → is_named u es ≡ false → row_of u (after_settle bodies born es rows) ≡ None
   none_settled bodies born [] rows none unnamed = none
   none_settled bodies born (effect.Answered t a ∷ es) rows none unnamed =
       let parts = either_of (passes (λ b. eqb b u) (thread_in a)) (is_named u es) unnamed in
@@ -116,9 +116,9 @@ module _ {B : Type 0} (u : ℕ) where
   none_settled bodies born (effect.Trapped t e ∷ es) rows none unnamed = none_settled bodies born es rows none unnamed
   none_settled bodies born (effect.Rites a d ∷ es) rows none unnamed = none_settled bodies born es rows none unnamed
 
-  settled_append : (bodies : List B) (born : Option ℕ) (xs ys : List Effect) (rows : List (Row B)) → settled bodies born (xs ++ ys) rows ≡ settled bodies born ys (settled bodies born xs rows)
+  settled_append : (bodies : List B) (born : Option ℕ) (xs ys : List Effect) (rows : List (Row B)) → after_settle bodies born (xs ++ ys) rows ≡ after_settle bodies born ys (after_settle bodies born xs rows)
   settled_append bodies born [] ys rows = refl
-  settled_append bodies born (x ∷ xs) ys rows = settled_append bodies born xs ys (settled_by bodies born x rows)
+  settled_append bodies born (x ∷ xs) ys rows = settled_append bodies born xs ys (after_settle_by bodies born x rows)
 
   row_opens : (rows : List (Row B)) (body : B) → row_of u rows ≡ None → (o : Option B) → o ≡ Some body → row_of u (rows ++ row_opened u o) ≡ Some (record { tid = u; body = body; answer = zero_answer })
   row_opens rows body none None e = absurd (cc)
@@ -134,7 +134,7 @@ pub record Bore {B : Type 0} (bodies : List B) (c : Call) (u p : ℕ) (st after 
   pub number : st.births ≡ u
   pub proc : proc_of c ≡ Some p
   pub seen : sight after u ≡ resting
-  pub rows : (rows : List (Row B)) → row_of u rows ≡ None → (body : B) → slice_get bodies p ≡ Some body → row_of u (settled bodies (proc_of c) es rows) ≡ Some (record { tid = u; body = body; answer = zero_answer })
+  pub rows : (rows : List (Row B)) → row_of u rows ≡ None → (body : B) → slice_get bodies p ≡ Some body → row_of u (after_settle bodies (proc_of c) es rows) ≡ Some (record { tid = u; body = body; answer = zero_answer })
 
 -- what is tame tells of no birth
 tame_bears : (u : ℕ) (xs ys : List Effect) → list_all is_tame xs ≡ true → born_in u ys ≡ None → born_in u (xs ++ ys) ≡ None
@@ -165,7 +165,7 @@ pub take_bears : (u : ℕ) (es : EventState) (e : ℕ) (text : List ℕ) → bor
 unfolding take_event
 take_bears u es e text = by_trapped (is_trapped es.trapped e)
   where
-    by_trapped : (b : Bool) → born_in u (cond b (trap_taken es e) (passed_on es (deliver es.state e text))).effects ≡ None
+    by_trapped : (b : Bool) → born_in u (cond b (after_take_trap es e) (after_pass_on es (deliver es.state e text))).effects ≡ None
     by_trapped true = refl
     by_trapped false = ap (born_in u) (sym (append-nil (deliver es.state e text).effects)) ∙ tame_bears u (deliver es.state e text).effects [] (tame_deliver es.state e text) refl
 
@@ -219,7 +219,7 @@ module _ {B : Type 0} (bodies : List B) (u p : ℕ) (st : State) (was : Lawful s
           let made = case_of st v d in
           tame_bears u made.others (own_effects v made.own ++ end_effects made.after) (case_toll st v d).tame (own_none v made.own (end_effects made.after) (end_none made.after (ends made.after)))
 
-  step_is : step st c ≡ finished t c (case_of st t c)
+  step_is : step st c ≡ step_outcome t c (case_of st t c)
   unfolding step step_by
   step_is = ap (step_if st c) turn
 
@@ -240,14 +240,14 @@ module _ {B : Type 0} (bodies : List B) (u p : ℕ) (st : State) (was : Lawful s
   called_none v (effect.Rites a d ∷ xs) none = refl
 
   -- a Create that is carried out
-  create_bears : (prio : ℕ) (flags : Flags) (number : ℕ) → c ≡ call.Create number prio flags → born_in u (finished t c (answered (created st prio flags) (answer.Thread st.births))).effects ≡ Some p
-      → Bore bodies c u p st (finished t c (answered (created st prio flags) (answer.Thread st.births))).after (finished t c (answered (created st prio flags) (answer.Thread st.births))).effects
+  create_bears : (prio : ℕ) (flags : Flags) (number : ℕ) → c ≡ call.Create number prio flags → born_in u (step_outcome t c (answer_case (after_create st prio flags) (answer.Thread st.births))).effects ≡ Some p
+      → Bore bodies c u p st (step_outcome t c (answer_case (after_create st prio flags) (answer.Thread st.births))).after (step_outcome t c (answer_case (after_create st prio flags) (answer.Thread st.births))).effects
   create_bears prio flags number is bears = by_number (eqb st.births u) refl bears
     where
       made : Case
-      made = answered (created st prio flags) (answer.Thread st.births)
+      made = answer_case (after_create st prio flags) (answer.Thread st.births)
 
-      by_number : (b : Bool) → eqb st.births u ≡ b → cond b (proc_of c) None ≡ Some p → Bore bodies c u p st (finished t c (answered (created st prio flags) (answer.Thread st.births))).after (finished t c (answered (created st prio flags) (answer.Thread st.births))).effects
+      by_number : (b : Bool) → eqb st.births u ≡ b → cond b (proc_of c) None ≡ Some p → Bore bodies c u p st (step_outcome t c (answer_case (after_create st prio flags) (answer.Thread st.births))).after (step_outcome t c (answer_case (after_create st prio flags) (answer.Thread st.births))).effects
       by_number false e bad = absurd (cc)
       by_number true e proc =
           let same = eqb-true st.births u e in
@@ -263,11 +263,11 @@ module _ {B : Type 0} (bodies : List B) (u p : ℕ) (st : State) (was : Lawful s
           none_found None h = refl
           none_found (Some row) h = absurd (cc)
 
-          found : st.births ≤ u → thread_of (finished t c made).after u ≡ Some (born st.births prio flags)
-          found low = find_push_new (is_number u) st.threads (born st.births prio flags) e (none_found (thread_of st u) (either_of (is_thread st u) (is_agent st u) (unborn_absent st was u low)).0)
+          found : st.births ≤ u → thread_of (step_outcome t c made).after u ≡ Some (new_thread st.births prio flags)
+          found low = find_push_new (is_number u) st.threads (new_thread st.births prio flags) e (none_found (thread_of st u) (either_of (is_thread st u) (is_agent st u) (unborn_absent st was u low)).0)
 
           rows_are : st.births ≡ u → (rows : List (Row B)) → row_of u rows ≡ None → (body : B) → slice_get bodies p ≡ Some body → (o : Option ℕ) → o ≡ Some p → (d : Bool)
-              → row_of u (settled bodies o (effect.Called t c ∷ effect.Answered t (answer.Thread st.births) ∷ cond d (effect.Ended made.after.status ∷ []) []) rows) ≡ Some (record { tid = u; body = body; answer = zero_answer })
+              → row_of u (after_settle bodies o (effect.Called t c ∷ effect.Answered t (answer.Thread st.births) ∷ cond d (effect.Ended made.after.status ∷ []) []) rows) ≡ Some (record { tid = u; body = body; answer = zero_answer })
           rows_are same rows none body is_body None bad d = absurd (cc)
           rows_are same rows none body is_body (Some q) so d = by_end d
             where
@@ -275,24 +275,24 @@ module _ {B : Type 0} (bodies : List B) (u p : ℕ) (st : State) (was : Lawful s
               opened = subst (λ n. row_of u (rows_answered t (answer.Thread st.births) rows ++ row_opened n (slice_get bodies q)) ≡ Some (record { tid = u; body = body; answer = zero_answer })) (sym same)
                   (row_opens u (rows_answered t (answer.Thread st.births) rows) body (none_with u t (λ row. record row { answer = answer.Thread st.births }) (λ r. refl) rows none) (slice_get bodies q) (ap (slice_get bodies) (unsome so) ∙ is_body))
 
-              by_end : (d : Bool) → row_of u (settled bodies (Some q) (cond d (effect.Ended made.after.status ∷ []) []) (rows_answered t (answer.Thread st.births) rows ++ row_opened st.births (slice_get bodies q))) ≡ Some (record { tid = u; body = body; answer = zero_answer })
+              by_end : (d : Bool) → row_of u (after_settle bodies (Some q) (cond d (effect.Ended made.after.status ∷ []) []) (rows_answered t (answer.Thread st.births) rows ++ row_opened st.births (slice_get bodies q))) ≡ Some (record { tid = u; body = body; answer = zero_answer })
               by_end true = opened
               by_end false = opened
 
   step_bears : Bears (step st c).after (step st c).effects
   step_bears = subst (λ (out : Outcome). Bears out.after out.effects) (sym step_is) (by_creates (creates_of c))
     where
-      refused_none : (e : LwpErr) → born_in u (finished t c (refused st e)).effects ≡ None
+      refused_none : (e : LwpErr) → born_in u (step_outcome t c (refusal_case st e)).effects ≡ None
       refused_none e = refl
 
-      by_checks : (number prio : ℕ) (flags : Flags) → c ≡ call.Create number prio flags → Checked st ((nat_le st.procs number, error.InvalidArg) ∷ is_no_priority st prio ∷ is_full 1024 st.threads ∷ is_at_limit st.births st ∷ []) (answered (created st prio flags) (answer.Thread st.births))
-          → Bears (finished t c (case_of st t (call.Create number prio flags))).after (finished t c (case_of st t (call.Create number prio flags))).effects
-      by_checks number prio flags is (Struck e struck) = subst (λ made. Bears (finished t c made).after (finished t c made).effects) (sym struck) (none_bears (finished t c (refused st e)).after (finished t c (refused st e)).effects (refused_none e))
-      by_checks number prio flags is (Free passed free) = subst (λ made. Bears (finished t c made).after (finished t c made).effects) (sym free) (create_bears prio flags number is)
+      by_checks : (number prio : ℕ) (flags : Flags) → c ≡ call.Create number prio flags → Checked st ((nat_le st.procs number, error.InvalidArg) ∷ is_no_priority st prio ∷ is_full 1024 st.threads ∷ is_at_limit st.births st ∷ []) (answer_case (after_create st prio flags) (answer.Thread st.births))
+          → Bears (step_outcome t c (case_of st t (call.Create number prio flags))).after (step_outcome t c (case_of st t (call.Create number prio flags))).effects
+      by_checks number prio flags is (Struck e struck) = subst (λ made. Bears (step_outcome t c made).after (step_outcome t c made).effects) (sym struck) (none_bears (step_outcome t c (refusal_case st e)).after (step_outcome t c (refusal_case st e)).effects (refused_none e))
+      by_checks number prio flags is (Free passed free) = subst (λ made. Bears (step_outcome t c made).after (step_outcome t c made).effects) (sym free) (create_bears prio flags number is)
 
-      by_creates : Creates c → Bears (finished t c (case_of st t c)).after (finished t c (case_of st t c)).effects
-      by_creates (IsNone none) = none_bears (finished t c (case_of st t c)).after (finished t c (case_of st t c)).effects (called_none t (drop 1 (finished t c (case_of st t c)).effects) none)
-      by_creates (IsCreate number prio flags is) = subst (λ d. Bears (finished t c (case_of st t d)).after (finished t c (case_of st t d)).effects) (sym is) (by_checks number prio flags is (checked st _ _))
+      by_creates : Creates c → Bears (step_outcome t c (case_of st t c)).after (step_outcome t c (case_of st t c)).effects
+      by_creates (IsNone none) = none_bears (step_outcome t c (case_of st t c)).after (step_outcome t c (case_of st t c)).effects (called_none t (drop 1 (step_outcome t c (case_of st t c)).effects) none)
+      by_creates (IsCreate number prio flags is) = subst (λ d. Bears (step_outcome t c (case_of st t d)).after (step_outcome t c (case_of st t d)).effects) (sym is) (by_checks number prio flags is (checked st _ _))
 
   trapped_bears : (e : ℕ) (after : State) (es : List Effect) → Bears after es → Bears after (effect.Trapped t e ∷ es)
   trapped_bears e after es bears so = let b = bears so in record { number = b.number; proc = b.proc; seen = b.seen; rows = b.rows }
@@ -300,15 +300,15 @@ module _ {B : Type 0} (bodies : List B) (u p : ℕ) (st : State) (was : Lawful s
   made_bears : (trapped : List Bool) → Bears (traps_made st trapped t c).state (traps_made st trapped t c).effects
   made_bears trapped = by_trap (trap_of c)
     where
-      by_refusal : (e : ℕ) (o : Option LwpErr) → Bears (trap_made st trapped t c e o).state (trap_made st trapped t c e o).effects
+      by_refusal : (e : ℕ) (o : Option LwpErr) → Bears (after_trap st trapped t c e o).state (after_trap st trapped t c e o).effects
       by_refusal e None = none_bears st (effect.Called t c ∷ effect.Answered t zero_answer ∷ []) refl
       by_refusal e (Some why) = none_bears st (effect.Called t c ∷ effect.Answered t (answer.Refused why) ∷ []) refl
 
-      by_agent : (b : Bool) → Bears (cond b (refused_by st trapped t c error.InUse) (stepped trapped (step st c))).state (cond b (refused_by st trapped t c error.InUse) (stepped trapped (step st c))).effects
+      by_agent : (b : Bool) → Bears (cond b (refused_by st trapped t c error.InUse) (after_machine_step trapped (step st c))).state (cond b (refused_by st trapped t c error.InUse) (after_machine_step trapped (step st c))).effects
       by_agent true = none_bears st (effect.Called t c ∷ effect.Answered t (answer.Refused error.InUse) ∷ []) refl
       by_agent false = step_bears
 
-      by_trap : (o : Option ℕ) → Bears (made_as st trapped t c o).state (made_as st trapped t c o).effects
+      by_trap : (o : Option ℕ) → Bears (after_call_as st trapped t c o).state (after_call_as st trapped t c o).effects
       by_trap None = by_agent (passes (is_trapped trapped) (agent_event_of c))
       by_trap (Some e) = by_refusal e (trap_refusal st trapped e)
 
@@ -317,8 +317,8 @@ module _ {B : Type 0} (bodies : List B) (u p : ℕ) (st : State) (was : Lawful s
   called_bears trapped (Some e) = by_given (passes is_given (notice st t e)) (passes is_catch (notice st t e))
     where
       by_given : (b d : Bool) → Bears
-          (cond b (traps_made st trapped t c) (cond d (stepped trapped (but_call (step st (call.ExcNotify e)))) (stepped trapped (but_call (step st (call.Destroy t)))))).state
-          (effect.Trapped t e ∷ (cond b (traps_made st trapped t c) (cond d (stepped trapped (but_call (step st (call.ExcNotify e)))) (stepped trapped (but_call (step st (call.Destroy t)))))).effects)
+          (cond b (traps_made st trapped t c) (cond d (after_machine_step trapped (but_call (step st (call.ExcNotify e)))) (after_machine_step trapped (but_call (step st (call.Destroy t)))))).state
+          (effect.Trapped t e ∷ (cond b (traps_made st trapped t c) (cond d (after_machine_step trapped (but_call (step st (call.ExcNotify e)))) (after_machine_step trapped (but_call (step st (call.Destroy t)))))).effects)
       by_given true d = trapped_bears e (traps_made st trapped t c).state (traps_made st trapped t c).effects (made_bears trapped)
       by_given false true = none_bears (step st (call.ExcNotify e)).after (effect.Trapped t e ∷ drop 1 (step st (call.ExcNotify e)).effects) (but_bears (call.ExcNotify e))
       by_given false false = none_bears (step st (call.Destroy t)).after (effect.Trapped t e ∷ drop 1 (step st (call.Destroy t)).effects) (but_bears (call.Destroy t))
@@ -366,10 +366,10 @@ module _ {B : Type 0} (bodies : List B) (u p : ℕ) (st : State) (was : Lawful s
   bears_before (effect.Rites a n ∷ es) ys head so = absurd (cc)
 
   said_bears : (after : State) (es : List Effect) (reports : List ℕ) → Lawful after None → (is_thread (rites_said after es reports).state u ≡ true → count_by (is_died u) (rites_said after es reports).effects ≡ 0) → Bears after es → Bears (rites_said after es reports).state (rites_said after es reports).effects
-  said_bears after es reports then_lawful = by_armed (armed after rites_event) reports
+  said_bears after es reports then_lawful = by_armed (is_event_armed after rites_event) reports
     where
-      by_armed : (b : Bool) (rs : List ℕ) → (is_thread (cond b (first_reported after es rs) (record { state = after; reports = rs; effects = es })).state u ≡ true → count_by (is_died u) (cond b (first_reported after es rs) (record { state = after; reports = rs; effects = es })).effects ≡ 0) → Bears after es
-          → Bears (cond b (first_reported after es rs) (record { state = after; reports = rs; effects = es })).state (cond b (first_reported after es rs) (record { state = after; reports = rs; effects = es })).effects
+      by_armed : (b : Bool) (rs : List ℕ) → (is_thread (cond b (after_first_report after es rs) (record { state = after; reports = rs; effects = es })).state u ≡ true → count_by (is_died u) (cond b (after_first_report after es rs) (record { state = after; reports = rs; effects = es })).effects ≡ 0) → Bears after es
+          → Bears (cond b (after_first_report after es rs) (record { state = after; reports = rs; effects = es })).state (cond b (after_first_report after es rs) (record { state = after; reports = rs; effects = es })).effects
       by_armed true [] died bears = bears
       by_armed false rs died bears = bears
       by_armed true (dead ∷ later) died bears = λ so. reported dead died (bears (bears_before es (map (as_rites dead) (deliver after rites_event (report_text dead)).effects) (rites_first dead after) so))
@@ -386,7 +386,7 @@ module _ {B : Type 0} (bodies : List B) (u p : ℕ) (st : State) (was : Lawful s
                 proc = b.proc;
                 seen = seen;
                 rows = λ rows empty body is_body. ap (row_of u) (settled_append u bodies (proc_of c) es (map (as_rites dead) sent) rows)
-                    ∙ row_settled u bodies (proc_of c) (map (as_rites dead) sent) (settled bodies (proc_of c) es rows) (record { tid = u; body = body; answer = zero_answer }) (b.rows rows empty body is_body) (omega (arith, none, count-append (is_died u) es (map (as_rites dead) sent)))
+                    ∙ row_settled u bodies (proc_of c) (map (as_rites dead) sent) (after_settle bodies (proc_of c) es rows) (record { tid = u; body = body; answer = zero_answer }) (b.rows rows empty body is_body) (omega (arith, none, count-append (is_died u) es (map (as_rites dead) sent)))
                     ∙ ap (λ xs. Some (record { tid = u; body = body; answer = last_heard zero_answer xs })) (rites_same u dead sent ∙ left.quiet);
               }
             where

@@ -1,13 +1,13 @@
 -- Who is destroyed or returns from its only frame is gone, and so is who is trapped and has no handler.
 use Rattle.lwp_types.specs.Agents.{deliver}
-use Rattle.lwp_types.specs.Case.{refused, unanswered, unless, with_zero}
+use Rattle.lwp_types.specs.Case.{refusal_case, silent_case, unless, with_zero}
 use Rattle.lwp_types.specs.Choice.{choice}
 use Rattle.lwp_types.specs.CountLaws.{one}
 use Rattle.lwp_types.specs.Death.{death}
 use Rattle.lwp_types.specs.Exits.{leave_frame, notified_by}
 use Rattle.lwp_types.specs.Lawful.{Lawful}
-use Rattle.lwp_types.specs.Agents.{armed, end_agent}
-use Rattle.lwp_types.specs.Exceptions.{found_in, frames, with_match}
+use Rattle.lwp_types.specs.Agents.{end_agent, is_event_armed}
+use Rattle.lwp_types.specs.Exceptions.{frames, handler_in, with_match}
 use Rattle.lwp_types.specs.declared.call.Answer.{Answer}
 use Rattle.lwp_types.specs.State.{State, ThreadRow, is_agent, is_number, is_thread, marks_in, numbers, passes}
 use Rattle.lwp_types.specs.Step.{case_of, step, step_by, step_if}
@@ -18,7 +18,7 @@ use Rattle.lwp_types.specs.declared.rows.Mark.{Mark}
 use Rattle.lwp_types.specs.State.{agent_of}
 use Rattle.pod_events.proofs.Mild.{mild_deliver}
 use Rattle.pod_events.specs.Events.{rites_event}
-use Rattle.pod_events.specs.Rites.{first_reported, report_text, rites_said}
+use Rattle.pod_events.specs.Rites.{after_first_report, report_text, rites_said}
 use Rattle.pod_events.specs.Traps.{is_catch, is_given, notice}
 use Rattle.pod_laws.proofs.Died.{death_died, finished_died, the_dead_are_forgotten}
 use Rattle.pod_laws.proofs.Elements.{differ}
@@ -60,7 +60,7 @@ pub destroyed_is_gone : (st : State) → Lawful st None → (t u : ℕ) → choi
 unfolding unless
 destroyed_is_gone st was t u turn lives = gone_by st was t u turn (call.Destroy u) (by_tests (is_thread st u) (is_agent st u) (eqb t u) lives (no_agent st was u lives))
   where
-    by_tests : (b c d : Bool) → b ≡ true → c ≡ false → (cond (not (b || c)) (refused st error.NonExist) (cond c (with_zero (end_agent u st)) (cond d (unanswered (death u st)) (with_zero (death u st))))).others ≡ (death u st).effects
+    by_tests : (b c d : Bool) → b ≡ true → c ≡ false → (cond (not (b || c)) (refusal_case st error.NonExist) (cond c (with_zero (end_agent u st)) (cond d (silent_case (death u st)) (with_zero (death u st))))).others ≡ (death u st).effects
     by_tests true false true e f = refl
     by_tests true false false e f = refl
     by_tests true true d e f = absurd (cc)
@@ -75,7 +75,7 @@ not_destroyed st was t u v turn lives c e alive = by_test (eqb v u) refl
     by_test true is = differ (sym alive ∙ ap (λ c. is_thread (step st c).after u) (e ∙ ap call.Destroy (eqb-true v u is)) ∙ gone_thread (step st (call.Destroy u)).after u (destroyed_is_gone st was t u turn lives))
 
 pub returned_is_gone : (st : State) → Lawful st None → (t : ℕ) → choice st ≡ Some t → marks_in st t ≡ mark.Frame ∷ [] → IsGone (step st call.Return).after t
-returned_is_gone st was t turn marks = gone_by st was t t turn call.Return (ap (λ ms. (cond (nat_le 2 (frames ms)) (leave_frame st t) (unanswered (death t st))).others) marks)
+returned_is_gone st was t turn marks = gone_by st was t t turn call.Return (ap (λ ms. (cond (nat_le 2 (frames ms)) (leave_frame st t) (silent_case (death t st))).others) marks)
 
 -- with no handler a trap is neither answered nor caught
 pub no_notice : (st : State) (t e : ℕ) → marks_in st t ≡ mark.Frame ∷ [] → (passes is_given (notice st t e) ≡ false) × (passes is_catch (notice st t e) ≡ false)
@@ -83,21 +83,21 @@ unfolding unless
 no_notice st t e marks = (ap (λ ms. passes is_given (noticed ms)) marks ∙ by_test (eqb e 0 || nat_lt 2147483647 e), ap (λ ms. passes is_catch (noticed ms)) marks ∙ by_test2 (eqb e 0 || nat_lt 2147483647 e))
   where
     noticed : List Mark → Option Answer
-    noticed ms = (cond (eqb e 0 || nat_lt 2147483647 e) (refused st error.InvalidArg) (with_match st (λ f. notified_by st t e f f.func) (found_in e ms))).own
+    noticed ms = (cond (eqb e 0 || nat_lt 2147483647 e) (refusal_case st error.InvalidArg) (with_match st (λ f. notified_by st t e f f.func) (handler_in e ms))).own
 
-    by_test : (b : Bool) → passes is_given (cond b (refused st error.InvalidArg) (refused st error.NonExist)).own ≡ false
+    by_test : (b : Bool) → passes is_given (cond b (refusal_case st error.InvalidArg) (refusal_case st error.NonExist)).own ≡ false
     by_test true = refl
     by_test false = refl
 
-    by_test2 : (b : Bool) → passes is_catch (cond b (refused st error.InvalidArg) (refused st error.NonExist)).own ≡ false
+    by_test2 : (b : Bool) → passes is_catch (cond b (refusal_case st error.InvalidArg) (refusal_case st error.NonExist)).own ≡ false
     by_test2 true = refl
     by_test2 false = refl
 
 -- and it is gone behind a report
 pub gone_said : (u : ℕ) (after : State) (es : List Effect) (reports : List ℕ) → IsGone after u → IsGone (rites_said after es reports).state u
-gone_said u after es reports gone = by_armed (armed after rites_event) reports
+gone_said u after es reports gone = by_armed (is_event_armed after rites_event) reports
   where
-    by_armed : (b : Bool) (rs : List ℕ) → IsGone (cond b (first_reported after es rs) (record { state = after; reports = rs; effects = es })).state u
+    by_armed : (b : Bool) (rs : List ℕ) → IsGone (cond b (after_first_report after es rs) (record { state = after; reports = rs; effects = es })).state u
     by_armed true [] = gone
     by_armed false rs = gone
     by_armed true (dead ∷ later) = gone_stays u after (deliver after rites_event (report_text dead)).after (deliver_fades u after rites_event (report_text dead)) gone
@@ -116,9 +116,9 @@ module _ (u : ℕ) where
   thread_delivered st e text = by_numbers (deliver st e text).after.threads ∙ ap (list_any (λ n. eqb n u)) (mild_deliver st e text).lives ∙ sym (by_numbers st.threads)
 
   pub thread_said : (after : State) (es : List Effect) (reports : List ℕ) → is_thread (rites_said after es reports).state u ≡ is_thread after u
-  thread_said after es reports = by_armed (armed after rites_event) reports
+  thread_said after es reports = by_armed (is_event_armed after rites_event) reports
     where
-      by_armed : (b : Bool) (rs : List ℕ) → is_thread (cond b (first_reported after es rs) (record { state = after; reports = rs; effects = es })).state u ≡ is_thread after u
+      by_armed : (b : Bool) (rs : List ℕ) → is_thread (cond b (after_first_report after es rs) (record { state = after; reports = rs; effects = es })).state u ≡ is_thread after u
       by_armed true [] = refl
       by_armed false rs = refl
       by_armed true (dead ∷ later) = thread_delivered after rites_event (report_text dead)

@@ -6,7 +6,7 @@ use Rattle.answer_laws.proofs.Sights.{Attends, Turn, Turn.Left, Turn.Woken, answ
 use Rattle.answer_laws.proofs.TalkSteps.{Ends, Ends.Destroys, Ends.Spared, ends_of}
 use Rattle.answer_laws.specs.Events.{IsSentOrReported, PodsLeaveIt, TakesLeaveIt, machine_of}
 use Rattle.answer_laws.specs.Sights.{IsDelivered, IsLeft, IsWoken, Spares, answers_to, attends, written_to}
-use Rattle.lwp_types.specs.Agents.{armed, deliver}
+use Rattle.lwp_types.specs.Agents.{deliver, is_event_armed}
 use Rattle.lwp_types.specs.Choice.{choice}
 use Rattle.lwp_types.specs.CountLaws.{count-append}
 use Rattle.lwp_types.specs.Counts.{timers_of}
@@ -19,10 +19,10 @@ use Rattle.lwp_types.specs.declared.call.Answer.{Answer}
 use Rattle.lwp_types.specs.declared.call.Call.{Call}
 use Rattle.lwp_types.specs.declared.call.Effect.{Effect}
 use Rattle.lwp_types.specs.declared.call.LwpErr.{LwpErr}
-use Rattle.pod_events.specs.Events.{EventState, is_trapped, passed_on, rites_event, take_event, trap_taken}
-use Rattle.pod_events.specs.Rites.{as_rites, first_reported, report_text, reports_after, rites_said}
+use Rattle.pod_events.specs.Events.{EventState, after_pass_on, after_take_trap, is_trapped, rites_event, take_event}
+use Rattle.pod_events.specs.Rites.{after_first_report, as_rites, report_text, reports_after, rites_said}
 use Rattle.pod_events.specs.Step.{event_step, event_step_by, event_step_if}
-use Rattle.pod_events.specs.Traps.{agent_event_of, but_call, called, is_catch, is_given, made, made_as, notice, refused_by, stepped, trap_made, trap_of, trap_refusal}
+use Rattle.pod_events.specs.Traps.{after_call, after_call_as, after_machine_step, after_trap, after_trap_and_call, agent_event_of, but_call, is_catch, is_given, notice, refused_by, trap_of, trap_refusal}
 use Rattle.pod_laws.proofs.EveryStep.{Lawful-step}
 use Rattle.pod_laws.proofs.TimerMoves.{no_timer_comes_unasked}
 use Rattle.pod_laws.specs.Timers.{ticks_of, timers_asked, timers_by}
@@ -129,28 +129,28 @@ module _ (u t : ℕ) (Fits : Option ℕ → Answer → Type 0) (s : State) (was 
   after_trapped e after es calls = record { turn = turn_as u Fits s (record { after = after; effects = es }) (effect.Trapped t e ∷ es) refl calls.turn; lawful = calls.lawful; timers = calls.timers }
 
   module _ (trapped : List Bool) (c : Call) (sent : (room : ℕ) (text : List ℕ) → c ≡ call.Send u room text → (from : Option ℕ) → takes_from t (block.Receiving from) ≡ true → Fits from (answer.Letter t text room)) where
-    after_made : Fine c (made s trapped t c).state → After (made s trapped t c).state (made s trapped t c).effects
+    after_made : Fine c (after_call s trapped t c).state → After (after_call s trapped t c).state (after_call s trapped t c).effects
     after_made = by_trap (trap_of c)
       where
-        by_refusal : (e : ℕ) (o : Option LwpErr) → Fine c (trap_made s trapped t c e o).state → After (trap_made s trapped t c e o).state (trap_made s trapped t c e o).effects
+        by_refusal : (e : ℕ) (o : Option LwpErr) → Fine c (after_trap s trapped t c e o).state → After (after_trap s trapped t c e o).state (after_trap s trapped t c e o).effects
         by_refusal e None fine = after_none c _
         by_refusal e (Some why) fine = after_none c _
 
-        by_agent : (b : Bool) → Fine c (cond b (refused_by s trapped t c error.InUse) (stepped trapped (step s c))).state → After (cond b (refused_by s trapped t c error.InUse) (stepped trapped (step s c))).state (cond b (refused_by s trapped t c error.InUse) (stepped trapped (step s c))).effects
+        by_agent : (b : Bool) → Fine c (cond b (refused_by s trapped t c error.InUse) (after_machine_step trapped (step s c))).state → After (cond b (refused_by s trapped t c error.InUse) (after_machine_step trapped (step s c))).state (cond b (refused_by s trapped t c error.InUse) (after_machine_step trapped (step s c))).effects
         by_agent true fine = after_none c _
         by_agent false fine = after_step c (spared_by c fine) sent
 
-        by_trap : (o : Option ℕ) → Fine c (made_as s trapped t c o).state → After (made_as s trapped t c o).state (made_as s trapped t c o).effects
+        by_trap : (o : Option ℕ) → Fine c (after_call_as s trapped t c o).state → After (after_call_as s trapped t c o).state (after_call_as s trapped t c o).effects
         by_trap None fine = by_agent (passes (is_trapped trapped) (agent_event_of c)) fine
         by_trap (Some e) fine = by_refusal e (trap_refusal s trapped e) fine
 
-    pub after_called : (pending : Option ℕ) → Fine c (called s trapped t c pending).state → After (called s trapped t c pending).state (called s trapped t c pending).effects
+    pub after_called : (pending : Option ℕ) → Fine c (after_trap_and_call s trapped t c pending).state → After (after_trap_and_call s trapped t c pending).state (after_trap_and_call s trapped t c pending).effects
     after_called None fine = after_made fine
     after_called (Some e) fine = by_given (passes is_given (notice s t e)) (passes is_catch (notice s t e)) fine
       where
-        by_given : (b d : Bool) → Fine c (cond b (made s trapped t c) (cond d (stepped trapped (but_call (step s (call.ExcNotify e)))) (stepped trapped (but_call (step s (call.Destroy t)))))).state → After
-            (cond b (made s trapped t c) (cond d (stepped trapped (but_call (step s (call.ExcNotify e)))) (stepped trapped (but_call (step s (call.Destroy t)))))).state
-            (effect.Trapped t e ∷ (cond b (made s trapped t c) (cond d (stepped trapped (but_call (step s (call.ExcNotify e)))) (stepped trapped (but_call (step s (call.Destroy t)))))).effects)
+        by_given : (b d : Bool) → Fine c (cond b (after_call s trapped t c) (cond d (after_machine_step trapped (but_call (step s (call.ExcNotify e)))) (after_machine_step trapped (but_call (step s (call.Destroy t)))))).state → After
+            (cond b (after_call s trapped t c) (cond d (after_machine_step trapped (but_call (step s (call.ExcNotify e)))) (after_machine_step trapped (but_call (step s (call.Destroy t)))))).state
+            (effect.Trapped t e ∷ (cond b (after_call s trapped t c) (cond d (after_machine_step trapped (but_call (step s (call.ExcNotify e)))) (after_machine_step trapped (but_call (step s (call.Destroy t)))))).effects)
         by_given true d fine = after_trapped e _ _ (after_made fine)
         by_given false true fine = after_trapped e _ _ (after_but (call.ExcNotify e) (after_step (call.ExcNotify e) tt (λ room text no. absurd (let bad : true ≡ false = ap is_notice no in cc))))
         by_given false false fine = after_trapped e _ _ (after_but (call.Destroy t) (after_step (call.Destroy t) (ne_eqb t u apart, ready.away) (λ room text no. absurd (let bad : false ≡ true = ap is_send no in cc))))
@@ -159,9 +159,9 @@ module _ (u t : ℕ) (Fits : Option ℕ → Answer → Type 0) (s : State) (was 
 after_said : (u : ℕ) (Fits : Option ℕ → Answer → Type 0) (from s : State) (es : List Effect) (reports : List ℕ) → Attends u Fits from → ((dead agent : ℕ) (f : Option ℕ) → takes_from agent (block.Receiving f) ≡ true → Fits f (answer.Letter agent (report_text dead) 240)) → Calls u Fits from s es
     → Turn u Fits from (record { after = (rites_said s es reports).state; effects = (rites_said s es reports).effects })
 unfolding and_then
-after_said u Fits from s es reports here fits calls = by_armed (armed s rites_event) reports
+after_said u Fits from s es reports here fits calls = by_armed (is_event_armed s rites_event) reports
   where
-    by_armed : (b : Bool) (rs : List ℕ) → Turn u Fits from (record { after = (cond b (first_reported s es rs) (record { state = s; reports = rs; effects = es })).state; effects = (cond b (first_reported s es rs) (record { state = s; reports = rs; effects = es })).effects })
+    by_armed : (b : Bool) (rs : List ℕ) → Turn u Fits from (record { after = (cond b (after_first_report s es rs) (record { state = s; reports = rs; effects = es })).state; effects = (cond b (after_first_report s es rs) (record { state = s; reports = rs; effects = es })).effects })
     by_armed true [] = calls.turn
     by_armed true (dead ∷ later) =
         let out = deliver s rites_event (report_text dead) in
@@ -191,7 +191,7 @@ module _ (es : EventState) (was : Lawful es.state None) (t u : ℕ) (turn : choi
   fine_leave_it : FineCall (event_step es c).after.state → IsLeft u es.state (machine_of (event_step es c)) ⊎ IsWoken u FitsCall es.state (machine_of (event_step es c))
   unfolding event_step event_step_by
   fine_leave_it fine =
-      let out = called es.state es.trapped t c es.pending in
+      let out = after_trap_and_call es.state es.trapped t c es.pending in
       subst (λ o. FineCall (event_step_if es c o).after.state → IsLeft u es.state (machine_of (event_step_if es c o)) ⊎ IsWoken u FitsCall es.state (machine_of (event_step_if es c o))) (sym turn)
       (λ fine. of_turn u FitsCall es.state _ (after_said u FitsCall es.state out.state out.effects (reports_after es.state out.state es.reports out.effects) ready.attends (λ dead agent f takes. inr (dead, record { agent = agent; letter = refl; named = takes }))
       (after_called u t FitsCall es.state was turn apart ready none es.trapped c (λ room text e from takes. inl (record { room = room; text = text; sends = e; letter = refl; named = takes })) es.pending
@@ -212,6 +212,6 @@ takes_leave_it es was u attentive none e text = by_trapped (is_trapped es.trappe
     Fits : Option ℕ → Answer → Type 0
     Fits from heard = IsDelivered text from heard
 
-    by_trapped : (b : Bool) → IsLeft u es.state (machine_of (cond b (trap_taken es e) (passed_on es (deliver es.state e text)))) ⊎ IsWoken u Fits es.state (machine_of (cond b (trap_taken es e) (passed_on es (deliver es.state e text))))
+    by_trapped : (b : Bool) → IsLeft u es.state (machine_of (cond b (after_take_trap es e) (after_pass_on es (deliver es.state e text)))) ⊎ IsWoken u Fits es.state (machine_of (cond b (after_take_trap es e) (after_pass_on es (deliver es.state e text))))
     by_trapped true = inl (record { same = refl; quiet = refl })
     by_trapped false = of_turn u Fits es.state (deliver es.state e text) (deliver_turn u Fits es.state was.nine (attends_of u Fits es.state attentive) none e text (λ agent from takes. record { agent = agent; letter = refl; named = takes }))

@@ -5,9 +5,9 @@ use Rattle.answer_laws.proofs.Phases.{born_below}
 use Rattle.answer_laws.proofs.PodSteps.{births_said}
 use Rattle.answer_laws.proofs.Servings.{chosen_lives, moved_lawful}
 use Rattle.answer_laws.proofs.Unnamed.{AllNamed, Below, NamedIn, named_append, named_deliver, step_named}
-use Rattle.answer_laws.specs.Known.{KnowsItsNames, NamesAreOfTheBorn, NullNamesAreKnown, SessionsSendToTheBorn, scripted}
-use Rattle.answer_laws.specs.Served.{CanGoOn, IsReached, gone_on, moved_by}
-use Rattle.lwp_types.specs.Agents.{armed, deliver}
+use Rattle.answer_laws.specs.Known.{KnowsItsNames, NamesAreOfTheBorn, NullNamesAreKnown, SessionsSendToTheBorn, script_setting}
+use Rattle.answer_laws.specs.Served.{CanGoOn, IsReached, after_move, after_moves}
+use Rattle.lwp_types.specs.Agents.{deliver, is_event_armed}
 use Rattle.lwp_types.specs.Choice.{choice}
 use Rattle.lwp_types.specs.Lawful.{Lawful}
 use Rattle.lwp_types.specs.Names.{Names, id_at, null_id, polled_as}
@@ -26,17 +26,17 @@ use Rattle.line_server.specs.Turns.{is_replied, stops}
 use Rattle.line_server.specs.declared.session.SessionPlace.{SessionPlace}
 use Rattle.line_server.specs.declared.session.SessionPlace.TheVariants as at
 use Rattle.lwp_types.specs.declared.call.PodParams.{PodParams}
-use Rattle.pod_events.specs.Events.{EventState, is_trapped, passed_on, rites_event, take_event, trap_taken}
-use Rattle.pod_events.specs.Rites.{as_rites, first_reported, report_text, reports_after, rites_said}
+use Rattle.pod_events.specs.Events.{EventState, after_pass_on, after_take_trap, is_trapped, rites_event, take_event}
+use Rattle.pod_events.specs.Rites.{after_first_report, as_rites, report_text, reports_after, rites_said}
 use Rattle.pod_events.specs.Step.{event_step, event_step_by, event_step_if}
-use Rattle.pod_events.specs.Traps.{agent_event_of, but_call, called as traps_called, is_catch, is_given, made as traps_made, made_as, notice, refused_by, stepped, trap_made, trap_of, trap_refusal}
+use Rattle.pod_events.specs.Traps.{after_call as traps_made, after_call_as, after_machine_step, after_trap, after_trap_and_call as traps_called, agent_event_of, but_call, is_catch, is_given, notice, refused_by, trap_of, trap_refusal}
 use Rattle.pod_laws.proofs.Opening.{Lawful-opening}
 use Rattle.pod_runner.specs.Play.{play}
-use Rattle.pod_runner.specs.Session.{Live, Session, Setting, answered as rows_answered, called, move, move_by, move_row, opening_session, polled, proc_of, row_of, row_opened, rows_born, settled, settled_by, taken, thread_in, with_row, without_row}
+use Rattle.pod_runner.specs.Session.{Live, Session, Setting, after_answer as rows_answered, after_poll, after_settle, after_settle_by, call_move, move, move_by, move_row, opening_session, proc_of, row_of, row_opened, rows_born, take_move, thread_in, with_row, without_row}
 use Rattle.pod_runner.specs.declared.session.Row.{Row}
 use Rattle.pod_runner.specs.declared.session.Took.{Took}
-use Rattle.script_body.specs.Naming.{condition_named_by, monitor_named_by, named, named_by, thread_named_by}
-use Rattle.script_body.specs.ScriptBody.{ScriptBody, polled_by, script_next, taken as body_taken}
+use Rattle.script_body.specs.Naming.{after_name, after_name_by, with_condition_name_by, with_monitor_name_by, with_thread_name_by}
+use Rattle.script_body.specs.ScriptBody.{ScriptBody, after_take as body_taken, polled_by, script_next}
 use Rattle.script_program.specs.Bodies.{body_next}
 use Rattle.script_program.specs.declared.body.ThreadBody.{ThreadBody}
 use Rattle.script_program.specs.declared.body.ThreadBody.TheVariants.{Scripted, Serving, Storing}
@@ -81,15 +81,15 @@ module _ (st : State) (was : Lawful st None) where
   named_made : (trapped : List Bool) (t : ℕ) (c : Call) → AllNamed (traps_made st trapped t c).state.births (traps_made st trapped t c).effects
   named_made trapped t c = by_trap (trap_of c)
     where
-      by_refusal : (e : ℕ) (o : Option LwpErr) → AllNamed (trap_made st trapped t c e o).state.births (trap_made st trapped t c e o).effects
+      by_refusal : (e : ℕ) (o : Option LwpErr) → AllNamed (after_trap st trapped t c e o).state.births (after_trap st trapped t c e o).effects
       by_refusal e None = (tt, (tt, tt))
       by_refusal e (Some why) = (tt, (tt, tt))
 
-      by_agent : (b : Bool) → AllNamed (cond b (refused_by st trapped t c error.InUse) (stepped trapped (step st c))).state.births (cond b (refused_by st trapped t c error.InUse) (stepped trapped (step st c))).effects
+      by_agent : (b : Bool) → AllNamed (cond b (refused_by st trapped t c error.InUse) (after_machine_step trapped (step st c))).state.births (cond b (refused_by st trapped t c error.InUse) (after_machine_step trapped (step st c))).effects
       by_agent true = (tt, (tt, tt))
       by_agent false = step_named st born_now c
 
-      by_trap : (o : Option ℕ) → AllNamed (made_as st trapped t c o).state.births (made_as st trapped t c o).effects
+      by_trap : (o : Option ℕ) → AllNamed (after_call_as st trapped t c o).state.births (after_call_as st trapped t c o).effects
       by_trap None = by_agent (passes (is_trapped trapped) (agent_event_of c))
       by_trap (Some e) = by_refusal e (trap_refusal st trapped e)
 
@@ -97,16 +97,16 @@ module _ (st : State) (was : Lawful st None) where
   named_called trapped t c None = named_made trapped t c
   named_called trapped t c (Some e) = by_given (passes is_given (notice st t e)) (passes is_catch (notice st t e))
     where
-      by_given : (b d : Bool) → AllNamed (cond b (traps_made st trapped t c) (cond d (stepped trapped (but_call (step st (call.ExcNotify e)))) (stepped trapped (but_call (step st (call.Destroy t)))))).state.births
-          (effect.Trapped t e ∷ (cond b (traps_made st trapped t c) (cond d (stepped trapped (but_call (step st (call.ExcNotify e)))) (stepped trapped (but_call (step st (call.Destroy t)))))).effects)
+      by_given : (b d : Bool) → AllNamed (cond b (traps_made st trapped t c) (cond d (after_machine_step trapped (but_call (step st (call.ExcNotify e)))) (after_machine_step trapped (but_call (step st (call.Destroy t)))))).state.births
+          (effect.Trapped t e ∷ (cond b (traps_made st trapped t c) (cond d (after_machine_step trapped (but_call (step st (call.ExcNotify e)))) (after_machine_step trapped (but_call (step st (call.Destroy t)))))).effects)
       by_given true d = (tt, named_made trapped t c)
       by_given false true = (tt, named_drop (step st (call.ExcNotify e)).after.births (step st (call.ExcNotify e)).effects (step_named st born_now (call.ExcNotify e)))
       by_given false false = (tt, named_drop (step st (call.Destroy t)).after.births (step st (call.Destroy t)).effects (step_named st born_now (call.Destroy t)))
 
 named_said : (n : ℕ) (after : State) (es : List Effect) (reports : List ℕ) → AllNamed n es → AllNamed n (rites_said after es reports).effects
-named_said n after es reports all = by_armed (armed after rites_event) reports
+named_said n after es reports all = by_armed (is_event_armed after rites_event) reports
   where
-    by_armed : (b : Bool) (rs : List ℕ) → AllNamed n (cond b (first_reported after es rs) (record { state = after; reports = rs; effects = es })).effects
+    by_armed : (b : Bool) (rs : List ℕ) → AllNamed n (cond b (after_first_report after es rs) (record { state = after; reports = rs; effects = es })).effects
     by_armed true [] = all
     by_armed false rs = all
     by_armed true (dead ∷ later) = named_append n es (map (as_rites dead) (deliver after rites_event (report_text dead)).effects) all (named_rites n dead (deliver after rites_event (report_text dead)).effects (named_deliver n after rites_event (report_text dead)))
@@ -126,7 +126,7 @@ take_named : (n : ℕ) (es : EventState) (e : ℕ) (text : List ℕ) → AllName
 unfolding take_event
 take_named n es e text = by_trapped (is_trapped es.trapped e)
   where
-    by_trapped : (b : Bool) → AllNamed n (cond b (trap_taken es e) (passed_on es (deliver es.state e text))).effects
+    by_trapped : (b : Bool) → AllNamed n (cond b (after_take_trap es e) (after_pass_on es (deliver es.state e text))).effects
     by_trapped true = (tt, tt)
     by_trapped false = named_deliver n es.state e text
 
@@ -167,11 +167,11 @@ module _ {B : Type 0} (n : ℕ) where
   rows_come bodies None t = tt
   rows_come bodies (Some number) None = tt
 
-  rows_settled : (bodies : List B) (born : Option ℕ) (es : List Effect) (rows : List (Row B)) → AllNamed n es → RowsNamed rows → RowsNamed (settled bodies born es rows)
+  rows_settled : (bodies : List B) (born : Option ℕ) (es : List Effect) (rows : List (Row B)) → AllNamed n es → RowsNamed rows → RowsNamed (after_settle bodies born es rows)
   rows_settled bodies born [] rows names all = all
-  rows_settled bodies born (e ∷ es) rows names all = rows_settled bodies born es (settled_by bodies born e rows) names.1 (by_effect e names.0)
+  rows_settled bodies born (e ∷ es) rows names all = rows_settled bodies born es (after_settle_by bodies born e rows) names.1 (by_effect e names.0)
     where
-      by_effect : (e : Effect) → NamedIn n e → RowsNamed (settled_by bodies born e rows)
+      by_effect : (e : Effect) → NamedIn n e → RowsNamed (after_settle_by bodies born e rows)
       by_effect (effect.Answered t a) below = rows_append (rows_answered t a rows) (rows_born bodies born (thread_in a)) (rows_with t (λ row. record row { answer = a }) (λ row old. below) rows all) (rows_come bodies born (thread_in a))
       by_effect (effect.Died t) below = rows_without t rows all
       by_effect (effect.Called t c) below = all
@@ -215,26 +215,26 @@ known_set n t below (x ∷ xs) all (suc i) zero = all zero
 known_set n t below (x ∷ xs) all (suc i) (suc place) = known_set n t below xs (λ p. all (suc p)) i place
 
 module _ (n : ℕ) where
-  thread_kept : (name : ℕ) (a : Answer) (names : Names) → Below n (thread_in a) → AllKnown n names → AllKnown n (thread_named_by name a names)
+  thread_kept : (name : ℕ) (a : Answer) (names : Names) → Below n (thread_in a) → AllKnown n names → AllKnown n (with_thread_name_by name a names)
   thread_kept name (answer.Thread t) names below all = known_set n t below names.threads all name
   thread_kept name _ names below all = all
 
-  stmt_kept : (a : Answer) (s : Stmt) (names : Names) → Below n (thread_in a) → AllKnown n names → AllKnown n (named_by a s names)
+  stmt_kept : (a : Answer) (s : Stmt) (names : Names) → Below n (thread_in a) → AllKnown n names → AllKnown n (after_name_by a s names)
   stmt_kept a (stmt.Create name number prio flags) names below all = thread_kept name a names below all
   stmt_kept a (stmt.Agent name event) names below all = thread_kept name a names below all
   stmt_kept a (stmt.MonCreate name) names below all = monitor_kept a
     where
-      monitor_kept : (a : Answer) → AllKnown n (monitor_named_by name a names)
+      monitor_kept : (a : Answer) → AllKnown n (with_monitor_name_by name a names)
       monitor_kept (answer.Monitor m) = all
       monitor_kept _ = all
   stmt_kept a (stmt.CvCreate name mon) names below all = condition_kept a
     where
-      condition_kept : (a : Answer) → AllKnown n (condition_named_by name a names)
+      condition_kept : (a : Answer) → AllKnown n (with_condition_name_by name a names)
       condition_kept (answer.Condition c) = all
       condition_kept _ = all
   stmt_kept a _ names below all = all
 
-  last_kept : (a : Answer) (last : Option Stmt) (names : Names) → Below n (thread_in a) → AllKnown n names → AllKnown n (named a last names)
+  last_kept : (a : Answer) (last : Option Stmt) (names : Names) → Below n (thread_in a) → AllKnown n names → AllKnown n (after_name a last names)
   last_kept a None names below all = all
   last_kept a (Some s) names below all = stmt_kept a s names below all
 
@@ -257,10 +257,10 @@ pub record Tells (live : Live ThreadBody) : Type 0 where
 
 module _ (setting : Setting ThreadBody) (scripts : setting.next ≡ body_next) where
   tells_called : (live : Live ThreadBody) → Lawful live.pod.state None → (t : ℕ) (reply : Polled ThreadBody) → live.pod.state.births ≤ (event_step live.pod reply.0).after.state.births → RowsNamed live.pod.state.births live.rows → AllKnown live.pod.state.births reply.2
-      → Tells (called setting.bodies live t reply).live
-  unfolding called
+      → Tells (call_move setting.bodies live t reply).live
+  unfolding call_move
   tells_called live was t reply more rows names = record {
-    rows = rows_settled _ setting.bodies (proc_of reply.0) (event_step live.pod reply.0).effects (polled t reply.1 live.rows) (event_named live.pod was reply.0)
+    rows = rows_settled _ setting.bodies (proc_of reply.0) (event_step live.pod reply.0).effects (after_poll t reply.1 live.rows) (event_named live.pod was reply.0)
         (rows_with _ t (λ row. record row { body = reply.1 }) (λ row below. below) live.rows (rows_later live.pod.state.births _ more live.rows rows));
     names = λ place. known_later live.pod.state.births _ (id_at reply.2.threads place) more (names place);
   }
@@ -279,8 +279,8 @@ module _ (setting : Setting ThreadBody) (scripts : setting.next ≡ body_next) w
       by_choice None = h
       by_choice (Some t) = tells_row live was h t (row_of t live.rows) refl
 
-  tells_take : (live : Live ThreadBody) (took : Took) → Tells live → Tells (taken setting.bodies took live).live
-  unfolding taken
+  tells_take : (live : Live ThreadBody) (took : Took) → Tells live → Tells (take_move setting.bodies took live).live
+  unfolding take_move
   tells_take live took h =
       let more = (take_fades 0 live.pod took.event took.line.text).births in
       record {
@@ -288,17 +288,17 @@ module _ (setting : Setting ThreadBody) (scripts : setting.next ≡ body_next) w
         names = λ place. known_later live.pod.state.births _ (id_at live.names.threads place) more (h.names place);
       }
 
-  pub tells_moved : (session : Session ThreadBody) (m : Option Took) → Lawful session.live.pod.state None → Tells session.live → Tells (moved_by setting session m).live
+  pub tells_moved : (session : Session ThreadBody) (m : Option Took) → Lawful session.live.pod.state None → Tells session.live → Tells (after_move setting session m).live
   tells_moved session None was h = subst (λ next. Tells (move next setting.bodies session.live).live) (sym scripts) (tells_call session.live was h)
   tells_moved session (Some took) was h = tells_take session.live took h
 
-  tells_gone : (moves : List (Option Took)) (session : Session ThreadBody) → CanGoOn setting moves session → Lawful session.live.pod.state None → Tells session.live → Tells (gone_on setting moves session).live
+  tells_gone : (moves : List (Option Took)) (session : Session ThreadBody) → CanGoOn setting moves session → Lawful session.live.pod.state None → Tells session.live → Tells (after_moves setting moves session).live
   tells_gone [] session can was h = h
-  tells_gone (m ∷ ms) session can was h = tells_gone ms (moved_by setting session m) can.1 (moved_lawful setting session m can.0 was) (tells_moved session m was h)
+  tells_gone (m ∷ ms) session can was h = tells_gone ms (after_move setting session m) can.1 (moved_lawful setting session m can.0 was) (tells_moved session m was h)
 
 -- whoever has known names at the opening
-pub tells_opening : (bodies : List ThreadBody) (params : PodParams) (names : Names) → KnowsItsNames (opening_session (scripted bodies params names)) → Tells (opening_session (scripted bodies params names)).live
-tells_opening bodies params names known = record { rows = rows_opened (opening_session (scripted bodies params names)).live.pod.state.births 0 (slice_get bodies 0); names = known }
+pub tells_opening : (bodies : List ThreadBody) (params : PodParams) (names : Names) → KnowsItsNames (opening_session (script_setting bodies params names)) → Tells (opening_session (script_setting bodies params names)).live
+tells_opening bodies params names known = record { rows = rows_opened (opening_session (script_setting bodies params names)).live.pod.state.births 0 (slice_get bodies 0); names = known }
 
 pub names_are_of_the_born : NamesAreOfTheBorn
 names_are_of_the_born bodies params names least most known takes n defined =
@@ -306,7 +306,7 @@ names_are_of_the_born bodies params names least most known takes n defined =
     (tells_gone setting refl r.moves (opening_session setting) r.can (Lawful-opening params least most) (tells_opening bodies params names known)).names
   where
     setting : Setting ThreadBody
-    setting = scripted bodies params names
+    setting = script_setting bodies params names
 
     r : IsReached setting (play setting takes n)
     r = sessions_are_reached ThreadBody setting takes n defined
@@ -371,5 +371,5 @@ module _ (n : ℕ) (body : SessionBody) (names : Names) (known : AllKnown n name
 
 pub sessions_send_to_the_born : SessionsSendToTheBorn
 sessions_send_to_the_born bodies params names least most known takes n defined s body heard row =
-    let session = play (scripted bodies params names) takes n in
+    let session = play (script_setting bodies params names) takes n in
     sends_next session.live.pod.state.births body (polled_as s session.live.names) (names_are_of_the_born bodies params names least most known takes n defined) heard

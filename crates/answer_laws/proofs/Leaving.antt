@@ -2,17 +2,17 @@
 use Rattle.answer_laws.proofs.Sights.{Attends, Away, Turn, Turn.Left, Turn.Woken, attends_after, away_after, blocked_other, first_other, answers_push, not_own, own_row, pushed_own, replied_other, rowed, sight_same, turn_plain, turn_still, turn_then, turn_waked, turn_wake, without_own}
 use Rattle.answer_laws.specs.Sights.{answer_for, going_on, is_attentive, Hears, sight, sight_by}
 use Rattle.lwp_types.specs.Agents.{agent_gone, agents_of, belongs_to, end_agent}
-use Rattle.lwp_types.specs.Case.{Case, Check, refused, unless}
-use Rattle.lwp_types.specs.Conditions.{condition_of, is_lock_of, waking, woken, woken_all}
+use Rattle.lwp_types.specs.Case.{Case, Check, refusal_case, unless}
+use Rattle.lwp_types.specs.Conditions.{after_wake, after_wake_all, condition_of, is_lock_of, waking}
 use Rattle.lwp_types.specs.CountLaws.{count-cons, one}
 use Rattle.lwp_types.specs.Death.{answer_joiners, bury, death, end_agents, joins, refuse_receivers, refuse_sender, refuse_senders, release_all, run_all_exits, withdraw}
 use Rattle.lwp_types.specs.Exceptions.{exits_of}
 use Rattle.lwp_types.specs.Exits.{exit_case, run_exit, unwind}
 use Rattle.lwp_types.specs.Lawful.{NineParts}
-use Rattle.lwp_types.specs.Messages.{as_answer, as_received, awaits, post, takes_from, is_letter_of, receivers_of, replied, senders_to, with_holding, without_letter}
+use Rattle.lwp_types.specs.Messages.{as_answer, as_received, awaits, post, takes_from, is_letter_of, receivers_of, after_reply, senders_to, with_holding, without_letter}
 use Rattle.lwp_types.specs.MonitorRelease.{grant, last_lock, next_owner, release, without_lock}
-use Rattle.lwp_types.specs.Monitors.{depth_in, exited, with_depth}
-use Rattle.lwp_types.specs.State.{Outcome, State, ThreadRow, for_each, in_order, is_agent, is_agent_row, is_number, marked, marks_in, marks_set, passes, still, suspension_set, thread_of, times_in, with_block, with_suspension}
+use Rattle.lwp_types.specs.Monitors.{after_exit, depth_in, with_depth}
+use Rattle.lwp_types.specs.State.{Outcome, State, ThreadRow, for_each, in_order, is_agent, is_agent_row, is_number, marks_in, marks_set, passes, still, suspension_set, thread_of, times_in, with_block, with_marks_of, with_suspension}
 use Rattle.lwp_types.specs.Unblock.{nonexist, unblock, zero_answer}
 use Rattle.lwp_types.specs.declared.call.Answer.{Answer}
 use Rattle.lwp_types.specs.declared.call.Effect.{Effect}
@@ -64,7 +64,7 @@ module _ (u : ℕ) (Fits : Option ℕ → Answer → Type 0) where
   pub turn_release : (s : State) (d : Option ℕ) → NineParts s d → Attends u Fits s → (m : ℕ) → T s (release m s)
   turn_release s d nine was m = turn_grant s d nine was m (next_owner s m) refl
 
-  pub turn_exited : (s : State) (d : Option ℕ) → NineParts s d → Attends u Fits s → (m : ℕ) → T s (exited m s)
+  pub turn_exited : (s : State) (d : Option ℕ) → NineParts s d → Attends u Fits s → (m : ℕ) → T s (after_exit m s)
   turn_exited s d nine was m = by_depth (nat_le (depth_in s.locks m) 1)
     where
       by_depth : (b : Bool) → T s (cond b (release m s) (still (record s { locks = with_depth m (depth_in s.locks m - 1) s.locks })))
@@ -72,7 +72,7 @@ module _ (u : ℕ) (Fits : Option ℕ → Answer → Type 0) where
       by_depth false = turn_plain u Fits s _ refl refl
 
   -- another's letter is done with
-  pub turn_replied : (s : State) → Attends u Fits s → (v : ℕ) (text : List ℕ) → v ≢ u → T s (replied v text s)
+  pub turn_replied : (s : State) → Attends u Fits s → (v : ℕ) (text : List ℕ) → v ≢ u → T s (after_reply v text s)
   turn_replied s was v text other = by_agent (is_agent s v)
     where
       by_agent : (b : Bool) → T s (cond b (still (record s { letters = without_letter v s.letters; agents = with_holding v false s.agents })) (unblock (answer.Reply text) v (record s { letters = without_letter v s.letters })))
@@ -81,27 +81,27 @@ module _ (u : ℕ) (Fits : Option ℕ → Answer → Type 0) where
 
   -- ---- who waits on a condition is woken
 
-  waking_seen : (d : Option ℕ) (v c : ℕ) (row : CondRow) (ws : List WaitRow) (now : State) → Waking d v c row ws now → Attends u Fits now → sight (fold (λ now w. woken row.mon w now) now ws) u ≡ sight now u
+  waking_seen : (d : Option ℕ) (v c : ℕ) (row : CondRow) (ws : List WaitRow) (now : State) → Waking d v c row ws now → Attends u Fits now → sight (fold (λ now w. after_wake row.mon w now) now ws) u ≡ sight now u
   waking_seen d v c row [] now was here = refl
   waking_seen d v c row (w ∷ ws) now was here =
       let who = waiter now d was.nine w.tid c (first_waits d v c row w ws now was) in
       let other = not_own u Fits now here w.tid who.row who.known (ap is_attentive who.waits) in
-      let same : sight (woken row.mon w now) u ≡ sight now u = sight_same u Fits now (woken row.mon w now) here.row here.known (blocked_other u Fits now here w.tid (block.Entering row.mon) other ∙ here.known) refl in
-      waking_seen d v c row ws (woken row.mon w now) (waking_next d v c row w ws now was) (attends_after u Fits now (record { after = woken row.mon w now; effects = [] }) here (turn_plain u Fits now _ same refl)) ∙ same
+      let same : sight (after_wake row.mon w now) u ≡ sight now u = sight_same u Fits now (after_wake row.mon w now) here.row here.known (blocked_other u Fits now here w.tid (block.Entering row.mon) other ∙ here.known) refl in
+      waking_seen d v c row ws (after_wake row.mon w now) (waking_next d v c row w ws now was) (attends_after u Fits now (record { after = after_wake row.mon w now; effects = [] }) here (turn_plain u Fits now _ same refl)) ∙ same
 
   pub unless_turn : (s : State) (checks : List Check) (otherwise : Case) → (Passed checks → T s (of_case otherwise)) → T s (of_case (unless s checks otherwise))
   unfolding unless
   unless_turn s [] otherwise fine = fine tt
   unless_turn s (check ∷ checks) otherwise fine = by_test check.0 refl (λ here. unless_turn s checks otherwise (λ rest. fine (here, rest)))
     where
-      by_test : (b : Bool) → check.0 ≡ b → (check.0 ≡ false → T s (of_case (unless s checks otherwise))) → T s (of_case (cond b (refused s check.1) (unless s checks otherwise)))
+      by_test : (b : Bool) → check.0 ≡ b → (check.0 ≡ false → T s (of_case (unless s checks otherwise))) → T s (of_case (cond b (refusal_case s check.1) (unless s checks otherwise)))
       by_test true e rest = turn_still u Fits s
       by_test false e rest = rest e
 
   pub waking_turn : (s : State) (d : Option ℕ) → NineParts s d → Attends u Fits s → (v c : ℕ) (more : List Check) (ws : List WaitRow) → Among s c ws → T s (of_case (waking s v c more ws))
   waking_turn s d nine was v c more ws among = unless_turn s _ _ (λ passed. by_row (condition_of s.conditions c) refl (true_of _ passed.1.0))
     where
-      by_row : (o : Option CondRow) → condition_of s.conditions c ≡ o → passes (λ lock. is_lock_of lock o) (last_lock s.locks v) ≡ true → T s (record { after = woken_all o ws s; effects = [] })
+      by_row : (o : Option CondRow) → condition_of s.conditions c ≡ o → passes (λ lock. is_lock_of lock o) (last_lock s.locks v) ≡ true → T s (record { after = after_wake_all o ws s; effects = [] })
       by_row None e last = turn_still u Fits s
       by_row (Some row) e last = turn_plain u Fits s _ (waking_seen d v c row ws s (waking_begins s d nine v c ws among row e last) was) refl
 
@@ -164,8 +164,8 @@ module _ (u : ℕ) (Fits : Option ℕ → Answer → Type 0) where
   run_turn d v x s nine ready = turn_more s (of_case (exit_case s v x.call)) (effect.Exited v x.reg x.call (unwrap_or (exit_case s v x.call).own zero_answer)) refl (exit_case_turn s d nine ready.attends v ready.away x.call)
 
   -- marks of another are put
-  marked_seen : (s : State) → Attends u Fits s → (v : ℕ) → v ≢ u → (ms : List Mark) → sight (marked s v ms) u ≡ sight s u
-  marked_seen s was v other ms = sight_same u Fits s (marked s v ms) was.row was.known (rowed u Fits (marks_set v ms) (λ row. refl) s was.row was.known off) refl
+  marked_seen : (s : State) → Attends u Fits s → (v : ℕ) → v ≢ u → (ms : List Mark) → sight (with_marks_of s v ms) u ≡ sight s u
+  marked_seen s was v other ms = sight_same u Fits s (with_marks_of s v ms) was.row was.known (rowed u Fits (marks_set v ms) (λ row. refl) s was.row was.known off) refl
     where
       off : marks_set v ms was.row ≡ was.row
       off = rw (ne_eqb was.row.number v (λ e. other (sym e ∙ number_known s.threads u was.row was.known))) refl
@@ -178,10 +178,10 @@ module _ (u : ℕ) (Fits : Option ℕ → Answer → Type 0) where
   pub ready_from : (v : ℕ) (s middle : State) → sight middle u ≡ sight s u → Ready v s → Ready v middle
   ready_from v s middle same ready = ready_after v s (record { after = middle; effects = [] }) ready (turn_plain u Fits s _ same refl)
 
-  pub turn_unwind : (d : Option ℕ) (v : ℕ) → v ≢ u → (kept gone : List Mark) (s : State) → NineParts (marked s v kept) d → Ready v s → T s (unwind v kept gone s)
+  pub turn_unwind : (d : Option ℕ) (v : ℕ) → v ≢ u → (kept gone : List Mark) (s : State) → NineParts (with_marks_of s v kept) d → Ready v s → T s (unwind v kept gone s)
   turn_unwind d v other kept gone s nine ready =
       let same = marked_seen s ready.attends v other kept in
-      turn_from s (marked s v kept) _ same (turn_each v (λ s. NineParts s d) (run_exit v) (λ x s was. run_exit_keeps d v x s was) (λ x s was r. run_turn d v x s was r) (exits_of gone) (marked s v kept) nine (ready_from v s (marked s v kept) same ready))
+      turn_from s (with_marks_of s v kept) _ same (turn_each v (λ s. NineParts s d) (run_exit v) (λ x s was. run_exit_keeps d v x s was) (λ x s was r. run_turn d v x s was r) (exits_of gone) (with_marks_of s v kept) nine (ready_from v s (with_marks_of s v kept) same ready))
 
   -- ---- a death
 
@@ -292,7 +292,7 @@ module _ (u : ℕ) (Fits : Option ℕ → Answer → Type 0) where
         (λ r6. turn_first v (answer_joiners v) _ _ r6 (wake_turn v (joins v) (joins_alone v) zero_answer (joins_fits v) _ (Some v) two.0.nine r6)
         (λ r7. turn_first v (bury v) _ _ r7 (bury_turn _ r7) (λ r8. turn_none _))))))))
       where
-        bare : NineParts (marked (withdraw v s).after v []) (Some v)
+        bare : NineParts (with_marks_of (withdraw v s).after v []) (Some v)
         bare = unmarked_nine (withdraw v s).after v (nine_withdrawn s nine v x known)
 
         one : Lonely v (refuse_senders v (end_agents v (release_all v (run_all_exits v (withdraw v s).after).after).after).after).after × (senders_to (refuse_senders v (end_agents v (release_all v (run_all_exits v (withdraw v s).after).after).after).after).after.letters v ≡ [])

@@ -1,7 +1,7 @@
 -- The answers to lines that are short are short.
 use Rattle.answer_laws.specs.Lengths.{ShortLinesHaveShortAnswers, is_short}
 use Rattle.line_server.specs.Commands.{Command, Del, Get, Put, alone, asked_by, command_of, is_key_length, key_len, put_of}
-use Rattle.line_server.specs.Tables.{Table, Told, at_key, is_quit, key_cmp, replies, shown, told_command, told_text, told_value}
+use Rattle.line_server.specs.Tables.{Table, Told, at_key, is_quit, key_cmp, replies, told_command, told_text, told_value, value_reply}
 use Rattle.std.proofs.Common.{Bool, List, None, Option, Some, [], arith, cond, drop, false, length, refl, suc, take, true, zero, ℕ, ◌&&◌, ◌∙◌, ◌∷◌, ◌≡◌, ◌≤◌}
 use Rattle.std.proofs.lemmas.Bool.{and_from, and_parts, le-leb, leb-true}
 use Rattle.std.proofs.lemmas.List.{length-drop}
@@ -59,9 +59,9 @@ command_few text h =
 abbrev pub Kept : Table → Type 0
 Kept table = list_all (λ (e : List ℕ × List ℕ). is_short e.1) table ≡ true
 
-shown_short : (value : List ℕ) → Few value → is_short (shown value) ≡ true
+shown_short : (value : List ℕ) → Few value → is_short (value_reply value) ≡ true
 shown_short [] h = refl
-shown_short (b ∷ bs) h = le-leb (length (shown (b ∷ bs))) 240 (omega (arith, h))
+shown_short (b ∷ bs) h = le-leb (length (value_reply (b ∷ bs))) 240 (omega (arith, h))
 
 inserted : (key value : List ℕ) → is_short value ≡ true → (table : Table) → Kept table → Kept (insert_entry key_cmp table key value)
 inserted key value short [] h = and_from _ _ short refl
@@ -108,11 +108,11 @@ command_told (Some (Put key value)) few table h = by_full (nat_le 100 (length ta
     full = record { reply = codes "full"; table = table }
 
     put : Told
-    put = record { reply = codes "ok"; table = insert_entry key_cmp table key (shown value) }
+    put = record { reply = codes "ok"; table = insert_entry key_cmp table key (value_reply value) }
 
     by_full : (b : Bool) → (is_short (cond b full put).reply ≡ true) × Kept (cond b full put).table
     by_full true = (refl, h)
-    by_full false = (refl, inserted key (shown value) (shown_short value few) table h)
+    by_full false = (refl, inserted key (value_reply value) (shown_short value few) table h)
 command_told (Some (Get key)) few table h = (looked_up (is_at (key_cmp key)) table h, h)
 command_told (Some (Del key)) few table h = (by_there (is_some (at_key key table)), removed (is_at (key_cmp key)) table h)
   where

@@ -14,14 +14,14 @@ use Rattle.line_server.specs.Tables.{is_quit}
 use Rattle.line_server.specs.Turns.{Turn, is_replied, stops}
 use Rattle.line_server.specs.declared.session.SessionPlace.{SessionPlace}
 use Rattle.line_server.specs.declared.session.SessionPlace.TheVariants as at
-use Rattle.lwp_types.specs.Agents.{agent_born, armed, deliver, deliver_to, event_agents, message}
-use Rattle.lwp_types.specs.Case.{answered, is_at_limit, is_full, refused}
+use Rattle.lwp_types.specs.Agents.{after_agent_birth, deliver, deliver_to, event_agents, is_event_armed, message}
+use Rattle.lwp_types.specs.Case.{answer_case, is_at_limit, is_full, refusal_case}
 use Rattle.lwp_types.specs.Choice.{choice}
 use Rattle.lwp_types.specs.Lawful.{Lawful}
 use Rattle.lwp_types.specs.Messages.{as_answer, as_received, takes_from, with_holding}
 use Rattle.lwp_types.specs.Names.{Names}
 use Rattle.lwp_types.specs.State.{Outcome, State, ThreadRow, and_then, for_each, is_thread, marks_in, passes, still, thread_of}
-use Rattle.lwp_types.specs.Step.{case_of, end_effects, ends, finished, step, step_by, step_if}
+use Rattle.lwp_types.specs.Step.{case_of, end_effects, ends, step, step_by, step_if, step_outcome}
 use Rattle.lwp_types.specs.Unblock.{unblock}
 use Rattle.lwp_types.specs.declared.call.Answer.{Answer}
 use Rattle.lwp_types.specs.declared.call.Call.{Call}
@@ -30,9 +30,9 @@ use Rattle.lwp_types.specs.Time.{tick}
 use Rattle.lwp_types.specs.declared.rows.AgentRow.{AgentRow}
 use Rattle.lwp_types.specs.declared.rows.Letter.{Letter}
 use Rattle.pod_events.specs.Events.{EventState, rites_event}
-use Rattle.pod_events.specs.Rites.{as_rites, first_reported, report_text, reports_after, rites_said}
+use Rattle.pod_events.specs.Rites.{after_first_report, as_rites, report_text, reports_after, rites_said}
 use Rattle.pod_events.specs.Step.{event_step}
-use Rattle.pod_events.specs.Traps.{Trapping, but_call, called, is_catch, is_given, made, notice, stepped}
+use Rattle.pod_events.specs.Traps.{Trapping, after_call, after_machine_step, after_trap_and_call, but_call, is_catch, is_given, notice}
 use Rattle.pod_laws.proofs.Absent.{the_absent_are_refused}
 use Rattle.pod_laws.specs.Forgotten.{IsGone}
 use Rattle.pod_laws.specs.Waiters.{is_told, is_zero}
@@ -163,12 +163,12 @@ module _ (s b : ℕ) where
   Unheard es = (ys : List Effect) → list_any (is_told s is_zero) ys ≡ false → replied_in s b ys ≡ [] → replied_in s b (es ++ ys) ≡ []
 
   unheard_said : (after : State) (es : List Effect) (reports : List ℕ) → Unheard es → replied_in s b (rites_said after es reports).effects ≡ []
-  unheard_said after es reports quiet = by_armed (armed after rites_event) reports
+  unheard_said after es reports quiet = by_armed (is_event_armed after rites_event) reports
     where
       alone : replied_in s b es ≡ []
       alone = ap (replied_in s b) (sym (append-nil es)) ∙ quiet [] refl refl
 
-      by_armed : (d : Bool) (rs : List ℕ) → replied_in s b (cond d (first_reported after es rs) (record { state = after; reports = rs; effects = es })).effects ≡ []
+      by_armed : (d : Bool) (rs : List ℕ) → replied_in s b (cond d (after_first_report after es rs) (record { state = after; reports = rs; effects = es })).effects ≡ []
       by_armed true [] = alone
       by_armed false rs = alone
       by_armed true (dead ∷ later) = quiet (map (as_rites dead) (deliver after rites_event (report_text dead)).effects) (no_zero_said s dead after)
@@ -178,9 +178,9 @@ module _ (s b : ℕ) where
     abbrev reply : Call
     reply = call.Reply a text
 
-    step_is : step es.state reply ≡ finished s reply (refused es.state error.NonExist)
+    step_is : step es.state reply ≡ step_outcome s reply (refusal_case es.state error.NonExist)
     unfolding step step_by
-    step_is = ap (step_if es.state reply) turn ∙ ap (finished s reply) (the_absent_are_refused es.state s a gone.dead reply (eq-eqb a a refl))
+    step_is = ap (step_if es.state reply) turn ∙ ap (step_outcome s reply) (the_absent_are_refused es.state s a gone.dead reply (eq-eqb a a refl))
 
     refused_unheard : Unheard (step es.state reply).effects
     refused_unheard ys none quiet = ap (λ (out : Outcome). replied_in s b (out.effects ++ ys)) step_is ∙ ap (λ d. cond (eqb s s && d) (reply_to b reply) []) rest ∙ by_never (eqb s s)
@@ -202,14 +202,14 @@ module _ (s b : ℕ) where
         said : (out : Trapping) → Unheard out.effects → replied_in s b (done_by es out).effects ≡ []
         said out quiet = unheard_said out.state out.effects (reports_after es.state out.state es.reports out.effects) quiet
 
-        by_given : (e : ℕ) (g d : Bool) → Unheard (effect.Trapped s e ∷ (cond g (made es.state es.trapped s reply) (cond d (stepped es.trapped (but_call (step es.state (call.ExcNotify e)))) (stepped es.trapped (but_call (step es.state (call.Destroy s)))))).effects)
+        by_given : (e : ℕ) (g d : Bool) → Unheard (effect.Trapped s e ∷ (cond g (after_call es.state es.trapped s reply) (cond d (after_machine_step es.trapped (but_call (step es.state (call.ExcNotify e)))) (after_machine_step es.trapped (but_call (step es.state (call.Destroy s)))))).effects)
         by_given e true d ys none quiet = ap (λ (out : Trapping). replied_in s b (out.effects ++ ys)) (made_plain es.state es.trapped s reply refl refl) ∙ refused_unheard ys none quiet
         by_given e false true ys none quiet = mute_but s b es.state (call.ExcNotify e) ys quiet
         by_given e false false ys none quiet = mute_but s b es.state (call.Destroy s) ys quiet
 
-        by_pending : (p : Option ℕ) → replied_in s b (done_by es (called es.state es.trapped s reply p)).effects ≡ []
-        by_pending None = said (made es.state es.trapped s reply) (λ ys none quiet. ap (λ (out : Trapping). replied_in s b (out.effects ++ ys)) (made_plain es.state es.trapped s reply refl refl) ∙ refused_unheard ys none quiet)
-        by_pending (Some e) = said (called es.state es.trapped s reply (Some e)) (by_given e (passes is_given (notice es.state s e)) (passes is_catch (notice es.state s e)))
+        by_pending : (p : Option ℕ) → replied_in s b (done_by es (after_trap_and_call es.state es.trapped s reply p)).effects ≡ []
+        by_pending None = said (after_call es.state es.trapped s reply) (λ ys none quiet. ap (λ (out : Trapping). replied_in s b (out.effects ++ ys)) (made_plain es.state es.trapped s reply refl refl) ∙ refused_unheard ys none quiet)
+        by_pending (Some e) = said (after_trap_and_call es.state es.trapped s reply (Some e)) (by_given e (passes is_given (notice es.state s e)) (passes is_catch (notice es.state s e)))
 
   -- no call of a session that is late is heard, if its agent is gone
   pub late_unheard : (es : EventState) → choice es.state ≡ Some s → (a : ℕ) → IsGone es.state a → (c : Call) → LateCall a c → replied_in s b (event_step es c).effects ≡ []
@@ -225,8 +225,8 @@ returns_end s es was turn marks lives = subst (λ (out : Outcome). IsGone out.af
     said : (out : Trapping) → IsGone out.state s → IsGone (done_by es out).after s
     said out gone = gone_said s out.state out.effects (reports_after es.state out.state es.reports out.effects) gone
 
-    by_pending : (p : Option ℕ) → IsGone (done_by es (called es.state es.trapped s call.Return p)).after s
-    by_pending None = subst (λ (out : Trapping). IsGone (done_by es out).after s) (sym (made_plain es.state es.trapped s call.Return refl refl)) (said (stepped es.trapped (step es.state call.Return)) (returned_is_gone es.state was s turn marks))
+    by_pending : (p : Option ℕ) → IsGone (done_by es (after_trap_and_call es.state es.trapped s call.Return p)).after s
+    by_pending None = subst (λ (out : Trapping). IsGone (done_by es out).after s) (sym (made_plain es.state es.trapped s call.Return refl refl)) (said (after_machine_step es.trapped (step es.state call.Return)) (returned_is_gone es.state was s turn marks))
     by_pending (Some e) = subst (λ (out : Trapping). IsGone (done_by es out).after s) (sym (sprung_is es.state es.trapped s call.Return e marks))
         (said (record { state = (step es.state (call.Destroy s)).after; trapped = es.trapped; effects = effect.Trapped s e ∷ drop 1 (step es.state (call.Destroy s)).effects }) (destroyed_is_gone es.state was s s turn lives))
 
@@ -238,9 +238,9 @@ agent_given s st turn e b told = by_checks (checked st _ _)
     ask : Call
     ask = call.Agent e
 
-    told_so : answers_to s (finished s ask (case_of st s ask)).effects ≡ answer.Thread b ∷ []
+    told_so : answers_to s (step_outcome s ask (case_of st s ask)).effects ≡ answer.Thread b ∷ []
     told_so = sym (ap (λ o. answers_to s (step_if st ask o).effects) turn) ∙ told
 
-    by_checks : Checked st (((eqb e 0) || nat_lt 32 e, error.InvalidArg) ∷ is_full 256 st.agents ∷ is_at_limit st.births st ∷ []) (answered (agent_born st s e) (answer.Thread st.births)) → b ≡ st.births
-    by_checks (Struck why is) = absurd (let bad : answer.Refused why ∷ [] ≡ answer.Thread b ∷ [] = sym (ap (λ made. answers_to s (finished s ask made).effects) is ∙ told_itself s ask (refused st why)) ∙ told_so in cc)
-    by_checks (Free passed is) = let same : answer.Thread st.births ∷ [] ≡ answer.Thread b ∷ [] = sym (ap (λ made. answers_to s (finished s ask made).effects) is ∙ told_itself s ask (answered (agent_born st s e) (answer.Thread st.births))) ∙ told_so in cc
+    by_checks : Checked st (((eqb e 0) || nat_lt 32 e, error.InvalidArg) ∷ is_full 256 st.agents ∷ is_at_limit st.births st ∷ []) (answer_case (after_agent_birth st s e) (answer.Thread st.births)) → b ≡ st.births
+    by_checks (Struck why is) = absurd (let bad : answer.Refused why ∷ [] ≡ answer.Thread b ∷ [] = sym (ap (λ made. answers_to s (step_outcome s ask made).effects) is ∙ told_itself s ask (refusal_case st why)) ∙ told_so in cc)
+    by_checks (Free passed is) = let same : answer.Thread st.births ∷ [] ≡ answer.Thread b ∷ [] = sym (ap (λ made. answers_to s (step_outcome s ask made).effects) is ∙ told_itself s ask (answer_case (after_agent_birth st s e) (answer.Thread st.births))) ∙ told_so in cc

@@ -7,7 +7,7 @@ use Rattle.answer_laws.proofs.TalkLaws.{Inv.Goes, Phase.Idle}
 use Rattle.answer_laws.proofs.TalkSteps.{either_of, unborn_absent, unsome}
 use Rattle.answer_laws.proofs.ThreadRows.{row_polled_other, row_polled_own, row_settled}
 use Rattle.answer_laws.specs.Clients.{IsAnsweredInTurn}
-use Rattle.answer_laws.specs.Served.{Begins, CanGoOn, ClientsAreAnsweredInTurn, LaterClientsAreAnsweredInTurn, LineServer, Serves, TextsAreShort, begun, gone_on, is_move_due, moved_by, steps_of}
+use Rattle.answer_laws.specs.Served.{Begins, CanGoOn, ClientsAreAnsweredInTurn, LaterClientsAreAnsweredInTurn, LineServer, Serves, TextsAreShort, after_move, after_moves, is_move_due, session_from, steps_of}
 use Rattle.answer_laws.specs.Sights.{Sight, answers_to, sight}
 use Rattle.answer_laws.specs.Stands.{AgentIs.Unmade, block_of, last_heard}
 use Rattle.answer_laws.specs.Talks.{Mail.Nothing, Stand.Hears}
@@ -23,7 +23,7 @@ use Rattle.lwp_types.specs.declared.call.Answer.{Answer}
 use Rattle.pod_events.specs.Events.{is_takeable, take_event}
 use Rattle.pod_events.specs.Step.{event_step}
 use Rattle.pod_laws.proofs.Elements.{differ}
-use Rattle.pod_runner.specs.Session.{Live, Session, Setting, called, move, move_by, move_row, polled, proc_of, row_of, taken}
+use Rattle.pod_runner.specs.Session.{Live, Session, Setting, after_poll, call_move, move, move_by, move_row, proc_of, row_of, take_move}
 use Rattle.pod_runner.specs.declared.session.Row.{Row}
 use Rattle.pod_runner.specs.declared.session.Took.{Took}
 use Rattle.session_laws.proofs.Pods.{call_moved, take_moved}
@@ -62,14 +62,14 @@ begin_alone s k st was seen = record { stand = Hears zero_answer; seen = seen; r
 
 module _ {B : Type 0} (setting : Setting B) (server : LineServer setting.next) (s k event place : ℕ) (s_k : eqb s k ≡ false) (live : Live B) (was : Lawful live.pod.state None) (begins : Begins s (server.serving (session_opening event place)) live)
     (kb : StoreBody) (kz : Answer) (row_k : K_of setting server s k s_k live.rows kb kz) (alone : AloneAt s k live.pod.state kb kz) where
-  met : Stood setting server s k s_k (begun live)
+  met : Stood setting server s k s_k (session_from live)
   met = Starting (alive_seen live.pod.state s block.Not (ap (λ (v : Sight). v.waits) begins.thread)) (session_opening event place) zero_answer kb kz begins.row row_k
       (λ a low away. meet s k event place a s_k live.pod.state was begins.thread kb kz alone low) refl (λ a. refl)
 
-  pub met_answers : (moves : List (Option Took)) → CanGoOn setting moves (begun live) → Serves s k (gone_on setting moves (begun live)) → TextsAreShort (gone_on setting moves (begun live)) → (a : ℕ) → IsAnsweredInTurn s a (steps_of (gone_on setting moves (begun live)).steps)
+  pub met_answers : (moves : List (Option Took)) → CanGoOn setting moves (session_from live) → Serves s k (after_moves setting moves (session_from live)) → TextsAreShort (after_moves setting moves (session_from live)) → (a : ℕ) → IsAnsweredInTurn s a (steps_of (after_moves setting moves (session_from live)).steps)
   met_answers moves can serves short a =
-      let end = gone_on setting moves (begun live) in
-      let stood = gone_stood setting server s k s_k moves (begun live) was can met (alive_seen live.pod.state k (block_of None alone.stand) (ap (λ (v : Sight). v.waits) alone.seen)) serves.lives serves.sends short serves.few in
+      let end = after_moves setting moves (session_from live) in
+      let stood = gone_stood setting server s k s_k moves (session_from live) was can met (alive_seen live.pod.state k (block_of None alone.stand) (ap (λ (v : Sight). v.waits) alone.seen)) serves.lives serves.sends short serves.few in
       phase_first s k end.live.pod.state (S_of setting server s k s_k end.live.rows) (K_of setting server s k s_k end.live.rows) _ _ stood a
 
 pub clients_are_answered_in_turn : (B : Type 0) → ClientsAreAnsweredInTurn B
@@ -101,34 +101,34 @@ module _ {B : Type 0} (setting : Setting B) (server : LineServer setting.next) (
         by_test false e = refl
         by_test true e = differ (sym (chosen_lives live.pod.state was t turn) ∙ ap (is_thread live.pod.state) (eqb-true t s e) ∙ (either_of (is_thread live.pod.state s) (is_agent live.pod.state s) unborn).0)
 
-    other_alone : (t : ℕ) → choice live.pod.state ≡ Some t → eqb t k ≡ false → (reply : Polled B) → Then (called setting.bodies live t reply).live
-    unfolding called
+    other_alone : (t : ℕ) → choice live.pod.state ≡ Some t → eqb t k ≡ false → (reply : Polled B) → Then (call_move setting.bodies live t reply).live
+    unfolding call_move
     other_alone t turn t_k reply = λ lives free. record {
       body = h.body;
       answer = last_heard h.answer (answers_to k (event_step live.pod reply.0).effects);
-      row = row_settled k setting.bodies (proc_of reply.0) (event_step live.pod reply.0).effects (polled t reply.1 live.rows) (record { tid = k; body = server.storing h.body; answer = h.answer }) (row_polled_other k t t_k reply.1 live.rows ∙ h.row)
+      row = row_settled k setting.bodies (proc_of reply.0) (event_step live.pod reply.0).effects (after_poll t reply.1 live.rows) (record { tid = k; body = server.storing h.body; answer = h.answer }) (row_polled_other k t t_k reply.1 live.rows ∙ h.row)
           (alive_then live.pod.state (event_step live.pod reply.0).after.state (event_step live.pod reply.0).effects (call_moved live.pod was reply.0) k lives);
       alone = alone_other s k live.pod was h.body h.answer h.alone t turn t_k (not_chosen t turn) reply.0 lives free;
     }
 
-    own_alone : choice live.pod.state ≡ Some k → (names : Names) → Then (called setting.bodies live k ((store_next h.body names h.answer).0, server.storing (store_next h.body names h.answer).1, (store_next h.body names h.answer).2)).live
-    unfolding called
+    own_alone : choice live.pod.state ≡ Some k → (names : Names) → Then (call_move setting.bodies live k ((store_next h.body names h.answer).0, server.storing (store_next h.body names h.answer).1, (store_next h.body names h.answer).2)).live
+    unfolding call_move
     own_alone turn names = λ lives free. record {
       body = (store_next h.body names h.answer).1;
       answer = last_heard h.answer (answers_to k (event_step live.pod (store_next h.body names h.answer).0).effects);
-      row = row_settled k setting.bodies (proc_of (store_next h.body names h.answer).0) (event_step live.pod (store_next h.body names h.answer).0).effects (polled k (server.storing (store_next h.body names h.answer).1) live.rows)
+      row = row_settled k setting.bodies (proc_of (store_next h.body names h.answer).0) (event_step live.pod (store_next h.body names h.answer).0).effects (after_poll k (server.storing (store_next h.body names h.answer).1) live.rows)
           (record { tid = k; body = server.storing (store_next h.body names h.answer).1; answer = h.answer }) (row_polled_own k (server.storing (store_next h.body names h.answer).1) live.rows (record { tid = k; body = server.storing h.body; answer = h.answer }) h.row)
           (alive_then live.pod.state (event_step live.pod (store_next h.body names h.answer).0).after.state (event_step live.pod (store_next h.body names h.answer).0).effects (call_moved live.pod was (store_next h.body names h.answer).0) k lives);
       alone = alone_own s k live.pod was h.body h.answer h.alone turn low names lives free;
     }
 
-    called_alone : (t : ℕ) → choice live.pod.state ≡ Some t → (row : Row B) → row_of t live.rows ≡ Some row → (names : Names) → (e : Bool) → eqb t k ≡ e → Then (called setting.bodies live t (setting.next row.body names row.answer)).live
+    called_alone : (t : ℕ) → choice live.pod.state ≡ Some t → (row : Row B) → row_of t live.rows ≡ Some row → (names : Names) → (e : Bool) → eqb t k ≡ e → Then (call_move setting.bodies live t (setting.next row.body names row.answer)).live
     called_alone t turn row found names false is = other_alone t turn is (setting.next row.body names row.answer)
     called_alone t turn row found names true is =
         let same = eqb-true t k is in
         let one = unsome (sym (ap (λ n. row_of n live.rows) (sym same) ∙ found) ∙ h.row) in
-        subst (λ n. Then (called setting.bodies live n (setting.next row.body names row.answer)).live) (sym same)
-        (subst (λ (r : Polled B). Then (called setting.bodies live k r).live) (sym ((λ i. setting.next (one i).body names (one i).answer) ∙ server.stores h.body names h.answer)) (own_alone (turn ∙ ap Some same) names))
+        subst (λ n. Then (call_move setting.bodies live n (setting.next row.body names row.answer)).live) (sym same)
+        (subst (λ (r : Polled B). Then (call_move setting.bodies live k r).live) (sym ((λ i. setting.next (one i).body names (one i).answer) ∙ server.stores h.body names h.answer)) (own_alone (turn ∙ ap Some same) names))
 
     row_alone : (t : ℕ) → choice live.pod.state ≡ Some t → (o : Option (Row B)) → row_of t live.rows ≡ o → Then (move_row setting.next setting.bodies live t o).live
     row_alone t turn None found = λ lives free. h
@@ -142,8 +142,8 @@ module _ {B : Type 0} (setting : Setting B) (server : LineServer setting.next) (
         by_choice None e = λ lives free. h
         by_choice (Some t) e = row_alone t e (row_of t live.rows) refl
 
-    take_alone : (took : Took) → is_takeable live.pod took.event ≡ true → Then (taken setting.bodies took live).live
-    unfolding taken
+    take_alone : (took : Took) → is_takeable live.pod took.event ≡ true → Then (take_move setting.bodies took live).live
+    unfolding take_move
     take_alone took may = λ lives free. record {
       body = h.body;
       answer = last_heard h.answer (answers_to k (take_event live.pod took.event took.line.text).effects);
@@ -153,15 +153,15 @@ module _ {B : Type 0} (setting : Setting B) (server : LineServer setting.next) (
     }
 
   pub move_alone : (session : Session B) (m : Option Took) → Lawful session.live.pod.state None → is_move_due session m ≡ true → IsAlone session.live → session.live.pod.state.births ≤ s
-      → is_thread (moved_by setting session m).live.pod.state k ≡ true → ((moved_by setting session m).live.pod.state.births ≤ s) ⊎ (is_thread (moved_by setting session m).live.pod.state s ≡ true) → IsAlone (moved_by setting session m).live
+      → is_thread (after_move setting session m).live.pod.state k ≡ true → ((after_move setting session m).live.pod.state.births ≤ s) ⊎ (is_thread (after_move setting session m).live.pod.state s ≡ true) → IsAlone (after_move setting session m).live
   move_alone session None was due h low lives free = call_alone session.live was h low lives free
   move_alone session (Some took) was due h low lives free = take_alone session.live was h low took due lives free
 
-  pub moves_alone : (moves : List (Option Took)) (session : Session B) → Lawful session.live.pod.state None → CanGoOn setting moves session → IsAlone session.live → (gone_on setting moves session).live.pod.state.births ≤ s → is_thread (gone_on setting moves session).live.pod.state k ≡ true
-      → IsAlone (gone_on setting moves session).live
+  pub moves_alone : (moves : List (Option Took)) (session : Session B) → Lawful session.live.pod.state None → CanGoOn setting moves session → IsAlone session.live → (after_moves setting moves session).live.pod.state.births ≤ s → is_thread (after_moves setting moves session).live.pod.state k ≡ true
+      → IsAlone (after_moves setting moves session).live
   moves_alone [] session was can h low lives = h
   moves_alone (m ∷ ms) session was can h low lives =
-      let next = moved_by setting session m in
+      let next = after_move setting session m in
       let born = born_below session.live.pod.state was k (alive_seen session.live.pod.state k (block_of None h.alone.stand) (ap (λ (v : Sight). v.waits) h.alone.seen)) in
       let below = (gone_fades setting k ms next).births in
       moves_alone ms next (moved_lawful setting session m can.0 was) can.1
@@ -171,41 +171,41 @@ module _ {B : Type 0} (setting : Setting B) (server : LineServer setting.next) (
 module _ {B : Type 0} (setting : Setting B) where
   pub can_first : (moves : List (Option Took)) (m : Option Took) (session : Session B) → CanGoOn setting (moves ++ m ∷ []) session → CanGoOn setting moves session
   can_first [] m session can = tt
-  can_first (n ∷ ns) m session can = (can.0, can_first ns m (moved_by setting session n) can.1)
+  can_first (n ∷ ns) m session can = (can.0, can_first ns m (after_move setting session n) can.1)
 
-  pub can_last : (moves : List (Option Took)) (m : Option Took) (session : Session B) → CanGoOn setting (moves ++ m ∷ []) session → is_move_due (gone_on setting moves session) m ≡ true
+  pub can_last : (moves : List (Option Took)) (m : Option Took) (session : Session B) → CanGoOn setting (moves ++ m ∷ []) session → is_move_due (after_moves setting moves session) m ≡ true
   can_last [] m session can = can.0
-  can_last (n ∷ ns) m session can = can_last ns m (moved_by setting session n) can.1
+  can_last (n ∷ ns) m session can = can_last ns m (after_move setting session n) can.1
 
-  pub gone_push : (moves : List (Option Took)) (m : Option Took) (session : Session B) → gone_on setting (moves ++ m ∷ []) session ≡ moved_by setting (gone_on setting moves session) m
+  pub gone_push : (moves : List (Option Took)) (m : Option Took) (session : Session B) → after_moves setting (moves ++ m ∷ []) session ≡ after_move setting (after_moves setting moves session) m
   gone_push [] m session = refl
-  gone_push (n ∷ ns) m session = gone_push ns m (moved_by setting session n)
+  gone_push (n ∷ ns) m session = gone_push ns m (after_move setting session n)
 
-  pub gone_lawful : (moves : List (Option Took)) (session : Session B) → CanGoOn setting moves session → Lawful session.live.pod.state None → Lawful (gone_on setting moves session).live.pod.state None
+  pub gone_lawful : (moves : List (Option Took)) (session : Session B) → CanGoOn setting moves session → Lawful session.live.pod.state None → Lawful (after_moves setting moves session).live.pod.state None
   gone_lawful [] session can was = was
-  gone_lawful (m ∷ ms) session can was = gone_lawful ms (moved_by setting session m) can.1 (moved_lawful setting session m can.0 was)
+  gone_lawful (m ∷ ms) session can was = gone_lawful ms (after_move setting session m) can.1 (moved_lawful setting session m can.0 was)
 
 pub later_clients_are_answered_in_turn : (B : Type 0) → LaterClientsAreAnsweredInTurn B
 later_clients_are_answered_in_turn B setting server s k event place first was begins_k moves birth can low live is begins later can_later serves short a =
     met_answers setting server s k event place s_k live was_live begins alone.body alone.answer alone.row alone.alone later can_later serves short a
   where
     before : Session B
-    before = gone_on setting moves (begun first)
+    before = after_moves setting moves (session_from first)
 
     after : Session B
-    after = moved_by setting before birth
+    after = after_move setting before birth
 
     live_is : live ≡ after.live
-    live_is = is ∙ ap (λ (x : Session B). x.live) (gone_push setting moves birth (begun first))
+    live_is = is ∙ ap (λ (x : Session B). x.live) (gone_push setting moves birth (session_from first))
 
     was_before : Lawful before.live.pod.state None
-    was_before = gone_lawful setting moves (begun first) (can_first setting moves birth (begun first) can) was
+    was_before = gone_lawful setting moves (session_from first) (can_first setting moves birth (session_from first) can) was
 
     was_live : Lawful live.pod.state None
-    was_live = subst (λ (x : Live B). Lawful x.pod.state None) (sym live_is) (moved_lawful setting before birth (can_last setting moves birth (begun first) can) was_before)
+    was_live = subst (λ (x : Live B). Lawful x.pod.state None) (sym live_is) (moved_lawful setting before birth (can_last setting moves birth (session_from first) can) was_before)
 
     born : k < before.live.pod.state.births
-    born = omega (arith, born_below first.pod.state was k (alive_seen first.pod.state k block.Not (ap (λ (v : Sight). v.waits) begins_k.thread)), (gone_fades setting k moves (begun first)).births)
+    born = omega (arith, born_below first.pod.state was k (alive_seen first.pod.state k block.Not (ap (λ (v : Sight). v.waits) begins_k.thread)), (gone_fades setting k moves (session_from first)).births)
 
     s_k : eqb s k ≡ false
     s_k = ne_eqb s k (λ e. omega (arith, e, low, born))
@@ -214,14 +214,14 @@ later_clients_are_answered_in_turn B setting server s k event place first was be
     born_after = omega (arith, born, (moved_fades setting k before birth).births)
 
     lives_after : is_thread after.live.pod.state k ≡ true
-    lives_after = ap (λ (x : Live B). is_thread x.pod.state k) (sym live_is) ∙ there_before setting k later (begun live) (subst (λ (x : Live B). k < x.pod.state.births) (sym live_is) born_after) serves.lives
+    lives_after = ap (λ (x : Live B). is_thread x.pod.state k) (sym live_is) ∙ there_before setting k later (session_from live) (subst (λ (x : Live B). k < x.pod.state.births) (sym live_is) born_after) serves.lives
 
     lives_before : is_thread before.live.pod.state k ≡ true
     lives_before = there_before setting k (birth ∷ []) before born lives_after
 
     alone_after : IsAlone setting server s k s_k after.live
-    alone_after = move_alone setting server s k s_k before birth was_before (can_last setting moves birth (begun first) can)
-        (moves_alone setting server s k s_k moves (begun first) was (can_first setting moves birth (begun first) can)
+    alone_after = move_alone setting server s k s_k before birth was_before (can_last setting moves birth (session_from first) can)
+        (moves_alone setting server s k s_k moves (session_from first) was (can_first setting moves birth (session_from first) can)
         (record { body = store_opening; answer = zero_answer; row = begins_k.row; alone = begin_alone s k first.pod.state was begins_k.thread }) low lives_before) low lives_after
         (inr (ap (λ (x : Live B). is_thread x.pod.state s) (sym live_is) ∙ alive_seen live.pod.state s block.Not (ap (λ (v : Sight). v.waits) begins.thread)))
 

@@ -12,9 +12,9 @@ use Rattle.answer_laws.proofs.Unsent.{IsQuiet, Lone, Quiet, Sent, Sent.IsNone, S
 use Rattle.answer_laws.proofs.Wholes.{in_whole_sessions, line_server}
 use Rattle.answer_laws.specs.Births.{FromNullNames, InEveryScript, InEverySession, IsAnsweredAlways, IsUnsentTill, begins_in, born_in, is_named, is_send_of, is_unsent_till}
 use Rattle.answer_laws.specs.Clients.{IsAnsweredInTurn, all_sends_to, delivered_to, names_only, replied_to, sends_nothing, sends_only}
-use Rattle.answer_laws.specs.Known.{KnowsItsNames, scripted}
+use Rattle.answer_laws.specs.Known.{KnowsItsNames, script_setting}
 use Rattle.answer_laws.specs.Lengths.{is_short}
-use Rattle.answer_laws.specs.Served.{Begins, CanGoOn, IsReached, LineServer, Serves, TextsAreShort, gone_on, line_is_short, moved_by, steps_of}
+use Rattle.answer_laws.specs.Served.{Begins, CanGoOn, IsReached, LineServer, Serves, TextsAreShort, after_move, after_moves, line_is_short, steps_of}
 use Rattle.answer_laws.specs.Sights.{Sight}
 use Rattle.line_server.specs.Sessions.{session_next, session_opening}
 use Rattle.line_server.specs.Stores.{store_opening}
@@ -28,7 +28,7 @@ use Rattle.lwp_types.specs.Unblock.{zero_answer}
 use Rattle.pod_laws.proofs.Elements.{false_of}
 use Rattle.pod_laws.proofs.Opening.{Lawful-opening}
 use Rattle.pod_runner.specs.Play.{play}
-use Rattle.pod_runner.specs.Session.{Live, Made, Session, Setting, called, move, move_by, move_row, opening_session, polled, proc_of, row_of, taken}
+use Rattle.pod_runner.specs.Session.{Live, Made, Session, Setting, after_poll, call_move, move, move_by, move_row, opening_session, proc_of, row_of, take_move}
 use Rattle.pod_runner.specs.declared.session.Row.{Row}
 use Rattle.pod_runner.specs.declared.session.Took.{Took}
 use Rattle.script_program.specs.Bodies.{body_next}
@@ -43,25 +43,25 @@ module _ {B : Type 0} (setting : Setting B) where
   -- the step that a move makes
   abbrev made_by : Session B → Option Took → Made
   made_by session None = record { take = None; effects = (move setting.next setting.bodies session.live).effects }
-  made_by session (Some took) = record { take = Some took; effects = (taken setting.bodies took session.live).effects }
+  made_by session (Some took) = record { take = Some took; effects = (take_move setting.bodies took session.live).effects }
 
-  steps_after : (session : Session B) (m : Option Took) → (moved_by setting session m).steps ≡ session.steps ++ made_by session m ∷ []
+  steps_after : (session : Session B) (m : Option Took) → (after_move setting session m).steps ≡ session.steps ++ made_by session m ∷ []
   steps_after session None = refl
   steps_after session (Some took) = refl
 
   -- the steps of some moves
   abbrev made_in : List (Option Took) → Session B → List Made
   made_in [] session = []
-  made_in (m ∷ ms) session = made_by session m ∷ made_in ms (moved_by setting session m)
+  made_in (m ∷ ms) session = made_by session m ∷ made_in ms (after_move setting session m)
 
-  steps_are : (moves : List (Option Took)) (session : Session B) → (gone_on setting moves session).steps ≡ session.steps ++ made_in moves session
+  steps_are : (moves : List (Option Took)) (session : Session B) → (after_moves setting moves session).steps ≡ session.steps ++ made_in moves session
   steps_are [] session = sym (append-nil session.steps)
-  steps_are (m ∷ ms) session = steps_are ms (moved_by setting session m) ∙ ap (λ xs. xs ++ made_in ms (moved_by setting session m)) (steps_after session m) ∙ append_assoc session.steps (made_by session m ∷ []) (made_in ms (moved_by setting session m))
+  steps_are (m ∷ ms) session = steps_are ms (after_move setting session m) ∙ ap (λ xs. xs ++ made_in ms (after_move setting session m)) (steps_after session m) ∙ append_assoc session.steps (made_by session m ∷ []) (made_in ms (after_move setting session m))
 
   -- no step of these moves names it
   abbrev Unnamed : ℕ → List (Option Took) → Session B → Type 0
   Unnamed u [] session = Unit {0}
-  Unnamed u (m ∷ ms) session = (is_named u (made_by session m).effects ≡ false) × Unnamed u ms (moved_by setting session m)
+  Unnamed u (m ∷ ms) session = (is_named u (made_by session m).effects ≡ false) × Unnamed u ms (after_move setting session m)
 
   -- the first move that names it, and where it bears it
   record Named (u p : ℕ) (moves : List (Option Took)) (session : Session B) : Type 0 where
@@ -70,22 +70,22 @@ module _ {B : Type 0} (setting : Setting B) where
     later : List (Option Took)
     is : moves ≡ before ++ birth ∷ later
     unnamed : Unnamed u before session
-    bears : born_in u (made_by (gone_on setting before session) birth).effects ≡ Some p
+    bears : born_in u (made_by (after_moves setting before session) birth).effects ≡ Some p
 
   named_by : (u p : ℕ) (moves : List (Option Took)) (session : Session B) → begins_in u (made_in moves session) ≡ Some p → Named u p moves session
   named_by u p [] session begins = absurd (cc)
-  named_by u p (m ∷ ms) session begins = by_test (is_named u (made_by session m).effects) refl begins (λ later. named_by u p ms (moved_by setting session m) later)
+  named_by u p (m ∷ ms) session begins = by_test (is_named u (made_by session m).effects) refl begins (λ later. named_by u p ms (after_move setting session m) later)
     where
-      by_test : (b : Bool) → is_named u (made_by session m).effects ≡ b → cond b (born_in u (made_by session m).effects) (begins_in u (made_in ms (moved_by setting session m))) ≡ Some p
-          → (begins_in u (made_in ms (moved_by setting session m)) ≡ Some p → Named u p ms (moved_by setting session m)) → Named u p (m ∷ ms) session
+      by_test : (b : Bool) → is_named u (made_by session m).effects ≡ b → cond b (born_in u (made_by session m).effects) (begins_in u (made_in ms (after_move setting session m))) ≡ Some p
+          → (begins_in u (made_in ms (after_move setting session m)) ≡ Some p → Named u p ms (after_move setting session m)) → Named u p (m ∷ ms) session
       by_test true e bears rest = record { before = []; birth = m; later = ms; is = refl; unnamed = tt; bears = bears }
       by_test false e bears rest = let n = rest bears in record { before = m ∷ n.before; birth = n.birth; later = n.later; is = ap (λ xs. m ∷ xs) n.is; unnamed = (e, n.unnamed); bears = n.bears }
 
   -- ---- rows of who isn't named
 
-  called_none : (u t : ℕ) (live : Live B) (reply : Polled B) → row_of u live.rows ≡ None → is_named u (called setting.bodies live t reply).effects ≡ false → row_of u (called setting.bodies live t reply).live.rows ≡ None
-  unfolding called
-  called_none u t live reply none unnamed = none_settled u setting.bodies (proc_of reply.0) (called setting.bodies live t reply).effects (polled t reply.1 live.rows) (none_with u t (λ row. record row { body = reply.1 }) (λ r. refl) live.rows none) unnamed
+  called_none : (u t : ℕ) (live : Live B) (reply : Polled B) → row_of u live.rows ≡ None → is_named u (call_move setting.bodies live t reply).effects ≡ false → row_of u (call_move setting.bodies live t reply).live.rows ≡ None
+  unfolding call_move
+  called_none u t live reply none unnamed = none_settled u setting.bodies (proc_of reply.0) (call_move setting.bodies live t reply).effects (after_poll t reply.1 live.rows) (none_with u t (λ row. record row { body = reply.1 }) (λ r. refl) live.rows none) unnamed
 
   row_none : (u t : ℕ) (live : Live B) (o : Option (Row B)) → row_of u live.rows ≡ None → is_named u (move_row setting.next setting.bodies live t o).effects ≡ false → row_of u (move_row setting.next setting.bodies live t o).live.rows ≡ None
   row_none u t live None none unnamed = none
@@ -99,14 +99,14 @@ module _ {B : Type 0} (setting : Setting B) where
       by_choice None unnamed = none
       by_choice (Some t) unnamed = row_none u t live (row_of t live.rows) none unnamed
 
-  moved_none : (u : ℕ) (session : Session B) (m : Option Took) → row_of u session.live.rows ≡ None → is_named u (made_by session m).effects ≡ false → row_of u (moved_by setting session m).live.rows ≡ None
-  unfolding taken
+  moved_none : (u : ℕ) (session : Session B) (m : Option Took) → row_of u session.live.rows ≡ None → is_named u (made_by session m).effects ≡ false → row_of u (after_move setting session m).live.rows ≡ None
+  unfolding take_move
   moved_none u session None none unnamed = call_none u session.live none unnamed
-  moved_none u session (Some took) none unnamed = none_settled u setting.bodies None (taken setting.bodies took session.live).effects session.live.rows none unnamed
+  moved_none u session (Some took) none unnamed = none_settled u setting.bodies None (take_move setting.bodies took session.live).effects session.live.rows none unnamed
 
-  gone_none : (u : ℕ) (moves : List (Option Took)) (session : Session B) → row_of u session.live.rows ≡ None → Unnamed u moves session → row_of u (gone_on setting moves session).live.rows ≡ None
+  gone_none : (u : ℕ) (moves : List (Option Took)) (session : Session B) → row_of u session.live.rows ≡ None → Unnamed u moves session → row_of u (after_moves setting moves session).live.rows ≡ None
   gone_none u [] session none unnamed = none
-  gone_none u (m ∷ ms) session none unnamed = gone_none u ms (moved_by setting session m) (moved_none u session m none unnamed.0) unnamed.1
+  gone_none u (m ∷ ms) session none unnamed = gone_none u ms (after_move setting session m) (moved_none u session m none unnamed.0) unnamed.1
 
   -- ---- the move that bears it
 
@@ -114,13 +114,13 @@ module _ {B : Type 0} (setting : Setting B) where
     number : live.pod.state.births ≡ u
     begins : row_of u live.rows ≡ None → (body : B) → slice_get setting.bodies p ≡ Some body → Begins u body after
 
-  called_bears : (u p t : ℕ) (live : Live B) → Lawful live.pod.state None → choice live.pod.state ≡ Some t → (reply : Polled B) → born_in u (called setting.bodies live t reply).effects ≡ Some p → Birth u p live (called setting.bodies live t reply).live
-  unfolding called
+  called_bears : (u p t : ℕ) (live : Live B) → Lawful live.pod.state None → choice live.pod.state ≡ Some t → (reply : Polled B) → born_in u (call_move setting.bodies live t reply).effects ≡ Some p → Birth u p live (call_move setting.bodies live t reply).live
+  unfolding call_move
   called_bears u p t live was turn reply bears =
       let b = call_bears setting.bodies u p live.pod was t turn reply.0 bears in
       record {
         number = b.number;
-        begins = λ none body is. record { row = b.rows (polled t reply.1 live.rows) (none_with u t (λ row. record row { body = reply.1 }) (λ r. refl) live.rows none) body is; thread = b.seen };
+        begins = λ none body is. record { row = b.rows (after_poll t reply.1 live.rows) (none_with u t (λ row. record row { body = reply.1 }) (λ r. refl) live.rows none) body is; thread = b.seen };
       }
 
   call_bears_it : (u p : ℕ) (live : Live B) → Lawful live.pod.state None → born_in u (move setting.next setting.bodies live).effects ≡ Some p → Birth u p live (move setting.next setting.bodies live).live
@@ -135,8 +135,8 @@ module _ {B : Type 0} (setting : Setting B) where
       by_choice None e bears = absurd (cc)
       by_choice (Some t) e bears = by_row t e (row_of t live.rows) bears
 
-  move_bears : (u p : ℕ) (session : Session B) (m : Option Took) → Lawful session.live.pod.state None → born_in u (made_by session m).effects ≡ Some p → Birth u p session.live (moved_by setting session m).live
-  unfolding taken
+  move_bears : (u p : ℕ) (session : Session B) (m : Option Took) → Lawful session.live.pod.state None → born_in u (made_by session m).effects ≡ Some p → Birth u p session.live (after_move setting session m).live
+  unfolding take_move
   move_bears u p session None was bears = call_bears_it u p session.live was bears
   move_bears u p session (Some took) was bears = absurd (let bad : Some p ≡ None = sym bears ∙ take_bears u session.live.pod took.event took.line.text in cc)
 
@@ -154,9 +154,9 @@ module _ {B : Type 0} (setting : Setting B) (server : LineServer setting.next) (
   quiet_till : (before : List (Option Took)) (birth : Option Took) (later : List (Option Took)) (session : Session B) → Unnamed setting k before session → is_unsent_till k s (made_in setting (before ++ birth ∷ later) session) ≡ true → Quiet setting server s (before ++ birth ∷ []) session
   quiet_till [] birth later session unnamed unsent = (quiet_one birth session (false_of (list_any (is_send_of s) (made_by setting session birth).effects) (and_parts (not (list_any (is_send_of s) (made_by setting session birth).effects)) _ unsent).0), tt)
   quiet_till (m ∷ ms) birth later session unnamed unsent =
-      let parts = and_parts (not (list_any (is_send_of s) (made_by setting session m).effects)) (is_named k (made_by setting session m).effects || is_unsent_till k s (made_in setting (ms ++ birth ∷ later) (moved_by setting session m))) unsent in (
+      let parts = and_parts (not (list_any (is_send_of s) (made_by setting session m).effects)) (is_named k (made_by setting session m).effects || is_unsent_till k s (made_in setting (ms ++ birth ∷ later) (after_move setting session m))) unsent in (
         quiet_one m session (false_of (list_any (is_send_of s) (made_by setting session m).effects) parts.0),
-        quiet_till ms birth later (moved_by setting session m) unnamed.1 (ap (λ b. b || is_unsent_till k s (made_in setting (ms ++ birth ∷ later) (moved_by setting session m))) (sym unnamed.0) ∙ parts.1),
+        quiet_till ms birth later (after_move setting session m) unnamed.1 (ap (λ b. b || is_unsent_till k s (made_in setting (ms ++ birth ∷ later) (after_move setting session m))) (sym unnamed.0) ∙ parts.1),
       )
 
 -- two splits of one list
@@ -189,16 +189,16 @@ split_two (y ∷ ys) x1 l1 (z ∷ zs) x2 l2 e = by_rest (split_two ys x1 l1 zs x
 module _ {B : Type 0} (setting : Setting B) (server : LineServer setting.next) (least : 1 ≤ setting.params.maxpri) (most : setting.params.maxpri ≤ 255) where
   lines_of : (moves : List (Option Took)) (session : Session B) → list_all (λ (m : Made). line_is_short m.take) (made_in setting moves session) ≡ list_all line_is_short moves
   lines_of [] session = refl
-  lines_of (None ∷ ms) session = lines_of ms (moved_by setting session None)
-  lines_of (Some took ∷ ms) session = ap (λ b. line_is_short (Some took) && b) (lines_of ms (moved_by setting session (Some took)))
+  lines_of (None ∷ ms) session = lines_of ms (after_move setting session None)
+  lines_of (Some took ∷ ms) session = ap (λ b. line_is_short (Some took) && b) (lines_of ms (after_move setting session (Some took)))
 
   module _ (moves : List (Option Took)) (can : CanGoOn setting moves (opening_session setting)) where
     -- a thread that begins in a procedure begins with its body behind the move that bears it
-    born_at : (u p : ℕ) (n : Named setting u p moves (opening_session setting)) → Birth setting u p (gone_on setting n.before (opening_session setting)).live (moved_by setting (gone_on setting n.before (opening_session setting)) n.birth).live
-    born_at u p n = move_bears setting u p (gone_on setting n.before (opening_session setting)) n.birth
+    born_at : (u p : ℕ) (n : Named setting u p moves (opening_session setting)) → Birth setting u p (after_moves setting n.before (opening_session setting)).live (after_move setting (after_moves setting n.before (opening_session setting)) n.birth).live
+    born_at u p n = move_bears setting u p (after_moves setting n.before (opening_session setting)) n.birth
         (gone_lawful setting n.before (opening_session setting) (can_before setting n.before (n.birth ∷ n.later) (opening_session setting) (subst (λ ms. CanGoOn setting ms (opening_session setting)) n.is can)) (Lawful-opening setting.params least most)) n.bears
 
-    begins_at : (u p : ℕ) (n : Named setting u p moves (opening_session setting)) (body : B) → slice_get setting.bodies p ≡ Some body → Begins u body (moved_by setting (gone_on setting n.before (opening_session setting)) n.birth).live
+    begins_at : (u p : ℕ) (n : Named setting u p moves (opening_session setting)) (body : B) → slice_get setting.bodies p ≡ Some body → Begins u body (after_move setting (after_moves setting n.before (opening_session setting)) n.birth).live
     begins_at u p n body is =
         let b = born_at u p n in
         let apart : u ≢ 0 = λ e. omega (arith, e, b.number, (gone_fades setting 0 n.before (opening_session setting)).births) in
@@ -206,17 +206,17 @@ module _ {B : Type 0} (setting : Setting B) (server : LineServer setting.next) (
 
     module _ (s k in_s in_k event place : ℕ) (ns : Named setting s in_s moves (opening_session setting)) (nk : Named setting k in_k moves (opening_session setting))
         (body_s : slice_get setting.bodies in_s ≡ Some (server.serving (session_opening event place))) (body_k : slice_get setting.bodies in_k ≡ Some (server.storing store_opening))
-        (serves : Serves s k (gone_on setting moves (opening_session setting))) (lines : list_all line_is_short moves ≡ true) (a : ℕ) where
+        (serves : Serves s k (after_moves setting moves (opening_session setting))) (lines : list_all line_is_short moves ≡ true) (a : ℕ) where
       abbrev Answered : Type 0
-      Answered = IsAnsweredInTurn s a (steps_of (gone_on setting moves (opening_session setting)).steps)
+      Answered = IsAnsweredInTurn s a (steps_of (after_moves setting moves (opening_session setting)).steps)
 
-      later_answers : Inside nk.before nk.birth ns.before → IsAnsweredInTurn s a (steps_of (gone_on setting moves (opening_session setting)).steps)
-      later_answers i = subst (λ ms. IsAnsweredInTurn s a (steps_of (gone_on setting ms (opening_session setting)).steps)) (sym moves_are)
+      later_answers : Inside nk.before nk.birth ns.before → IsAnsweredInTurn s a (steps_of (after_moves setting moves (opening_session setting)).steps)
+      later_answers i = subst (λ ms. IsAnsweredInTurn s a (steps_of (after_moves setting ms (opening_session setting)).steps)) (sym moves_are)
           (in_whole_sessions B setting server least most s k event place (nk.before ++ nk.birth ∷ []) i.between ns.birth ns.later (subst (λ ms. CanGoOn setting ms (opening_session setting)) moves_are can)
           (subst (λ (x : Session B). Begins k (server.storing store_opening) x.live) (sym (gone_push setting nk.before nk.birth (opening_session setting))) (begins_at k in_k nk (server.storing store_opening) body_k))
-          (omega (arith, ap (λ ms. (gone_on setting ms (opening_session setting)).live.pod.state.births) before_are, (born_at s in_s ns).number))
-          (subst (λ (x : Session B). Begins s (server.serving (session_opening event place)) x.live) (sym (ap (λ ms. gone_on setting ms (opening_session setting)) birth_are ∙ gone_push setting ns.before ns.birth (opening_session setting))) (begins_at s in_s ns (server.serving (session_opening event place)) body_s))
-          (subst (λ ms. Serves s k (gone_on setting ms (opening_session setting))) moves_are serves) (subst (λ ms. list_all line_is_short ms ≡ true) moves_are lines) a)
+          (omega (arith, ap (λ ms. (after_moves setting ms (opening_session setting)).live.pod.state.births) before_are, (born_at s in_s ns).number))
+          (subst (λ (x : Session B). Begins s (server.serving (session_opening event place)) x.live) (sym (ap (λ ms. after_moves setting ms (opening_session setting)) birth_are ∙ gone_push setting ns.before ns.birth (opening_session setting))) (begins_at s in_s ns (server.serving (session_opening event place)) body_s))
+          (subst (λ ms. Serves s k (after_moves setting ms (opening_session setting))) moves_are serves) (subst (λ ms. list_all line_is_short ms ≡ true) moves_are lines) a)
         where
           before_are : (nk.before ++ nk.birth ∷ []) ++ i.between ≡ ns.before
           before_are = append_assoc nk.before (nk.birth ∷ []) i.between ∙ sym i.is
@@ -234,9 +234,9 @@ module _ {B : Type 0} (setting : Setting B) (server : LineServer setting.next) (
         below,
         (born_at _ _ nu).number,
         (born_at _ _ nv).number,
-        ap (λ ms. (gone_on setting ms (opening_session setting)).live.pod.state.births) sh.is,
+        ap (λ ms. (after_moves setting ms (opening_session setting)).live.pod.state.births) sh.is,
         ap (λ (x : Session B). x.live.pod.state.births) (gone_append setting nv.before sh.between (opening_session setting)),
-        (gone_fades setting 0 sh.between (gone_on setting nv.before (opening_session setting))).births,
+        (gone_fades setting 0 sh.between (after_moves setting nv.before (opening_session setting))).births,
       )
 
       -- the store was born first
@@ -259,22 +259,22 @@ module _ {B : Type 0} (setting : Setting B) (server : LineServer setting.next) (
         was = Lawful-opening setting.params least most
 
         abbrev first : Session B
-        first = gone_on setting ns.before start
+        first = after_moves setting ns.before start
 
         abbrev one : Session B
-        one = moved_by setting first ns.birth
+        one = after_move setting first ns.birth
 
         abbrev before : Session B
-        before = gone_on setting nk.before start
+        before = after_moves setting nk.before start
 
         abbrev two : Session B
-        two = moved_by setting before nk.birth
+        two = after_move setting before nk.birth
 
-        before_is : before ≡ gone_on setting i.between one
-        before_is = ap (λ ms. gone_on setting ms start) i.is ∙ gone_append setting ns.before (ns.birth ∷ i.between) start
+        before_is : before ≡ after_moves setting i.between one
+        before_is = ap (λ ms. after_moves setting ms start) i.is ∙ gone_append setting ns.before (ns.birth ∷ i.between) start
 
-        whole : gone_on setting moves start ≡ gone_on setting nk.later two
-        whole = ap (λ ms. gone_on setting ms start) nk.is ∙ gone_append setting nk.before (nk.birth ∷ nk.later) start
+        whole : after_moves setting moves start ≡ after_moves setting nk.later two
+        whole = ap (λ ms. after_moves setting ms start) nk.is ∙ gone_append setting nk.before (nk.birth ∷ nk.later) start
 
         can_all : CanGoOn setting (nk.before ++ nk.birth ∷ nk.later) start
         can_all = subst (λ ms. CanGoOn setting ms start) nk.is can
@@ -331,11 +331,11 @@ module _ {B : Type 0} (setting : Setting B) (server : LineServer setting.next) (
             (subst (λ xs. TellsAt s s a one.live.pod.state (session_opening event place) zero_answer store_opening zero_answer [] xs) (sym (silent a)) (alone_at s event place a one.live.pod.state was_one begins_s.thread low)))
             refl silent
 
-        two_is : gone_on setting (i.between ++ nk.birth ∷ []) one ≡ two
-        two_is = gone_push setting i.between nk.birth one ∙ ap (λ x. moved_by setting x nk.birth) (sym before_is)
+        two_is : after_moves setting (i.between ++ nk.birth ∷ []) one ≡ two
+        two_is = gone_push setting i.between nk.birth one ∙ ap (λ x. after_move setting x nk.birth) (sym before_is)
 
         abbrev end : Session B
-        end = gone_on setting nk.later two
+        end = after_moves setting nk.later two
 
         ends : Serves s k end
         ends = subst (λ (x : Session B). Serves s k x) whole serves
@@ -379,8 +379,8 @@ module _ {B : Type 0} (setting : Setting B) (server : LineServer setting.next) (
 module _ {B : Type 0} (setting : Setting B) (server : LineServer setting.next) (IsEarly : ℕ → ℕ → Session B → Type 0) where
   -- an early session sends nothing till the birth of its store
   abbrev EarlyIsQuiet : Type 0
-  EarlyIsQuiet = (moves : List (Option Took)) → CanGoOn setting moves (opening_session setting) → (s k in_k : ℕ) → eqb s k ≡ false → (nk : Named setting k in_k moves (opening_session setting)) → (gone_on setting nk.before (opening_session setting)).live.pod.state.births ≡ k
-      → Serves s k (gone_on setting moves (opening_session setting)) → IsEarly s k (gone_on setting moves (opening_session setting)) → Quiet setting server s (nk.before ++ nk.birth ∷ []) (opening_session setting)
+  EarlyIsQuiet = (moves : List (Option Took)) → CanGoOn setting moves (opening_session setting) → (s k in_k : ℕ) → eqb s k ≡ false → (nk : Named setting k in_k moves (opening_session setting)) → (after_moves setting nk.before (opening_session setting)).live.pod.state.births ≡ k
+      → Serves s k (after_moves setting moves (opening_session setting)) → IsEarly s k (after_moves setting moves (opening_session setting)) → Quiet setting server s (nk.before ++ nk.birth ∷ []) (opening_session setting)
 
   in_every_by : (1 ≤ setting.params.maxpri → setting.params.maxpri ≤ 255 → EarlyIsQuiet) → IsAnsweredAlways setting server.serving server.storing IsEarly
   in_every_by quiets least most takes n defined s k in_s in_k event place apart early begins_s body_s begins_k body_k serves lines a =
@@ -392,7 +392,7 @@ module _ {B : Type 0} (setting : Setting B) (server : LineServer setting.next) (
       Goal : Session B → Type 0
       Goal x = (s < k → IsEarly s k x) → begins_in s x.steps ≡ Some in_s → begins_in k x.steps ≡ Some in_k → Serves s k x → list_all (λ (m : Made). line_is_short m.take) x.steps ≡ true → IsAnsweredInTurn s a (steps_of x.steps)
 
-      core : Goal (gone_on setting r.moves (opening_session setting))
+      core : Goal (after_moves setting r.moves (opening_session setting))
       core early begins_s begins_k serves lines =
           let steps = steps_are setting r.moves (opening_session setting) in
           let nk = named_by setting k in_k r.moves (opening_session setting) (ap (begins_in k) (sym steps) ∙ begins_k) in
@@ -413,7 +413,7 @@ in_every_session B setting server = in_every_by setting server IsUnsentTill (λ 
 
 -- whoever sends to its store alone, by names that it knows, sends nothing before that is born
 module _ (setting : Setting ThreadBody) (scripts : setting.next ≡ body_next) (server : LineServer setting.next) (s k : ℕ) (s_k : eqb s k ≡ false) (few : k < null_id) where
-  quiet_at : (session : Session ThreadBody) → Tells session.live → session.live.pod.state.births ≤ k → all_sends_to s k (steps_of (moved_by setting session None).steps) ≡ true → IsQuiet setting server s session.live
+  quiet_at : (session : Session ThreadBody) → Tells session.live → session.live.pod.state.births ≤ k → all_sends_to s k (steps_of (after_move setting session None).steps) ≡ true → IsQuiet setting server s session.live
   quiet_at session h low sends turn free b z row = by_sent (sent_of c)
     where
       c : Call
@@ -430,31 +430,31 @@ module _ (setting : Setting ThreadBody) (scripts : setting.next ≡ body_next) (
       by_sent (IsNone none) = none
       by_sent (IsSend to room text is) = absurd (unknown to (eqb-true to k (subst (λ c. names_only k c ≡ true) is only)) (sends_next session.live.pod.state.births b (polled_as s session.live.names) h.names z to room text is))
 
-  quiet_known : (moves : List (Option Took)) (birth : Option Took) (session : Session ThreadBody) → Lawful session.live.pod.state None → CanGoOn setting (moves ++ birth ∷ []) session → Tells session.live → (gone_on setting moves session).live.pod.state.births ≤ k
-      → all_sends_to s k (steps_of (gone_on setting (moves ++ birth ∷ []) session).steps) ≡ true → Quiet setting server s (moves ++ birth ∷ []) session
-  quiet_known [] birth session was can h low sends = (λ is. quiet_at session h low (subst (λ m. all_sends_to s k (steps_of (moved_by setting session m).steps) ≡ true) is sends), tt)
+  quiet_known : (moves : List (Option Took)) (birth : Option Took) (session : Session ThreadBody) → Lawful session.live.pod.state None → CanGoOn setting (moves ++ birth ∷ []) session → Tells session.live → (after_moves setting moves session).live.pod.state.births ≤ k
+      → all_sends_to s k (steps_of (after_moves setting (moves ++ birth ∷ []) session).steps) ≡ true → Quiet setting server s (moves ++ birth ∷ []) session
+  quiet_known [] birth session was can h low sends = (λ is. quiet_at session h low (subst (λ m. all_sends_to s k (steps_of (after_move setting session m).steps) ≡ true) is sends), tt)
   quiet_known (m ∷ ms) birth session was can h low sends =
-      let next = moved_by setting session m in
-      let sends_next = sends_before setting server s k s_k next.steps (gone_on setting (ms ++ birth ∷ []) next).steps (gone_grows setting (ms ++ birth ∷ []) next) sends in (
-        λ is. quiet_at session h (omega (arith, low, (gone_fades setting k (m ∷ ms) session).births)) (subst (λ m. all_sends_to s k (steps_of (moved_by setting session m).steps) ≡ true) is sends_next),
+      let next = after_move setting session m in
+      let sends_next = sends_before setting server s k s_k next.steps (after_moves setting (ms ++ birth ∷ []) next).steps (gone_grows setting (ms ++ birth ∷ []) next) sends in (
+        λ is. quiet_at session h (omega (arith, low, (gone_fades setting k (m ∷ ms) session).births)) (subst (λ m. all_sends_to s k (steps_of (after_move setting session m).steps) ≡ true) is sends_next),
         quiet_known ms birth next (moved_lawful setting session m can.0 was) can.1 (tells_moved setting scripts session m was h) low sends,
       )
 
 module _ (bodies : List ThreadBody) (params : PodParams) (names : Names) (server : LineServer body_next) (least : 1 ≤ params.maxpri) (most : params.maxpri ≤ 255) where
   abbrev script : Setting ThreadBody
-  script = scripted bodies params names
+  script = script_setting bodies params names
 
   abbrev opened : Session ThreadBody
   opened = opening_session script
 
-  known_is_quiet : EarlyIsQuiet script server (λ s k end. KnowsItsNames (opening_session (scripted bodies params names)))
+  known_is_quiet : EarlyIsQuiet script server (λ s k end. KnowsItsNames (opening_session (script_setting bodies params names)))
   known_is_quiet moves can s k in_k apart nk born serves known =
-      quiet_known script refl server s k apart (omega (arith, born, serves.few, (gone_fades script k (nk.birth ∷ nk.later) (gone_on script nk.before opened)).births, ap (λ (x : Session ThreadBody). x.live.pod.state.births) whole))
+      quiet_known script refl server s k apart (omega (arith, born, serves.few, (gone_fades script k (nk.birth ∷ nk.later) (after_moves script nk.before opened)).births, ap (λ (x : Session ThreadBody). x.live.pod.state.births) whole))
       nk.before nk.birth opened (Lawful-opening params least most) can_two (tells_opening bodies params names known) (omega (arith, born))
-      (sends_before script server s k apart (gone_on script (nk.before ++ nk.birth ∷ []) opened).steps (gone_on script moves opened).steps grows serves.sends)
+      (sends_before script server s k apart (after_moves script (nk.before ++ nk.birth ∷ []) opened).steps (after_moves script moves opened).steps grows serves.sends)
     where
-      whole : gone_on script moves opened ≡ gone_on script (nk.birth ∷ nk.later) (gone_on script nk.before opened)
-      whole = ap (λ ms. gone_on script ms opened) nk.is ∙ gone_append script nk.before (nk.birth ∷ nk.later) opened
+      whole : after_moves script moves opened ≡ after_moves script (nk.birth ∷ nk.later) (after_moves script nk.before opened)
+      whole = ap (λ ms. after_moves script ms opened) nk.is ∙ gone_append script nk.before (nk.birth ∷ nk.later) opened
 
       moves_are : moves ≡ (nk.before ++ nk.birth ∷ []) ++ nk.later
       moves_are = nk.is ∙ sym (append_assoc nk.before (nk.birth ∷ []) nk.later)
@@ -462,17 +462,17 @@ module _ (bodies : List ThreadBody) (params : PodParams) (names : Names) (server
       can_two : CanGoOn script (nk.before ++ nk.birth ∷ []) opened
       can_two = can_before script (nk.before ++ nk.birth ∷ []) nk.later opened (subst (λ ms. CanGoOn script ms opened) moves_are can)
 
-      grows : Grows script (gone_on script (nk.before ++ nk.birth ∷ []) opened).steps (gone_on script moves opened).steps
-      grows = subst (λ (x : Session ThreadBody). Grows script (gone_on script (nk.before ++ nk.birth ∷ []) opened).steps x.steps) (sym (ap (λ ms. gone_on script ms opened) moves_are ∙ gone_append script (nk.before ++ nk.birth ∷ []) nk.later opened))
-          (gone_grows script nk.later (gone_on script (nk.before ++ nk.birth ∷ []) opened))
+      grows : Grows script (after_moves script (nk.before ++ nk.birth ∷ []) opened).steps (after_moves script moves opened).steps
+      grows = subst (λ (x : Session ThreadBody). Grows script (after_moves script (nk.before ++ nk.birth ∷ []) opened).steps x.steps) (sym (ap (λ ms. after_moves script ms opened) moves_are ∙ gone_append script (nk.before ++ nk.birth ∷ []) nk.later opened))
+          (gone_grows script nk.later (after_moves script (nk.before ++ nk.birth ∷ []) opened))
 
-  by_premise : EarlyIsQuiet script server (λ s k end. KnowsItsNames (opening_session (scripted bodies params names)) ⊎ IsUnsentTill s k end)
+  by_premise : EarlyIsQuiet script server (λ s k end. KnowsItsNames (opening_session (script_setting bodies params names)) ⊎ IsUnsentTill s k end)
   by_premise moves can s k in_k apart nk born serves (inl known) = known_is_quiet moves can s k in_k apart nk born serves known
   by_premise moves can s k in_k apart nk born serves (inr unsent) = unsent_is_quiet script server moves can s k in_k apart nk born serves unsent
 
 pub in_every_script : InEveryScript
 unfolding line_server
-in_every_script bodies params names = in_every_by (scripted bodies params names) line_server (λ s k end. KnowsItsNames (opening_session (scripted bodies params names)) ⊎ IsUnsentTill s k end) (λ least most. by_premise bodies params names line_server least most)
+in_every_script bodies params names = in_every_by (script_setting bodies params names) line_server (λ s k end. KnowsItsNames (opening_session (script_setting bodies params names)) ⊎ IsUnsentTill s k end) (λ least most. by_premise bodies params names line_server least most)
 
 pub from_null_names : FromNullNames
 from_null_names bodies params threads monitors conditions least most takes n defined s k in_s in_k event place apart early =

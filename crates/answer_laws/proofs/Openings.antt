@@ -6,9 +6,9 @@ use Rattle.answer_laws.proofs.Servings.{chosen_lives, gone_fades, got_push, move
 use Rattle.answer_laws.proofs.TalkSteps.{either_of, unborn_absent}
 use Rattle.answer_laws.specs.Agents.{deliveries_to}
 use Rattle.answer_laws.specs.Clients.{delivered_to, replied_in, replied_to}
-use Rattle.answer_laws.specs.Served.{CanGoOn, IsReached, LineServer, SessionsAreReached, gone_on, moved_by, steps_of}
+use Rattle.answer_laws.specs.Served.{CanGoOn, IsReached, LineServer, SessionsAreReached, after_move, after_moves, steps_of}
 use Rattle.answer_laws.specs.Stands.{texts_in}
-use Rattle.lwp_types.specs.Agents.{armed, deliver, is_for}
+use Rattle.lwp_types.specs.Agents.{deliver, is_event_armed, is_for}
 use Rattle.lwp_types.specs.Choice.{choice}
 use Rattle.lwp_types.specs.Lawful.{Lawful}
 use Rattle.lwp_types.specs.Names.{null_id, polled_as}
@@ -18,15 +18,15 @@ use Rattle.lwp_types.specs.declared.call.Call.{Call}
 use Rattle.lwp_types.specs.declared.call.Effect.{Effect}
 use Rattle.lwp_types.specs.declared.call.LwpErr.{LwpErr}
 use Rattle.lwp_types.specs.declared.rows.AgentRow.{AgentRow}
-use Rattle.pod_events.specs.Events.{EventState, is_trapped, passed_on, rites_event, take_event, trap_taken}
-use Rattle.pod_events.specs.Rites.{as_rites, first_reported, report_text, reports_after, rites_said}
+use Rattle.pod_events.specs.Events.{EventState, after_pass_on, after_take_trap, is_trapped, rites_event, take_event}
+use Rattle.pod_events.specs.Rites.{after_first_report, as_rites, report_text, reports_after, rites_said}
 use Rattle.pod_events.specs.Step.{event_step, event_step_by, event_step_if}
-use Rattle.pod_events.specs.Traps.{agent_event_of, but_call, called as traps_called, is_catch, is_given, made as traps_made, made_as, notice, refused_by, stepped, trap_made, trap_of, trap_refusal}
+use Rattle.pod_events.specs.Traps.{after_call as traps_made, after_call_as, after_machine_step, after_trap, after_trap_and_call as traps_called, agent_event_of, but_call, is_catch, is_given, notice, refused_by, trap_of, trap_refusal}
 use Rattle.pod_laws.proofs.Elements.{differ}
 use Rattle.pod_laws.proofs.EveryStep.{Lawful-step}
 use Rattle.pod_runner.specs.Due.{AllDue, IsDefined, TakeDue, is_call_due, is_take_due}
-use Rattle.pod_runner.specs.Play.{calls_made, play, played, with_take}
-use Rattle.pod_runner.specs.Session.{Live, Session, Setting, call_step, called, move, move_by, move_row, opening_session, row_of, take_step, taken}
+use Rattle.pod_runner.specs.Play.{calls_made, play, session_of_takes, with_take}
+use Rattle.pod_runner.specs.Session.{Live, Session, Setting, call_move, call_step, move, move_by, move_row, opening_session, row_of, take_move, take_step}
 use Rattle.pod_runner.specs.declared.session.Row.{Row}
 use Rattle.pod_runner.specs.declared.session.Took.{Took}
 use Rattle.std.proofs.Common.{Bool, List, None, Option, Some, [], ap, arith, cond, eqb, false, refl, suc, sym, true, zero, ℕ, ◌++◌, ◌∙◌, ◌∷◌, ◌≡◌, ◌≤◌}
@@ -40,15 +40,15 @@ use Rattle.lwp_types.specs.declared.call.LwpErr.TheVariants as error
 lawful_made : (st : State) → Lawful st None → (trapped : List Bool) (t : ℕ) (c : Call) → Lawful (traps_made st trapped t c).state None
 lawful_made st was trapped t c = by_trap (trap_of c)
   where
-    by_refusal : (e : ℕ) (o : Option LwpErr) → Lawful (trap_made st trapped t c e o).state None
+    by_refusal : (e : ℕ) (o : Option LwpErr) → Lawful (after_trap st trapped t c e o).state None
     by_refusal e None = was
     by_refusal e (Some why) = was
 
-    by_agent : (b : Bool) → Lawful (cond b (refused_by st trapped t c error.InUse) (stepped trapped (step st c))).state None
+    by_agent : (b : Bool) → Lawful (cond b (refused_by st trapped t c error.InUse) (after_machine_step trapped (step st c))).state None
     by_agent true = was
     by_agent false = Lawful-step st was c
 
-    by_trap : (o : Option ℕ) → Lawful (made_as st trapped t c o).state None
+    by_trap : (o : Option ℕ) → Lawful (after_call_as st trapped t c o).state None
     by_trap None = by_agent (passes (is_trapped trapped) (agent_event_of c))
     by_trap (Some e) = by_refusal e (trap_refusal st trapped e)
 
@@ -56,7 +56,7 @@ pub lawful_called : (st : State) → Lawful st None → (trapped : List Bool) (t
 lawful_called st was trapped t c None = lawful_made st was trapped t c
 lawful_called st was trapped t c (Some e) = by_given (passes is_given (notice st t e)) (passes is_catch (notice st t e))
   where
-    by_given : (b d : Bool) → Lawful (cond b (traps_made st trapped t c) (cond d (stepped trapped (but_call (step st (call.ExcNotify e)))) (stepped trapped (but_call (step st (call.Destroy t)))))).state None
+    by_given : (b d : Bool) → Lawful (cond b (traps_made st trapped t c) (cond d (after_machine_step trapped (but_call (step st (call.ExcNotify e)))) (after_machine_step trapped (but_call (step st (call.Destroy t)))))).state None
     by_given true d = lawful_made st was trapped t c
     by_given false true = Lawful-step st was (call.ExcNotify e)
     by_given false false = Lawful-step st was (call.Destroy t)
@@ -65,15 +65,15 @@ module _ (a : ℕ) where
   texts_made : (st : State) (trapped : List Bool) (t : ℕ) (c : Call) → texts_in a None (traps_made st trapped t c).effects ≡ []
   texts_made st trapped t c = by_trap (trap_of c)
     where
-      by_refusal : (e : ℕ) (o : Option LwpErr) → texts_in a None (trap_made st trapped t c e o).effects ≡ []
+      by_refusal : (e : ℕ) (o : Option LwpErr) → texts_in a None (after_trap st trapped t c e o).effects ≡ []
       by_refusal e None = refl
       by_refusal e (Some why) = refl
 
-      by_agent : (b : Bool) → texts_in a None (cond b (refused_by st trapped t c error.InUse) (stepped trapped (step st c))).effects ≡ []
+      by_agent : (b : Bool) → texts_in a None (cond b (refused_by st trapped t c error.InUse) (after_machine_step trapped (step st c))).effects ≡ []
       by_agent true = refl
       by_agent false = step_texts a st c
 
-      by_trap : (o : Option ℕ) → texts_in a None (made_as st trapped t c o).effects ≡ []
+      by_trap : (o : Option ℕ) → texts_in a None (after_call_as st trapped t c o).effects ≡ []
       by_trap None = by_agent (passes (is_trapped trapped) (agent_event_of c))
       by_trap (Some e) = by_refusal e (trap_refusal st trapped e)
 
@@ -81,7 +81,7 @@ module _ (a : ℕ) where
   texts_called st trapped t c None = texts_made st trapped t c
   texts_called st trapped t c (Some e) = by_given (passes is_given (notice st t e)) (passes is_catch (notice st t e))
     where
-      by_given : (b d : Bool) → texts_in a None (cond b (traps_made st trapped t c) (cond d (stepped trapped (but_call (step st (call.ExcNotify e)))) (stepped trapped (but_call (step st (call.Destroy t)))))).effects ≡ []
+      by_given : (b d : Bool) → texts_in a None (cond b (traps_made st trapped t c) (cond d (after_machine_step trapped (but_call (step st (call.ExcNotify e)))) (after_machine_step trapped (but_call (step st (call.Destroy t)))))).effects ≡ []
       by_given true d = texts_made st trapped t c
       by_given false true = but_texts a st (call.ExcNotify e) ∙ step_texts a st (call.ExcNotify e)
       by_given false false = but_texts a st (call.Destroy t) ∙ step_texts a st (call.Destroy t)
@@ -95,9 +95,9 @@ module _ (a : ℕ) where
       by_row (Some row) h = absurd (cc)
 
   texts_said : (after : State) (es : List Effect) (reports : List ℕ) → Lawful after None → after.births ≤ a → texts_in a None es ≡ [] → texts_in a None (rites_said after es reports).effects ≡ []
-  texts_said after es reports was low none = by_armed (armed after rites_event) reports
+  texts_said after es reports was low none = by_armed (is_event_armed after rites_event) reports
     where
-      by_armed : (b : Bool) (rs : List ℕ) → texts_in a None (cond b (first_reported after es rs) (record { state = after; reports = rs; effects = es })).effects ≡ []
+      by_armed : (b : Bool) (rs : List ℕ) → texts_in a None (cond b (after_first_report after es rs) (record { state = after; reports = rs; effects = es })).effects ≡ []
       by_armed true [] = none
       by_armed false rs = none
       by_armed true (dead ∷ later) =
@@ -120,7 +120,7 @@ module _ (a : ℕ) where
   unfolding take_event
   unborn_line away es was low e text = by_trapped (is_trapped es.trapped e)
     where
-      by_trapped : (b : Bool) → texts_in a (Some text) (cond b (trap_taken es e) (passed_on es (deliver es.state e text))).effects ≡ []
+      by_trapped : (b : Bool) → texts_in a (Some text) (cond b (after_take_trap es e) (after_pass_on es (deliver es.state e text))).effects ≡ []
       by_trapped true = rw away refl
       by_trapped false = lines_told a text (deliver es.state e text).effects (tame_deliver es.state e text) ∙ ap (λ n. replicate n text) (none_delivered es.state was low e text)
 
@@ -132,7 +132,7 @@ module _ {B : Type 0} (setting : Setting B) where
   IsUntold session = (a : ℕ) → session.live.pod.state.births ≤ a → eqb null_id a ≡ false → delivered_to a (steps_of session.steps) ≡ []
 
   call_texts : (live : Live B) → Lawful live.pod.state None → (a : ℕ) → (move setting.next setting.bodies live).live.pod.state.births ≤ a → texts_in a None (move setting.next setting.bodies live).effects ≡ []
-  unfolding move called
+  unfolding move call_move
   call_texts live was a low = by_choice (choice live.pod.state) low
     where
       by_row : (t : ℕ) (o : Option (Row B)) → (move_row setting.next setting.bodies live t o).live.pod.state.births ≤ a → texts_in a None (move_row setting.next setting.bodies live t o).effects ≡ []
@@ -144,7 +144,7 @@ module _ {B : Type 0} (setting : Setting B) where
       by_choice (Some t) low = by_row t (row_of t live.rows) low
 
   call_silent : (live : Live B) → Lawful live.pod.state None → (s a : ℕ) → live.pod.state.births ≤ s → replied_in s a (move setting.next setting.bodies live).effects ≡ []
-  unfolding move called
+  unfolding move call_move
   call_silent live was s a low = by_choice (choice live.pod.state) refl
     where
       not_s : (t : ℕ) → choice live.pod.state ≡ Some t → (b : Bool) → eqb t s ≡ b → b ≡ false
@@ -160,47 +160,47 @@ module _ {B : Type 0} (setting : Setting B) where
       by_choice (Some t) e = by_row t e (row_of t live.rows)
 
 module _ {B : Type 0} (setting : Setting B) (server : LineServer setting.next) (s k : ℕ) (s_k : eqb s k ≡ false) where
-  pub move_untold : (session : Session B) (m : Option Took) → Lawful session.live.pod.state None → IsUntold setting session → IsUntold setting (moved_by setting session m)
-  unfolding taken
+  pub move_untold : (session : Session B) (m : Option Took) → Lawful session.live.pod.state None → IsUntold setting session → IsUntold setting (after_move setting session m)
+  unfolding take_move
   move_untold session None was untold a low away = sym (got_push setting server s k s_k session.steps (record { take = None; effects = (move setting.next setting.bodies session.live).effects }) a)
       ∙ (λ i. untold a (omega (arith, low, (moved_fades setting a session None).births)) away i ++ call_texts setting session.live was a low i)
-  move_untold session (Some took) was untold a low away = sym (got_push setting server s k s_k session.steps (record { take = Some took; effects = (taken setting.bodies took session.live).effects }) a)
+  move_untold session (Some took) was untold a low away = sym (got_push setting server s k s_k session.steps (record { take = Some took; effects = (take_move setting.bodies took session.live).effects }) a)
       ∙ (λ i. untold a (omega (arith, low, (moved_fades setting a session (Some took)).births)) away i ++ unborn_line a away session.live.pod was (omega (arith, low, (moved_fades setting a session (Some took)).births)) took.event took.line.text i)
 
-  pub move_silent : (session : Session B) (m : Option Took) → Lawful session.live.pod.state None → session.live.pod.state.births ≤ s → ((a : ℕ) → replied_to s a (steps_of session.steps) ≡ []) → (a : ℕ) → replied_to s a (steps_of (moved_by setting session m).steps) ≡ []
-  unfolding taken
+  pub move_silent : (session : Session B) (m : Option Took) → Lawful session.live.pod.state None → session.live.pod.state.births ≤ s → ((a : ℕ) → replied_to s a (steps_of session.steps) ≡ []) → (a : ℕ) → replied_to s a (steps_of (after_move setting session m).steps) ≡ []
+  unfolding take_move
   move_silent session None was low silent a = sym (said_push setting server s k s_k session.steps (record { take = None; effects = (move setting.next setting.bodies session.live).effects }) a)
       ∙ (λ i. silent a i ++ call_silent setting session.live was s a low i)
-  move_silent session (Some took) was low silent a = sym (said_push setting server s k s_k session.steps (record { take = Some took; effects = (taken setting.bodies took session.live).effects }) a)
+  move_silent session (Some took) was low silent a = sym (said_push setting server s k s_k session.steps (record { take = Some took; effects = (take_move setting.bodies took session.live).effects }) a)
       ∙ (λ i. silent a i ++ (others_reply_nothing s a session.live.pod).1 took.event took.line.text i)
 
-  pub moves_untold : (moves : List (Option Took)) (session : Session B) → Lawful session.live.pod.state None → CanGoOn setting moves session → IsUntold setting session → IsUntold setting (gone_on setting moves session)
+  pub moves_untold : (moves : List (Option Took)) (session : Session B) → Lawful session.live.pod.state None → CanGoOn setting moves session → IsUntold setting session → IsUntold setting (after_moves setting moves session)
   moves_untold [] session was can untold = untold
-  moves_untold (m ∷ ms) session was can untold = moves_untold ms (moved_by setting session m) (moved_lawful setting session m can.0 was) can.1 (move_untold session m was untold)
+  moves_untold (m ∷ ms) session was can untold = moves_untold ms (after_move setting session m) (moved_lawful setting session m can.0 was) can.1 (move_untold session m was untold)
 
-  pub moves_silent : (moves : List (Option Took)) (session : Session B) → Lawful session.live.pod.state None → CanGoOn setting moves session → (gone_on setting moves session).live.pod.state.births ≤ s → ((a : ℕ) → replied_to s a (steps_of session.steps) ≡ []) → (a : ℕ) → replied_to s a (steps_of (gone_on setting moves session).steps) ≡ []
+  pub moves_silent : (moves : List (Option Took)) (session : Session B) → Lawful session.live.pod.state None → CanGoOn setting moves session → (after_moves setting moves session).live.pod.state.births ≤ s → ((a : ℕ) → replied_to s a (steps_of session.steps) ≡ []) → (a : ℕ) → replied_to s a (steps_of (after_moves setting moves session).steps) ≡ []
   moves_silent [] session was can low silent = silent
-  moves_silent (m ∷ ms) session was can low silent = moves_silent ms (moved_by setting session m) (moved_lawful setting session m can.0 was) can.1 low
+  moves_silent (m ∷ ms) session was can low silent = moves_silent ms (after_move setting session m) (moved_lawful setting session m can.0 was) can.1 low
       (move_silent session m was (omega (arith, low, (gone_fades setting s (m ∷ ms) session).births)) silent)
 
 -- ---- moves behind moves
 
 module _ {B : Type 0} (setting : Setting B) where
-  pub gone_append : (one two : List (Option Took)) (session : Session B) → gone_on setting (one ++ two) session ≡ gone_on setting two (gone_on setting one session)
+  pub gone_append : (one two : List (Option Took)) (session : Session B) → after_moves setting (one ++ two) session ≡ after_moves setting two (after_moves setting one session)
   gone_append [] two session = refl
-  gone_append (m ∷ ms) two session = gone_append ms two (moved_by setting session m)
+  gone_append (m ∷ ms) two session = gone_append ms two (after_move setting session m)
 
   pub can_before : (one two : List (Option Took)) (session : Session B) → CanGoOn setting (one ++ two) session → CanGoOn setting one session
   can_before [] two session can = tt
-  can_before (m ∷ ms) two session can = (can.0, can_before ms two (moved_by setting session m) can.1)
+  can_before (m ∷ ms) two session can = (can.0, can_before ms two (after_move setting session m) can.1)
 
-  pub can_behind : (one two : List (Option Took)) (session : Session B) → CanGoOn setting (one ++ two) session → CanGoOn setting two (gone_on setting one session)
+  pub can_behind : (one two : List (Option Took)) (session : Session B) → CanGoOn setting (one ++ two) session → CanGoOn setting two (after_moves setting one session)
   can_behind [] two session can = can
-  can_behind (m ∷ ms) two session can = can_behind ms two (moved_by setting session m) can.1
+  can_behind (m ∷ ms) two session can = can_behind ms two (after_move setting session m) can.1
 
-  can_both : (one two : List (Option Took)) (session : Session B) → CanGoOn setting one session → CanGoOn setting two (gone_on setting one session) → CanGoOn setting (one ++ two) session
+  can_both : (one two : List (Option Took)) (session : Session B) → CanGoOn setting one session → CanGoOn setting two (after_moves setting one session) → CanGoOn setting (one ++ two) session
   can_both [] two session first second = second
-  can_both (m ∷ ms) two session first second = (first.0, can_both ms two (moved_by setting session m) first.1 second)
+  can_both (m ∷ ms) two session first second = (first.0, can_both ms two (after_move setting session m) first.1 second)
 
   -- ---- every session is some moves from its opening
 
@@ -232,9 +232,9 @@ module _ {B : Type 0} (setting : Setting B) where
       by_turn true rest h = take_reached took (before (suc n)) h.1 (was (suc n) h.0)
       by_turn false rest h = call_reached (with_take setting took before n) h.1 (rest h.0)
 
-  played_reached : (takes : List Took) (n : ℕ) → AllDue setting takes n → IsReached setting (played setting takes n)
+  played_reached : (takes : List Took) (n : ℕ) → AllDue setting takes n → IsReached setting (session_of_takes setting takes n)
   played_reached [] n h = calls_reached n h
-  played_reached (took ∷ takes) n h = with_reached took (played setting takes) (AllDue setting takes) (λ m d. played_reached takes m d) n h
+  played_reached (took ∷ takes) n h = with_reached took (session_of_takes setting takes) (AllDue setting takes) (λ m d. played_reached takes m d) n h
 
 pub sessions_are_reached : (B : Type 0) → SessionsAreReached B
 unfolding play IsDefined

@@ -4,25 +4,25 @@ use Rattle.answer_laws.proofs.Leaving.{Ready, end_agent_turn, ready_from, turn_d
 use Rattle.answer_laws.proofs.Sights.{Attends, Away, Turn, Turn.Left, Turn.Woken, answers_append, attends_after, blocked_other, found_other, not_own, received_own, replied_other, rowed, sight_same, turn_plain, turn_still, turn_then, turn_wake}
 use Rattle.answer_laws.specs.Sights.{IsLeft, IsWoken, DeliveriesLeaveIt, IsDelivered, IsSent, OthersLeaveIt, Spares, attends, answers_to, is_attentive, sight, sight_by}
 use Rattle.lwp_types.specs.Agents.{deliver, deliver_to, end_agent, event_agents, is_for, message}
-use Rattle.lwp_types.specs.Case.{Case, refused, unanswered, valued, with_zero}
+use Rattle.lwp_types.specs.Case.{Case, refusal_case, silent_case, value_case, with_zero}
 use Rattle.lwp_types.specs.Choice.{choice}
 use Rattle.lwp_types.specs.CountLaws.{count-append, count-cons, count-filter-le, one}
 use Rattle.lwp_types.specs.Counts.{has_its_marks, requests_by, timers_of}
-use Rattle.lwp_types.specs.Death.{death, destroyed, return_from}
+use Rattle.lwp_types.specs.Death.{death, destroy_case, return_from}
 use Rattle.lwp_types.specs.FirstLaws.{finds_best}
 use Rattle.lwp_types.specs.First.{IsFirstBest}
-use Rattle.lwp_types.specs.Exits.{caught, leave_frame, notified_by}
+use Rattle.lwp_types.specs.Exits.{catch_case, leave_frame, notified_by}
 use Rattle.lwp_types.specs.Lawful.{Lawful, NineParts, is_same_option}
-use Rattle.lwp_types.specs.Messages.{as_answer, is_letter_of, is_open, marked_received, post, receive_by, takes_from, unreceived, with_holding}
-use Rattle.lwp_types.specs.Monitors.{entered, is_owned_by_other, requested}
-use Rattle.lwp_types.specs.Exceptions.{caught_marks, first_frames, found_in, frames, later_frames, searching, with_match}
+use Rattle.lwp_types.specs.Messages.{as_answer, is_letter_of, is_open, marked_received, next_letter, post, receive_by, takes_from, with_holding}
+use Rattle.lwp_types.specs.Monitors.{after_request, enter_case, is_owned_by_other}
+use Rattle.lwp_types.specs.Exceptions.{caught_marks, first_frames, frames, handler_in, later_frames, searching, with_match}
 use Rattle.lwp_types.specs.MonitorRelease.{grant, last_lock, next_owner, requests_of, without_lock}
 use Rattle.lwp_types.specs.State.{Outcome, State, ThreadRow, for_each, is_agent, is_agent_row, is_id, is_number, is_thread, marks_in, marks_set, passes, priority_in, priority_set, still, thread_of, with_block, with_marks}
-use Rattle.lwp_types.specs.Step.{case_of, end_effects, ends, finished, own_effects, step, step_by, step_if}
-use Rattle.lwp_types.specs.Threads.{born}
-use Rattle.lwp_types.specs.Time.{due_threads, is_due, tick, ticked, time_out}
-use Rattle.lwp_types.specs.Unblock.{blocked, blocked_for, is_timer_of, zero_answer}
-use Rattle.lwp_types.specs.Conditions.{wait_of, waited, waits_on}
+use Rattle.lwp_types.specs.Step.{case_of, end_effects, ends, own_effects, step, step_by, step_if, step_outcome}
+use Rattle.lwp_types.specs.Threads.{new_thread}
+use Rattle.lwp_types.specs.Time.{after_tick, due_threads, is_due, tick, time_out}
+use Rattle.lwp_types.specs.Unblock.{after_block, after_block_for, is_timer_of, zero_answer}
+use Rattle.lwp_types.specs.Conditions.{after_wait, wait_of, waits_on}
 use Rattle.lwp_types.specs.declared.call.Answer.{Answer}
 use Rattle.lwp_types.specs.declared.call.Call.{Call}
 use Rattle.lwp_types.specs.declared.call.Flags.{Flags}
@@ -71,7 +71,7 @@ module _ (u t : ℕ) (other : t ≢ u) where
       no_end true = refl
       no_end false = refl
 
-  pub finished_told : (c : Call) (made : Case) → answers_to u (finished t c made).effects ≡ answers_to u made.others
+  pub finished_told : (c : Call) (made : Case) → answers_to u (step_outcome t c made).effects ≡ answers_to u made.others
   finished_told c made = answers_append u made.others (own_effects t made.own ++ end_effects made.after) ∙ ap (λ xs. answers_to u made.others ++ xs) (rest_quiet made.own made.after) ∙ append-nil (answers_to u made.others)
 
 module _ (u t : ℕ) (Fits : Option ℕ → Answer → Type 0) (s : State) (nine : NineParts s None) (ready : Ready u Fits t s) (x : ThreadRow) (known : thread_of s t ≡ Some x) (other : t ≢ u) where
@@ -110,33 +110,33 @@ module _ (u t : ℕ) (Fits : Option ℕ → Answer → Type 0) (s : State) (nine
   cond_now false one two first second = second
 
   -- a thread more
-  created_now : (prio : ℕ) (flags : Flags) (out : Outcome) → out.after.threads ≡ s.threads ++ born s.births prio flags ∷ [] → out.after.letters ≡ s.letters → out.effects ≡ [] → Now out
-  created_now prio flags out threads letters none = turn_plain u Fits s out (sight_same u Fits s out.after was.row was.known (ap (find (is_number u)) threads ∙ find_push_some (is_number u) s.threads was.row (born s.births prio flags) was.known) (ap (filter (is_letter_of u)) letters)) none
+  created_now : (prio : ℕ) (flags : Flags) (out : Outcome) → out.after.threads ≡ s.threads ++ new_thread s.births prio flags ∷ [] → out.after.letters ≡ s.letters → out.effects ≡ [] → Now out
+  created_now prio flags out threads letters none = turn_plain u Fits s out (sight_same u Fits s out.after was.row was.known (ap (find (is_number u)) threads ∙ find_push_some (is_number u) s.threads was.row (new_thread s.births prio flags) was.known) (ap (filter (is_letter_of u)) letters)) none
 
   -- a letter of the caller
-  posted_now : (letter : Letter) → letter.from ≡ t → (letter.to ≡ u → (from : Option ℕ) → takes_from letter.from (block.Receiving from) ≡ true → Fits from (as_answer letter)) → Now (post letter (blocked s t block.Sending))
+  posted_now : (letter : Letter) → letter.from ≡ t → (letter.to ≡ u → (from : Option ℕ) → takes_from letter.from (block.Receiving from) ≡ true → Fits from (as_answer letter)) → Now (post letter (after_block s t block.Sending))
   posted_now letter from fits = turn_from u Fits s now _ same (turn_post u Fits now (ready_from u Fits t s now same ready).attends letter (λ e. other (sym from ∙ e)) fits)
     where
       now : State
-      now = blocked s t block.Sending
+      now = after_block s t block.Sending
 
       same : sight now u ≡ sight s u
       same = sight_same u Fits s now was.row was.known (blocked_other u Fits s was t block.Sending other ∙ was.known) refl
 
   -- the caller receives
-  received_now : (from : Option ℕ) (how : Mode) (o : Option Letter) → unreceived s.letters t from ≡ o → Its (receive_by s t from how o)
+  received_now : (from : Option ℕ) (how : Mode) (o : Option Letter) → next_letter s.letters t from ≡ o → Its (receive_by s t from how o)
   received_now from how (Some letter) e = turn_plain u Fits s _ (sight_same u Fits s (record s { letters = marked_received letter.from s.letters }) was.row was.known was.known (received_own u Fits letter.from (found_other u Fits t s ready.away (is_open from) letter e) s.letters)) refl
   received_now from mode.Poll None e = still_now _ refl refl refl
   received_now from mode.Block None e = blocked_now _ (block.Receiving from) refl refl refl
-  received_now from (mode.Until ticks) None e = cond_now (eqb ticks 0) (refused s error.Timeout) (unanswered (still (blocked_for s t (block.Receiving from) ticks))) (still_now _ refl refl refl) (blocked_now _ (block.Receiving from) refl refl refl)
+  received_now from (mode.Until ticks) None e = cond_now (eqb ticks 0) (refusal_case s error.Timeout) (silent_case (still (after_block_for s t (block.Receiving from) ticks))) (still_now _ refl refl refl) (blocked_now _ (block.Receiving from) refl refl refl)
 
   -- the caller waits on a condition, and leaves its monitor
-  waited_now : (c : ℕ) (o : Option Lock) → Now (waited t c o s)
+  waited_now : (c : ℕ) (o : Option Lock) → Now (after_wait t c o s)
   waited_now c None = turn_still u Fits s
   waited_now c (Some lock) = turn_from u Fits s now _ same (granted (next_owner now lock.mon) refl)
     where
       now : State
-      now = blocked (record s { waits = s.waits ++ record { cond = c; tid = t; depth = lock.depth } ∷ [] }) t (block.Waiting c)
+      now = after_block (record s { waits = s.waits ++ record { cond = c; tid = t; depth = lock.depth } ∷ [] }) t (block.Waiting c)
 
       same : sight now u ≡ sight s u
       same = sight_same u Fits s now was.row was.known (blocked_other u Fits s was t (block.Waiting c) other ∙ was.known) refl
@@ -167,19 +167,19 @@ module _ (u t : ℕ) (Fits : Option ℕ → Answer → Type 0) (s : State) (nine
   leave_now more = rw known (turn_unwind u Fits None t other (first_frames (frames x.marks - 1) x.marks) (later_frames (frames x.marks - 1) x.marks) s (NineParts-fewer s None nine t x known (first_frames (frames x.marks - 1) x.marks)
       (stack_fewer x.marks (first_frames (frames x.marks - 1) x.marks) (first_fewer (frames x.marks - 1) x.marks) (first_based (frames x.marks - 1) x.marks (omega (arith, more)) (stack_from x.marks stack).based) stack) (first_fewer (frames x.marks - 1) x.marks)) ready)
 
-  caught_now : (p : ℕ) (f : Found) → found_in p x.marks ≡ Some f → Its (caught s t p f)
+  caught_now : (p : ℕ) (f : Found) → handler_in p x.marks ≡ Some f → Its (catch_case s t p f)
   caught_now p f e = rw known (turn_unwind u Fits None t other (caught_marks f x.marks) (later_frames f.depth x.marks) s (NineParts-fewer s None nine t x known (caught_marks f x.marks)
       (stack_fewer x.marks (caught_marks f x.marks) (caught_fewer f x.marks) (caught_based f x.marks (found_deep p x.marks f (stack_from x.marks stack).based e) (stack_from x.marks stack).based) stack) (caught_fewer f x.marks)) ready)
 
   -- the caller looks for a handler
-  searched_now : (p : ℕ) (on_match : Found → Case) → ((f : Found) → found_in p x.marks ≡ Some f → Its (on_match f)) → Its (searching s t p on_match)
-  searched_now p on_match fine = unless_turn u Fits s _ _ (λ passed. rw known (by_found (found_in p x.marks) refl))
+  searched_now : (p : ℕ) (on_match : Found → Case) → ((f : Found) → handler_in p x.marks ≡ Some f → Its (on_match f)) → Its (searching s t p on_match)
+  searched_now p on_match fine = unless_turn u Fits s _ _ (λ passed. rw known (by_found (handler_in p x.marks) refl))
     where
-      by_found : (o : Option Found) → found_in p x.marks ≡ o → Its (with_match s on_match o)
+      by_found : (o : Option Found) → handler_in p x.marks ≡ o → Its (with_match s on_match o)
       by_found None e = still_now _ refl refl refl
       by_found (Some f) e = fine f e
 
-  notified_now : (p : ℕ) (f : Found) → found_in p x.marks ≡ Some f → (h : Func) → Its (notified_by s t p f h)
+  notified_now : (p : ℕ) (f : Found) → handler_in p x.marks ≡ Some f → (h : Func) → Its (notified_by s t p f h)
   notified_now p f e func.Give = still_now _ refl refl refl
   notified_now p f e func.Sum = still_now _ refl refl refl
   notified_now p f e func.Nothing = caught_now p f e
@@ -187,22 +187,22 @@ module _ (u t : ℕ) (Fits : Option ℕ → Answer → Type 0) (s : State) (nine
   returned_now : Its (return_from s t)
   returned_now = by_frames (nat_le 2 (frames (marks_in s t))) refl
     where
-      by_frames : (b : Bool) → nat_le 2 (frames (marks_in s t)) ≡ b → Its (cond b (leave_frame s t) (unanswered (death t s)))
+      by_frames : (b : Bool) → nat_le 2 (frames (marks_in s t)) ≡ b → Its (cond b (leave_frame s t) (silent_case (death t s)))
       by_frames true e = leave_now (leb-true 2 (frames x.marks) (ap (λ (o : Option ThreadRow). nat_le 2 (frames (unwrap_or (option_map (λ (row : ThreadRow). row.marks) o) []))) (sym known) ∙ e))
       by_frames false e = turn_death u Fits t other s nine x known ready
 
-  destroyed_now : (v : ℕ) → eqb v u ≡ false → Away u Fits v s → is_id s v ≡ true → Its (destroyed s t v)
+  destroyed_now : (v : ℕ) → eqb v u ≡ false → Away u Fits v s → is_id s v ≡ true → Its (destroy_case s t v)
   destroyed_now v spared away lives = by_agent (is_agent s v) lives
     where
       apart : v ≢ u
       apart e = let bad : true ≡ false = sym (eq-eqb v u e) ∙ spared in cc
 
-      by_agent : (b : Bool) → (is_thread s v || b) ≡ true → Its (cond b (with_zero (end_agent v s)) (cond (eqb t v) (unanswered (death v s)) (with_zero (death v s))))
+      by_agent : (b : Bool) → (is_thread s v || b) ≡ true → Its (cond b (with_zero (end_agent v s)) (cond (eqb t v) (silent_case (death v s)) (with_zero (death v s))))
       by_agent true h = end_agent_turn u Fits t v s None nine ready apart
       by_agent false h =
           let who = living s v (either (is_thread s v) h) in
           let dies = turn_death u Fits v apart s nine who.row who.known (record { attends = was; away = away }) in
-          cond_now (eqb t v) (unanswered (death v s)) (with_zero (death v s)) dies dies
+          cond_now (eqb t v) (silent_case (death v s)) (with_zero (death v s)) dies dies
         where
           either : (a : Bool) → (a || false) ≡ true → a ≡ true
           either true e = refl
@@ -223,16 +223,16 @@ module _ (u t : ℕ) (Fits : Option ℕ → Answer → Type 0) (s : State) (nine
   case_turn (call.Suspend v) h fits = unless_turn u Fits s _ _ (λ passed. turn_suspension u Fits s was v true _ refl refl refl)
   case_turn (call.Resume v) h fits = unless_turn u Fits s _ _ (λ passed. turn_suspension u Fits s was v false _ refl refl refl)
   case_turn (call.Join v) h fits = unless_turn u Fits s _ _ (λ passed. blocked_now _ (block.Joining v) refl refl refl)
-  case_turn (call.Sleep ticks) h fits = cond_now (eqb ticks 0) (valued s 0) (unanswered (still (blocked_for s t block.Sleeping ticks))) (still_now _ refl refl refl) (blocked_now _ block.Sleeping refl refl refl)
+  case_turn (call.Sleep ticks) h fits = cond_now (eqb ticks 0) (value_case s 0) (silent_case (still (after_block_for s t block.Sleeping ticks))) (still_now _ refl refl refl) (blocked_now _ block.Sleeping refl refl refl)
   case_turn call.Me h fits = still_now _ refl refl refl
   case_turn call.GetExit h fits = still_now _ refl refl refl
   case_turn call.Threads h fits = still_now _ refl refl refl
   case_turn (call.Send v room text) h fits = unless_turn u Fits s _ _ (λ passed. posted_now (record { from = t; to = v; text = text; room = room; received = false }) refl (λ e from takes. fits room text (ap (λ n. call.Send n room text) e) from takes))
-  case_turn (call.Recv from how) h fits = unless_turn u Fits s _ _ (λ passed. received_now from how (unreceived s.letters t from) refl)
+  case_turn (call.Recv from how) h fits = unless_turn u Fits s _ _ (λ passed. received_now from how (next_letter s.letters t from) refl)
   case_turn (call.Reply v text) h fits = unless_turn u Fits s _ _ (λ passed. turn_replied u Fits s was v text (replied_other u Fits t s ready.away v passed.1.0))
   case_turn call.Senders h fits = still_now _ refl refl refl
   case_turn call.Receivers h fits = still_now _ refl refl refl
-  case_turn (call.Enter m) h fits = unless_turn u Fits s _ _ (λ passed. cond_now (is_owned_by_other s.locks t m) (unanswered (still (requested s t m))) (entered s t m) (blocked_now _ (block.Entering m) refl refl refl) (still_now _ refl refl refl))
+  case_turn (call.Enter m) h fits = unless_turn u Fits s _ _ (λ passed. cond_now (is_owned_by_other s.locks t m) (silent_case (still (after_request s t m))) (enter_case s t m) (blocked_now _ (block.Entering m) refl refl refl) (still_now _ refl refl refl))
   case_turn (call.MonExit m) h fits = unless_turn u Fits s _ _ (λ passed. turn_exited u Fits s None nine was m)
   case_turn (call.MonBreak m) h fits = unless_turn u Fits s _ _ (λ passed. turn_release u Fits s None nine was m)
   case_turn call.Monitors h fits = still_now _ refl refl refl
@@ -254,7 +254,7 @@ module _ (u t : ℕ) (Fits : Option ℕ → Answer → Type 0) (s : State) (nine
   case_turn (call.Say text) h fits = still_now _ refl refl refl
   case_turn _ h fits = unless_turn u Fits s _ _ (λ passed. still_now _ refl refl refl)
 
-  finished_turn : (c : Call) (made : Case) → Its made → IsLeft u s (finished t c made) ⊎ IsWoken u Fits s (finished t c made)
+  finished_turn : (c : Call) (made : Case) → Its made → IsLeft u s (step_outcome t c made) ⊎ IsWoken u Fits s (step_outcome t c made)
   finished_turn c made (Left a) = inl (record { same = a.same; quiet = finished_told u t other c made ∙ a.quiet })
   finished_turn c made (Woken a) = inr (record { from = a.from; waited = a.waited; goes_on = a.goes_on; heard = a.heard; told = finished_told u t other c made ∙ a.told; right = a.right })
 
@@ -313,8 +313,8 @@ module _ (u : ℕ) (Fits : Option ℕ → Answer → Type 0) where
   tids_all (row ∷ rows) all = let parts = and_parts (not (is_timer_of u row)) (list_all (λ row. not (is_timer_of u row)) rows) all in and_from _ _ parts.0 (tids_all rows parts.1)
 
   tick_turn : (s : State) → timers_of s.timers u ≡ 0 → Attends u Fits s → Turn u Fits s (tick s)
-  tick_turn s none here = turn_then u Fits s (record { after = ticked s; effects = effect.Ticked (s.now + 1) ∷ [] }) (λ now. for_each time_out (due_threads now) now) (Left (record { same = refl; quiet = refl }))
-      (turn_all (λ v. not (eqb v u)) time_out timed_out_turn (due_threads (ticked s)) (tids_all _ (all_filter _ _ (is_due (s.now + 1)) (λ row kept h. h) s.timers (none_all (is_timer_of u) s.timers none))) (ticked s) (record { row = here.row; known = here.known; attends = here.attends }))
+  tick_turn s none here = turn_then u Fits s (record { after = after_tick s; effects = effect.Ticked (s.now + 1) ∷ [] }) (λ now. for_each time_out (due_threads now) now) (Left (record { same = refl; quiet = refl }))
+      (turn_all (λ v. not (eqb v u)) time_out timed_out_turn (due_threads (after_tick s)) (tids_all _ (all_filter _ _ (is_due (s.now + 1)) (λ row kept h. h) s.timers (none_all (is_timer_of u) s.timers none))) (after_tick s) (record { row = here.row; known = here.known; attends = here.attends }))
 
   -- the message of an agent that isn't u
   delivered_turn : (text : List ℕ) → ((agent : ℕ) (from : Option ℕ) → takes_from agent (block.Receiving from) ≡ true → Fits from (answer.Letter agent text 240)) → (row : AgentRow) (s : State) → not (is_agent_row u row) ≡ true → Attends u Fits s → Turn u Fits s (deliver_to text row s)

@@ -11,7 +11,7 @@ use Rattle.answer_laws.specs.Events.{machine_of}
 use Rattle.answer_laws.specs.Owns.{OthersReplyNothing, PodsSessionsCallsAreEvents, PodsStoresCallsAreEvents, SessionComes, SessionComes.GoesOn, SessionComes.IsTurnedAway, SessionComes.Dies}
 use Rattle.answer_laws.specs.Sights.{IsDelivered, IsLeft, IsWoken, Sight, answers_to, is_attentive, sight}
 use Rattle.answer_laws.specs.Stands.{Becomes, OpensInVain, block_of, goes_on_with, is_posted, is_short_reply, is_short_to, mail_letters, texts_in}
-use Rattle.answer_laws.specs.Talks.{Mail.Received, talked}
+use Rattle.answer_laws.specs.Talks.{Mail.Received, after_events}
 use Rattle.line_server.specs.Commands.{Command, command_of}
 use Rattle.line_server.specs.Sessions.{SessionBody, session_by, session_next, session_at, session_opened, session_received, session_receives, session_returns, session_sends, session_told}
 use Rattle.line_server.specs.Stores.{StoreBody, store_by, store_next}
@@ -19,7 +19,7 @@ use Rattle.line_server.specs.Tables.{is_quit}
 use Rattle.line_server.specs.Turns.{Turn, is_replied, stops}
 use Rattle.line_server.specs.declared.session.SessionPlace.{SessionPlace}
 use Rattle.line_server.specs.declared.session.SessionPlace.TheVariants as at
-use Rattle.lwp_types.specs.Agents.{armed, deliver}
+use Rattle.lwp_types.specs.Agents.{deliver, is_event_armed}
 use Rattle.lwp_types.specs.Choice.{choice}
 use Rattle.lwp_types.specs.Counts.{timers_of}
 use Rattle.lwp_types.specs.Lawful.{Lawful}
@@ -33,10 +33,10 @@ use Rattle.lwp_types.specs.declared.call.Effect.{Effect}
 use Rattle.lwp_types.specs.declared.call.LwpErr.{LwpErr}
 use Rattle.lwp_types.specs.declared.rows.Block.{Block}
 use Rattle.pod_events.proofs.MildCalls.{case_toll, is_tame}
-use Rattle.pod_events.specs.Events.{EventState, is_trapped, passed_on, rites_event, take_event, trap_taken}
-use Rattle.pod_events.specs.Rites.{as_rites, first_reported, report_text, reports_after, rites_said}
+use Rattle.pod_events.specs.Events.{EventState, after_pass_on, after_take_trap, is_trapped, rites_event, take_event}
+use Rattle.pod_events.specs.Rites.{after_first_report, as_rites, report_text, reports_after, rites_said}
 use Rattle.pod_events.specs.Step.{event_step, event_step_by, event_step_if}
-use Rattle.pod_events.specs.Traps.{Trapping, agent_event_of, but_call, called, is_catch, is_given, made, made_as, notice, refused_by, stepped, trap_made, trap_of, trap_refusal}
+use Rattle.pod_events.specs.Traps.{Trapping, after_call, after_call_as, after_machine_step, after_trap, after_trap_and_call, agent_event_of, but_call, is_catch, is_given, notice, refused_by, trap_of, trap_refusal}
 use Rattle.pod_laws.proofs.Elements.{differ}
 use Rattle.pod_laws.proofs.EveryStep.{Lawful-step}
 use Rattle.pod_laws.specs.Forgotten.{IsGone}
@@ -56,7 +56,7 @@ use Rattle.lwp_types.specs.declared.rows.Mark.TheVariants as mark
 abbrev pub done_by : EventState → Trapping → Outcome
 done_by es out = let said = rites_said out.state out.effects (reports_after es.state out.state es.reports out.effects) in record { after = said.state; effects = said.effects }
 
-pub event_is : (es : EventState) (t : ℕ) (c : Call) → choice es.state ≡ Some t → machine_of (event_step es c) ≡ done_by es (called es.state es.trapped t c es.pending)
+pub event_is : (es : EventState) (t : ℕ) (c : Call) → choice es.state ≡ Some t → machine_of (event_step es c) ≡ done_by es (after_trap_and_call es.state es.trapped t c es.pending)
 unfolding event_step event_step_by
 event_is es t c turn = ap (λ o. machine_of (event_step_if es c o)) turn
 
@@ -123,35 +123,35 @@ module _ (s a : ℕ) where
     unfolding step step_by
     mute_step st turn = subst (λ o. Mute (step_if st c o).effects) (sym turn) (none (drop 1 (step_by st t c).effects))
 
-    mute_made : (st : State) (trapped : List Bool) → choice st ≡ Some t → Mute (made st trapped t c).effects
+    mute_made : (st : State) (trapped : List Bool) → choice st ≡ Some t → Mute (after_call st trapped t c).effects
     mute_made st trapped turn = by_trap (trap_of c)
       where
-        by_refusal : (e : ℕ) (o : Option LwpErr) → Mute (trap_made st trapped t c e o).effects
+        by_refusal : (e : ℕ) (o : Option LwpErr) → Mute (after_trap st trapped t c e o).effects
         by_refusal e None = none (effect.Answered t zero_answer ∷ [])
         by_refusal e (Some why) = none (effect.Answered t (answer.Refused why) ∷ [])
 
-        by_agent : (b : Bool) → Mute (cond b (refused_by st trapped t c error.InUse) (stepped trapped (step st c))).effects
+        by_agent : (b : Bool) → Mute (cond b (refused_by st trapped t c error.InUse) (after_machine_step trapped (step st c))).effects
         by_agent true = none (effect.Answered t (answer.Refused error.InUse) ∷ [])
         by_agent false = mute_step st turn
 
-        by_trap : (o : Option ℕ) → Mute (made_as st trapped t c o).effects
+        by_trap : (o : Option ℕ) → Mute (after_call_as st trapped t c o).effects
         by_trap None = by_agent (passes (is_trapped trapped) (agent_event_of c))
         by_trap (Some e) = by_refusal e (trap_refusal st trapped e)
 
-    mute_pending : (st : State) (trapped : List Bool) (pending : Option ℕ) → choice st ≡ Some t → Mute (called st trapped t c pending).effects
+    mute_pending : (st : State) (trapped : List Bool) (pending : Option ℕ) → choice st ≡ Some t → Mute (after_trap_and_call st trapped t c pending).effects
     mute_pending st trapped None turn = mute_made st trapped turn
     mute_pending st trapped (Some e) turn = by_given (passes is_given (notice st t e)) (passes is_catch (notice st t e))
       where
-        by_given : (b d : Bool) → Mute (effect.Trapped t e ∷ (cond b (made st trapped t c) (cond d (stepped trapped (but_call (step st (call.ExcNotify e)))) (stepped trapped (but_call (step st (call.Destroy t)))))).effects)
+        by_given : (b d : Bool) → Mute (effect.Trapped t e ∷ (cond b (after_call st trapped t c) (cond d (after_machine_step trapped (but_call (step st (call.ExcNotify e)))) (after_machine_step trapped (but_call (step st (call.Destroy t)))))).effects)
         by_given true d ys rest = mute_made st trapped turn ys rest
         by_given false true ys rest = mute_but st (call.ExcNotify e) ys rest
         by_given false false ys rest = mute_but st (call.Destroy t) ys rest
 
   -- nor is a report
   pub mute_said : (after : State) (es : List Effect) (reports : List ℕ) → Mute es → replied_in s a (rites_said after es reports).effects ≡ []
-  mute_said after es reports mute = by_armed (armed after rites_event) reports
+  mute_said after es reports mute = by_armed (is_event_armed after rites_event) reports
     where
-      by_armed : (b : Bool) (rs : List ℕ) → replied_in s a (cond b (first_reported after es rs) (record { state = after; reports = rs; effects = es })).effects ≡ []
+      by_armed : (b : Bool) (rs : List ℕ) → replied_in s a (cond b (after_first_report after es rs) (record { state = after; reports = rs; effects = es })).effects ≡ []
       by_armed true [] = mute_whole es mute
       by_armed false rs = mute_whole es mute
       by_armed true (dead ∷ later) = let sent = (deliver after rites_event (report_text dead)).effects in mute_whole (es ++ map (as_rites dead) sent) (mute_then es (map (as_rites dead) sent) mute (mute_rites dead sent (tame_deliver after rites_event (report_text dead))))
@@ -160,13 +160,13 @@ module _ (s a : ℕ) where
   unfolding take_event
   taken_mute es e text = by_trapped (is_trapped es.trapped e)
     where
-      by_trapped : (b : Bool) → replied_in s a (cond b (trap_taken es e) (passed_on es (deliver es.state e text))).effects ≡ []
+      by_trapped : (b : Bool) → replied_in s a (cond b (after_take_trap es e) (after_pass_on es (deliver es.state e text))).effects ≡ []
       by_trapped true = refl
       by_trapped false = mute_whole (deliver es.state e text).effects (mute_tame (deliver es.state e text).effects (tame_deliver es.state e text))
 
   pub mute_event : (es : EventState) (t : ℕ) (c : Call) → choice es.state ≡ Some t → ((fs : List Effect) → Mute (effect.Called t c ∷ fs)) → replied_in s a (event_step es c).effects ≡ []
   mute_event es t c turn none =
-      let out = called es.state es.trapped t c es.pending in
+      let out = after_trap_and_call es.state es.trapped t c es.pending in
       ap (λ (out : Outcome). replied_in s a out.effects) (event_is es t c turn)
       ∙ mute_said out.state out.effects (reports_after es.state out.state es.reports out.effects) (mute_pending t c none es.state es.trapped es.pending turn)
 
@@ -198,19 +198,19 @@ alive_seen st u b seen = by_row (thread_of st u) seen
 
 -- where it has no handler, a trap is its end
 pub sprung_is : (st : State) (trapped : List Bool) (t : ℕ) (c : Call) (e : ℕ) → marks_in st t ≡ mark.Frame ∷ []
-    → called st trapped t c (Some e) ≡ record { state = (step st (call.Destroy t)).after; trapped = trapped; effects = effect.Trapped t e ∷ drop 1 (step st (call.Destroy t)).effects }
+    → after_trap_and_call st trapped t c (Some e) ≡ record { state = (step st (call.Destroy t)).after; trapped = trapped; effects = effect.Trapped t e ∷ drop 1 (step st (call.Destroy t)).effects }
 sprung_is st trapped t c e marks = let none = no_notice st t e marks in by_tests (passes is_given (notice st t e)) (passes is_catch (notice st t e)) none.0 none.1
   where
     by_tests : (b d : Bool) → b ≡ false → d ≡ false
-        → (let out = cond b (made st trapped t c) (cond d (stepped trapped (but_call (step st (call.ExcNotify e)))) (stepped trapped (but_call (step st (call.Destroy t))))) in record out { effects = effect.Trapped t e ∷ out.effects })
+        → (let out = cond b (after_call st trapped t c) (cond d (after_machine_step trapped (but_call (step st (call.ExcNotify e)))) (after_machine_step trapped (but_call (step st (call.Destroy t))))) in record out { effects = effect.Trapped t e ∷ out.effects })
         ≡ record { state = (step st (call.Destroy t)).after; trapped = trapped; effects = effect.Trapped t e ∷ drop 1 (step st (call.Destroy t)).effects }
     by_tests true d f g = absurd (cc)
     by_tests false true f g = absurd (cc)
     by_tests false false f g = refl
 
 -- a call that sets no trap and asks for no agent is the machine's
-pub made_plain : (st : State) (trapped : List Bool) (t : ℕ) (c : Call) → trap_of c ≡ None → agent_event_of c ≡ None → made st trapped t c ≡ stepped trapped (step st c)
-made_plain st trapped t c none away = ap (made_as st trapped t c) none ∙ ap (λ o. cond (passes (is_trapped trapped) o) (refused_by st trapped t c error.InUse) (stepped trapped (step st c))) away
+pub made_plain : (st : State) (trapped : List Bool) (t : ℕ) (c : Call) → trap_of c ≡ None → agent_event_of c ≡ None → after_call st trapped t c ≡ after_machine_step trapped (step st c)
+made_plain st trapped t c none away = ap (after_call_as st trapped t c) none ∙ ap (λ o. cond (passes (is_trapped trapped) o) (refused_by st trapped t c error.InUse) (after_machine_step trapped (step st c))) away
 
 -- ---- the store
 
@@ -253,12 +253,12 @@ pods_stores_calls_are_events s k a es was talk waiting h s_k turn x hears names 
     gone : (out : Trapping) → IsGone out.state k → Goal (done_by es out)
     gone out off = λ alive short low. differ (sym alive ∙ gone_thread (rites_said out.state out.effects (reports_after es.state out.state es.reports out.effects)).state k (gone_said k out.state out.effects (reports_after es.state out.state es.reports out.effects) off))
 
-    by_stop : (b : Bool) → goes_on_with c ≡ b → Goal (done_by es (stepped es.trapped (step es.state c)))
+    by_stop : (b : Bool) → goes_on_with c ≡ b → Goal (done_by es (after_machine_step es.trapped (step es.state c)))
     by_stop true on = λ alive short low. becomes_said s k a talk waiting talk.session (store_next talk.store names x).1 [] (step es.state c).after (step es.state c).effects (reports_after es.state (step es.state c).after es.reports (step es.state c).effects) (Lawful-step es.state was c) (step_texts a es.state c)
         (stores_calls_are_events s k a es.state was talk waiting h s_k turn x hears names on short (λ start. omega (arith, low start, births_said (step es.state c).after (step es.state c).effects (reports_after es.state (step es.state c).after es.reports (step es.state c).effects))))
-    by_stop false off = gone (stepped es.trapped (step es.state c)) (subst (λ c. IsGone (step es.state c).after k) (sym (plain.stop off)) (returned_is_gone es.state was k turn marks))
+    by_stop false off = gone (after_machine_step es.trapped (step es.state c)) (subst (λ c. IsGone (step es.state c).after k) (sym (plain.stop off)) (returned_is_gone es.state was k turn marks))
 
-    by_pending : (p : Option ℕ) → Goal (done_by es (called es.state es.trapped k c p))
+    by_pending : (p : Option ℕ) → Goal (done_by es (after_trap_and_call es.state es.trapped k c p))
     by_pending None = subst (λ out. Goal (done_by es out)) (sym (made_plain es.state es.trapped k c plain.trap plain.agent)) (by_stop (goes_on_with c) refl)
     by_pending (Some e) = subst (λ out. Goal (done_by es out)) (sym (sprung_is es.state es.trapped k c e marks)) (gone (record { state = (step es.state (call.Destroy k)).after; trapped = es.trapped; effects = effect.Trapped k e ∷ drop 1 (step es.state (call.Destroy k)).effects }) (destroyed_is_gone es.state was k k turn lives))
 
@@ -366,9 +366,9 @@ module _ (s a : ℕ) where
   -- so a reply is told of behind a report as before it
   replied_said : (st : State) (c : Call) → choice st ≡ Some s → Lawful (step st c).after None → (b : Block) → (sight (step st c).after s).waits ≡ Some b → is_attentive b ≡ true → timers_of (step st c).after.timers s ≡ 0 → (reports : List ℕ)
       → replied_in s a (rites_said (step st c).after (step st c).effects reports).effects ≡ replied_in s a (step st c).effects
-  replied_said st c turn was b seen attentive none reports = by_armed (armed (step st c).after rites_event) reports
+  replied_said st c turn was b seen attentive none reports = by_armed (is_event_armed (step st c).after rites_event) reports
     where
-      by_armed : (b : Bool) (rs : List ℕ) → replied_in s a (cond b (first_reported (step st c).after (step st c).effects rs) (record { state = (step st c).after; reports = rs; effects = (step st c).effects })).effects ≡ replied_in s a (step st c).effects
+      by_armed : (b : Bool) (rs : List ℕ) → replied_in s a (cond b (after_first_report (step st c).after (step st c).effects rs) (record { state = (step st c).after; reports = rs; effects = (step st c).effects })).effects ≡ replied_in s a (step st c).effects
       by_armed true [] = refl
       by_armed false rs = refl
       by_armed true (dead ∷ later) = replied_more st c turn (map (as_rites dead) (deliver (step st c).after rites_event (report_text dead)).effects) (no_zero_said s dead (step st c).after was b seen attentive none)
@@ -412,32 +412,32 @@ pods_sessions_calls_are_events s k a es was talk waiting h turn x hears names = 
     stop off (Asks e place is) = differ (sym (ap goes_on_with is) ∙ off)
     stop off (Plainly plain) = plain.stop off
 
-    stepped_by : es.pending ≡ None → (b : Bool) → goes_on_with c ≡ b → Goal (done_by es (stepped es.trapped (step es.state c)))
+    stepped_by : es.pending ≡ None → (b : Bool) → goes_on_with c ≡ b → Goal (done_by es (after_machine_step es.trapped (step es.state c)))
     stepped_by free true on = λ short only given. by_coming (sessions_calls_are_events s k a es.state was talk waiting h turn x hears names on short (only free) given)
       where
         reports : List ℕ
         reports = reports_after es.state (step es.state c).after es.reports (step es.state c).effects
 
         by_coming : Becomes s k a talk (session_next talk.session names x).1 talk.store waiting [] (replied_in s a (step es.state c).effects) (step es.state c) ⊎ OpensInVain s talk (step es.state c)
-            → SessionComes s k a talk waiting (session_next talk.session names x).1 (done_by es (stepped es.trapped (step es.state c)))
-        by_coming (inl b) = GoesOn (subst (λ xs. Becomes s k a talk (session_next talk.session names x).1 talk.store waiting (texts_in a None (done_by es (stepped es.trapped (step es.state c))).effects) xs (done_by es (stepped es.trapped (step es.state c))))
-            (sym (replied_said s a es.state c turn (Lawful-step es.state was c) (block_of (Some a) (talked s a talk b.events).client) (ap (λ (v : Sight). v.waits) b.stands.client) (attentive (Some a) (talked s a talk b.events).client) b.stands.untimed reports))
+            → SessionComes s k a talk waiting (session_next talk.session names x).1 (done_by es (after_machine_step es.trapped (step es.state c)))
+        by_coming (inl b) = GoesOn (subst (λ xs. Becomes s k a talk (session_next talk.session names x).1 talk.store waiting (texts_in a None (done_by es (after_machine_step es.trapped (step es.state c))).effects) xs (done_by es (after_machine_step es.trapped (step es.state c))))
+            (sym (replied_said s a es.state c turn (Lawful-step es.state was c) (block_of (Some a) (after_events s a talk b.events).client) (ap (λ (v : Sight). v.waits) b.stands.client) (attentive (Some a) (after_events s a talk b.events).client) b.stands.untimed reports))
             (becomes_said s k a talk waiting (session_next talk.session names x).1 talk.store (replied_in s a (step es.state c).effects) (step es.state c).after (step es.state c).effects reports (Lawful-step es.state was c) (step_texts a es.state c) b))
-        by_coming (inr v) = turned (stepped es.trapped (step es.state c)) (Lawful-step es.state was c) v (mute_step s a s c (mute_unreplied s a c (starts v.place)) es.state turn)
+        by_coming (inr v) = turned (after_machine_step es.trapped (step es.state c)) (Lawful-step es.state was c) v (mute_step s a s c (mute_unreplied s a c (starts v.place)) es.state turn)
     stepped_by free false off =
         let is = stop off kind in
-        gone (stepped es.trapped (step es.state c)) (subst (λ c. IsGone (step es.state c).after s) (sym is) (returned_is_gone es.state was s turn marks)) (mute_step s a s c (mute_unreplied s a c (ap (reply_to a) is)) es.state turn)
+        gone (after_machine_step es.trapped (step es.state c)) (subst (λ c. IsGone (step es.state c).after s) (sym is) (returned_is_gone es.state was s turn marks)) (mute_step s a s c (mute_unreplied s a c (ap (reply_to a) is)) es.state turn)
 
-    made_by : es.pending ≡ None → Calls talk.session.place c → Goal (done_by es (made es.state es.trapped s c))
+    made_by : es.pending ≡ None → Calls talk.session.place c → Goal (done_by es (after_call es.state es.trapped s c))
     made_by free (Plainly plain) = subst (λ out. Goal (done_by es out)) (sym (made_plain es.state es.trapped s c plain.trap plain.agent)) (stepped_by free (goes_on_with c) refl)
-    made_by free (Asks e place is) = subst (λ out. Goal (done_by es out)) (sym (ap (made_as es.state es.trapped s c) (ap trap_of is))) (by_agent (passes (is_trapped es.trapped) (agent_event_of c)))
+    made_by free (Asks e place is) = subst (λ out. Goal (done_by es out)) (sym (ap (after_call_as es.state es.trapped s c) (ap trap_of is))) (by_agent (passes (is_trapped es.trapped) (agent_event_of c)))
       where
-        by_agent : (b : Bool) → Goal (done_by es (cond b (refused_by es.state es.trapped s c error.InUse) (stepped es.trapped (step es.state c))))
+        by_agent : (b : Bool) → Goal (done_by es (cond b (refused_by es.state es.trapped s c error.InUse) (after_machine_step es.trapped (step es.state c))))
         by_agent false = stepped_by free (goes_on_with c) refl
         by_agent true = λ short only given. turned (refused_by es.state es.trapped s c error.InUse) was (record { client = seen; untimed = h.untimed; place = place; why = error.InUse; told = rw (eq-eqb s s refl) refl })
             (mute_unreplied s a c (starts place) (effect.Answered s (answer.Refused error.InUse) ∷ []))
 
-    by_pending : (p : Option ℕ) → es.pending ≡ p → Goal (done_by es (called es.state es.trapped s c p))
+    by_pending : (p : Option ℕ) → es.pending ≡ p → Goal (done_by es (after_trap_and_call es.state es.trapped s c p))
     by_pending None free = made_by free kind
     by_pending (Some e) is = subst (λ out. Goal (done_by es out)) (sym (sprung_is es.state es.trapped s c e marks)) (gone (record { state = (step es.state (call.Destroy s)).after; trapped = es.trapped; effects = effect.Trapped s e ∷ drop 1 (step es.state (call.Destroy s)).effects })
         (destroyed_is_gone es.state was s s turn lives) (λ ys none. mute_but s a es.state (call.Destroy s) ys none))

@@ -6,14 +6,14 @@ use Rattle.answer_laws.proofs.Sights.{answers_append, pushed_own, received_own, 
 use Rattle.answer_laws.specs.Agents.{agent_sight}
 use Rattle.answer_laws.specs.Owners.{IsRefused, IsSentTo, IsTold, OwnerReceives, OwnersOfNoneAreRefused, OwnersReceive, OwnersReply, Sends, SendsAreLetters, letter_sent, sending}
 use Rattle.answer_laws.specs.Sights.{answers_to, going_on, sight, sight_by}
-use Rattle.lwp_types.specs.Case.{Case, answered, refused, unanswered, with_zero}
+use Rattle.lwp_types.specs.Case.{Case, answer_case, refusal_case, silent_case, with_zero}
 use Rattle.lwp_types.specs.Counts.{goes_well, has_owner_and_event, is_owners}
 use Rattle.lwp_types.specs.FirstLaws.{find-filter}
 use Rattle.lwp_types.specs.Lawful.{Lawful}
-use Rattle.lwp_types.specs.Messages.{as_answer, as_received, holding_set, is_letter_of, is_to, marked_received, post, receive_by, received_from, reception_set, replied, takes_from, with_holding, without_letter}
+use Rattle.lwp_types.specs.Messages.{after_reply, as_answer, as_received, holding_set, is_letter_of, is_to, marked_received, post, receive_by, received_from, reception_set, takes_from, with_holding, without_letter}
 use Rattle.lwp_types.specs.State.{State, ThreadRow, block_set, is_agent, is_agent_row, is_id, is_number, is_thread, passes, still, thread_of, with_block}
-use Rattle.lwp_types.specs.Step.{case_of, end_effects, ends, finished, own_effects, step, step_by, step_if}
-use Rattle.lwp_types.specs.Unblock.{blocked, unblock, zero_answer}
+use Rattle.lwp_types.specs.Step.{case_of, end_effects, ends, own_effects, step, step_by, step_if, step_outcome}
+use Rattle.lwp_types.specs.Unblock.{after_block, unblock, zero_answer}
 use Rattle.lwp_types.specs.declared.call.Answer.{Answer}
 use Rattle.lwp_types.specs.declared.call.Call.{Call}
 use Rattle.lwp_types.specs.declared.rows.AgentRow.{AgentRow}
@@ -40,7 +40,7 @@ use Rattle.lwp_types.specs.declared.rows.Block.TheVariants as block
 -- ---- the caller
 
 -- what the caller is told: what is told on the way, and its own answer
-pub told_itself : (t : ℕ) (c : Call) (made : Case) → answers_to t (finished t c made).effects ≡ answers_to t made.others ++ option_to_list made.own
+pub told_itself : (t : ℕ) (c : Call) (made : Case) → answers_to t (step_outcome t c made).effects ≡ answers_to t made.others ++ option_to_list made.own
 told_itself t c made = answers_append t made.others (own_effects t made.own ++ end_effects made.after) ∙ ap (λ x. answers_to t made.others ++ x) rest
   where
     own : (o : Option Answer) → answers_to t (own_effects t o) ≡ option_to_list o
@@ -55,7 +55,7 @@ told_itself t c made = answers_append t made.others (own_effects t made.own ++ e
     rest = answers_append t (own_effects t made.own) (end_effects made.after) ∙ (λ i. own made.own i ++ no_end (ends made.after) i) ∙ append-nil (option_to_list made.own)
 
 -- what another is told: what is told on the way
-pub told_other : (u t : ℕ) → t ≢ u → (c : Call) (made : Case) → answers_to u (finished t c made).effects ≡ answers_to u made.others
+pub told_other : (u t : ℕ) → t ≢ u → (c : Call) (made : Case) → answers_to u (step_outcome t c made).effects ≡ answers_to u made.others
 told_other u t other c made = answers_append u made.others (own_effects t made.own ++ end_effects made.after) ∙ ap (λ x. answers_to u made.others ++ x) rest ∙ append-nil (answers_to u made.others)
   where
     own : (o : Option Answer) → answers_to u (own_effects t o) ≡ []
@@ -150,20 +150,20 @@ module _ (s : State) (was : Lawful s None) (t a : ℕ) (row : AgentRow) (there :
         by_test false e = absurd (cc)
 
     -- it receives the letter
-    receives : l.received ≡ false → IsTold t a (answer.Letter a l.text l.room ∷ []) (sight s t) (record { row = Some row; letters = as_received l ∷ [] }) (finished t (call.Recv (Some a) mode.Block) (case_of s t (call.Recv (Some a) mode.Block)))
-    receives fresh = subst (λ made. IsTold t a (answer.Letter a l.text l.room ∷ []) (sight s t) (record { row = Some row; letters = as_received l ∷ [] }) (finished t (call.Recv (Some a) mode.Block) made)) (sym made_so) (record {
-      told = told_itself t (call.Recv (Some a) mode.Block) (answered (record s { letters = marked_received l.from s.letters }) (as_answer l)) ∙ ap (λ n. answer.Letter n l.text l.room ∷ []) from;
+    receives : l.received ≡ false → IsTold t a (answer.Letter a l.text l.room ∷ []) (sight s t) (record { row = Some row; letters = as_received l ∷ [] }) (step_outcome t (call.Recv (Some a) mode.Block) (case_of s t (call.Recv (Some a) mode.Block)))
+    receives fresh = subst (λ made. IsTold t a (answer.Letter a l.text l.room ∷ []) (sight s t) (record { row = Some row; letters = as_received l ∷ [] }) (step_outcome t (call.Recv (Some a) mode.Block) made)) (sym made_so) (record {
+      told = told_itself t (call.Recv (Some a) mode.Block) (answer_case (record s { letters = marked_received l.from s.letters }) (as_answer l)) ∙ ap (λ n. answer.Letter n l.text l.room ∷ []) from;
       itself_then = λ i. sight_by (thread_of s t) (received_own t Never l.from (λ e. away (sym from ∙ e)) s.letters i);
       agent_then = λ i. seen_by (there i) (marked i);
     })
       where
-        made_so : case_of s t (call.Recv (Some a) mode.Block) ≡ answered (record s { letters = marked_received l.from s.letters }) (as_answer l)
+        made_so : case_of s t (call.Recv (Some a) mode.Block) ≡ answer_case (record s { letters = marked_received l.from s.letters }) (as_answer l)
         made_so = unless_passed s _ _ (ap not is_there, (ne_eqb a t away, tt)) ∙ ap (receive_by s t (Some a) mode.Block) (found (λ x. not x.received) (ap not fresh))
 
     -- it replies to the letter
     replies : l.received ≡ true → (text : List ℕ) → length text ≤ l.room
-        → IsTold t a (zero_answer ∷ []) (sight s t) (record { row = Some (record row { holding = false }); letters = [] }) (finished t (call.Reply a text) (case_of s t (call.Reply a text)))
-    replies received text fits = subst (λ made. IsTold t a (zero_answer ∷ []) (sight s t) (record { row = Some (record row { holding = false }); letters = [] }) (finished t (call.Reply a text) made)) (sym made_so) (record {
+        → IsTold t a (zero_answer ∷ []) (sight s t) (record { row = Some (record row { holding = false }); letters = [] }) (step_outcome t (call.Reply a text) (case_of s t (call.Reply a text)))
+    replies received text fits = subst (λ made. IsTold t a (zero_answer ∷ []) (sight s t) (record { row = Some (record row { holding = false }); letters = [] }) (step_outcome t (call.Reply a text) made)) (sym made_so) (record {
       told = told_itself t (call.Reply a text) (with_zero (still (record s { letters = without_letter a s.letters; agents = with_holding a false s.agents })));
       itself_then = λ i. sight_by (thread_of s t) (without_own t Never a away s.letters i);
       agent_then = λ i. seen_by (rows i) (filter_none (is_letter_of a) s.letters i);
@@ -175,7 +175,7 @@ module _ (s : State) (was : Lawful s None) (t a : ℕ) (row : AgentRow) (there :
         found_it : received_from s.letters t a ≡ Some l
         found_it = found (λ x. x.received) received
 
-        idle : replied a text s ≡ still (record s { letters = without_letter a s.letters; agents = with_holding a false s.agents })
+        idle : after_reply a text s ≡ still (record s { letters = without_letter a s.letters; agents = with_holding a false s.agents })
         idle = by_agent (is_agent s a) (ap is_some there)
           where
             by_agent : (b : Bool) → b ≡ true → cond b (still (record s { letters = without_letter a s.letters; agents = with_holding a false s.agents })) (unblock (answer.Reply text) a (record s { letters = without_letter a s.letters })) ≡ still (record s { letters = without_letter a s.letters; agents = with_holding a false s.agents })
@@ -197,14 +197,14 @@ module _ (s : State) (was : Lawful s None) (t a : ℕ) (row : AgentRow) (there :
       by_test false e rest = absurd (cc)
 
   waits : list_all (λ (letter : Letter). letter.received) (filter (is_letter_of a) s.letters) ≡ true
-      → IsTold t a [] (record (sight s t) { waits = Some (block.Receiving (Some a)) }) (agent_sight s a) (finished t (call.Recv (Some a) mode.Block) (case_of s t (call.Recv (Some a) mode.Block)))
-  waits all = let who = living s t lives in subst (λ made. IsTold t a [] (record (sight s t) { waits = Some (block.Receiving (Some a)) }) (agent_sight s a) (finished t (call.Recv (Some a) mode.Block) made)) (sym made_so) (record {
-    told = told_itself t (call.Recv (Some a) mode.Block) (unanswered (still (blocked s t (block.Receiving (Some a)))));
+      → IsTold t a [] (record (sight s t) { waits = Some (block.Receiving (Some a)) }) (agent_sight s a) (step_outcome t (call.Recv (Some a) mode.Block) (case_of s t (call.Recv (Some a) mode.Block)))
+  waits all = let who = living s t lives in subst (λ made. IsTold t a [] (record (sight s t) { waits = Some (block.Receiving (Some a)) }) (agent_sight s a) (step_outcome t (call.Recv (Some a) mode.Block) made)) (sym made_so) (record {
+    told = told_itself t (call.Recv (Some a) mode.Block) (silent_case (still (after_block s t (block.Receiving (Some a)))));
     itself_then = (λ i. sight_by (blocked_row t (block.Receiving (Some a)) s.threads who.row who.known i) (filter (is_letter_of t) s.letters)) ∙ ap (λ o. record (sight_by o (filter (is_letter_of t) s.letters)) { waits = Some (block.Receiving (Some a)) }) (sym who.known);
     agent_then = refl;
   })
     where
-      made_so : case_of s t (call.Recv (Some a) mode.Block) ≡ unanswered (still (blocked s t (block.Receiving (Some a))))
+      made_so : case_of s t (call.Recv (Some a) mode.Block) ≡ silent_case (still (after_block s t (block.Receiving (Some a))))
       made_so = unless_passed s _ _ (ap not is_there, (ne_eqb a t away, tt)) ∙ ap (receive_by s t (Some a) mode.Block) (find_swapped (λ x. not x.received) ∙ none_open (filter (is_letter_of a) s.letters) all)
 
 pub owners_receive : OwnersReceive
@@ -226,9 +226,9 @@ owners_of_none_are_refused s t a turn absent = (
   λ text. subst (λ o. IsRefused t a s (step_if s (call.Reply a text) o)) (sym turn) (is_refused (call.Reply a text) (eq-eqb a a refl)),
 )
   where
-    is_refused : (c : Call) → asks_for a c ≡ true → IsRefused t a s (finished t c (case_of s t c))
-    is_refused c asks = subst (λ made. IsRefused t a s (finished t c made)) (sym (the_absent_are_refused s t a absent c asks)) (record {
-      refused = record { told = told_itself t c (refused s error.NonExist); itself_then = refl; agent_then = refl };
+    is_refused : (c : Call) → asks_for a c ≡ true → IsRefused t a s (step_outcome t c (case_of s t c))
+    is_refused c asks = subst (λ made. IsRefused t a s (step_outcome t c made)) (sym (the_absent_are_refused s t a absent c asks)) (record {
+      refused = record { told = told_itself t c (refusal_case s error.NonExist); itself_then = refl; agent_then = refl };
     })
 
 -- ---- who sends a letter
@@ -238,12 +238,12 @@ module _ (s : State) (was : Lawful s None) (t k room : ℕ) (text : List ℕ) (x
   sent = letter_sent t k room text
 
   abbrev now : State
-  now = blocked s t block.Sending
+  now = after_block s t block.Sending
 
   abbrev c : Call
   c = call.Send k room text
 
-  made_so : case_of s t c ≡ unanswered (post sent now)
+  made_so : case_of s t c ≡ silent_case (post sent now)
   made_so = unless_passed s _ _ (ap (λ o. not (is_some o)) known_k, (ne_eqb t k (λ e. other (sym e)), tt))
 
   own_in : (l : Letter) → is_letter_of t l ≡ true → filter (is_letter_of t) (s.letters ++ l ∷ []) ≡ filter (is_letter_of t) s.letters ++ l ∷ []
@@ -265,12 +265,12 @@ module _ (s : State) (was : Lawful s None) (t k room : ℕ) (text : List ℕ) (x
   sender_so : (l : Letter) → is_letter_of t l ≡ true → sight_by (Some (record x { block = block.Sending })) (filter (is_letter_of t) (s.letters ++ l ∷ [])) ≡ sending (sight s t) l
   sender_so l e = (λ i. sight_by (Some (record x { block = block.Sending })) (own_in l e i)) ∙ ap (λ o. sending (sight_by o (filter (is_letter_of t) s.letters)) l) (sym known)
 
-  handed : passes (λ row. takes_from t row.block) (thread_of s k) ≡ true → IsSentTo t k (sending (sight s t) (as_received sent)) (going_on (sight s k)) (answer.Letter t text room ∷ []) (finished t c (case_of s t c))
-  handed e = subst (λ made. IsSentTo t k (sending (sight s t) (as_received sent)) (going_on (sight s k)) (answer.Letter t text room ∷ []) (finished t c made)) (sym (made_so ∙ ap unanswered (posted true e))) (record {
+  handed : passes (λ row. takes_from t row.block) (thread_of s k) ≡ true → IsSentTo t k (sending (sight s t) (as_received sent)) (going_on (sight s k)) (answer.Letter t text room ∷ []) (step_outcome t c (case_of s t c))
+  handed e = subst (λ made. IsSentTo t k (sending (sight s t) (as_received sent)) (going_on (sight s k)) (answer.Letter t text room ∷ []) (step_outcome t c made)) (sym (made_so ∙ ap silent_case (posted true e))) (record {
     sender_then = (λ i. sight_by ((other_row k t block.Not now.threads other ∙ its_row) i) (filter (is_letter_of t) (s.letters ++ as_received sent ∷ []))) ∙ sender_so (as_received sent) (eq-eqb t t refl);
-    sender_told = told_itself t c (unanswered (unblock (as_answer sent) k (record now { letters = s.letters ++ as_received sent ∷ [] }))) ∙ none (eqb k t) (ne_eqb k t other);
+    sender_told = told_itself t c (silent_case (unblock (as_answer sent) k (record now { letters = s.letters ++ as_received sent ∷ [] }))) ∙ none (eqb k t) (ne_eqb k t other);
     receiver_then = (λ i. sight_by (blocked_row k block.Not now.threads y k_row i) (pushed_own k Never (as_received sent) (λ e. other (sym e)) s.letters i)) ∙ ap (λ o. going_on (sight_by o (filter (is_letter_of k) s.letters))) (sym known_k);
-    receiver_told = told_other k t (λ e. other (sym e)) c (unanswered (unblock (as_answer sent) k (record now { letters = s.letters ++ as_received sent ∷ [] }))) ∙ one (eqb k k) (eq-eqb k k refl);
+    receiver_told = told_other k t (λ e. other (sym e)) c (silent_case (unblock (as_answer sent) k (record now { letters = s.letters ++ as_received sent ∷ [] }))) ∙ one (eqb k k) (eq-eqb k k refl);
   })
     where
       none : (b : Bool) → b ≡ false → filter_map (λ (o : Option Answer). o) (cond b (Some (as_answer sent)) None ∷ []) ++ [] ≡ []
@@ -281,12 +281,12 @@ module _ (s : State) (was : Lawful s None) (t k room : ℕ) (text : List ℕ) (x
       one true e = refl
       one false e = absurd (cc)
 
-  kept : passes (λ row. takes_from t row.block) (thread_of s k) ≡ false → IsSentTo t k (sending (sight s t) sent) (sight s k) [] (finished t c (case_of s t c))
-  kept e = subst (λ made. IsSentTo t k (sending (sight s t) sent) (sight s k) [] (finished t c made)) (sym (made_so ∙ ap unanswered (posted false e))) (record {
+  kept : passes (λ row. takes_from t row.block) (thread_of s k) ≡ false → IsSentTo t k (sending (sight s t) sent) (sight s k) [] (step_outcome t c (case_of s t c))
+  kept e = subst (λ made. IsSentTo t k (sending (sight s t) sent) (sight s k) [] (step_outcome t c made)) (sym (made_so ∙ ap silent_case (posted false e))) (record {
     sender_then = (λ i. sight_by (its_row i) (filter (is_letter_of t) (s.letters ++ sent ∷ []))) ∙ sender_so sent (eq-eqb t t refl);
-    sender_told = told_itself t c (unanswered (still (record now { letters = s.letters ++ sent ∷ [] })));
+    sender_told = told_itself t c (silent_case (still (record now { letters = s.letters ++ sent ∷ [] })));
     receiver_then = λ i. sight_by ((k_row ∙ sym known_k) i) (pushed_own k Never sent (λ e. other (sym e)) s.letters i);
-    receiver_told = told_other k t (λ e. other (sym e)) c (unanswered (still (record now { letters = s.letters ++ sent ∷ [] })));
+    receiver_told = told_other k t (λ e. other (sym e)) c (silent_case (still (record now { letters = s.letters ++ sent ∷ [] })));
   })
 
 pub sends_are_letters : SendsAreLetters

@@ -14,7 +14,7 @@ use Rattle.answer_laws.specs.Lengths.{is_short}
 use Rattle.answer_laws.specs.Owns.{SessionComes, SessionComes.Dies, SessionComes.GoesOn, SessionComes.IsTurnedAway}
 use Rattle.answer_laws.specs.Sights.{IsLeft, Sight, answers_to, sight}
 use Rattle.answer_laws.specs.Stands.{AgentIs, AgentIs.Gone, AgentIs.Made, AgentIs.Unmade, Becomes, HeardAs, Leaves, Stands, block_of, is_placed, is_posted, is_reading, knows, last_heard, texts_in}
-use Rattle.answer_laws.specs.Talks.{AreFirst, Mail, Mail.Nothing, Mail.Received, Mail.Sent, Stand, Stand.AwaitsLetter, Stand.AwaitsReply, Stand.Hears, Stand.IsOver, Talk, talked}
+use Rattle.answer_laws.specs.Talks.{AreFirst, Mail, Mail.Nothing, Mail.Received, Mail.Sent, Stand, Stand.AwaitsLetter, Stand.AwaitsReply, Stand.Hears, Stand.IsOver, Talk, after_events}
 use Rattle.line_server.specs.Sessions.{SessionBody, session_by, session_next, session_opened}
 use Rattle.line_server.specs.Stores.{StoreBody}
 use Rattle.line_server.specs.Tables.{line_answers}
@@ -66,7 +66,7 @@ module _ (s k a : ℕ) (st : State) (sb : SessionBody) (sz : Answer) (kb : Store
   tells_on : (session : SessionBody) (store : StoreBody) (new replies : Texts) (out : Outcome) → Becomes s k a t.talk session store t.waiting new replies out
       → TellsAt s k a out.after session (last_heard sz (answers_to s out.effects)) store (last_heard kz (answers_to k out.effects)) (got ++ new) (said ++ replies)
   tells_on session store new replies out b = record {
-    talk = talked s a t.talk b.events;
+    talk = after_events s a t.talk b.events;
     waiting = b.waits;
     stands = b.stands;
     inv = inv_events s a b.events t.talk t.inv;
@@ -472,7 +472,7 @@ module _ (s k : ℕ) (es : EventState) (was : Lawful es.state None) (turn : choi
           let told_so = subst (λ z. TellsAt s k a made_out.after (session_next sb0 names sz0).1 (last_heard z (answers_to s made_out.effects)) kb (last_heard kz (answers_to k made_out.effects)) (got a ++ new_texts a) (said a ++ replied_in s a made_out.effects)) (same sb sz row).1
           (subst (λ body. TellsAt s k a made_out.after (session_next sb0 names sz0).1 (last_heard sz (answers_to s made_out.effects)) body (last_heard kz (answers_to k made_out.effects)) (got a ++ new_texts a) (said a ++ replied_in s a made_out.effects)) t.store told) in
           settle s k es.state was S S2 K K2 got said new_texts made_out (λ n. event_fades n es own) a (session_next sb0 names sz0).1 (last_heard sz0 (answers_to s made_out.effects)) kb (last_heard kz (answers_to k made_out.effects))
-          (s_on (alive_seen made_out.after s (block_of (Some a) (talked s a t.talk b.events).client) (ap (λ (w : Sight). w.waits) b.stands.client))) (k_on kb kz row_k) told_so away
+          (s_on (alive_seen made_out.after s (block_of (Some a) (after_events s a t.talk b.events).client) (ap (λ (w : Sight). w.waits) b.stands.client))) (k_on kb kz row_k) told_so away
           (λ start. differ (sym (started_next sb0 names sz0 sb0.place refl) ∙ ap is_started start))
           (λ n apart. both_none (said n) (replied_in s n made_out.effects) (others n apart) (unreplied n (mutes n apart)))
 

@@ -4,7 +4,7 @@ use Rattle.event_gate.specs.Shelves.{first_left}
 use Rattle.lwp_types.specs.declared.call.Line.{Line}
 use Rattle.pod_events.specs.Events.{is_takeable}
 use Rattle.pod_runner.proofs.Plays.{play-call, play-take, play-zero}
-use Rattle.pod_runner.specs.Eager.{Plan, Planned, advanced, boundary, has_choice, offered, offered_by, one_call, plan_over, plan_whole, pod_of, taken_line, to_the_end}
+use Rattle.pod_runner.specs.Eager.{Plan, Planned, after_advance, after_offer, after_offer_by, after_take, boundary, has_choice, one_call, plan_over, plan_whole, pod_of, to_the_end}
 use Rattle.pod_runner.specs.Over.{events}
 use Rattle.pod_runner.specs.Play.{LastBy, play}
 use Rattle.pod_runner.specs.Session.{call_step, take_step}
@@ -22,23 +22,23 @@ module _ {B : Type 0} (planned : Planned B) where
     is : plan.session ≡ play planned.setting plan.takes plan.calls
     last : LastBy (reverse plan.takes) plan.calls
 
-  kept_line : (e : ℕ) (line : Line) (plan : Plan B) → Kept plan → Kept (taken_line planned e line plan)
+  kept_line : (e : ℕ) (line : Line) (plan : Plan B) → Kept plan → Kept (after_take planned e line plan)
   kept_line e line plan h = record {
     is = ap (take_step planned.setting (record { turn = plan.calls; event = e; line = line })) h.is ∙ sym (play-take planned.setting (record { turn = plan.calls; event = e; line = line }) plan.takes plan.calls refl);
     last = subst (λ xs. LastBy xs plan.calls) (sym (reverse-append plan.takes (record { turn = plan.calls; event = e; line = line } ∷ []))) (omega arith);
   }
 
-  kept_offered : (e : ℕ) (plan : Plan B) → Kept plan → Kept (offered planned e plan)
+  kept_offered : (e : ℕ) (plan : Plan B) → Kept plan → Kept (after_offer planned e plan)
   kept_offered e plan h = by_takeable (is_takeable (pod_of plan) e) (first_left plan.left e)
     where
-      by_takeable : (b : Bool) (o : Option Line) → Kept (elim b as (λ _. Plan B) [ true ↦ offered_by planned e plan o | false ↦ plan ])
+      by_takeable : (b : Bool) (o : Option Line) → Kept (elim b as (λ _. Plan B) [ true ↦ after_offer_by planned e plan o | false ↦ plan ])
       by_takeable true None = h
       by_takeable true (Some line) = kept_line e line plan h
       by_takeable false o = h
 
-  kept_events : (es : List ℕ) (plan : Plan B) → Kept plan → Kept (fold (λ now e. offered planned e now) plan es)
+  kept_events : (es : List ℕ) (plan : Plan B) → Kept plan → Kept (fold (λ now e. after_offer planned e now) plan es)
   kept_events [] plan h = h
-  kept_events (e ∷ es) plan h = kept_events es (offered planned e plan) (kept_offered e plan h)
+  kept_events (e ∷ es) plan h = kept_events es (after_offer planned e plan) (kept_offered e plan h)
 
   last_later : (takes : List Took) (n : ℕ) → LastBy takes n → LastBy takes (n + 1)
   last_later [] n h = tt
@@ -50,7 +50,7 @@ module _ {B : Type 0} (planned : Planned B) where
     last = last_later (reverse plan.takes) plan.calls h.last;
   }
 
-  kept_advanced : (plan : Plan B) → Kept plan → Kept (advanced planned plan)
+  kept_advanced : (plan : Plan B) → Kept plan → Kept (after_advance planned plan)
   kept_advanced plan h = by_choice (has_choice plan)
     where
       by_choice : (b : Bool) → Kept (elim b as (λ _. Plan B) [ true ↦ one_call planned (boundary planned plan) | false ↦ boundary planned plan ])
@@ -60,9 +60,9 @@ module _ {B : Type 0} (planned : Planned B) where
   kept_end : (n : ℕ) (plan : Plan B) → Kept plan → Kept (to_the_end planned n plan)
   unfolding to_the_end
   kept_end zero plan h = h
-  kept_end (suc n) plan h = by_over (plan_over planned plan) (kept_end n (advanced planned plan) (kept_advanced plan h))
+  kept_end (suc n) plan h = by_over (plan_over planned plan) (kept_end n (after_advance planned plan) (kept_advanced plan h))
     where
-      by_over : (o : Option Halt) → Kept (to_the_end planned n (advanced planned plan)) → Kept (elim o as (λ _. Plan B) [ None ↦ to_the_end planned n (advanced planned plan) | Some halt ↦ plan ])
+      by_over : (o : Option Halt) → Kept (to_the_end planned n (after_advance planned plan)) → Kept (elim o as (λ _. Plan B) [ None ↦ to_the_end planned n (after_advance planned plan) | Some halt ↦ plan ])
       by_over None rest = rest
       by_over (Some halt) rest = h
 

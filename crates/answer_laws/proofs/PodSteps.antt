@@ -11,11 +11,11 @@ use Rattle.answer_laws.specs.Events.{machine_of}
 use Rattle.answer_laws.specs.Owns.{LivingCallsAreEvents}
 use Rattle.answer_laws.specs.Sights.{IsDelivered, IsLeft, IsWoken, answers_to, sight}
 use Rattle.answer_laws.specs.Stands.{Becomes, HeardAs, IsHeard, Leaves, PodsCallsAreEvents, Stands, TakesAreEvents, block_of, last_heard, texts_in}
-use Rattle.answer_laws.specs.Talks.{Stand, Talk, talked}
+use Rattle.answer_laws.specs.Talks.{Stand, Talk, after_events}
 use Rattle.line_server.specs.Sessions.{SessionBody}
 use Rattle.line_server.specs.Stores.{StoreBody}
 use Rattle.line_server.specs.declared.session.SessionPlace.TheVariants as at
-use Rattle.lwp_types.specs.Agents.{armed, deliver}
+use Rattle.lwp_types.specs.Agents.{deliver, is_event_armed}
 use Rattle.lwp_types.specs.Choice.{choice}
 use Rattle.lwp_types.specs.CountLaws.{count-cons, one}
 use Rattle.lwp_types.specs.Counts.{timers_of}
@@ -31,10 +31,10 @@ use Rattle.lwp_types.specs.declared.call.LwpErr.{LwpErr}
 use Rattle.lwp_types.specs.declared.rows.Block.{Block}
 use Rattle.pod_events.proofs.Mild.{mild_deliver}
 use Rattle.pod_events.proofs.MildCalls.{case_toll, is_tame, mild_tame}
-use Rattle.pod_events.specs.Events.{EventState, is_trapped, may_trap, passed_on, rites_event, take_event, trap_taken}
-use Rattle.pod_events.specs.Rites.{as_rites, first_reported, report_text, reports_after, rites_said}
+use Rattle.pod_events.specs.Events.{EventState, after_pass_on, after_take_trap, is_trapped, may_trap, rites_event, take_event}
+use Rattle.pod_events.specs.Rites.{after_first_report, as_rites, report_text, reports_after, rites_said}
 use Rattle.pod_events.specs.Step.{event_step, event_step_by, event_step_if}
-use Rattle.pod_events.specs.Traps.{agent_event_of, but_call, called, is_catch, is_given, made, made_as, notice, refused_by, stepped, trap_made, trap_of, trap_refusal}
+use Rattle.pod_events.specs.Traps.{after_call, after_call_as, after_machine_step, after_trap, after_trap_and_call, agent_event_of, but_call, is_catch, is_given, notice, refused_by, trap_of, trap_refusal}
 use Rattle.pod_laws.proofs.EveryStep.{Lawful-step}
 use Rattle.pod_laws.proofs.TimerMoves.{no_timer_comes_unasked}
 use Rattle.std.proofs.Common.{Bool, List, None, Option, Some, [], ap, append-nil, append_assoc, arith, cond, drop, eqb, false, inl, inr, not, refl, subst, sym, true, ℕ, ◌&&◌, ◌++◌, ◌+◌, ◌∙◌, ◌∷◌, ◌≡◌, ◌≤◌, ◌⊎◌}
@@ -163,8 +163,8 @@ module _ (s k a : ℕ) (talk : Talk) (waiting : List (List ℕ)) where
     stands = b.stands;
     texts = b.texts;
     said = b.said;
-    heard = subst (IsHeard talk.client (talked s a talk b.events).client) (sym same) b.heard;
-    heard_keeper = λ s_k. subst (IsHeard talk.keeper (talked s a talk b.events).keeper) (sym same_k) (b.heard_keeper s_k);
+    heard = subst (IsHeard talk.client (after_events s a talk b.events).client) (sym same) b.heard;
+    heard_keeper = λ s_k. subst (IsHeard talk.keeper (after_events s a talk b.events).keeper) (sym same_k) (b.heard_keeper s_k);
   }
 
   leaves_same : (out : Outcome) (es : List Effect) → answers_to s es ≡ answers_to s out.effects → Leaves s talk out → Leaves s talk (record { after = out.after; effects = es })
@@ -179,7 +179,7 @@ module _ (s k a : ℕ) (talk : Talk) (waiting : List (List ℕ)) where
 
   -- a delivery behind it
   pub becomes_then : (session : SessionBody) (store : StoreBody) (one_texts two_texts replies : List (List ℕ)) (one : Outcome) (es : List Effect) (after : State) (b : Becomes s k a talk session store waiting one_texts replies one)
-      → Becomes s k a (talked s a talk b.events) (talked s a talk b.events).session (talked s a talk b.events).store b.waits two_texts [] (record { after = after; effects = es }) → Becomes s k a talk session store waiting (one_texts ++ two_texts) replies (record { after = after; effects = one.effects ++ es })
+      → Becomes s k a (after_events s a talk b.events) (after_events s a talk b.events).session (after_events s a talk b.events).store b.waits two_texts [] (record { after = after; effects = es }) → Becomes s k a talk session store waiting (one_texts ++ two_texts) replies (record { after = after; effects = one.effects ++ es })
   becomes_then session store one_texts two_texts replies one es after b d = record {
     events = b.events ++ d.events;
     waits = d.waits;
@@ -187,14 +187,14 @@ module _ (s k a : ℕ) (talk : Talk) (waiting : List (List ℕ)) where
     store_then = ap (λ (x : Talk). x.store) now ∙ d.store_then ∙ b.store_then;
     stands = subst (λ x. Stands s k a after x d.waits) (sym now) d.stands;
     texts = ap (λ (x : Talk). x.lines ++ d.waits) now ∙ d.texts ∙ ap (λ xs. xs ++ two_texts) b.texts ∙ append_assoc (talk.lines ++ waiting) one_texts two_texts;
-    said = ap (λ (x : Talk). x.told) now ∙ d.said ∙ append-nil (talked s a talk b.events).told ∙ b.said;
-    heard = subst (IsHeard talk.client (talked s a talk (b.events ++ d.events)).client) (sym (answers_append s one.effects es))
-        (subst (λ (x : Talk). IsHeard talk.client x.client (answers_to s one.effects ++ answers_to s es)) (sym now) (heard_then talk.client (talked s a talk b.events).client (talked s a (talked s a talk b.events) d.events).client (answers_to s one.effects) (answers_to s es) b.heard d.heard));
-    heard_keeper = λ s_k. subst (IsHeard talk.keeper (talked s a talk (b.events ++ d.events)).keeper) (sym (answers_append k one.effects es))
-        (subst (λ (x : Talk). IsHeard talk.keeper x.keeper (answers_to k one.effects ++ answers_to k es)) (sym now) (heard_then talk.keeper (talked s a talk b.events).keeper (talked s a (talked s a talk b.events) d.events).keeper (answers_to k one.effects) (answers_to k es) (b.heard_keeper s_k) (d.heard_keeper s_k)));
+    said = ap (λ (x : Talk). x.told) now ∙ d.said ∙ append-nil (after_events s a talk b.events).told ∙ b.said;
+    heard = subst (IsHeard talk.client (after_events s a talk (b.events ++ d.events)).client) (sym (answers_append s one.effects es))
+        (subst (λ (x : Talk). IsHeard talk.client x.client (answers_to s one.effects ++ answers_to s es)) (sym now) (heard_then talk.client (after_events s a talk b.events).client (after_events s a (after_events s a talk b.events) d.events).client (answers_to s one.effects) (answers_to s es) b.heard d.heard));
+    heard_keeper = λ s_k. subst (IsHeard talk.keeper (after_events s a talk (b.events ++ d.events)).keeper) (sym (answers_append k one.effects es))
+        (subst (λ (x : Talk). IsHeard talk.keeper x.keeper (answers_to k one.effects ++ answers_to k es)) (sym now) (heard_then talk.keeper (after_events s a talk b.events).keeper (after_events s a (after_events s a talk b.events) d.events).keeper (answers_to k one.effects) (answers_to k es) (b.heard_keeper s_k) (d.heard_keeper s_k)));
   }
     where
-      now : talked s a talk (b.events ++ d.events) ≡ talked s a (talked s a talk b.events) d.events
+      now : after_events s a talk (b.events ++ d.events) ≡ after_events s a (after_events s a talk b.events) d.events
       now = talked_append s a talk b.events d.events
 
   -- a report answers as the delivery that it is
@@ -205,7 +205,7 @@ module _ (s k a : ℕ) (talk : Talk) (waiting : List (List ℕ)) where
   pub becomes_said : (session : SessionBody) (store : StoreBody) (replies : List (List ℕ)) (after : State) (es : List Effect) (reports : List ℕ) → Lawful after None → texts_in a None es ≡ []
       → Becomes s k a talk session store waiting [] replies (record { after = after; effects = es })
       → Becomes s k a talk session store waiting (texts_in a None (rites_said after es reports).effects) replies (record { after = (rites_said after es reports).state; effects = (rites_said after es reports).effects })
-  becomes_said session store replies after es reports was none b = by_armed (armed after rites_event) refl reports
+  becomes_said session store replies after es reports was none b = by_armed (is_event_armed after rites_event) refl reports
     where
       Done : State → List Effect → Type 0
       Done st fs = Becomes s k a talk session store waiting (texts_in a None fs) replies (record { after = st; effects = fs })
@@ -213,12 +213,12 @@ module _ (s k a : ℕ) (talk : Talk) (waiting : List (List ℕ)) where
       silent : Done after es
       silent = subst (λ xs. Becomes s k a talk session store waiting xs replies (record { after = after; effects = es })) (sym none) b
 
-      by_armed : (b : Bool) → armed after rites_event ≡ b → (rs : List ℕ) → Done (cond b (first_reported after es rs) (record { state = after; reports = rs; effects = es })).state (cond b (first_reported after es rs) (record { state = after; reports = rs; effects = es })).effects
+      by_armed : (b : Bool) → is_event_armed after rites_event ≡ b → (rs : List ℕ) → Done (cond b (after_first_report after es rs) (record { state = after; reports = rs; effects = es })).state (cond b (after_first_report after es rs) (record { state = after; reports = rs; effects = es })).effects
       by_armed true arms [] = silent
       by_armed false arms rs = silent
       by_armed true arms (dead ∷ later) =
           let out = deliver after rites_event (report_text dead) in
-          let two = deliveries_are_events s k a after was (talked s a talk b.events) b.waits b.stands rites_event (report_text dead) arms in
+          let two = deliveries_are_events s k a after was (after_events s a talk b.events) b.waits b.stands rites_event (report_text dead) arms in
           let both = becomes_then session store [] (replicate (deliveries_to a out.effects) (report_text dead)) replies (record { after = after; effects = es }) out.effects out.after b two in
           subst (λ xs. Becomes s k a talk session store waiting xs replies (record { after = out.after; effects = es ++ map (as_rites dead) out.effects })) (sym texts)
           (becomes_same session store ([] ++ replicate (deliveries_to a out.effects) (report_text dead)) replies (record { after = out.after; effects = es ++ out.effects }) (es ++ map (as_rites dead) out.effects) (said_same es out.effects s dead) (said_same es out.effects k dead) both)
@@ -248,9 +248,9 @@ module _ (s : ℕ) (heard : List Answer) where
 
   -- and so does a report
   pub rests_said : (after : State) (es : List Effect) (reports : List ℕ) → Lawful after None → Rests s heard (record { after = after; effects = es }) → Rests s heard (record { after = (rites_said after es reports).state; effects = (rites_said after es reports).effects })
-  rests_said after es reports was r = by_armed (armed after rites_event) reports
+  rests_said after es reports was r = by_armed (is_event_armed after rites_event) reports
     where
-      by_armed : (b : Bool) (rs : List ℕ) → Rests s heard (record { after = (cond b (first_reported after es rs) (record { state = after; reports = rs; effects = es })).state; effects = (cond b (first_reported after es rs) (record { state = after; reports = rs; effects = es })).effects })
+      by_armed : (b : Bool) (rs : List ℕ) → Rests s heard (record { after = (cond b (after_first_report after es rs) (record { state = after; reports = rs; effects = es })).state; effects = (cond b (after_first_report after es rs) (record { state = after; reports = rs; effects = es })).effects })
       by_armed true [] = r
       by_armed false rs = r
       by_armed true (dead ∷ later) =
@@ -264,9 +264,9 @@ module _ (s : ℕ) (heard : List Answer) where
 
 -- a report bears nobody
 pub births_said : (after : State) (es : List Effect) (reports : List ℕ) → (rites_said after es reports).state.births ≡ after.births
-births_said after es reports = by_armed (armed after rites_event) reports
+births_said after es reports = by_armed (is_event_armed after rites_event) reports
   where
-    by_armed : (b : Bool) (rs : List ℕ) → (cond b (first_reported after es rs) (record { state = after; reports = rs; effects = es })).state.births ≡ after.births
+    by_armed : (b : Bool) (rs : List ℕ) → (cond b (after_first_report after es rs) (record { state = after; reports = rs; effects = es })).state.births ≡ after.births
     by_armed true [] = refl
     by_armed false rs = refl
     by_armed true (dead ∷ later) = births_deliver after rites_event (report_text dead)
@@ -349,32 +349,32 @@ module _ (s k a : ℕ) (st : State) (was : Lawful st None) (talk : Talk) (waitin
   after_trapped e after es m = after_as after es (effect.Trapped t e ∷ es) refl refl refl m
 
   module _ (trapped : List Bool) (c : Call) where
-    after_made : Fine c (made st trapped t c).state → Low (made st trapped t c).state → After (made st trapped t c).state (made st trapped t c).effects
+    after_made : Fine c (after_call st trapped t c).state → Low (after_call st trapped t c).state → After (after_call st trapped t c).state (after_call st trapped t c).effects
     after_made = by_trap (trap_of c)
       where
-        by_refusal : (e : ℕ) (o : Option LwpErr) → Fine c (trap_made st trapped t c e o).state → Low (trap_made st trapped t c e o).state → After (trap_made st trapped t c e o).state (trap_made st trapped t c e o).effects
+        by_refusal : (e : ℕ) (o : Option LwpErr) → Fine c (after_trap st trapped t c e o).state → Low (after_trap st trapped t c e o).state → After (after_trap st trapped t c e o).state (after_trap st trapped t c e o).effects
         by_refusal e None fine low = after_none c _
         by_refusal e (Some why) fine low = after_none c _
 
-        by_agent : (b : Bool) → Fine c (cond b (refused_by st trapped t c error.InUse) (stepped trapped (step st c))).state → Low (cond b (refused_by st trapped t c error.InUse) (stepped trapped (step st c))).state
-            → After (cond b (refused_by st trapped t c error.InUse) (stepped trapped (step st c))).state (cond b (refused_by st trapped t c error.InUse) (stepped trapped (step st c))).effects
+        by_agent : (b : Bool) → Fine c (cond b (refused_by st trapped t c error.InUse) (after_machine_step trapped (step st c))).state → Low (cond b (refused_by st trapped t c error.InUse) (after_machine_step trapped (step st c))).state
+            → After (cond b (refused_by st trapped t c error.InUse) (after_machine_step trapped (step st c))).state (cond b (refused_by st trapped t c error.InUse) (after_machine_step trapped (step st c))).effects
         by_agent true fine low = after_none c _
         by_agent false fine low = after_step c fine low
 
-        by_trap : (o : Option ℕ) → Fine c (made_as st trapped t c o).state → Low (made_as st trapped t c o).state → After (made_as st trapped t c o).state (made_as st trapped t c o).effects
+        by_trap : (o : Option ℕ) → Fine c (after_call_as st trapped t c o).state → Low (after_call_as st trapped t c o).state → After (after_call_as st trapped t c o).state (after_call_as st trapped t c o).effects
         by_trap None fine low = by_agent (passes (is_trapped trapped) (agent_event_of c)) fine low
         by_trap (Some e) fine low = by_refusal e (trap_refusal st trapped e) fine low
 
-    after_called : (pending : Option ℕ) → Fine c (called st trapped t c pending).state → Low (called st trapped t c pending).state → After (called st trapped t c pending).state (called st trapped t c pending).effects
+    after_called : (pending : Option ℕ) → Fine c (after_trap_and_call st trapped t c pending).state → Low (after_trap_and_call st trapped t c pending).state → After (after_trap_and_call st trapped t c pending).state (after_trap_and_call st trapped t c pending).effects
     after_called None fine low = after_made fine low
     after_called (Some e) fine low = by_given (passes is_given (notice st t e)) (passes is_catch (notice st t e)) fine low
       where
         by_given : (b d : Bool)
-            → Fine c (cond b (made st trapped t c) (cond d (stepped trapped (but_call (step st (call.ExcNotify e)))) (stepped trapped (but_call (step st (call.Destroy t)))))).state
-            → Low (cond b (made st trapped t c) (cond d (stepped trapped (but_call (step st (call.ExcNotify e)))) (stepped trapped (but_call (step st (call.Destroy t)))))).state
+            → Fine c (cond b (after_call st trapped t c) (cond d (after_machine_step trapped (but_call (step st (call.ExcNotify e)))) (after_machine_step trapped (but_call (step st (call.Destroy t)))))).state
+            → Low (cond b (after_call st trapped t c) (cond d (after_machine_step trapped (but_call (step st (call.ExcNotify e)))) (after_machine_step trapped (but_call (step st (call.Destroy t)))))).state
             → After
-            (cond b (made st trapped t c) (cond d (stepped trapped (but_call (step st (call.ExcNotify e)))) (stepped trapped (but_call (step st (call.Destroy t)))))).state
-            (effect.Trapped t e ∷ (cond b (made st trapped t c) (cond d (stepped trapped (but_call (step st (call.ExcNotify e)))) (stepped trapped (but_call (step st (call.Destroy t)))))).effects)
+            (cond b (after_call st trapped t c) (cond d (after_machine_step trapped (but_call (step st (call.ExcNotify e)))) (after_machine_step trapped (but_call (step st (call.Destroy t)))))).state
+            (effect.Trapped t e ∷ (cond b (after_call st trapped t c) (cond d (after_machine_step trapped (but_call (step st (call.ExcNotify e)))) (after_machine_step trapped (but_call (step st (call.Destroy t)))))).effects)
         by_given true d fine low = after_trapped e _ _ (after_made fine low)
         by_given false true fine low = after_trapped e _ _ (after_but (call.ExcNotify e) (after_step (call.ExcNotify e) (inl refl) low))
         by_given false false fine low = after_trapped e _ _ (after_but (call.Destroy t) (after_step (call.Destroy t) (inl (and_from _ _ (ap not t_s) (ap not t_k))) low))
@@ -405,7 +405,7 @@ module _ (s k a : ℕ) (es : EventState) (was : Lawful es.state None) (talk : Ta
       → Becomes s k a talk talk.session talk.store waiting (texts_in a None (event_step es c).effects) [] (machine_of (event_step es c)) ⊎ Leaves s talk (machine_of (event_step es c))
   unfolding event_step event_step_by
   calls_fine fine low =
-      let out = called es.state es.trapped t c es.pending in
+      let out = after_trap_and_call es.state es.trapped t c es.pending in
       let reports = reports_after es.state out.state es.reports out.effects in
       subst (λ o. Fine s k a es.state was talk waiting h t turn t_s t_k c (event_step_if es c o).after.state → (talk.session.place ≡ at.Start → (event_step_if es c o).after.state.births ≤ a) → Becomes s k a talk talk.session talk.store waiting (texts_in a None (event_step_if es c o).effects) [] (machine_of (event_step_if es c o)) ⊎ Leaves s talk (machine_of (event_step_if es c o))) (sym turn)
       (λ fine low. after_said s k a es.state was talk waiting h t turn t_s t_k out.state out.effects reports (after_called s k a es.state was talk waiting h t turn t_s t_k es.trapped c es.pending (fine_before out.state out.effects reports fine)
@@ -425,9 +425,9 @@ takes_are_events s k a es was talk waiting h away e text may = by_trapped (is_tr
     still_told : texts_in a (Some text) (effect.Delivered null_id e ∷ []) ≡ []
     still_told = rw away refl
 
-    by_trapped : (b : Bool) → cond b (may_trap es) (nat_lt e rites_event && armed es.state e) ≡ true
-        → Becomes s k a talk talk.session talk.store waiting (texts_in a (Some text) (cond b (trap_taken es e) (passed_on es (deliver es.state e text))).effects) [] (machine_of (cond b (trap_taken es e) (passed_on es (deliver es.state e text))))
-    by_trapped true may = subst (λ xs. Becomes s k a talk talk.session talk.store waiting xs [] (machine_of (trap_taken es e))) (sym still_told) (record {
+    by_trapped : (b : Bool) → cond b (may_trap es) (nat_lt e rites_event && is_event_armed es.state e) ≡ true
+        → Becomes s k a talk talk.session talk.store waiting (texts_in a (Some text) (cond b (after_take_trap es e) (after_pass_on es (deliver es.state e text))).effects) [] (machine_of (cond b (after_take_trap es e) (after_pass_on es (deliver es.state e text))))
+    by_trapped true may = subst (λ xs. Becomes s k a talk talk.session talk.store waiting xs [] (machine_of (after_take_trap es e))) (sym still_told) (record {
       events = [];
       waits = waiting;
       session_then = refl;
@@ -439,4 +439,4 @@ takes_are_events s k a es was talk waiting h away e text may = by_trapped (is_tr
       heard_keeper = λ s_k z x. x;
     })
     by_trapped false may = subst (λ xs. Becomes s k a talk talk.session talk.store waiting xs [] (deliver es.state e text)) (sym (lines_told a text (deliver es.state e text).effects (tame_deliver es.state e text)))
-        (deliveries_are_events s k a es.state was talk waiting h e text (and_parts (nat_lt e rites_event) (armed es.state e) may).1)
+        (deliveries_are_events s k a es.state was talk waiting h e text (and_parts (nat_lt e rites_event) (is_event_armed es.state e) may).1)

@@ -3,14 +3,14 @@ use Rattle.answer_laws.proofs.Others.{attends_of, finished_told}
 use Rattle.answer_laws.proofs.Sights.{Attends, answers_append, blocked_other, left_wake, received_own, without_own}
 use Rattle.answer_laws.specs.Replies.{Asks, EachHasOneLetter, IsReceived, IsReplied, ReadersLeaveTheRest, ReceivesAreTheLetters, RepliesAreTheAnswers, takes_other}
 use Rattle.answer_laws.specs.Sights.{IsLeft, answers_to, going_on, sight, sight_by}
-use Rattle.lwp_types.specs.Case.{Case, Check, answered, is_no_id, refused, unanswered, unless, with_zero}
+use Rattle.lwp_types.specs.Case.{Case, Check, answer_case, is_no_id, refusal_case, silent_case, unless, with_zero}
 use Rattle.lwp_types.specs.CountLaws.{one-le}
 use Rattle.lwp_types.specs.FirstLaws.{find-filter}
 use Rattle.lwp_types.specs.Lawful.{Lawful}
-use Rattle.lwp_types.specs.Messages.{as_answer, as_received, is_from, is_letter_of, is_no_source, is_open, is_to, marked_received, receive_by, received_from, reception_set, replied, unreceived, with_holding, without_letter}
+use Rattle.lwp_types.specs.Messages.{after_reply, as_answer, as_received, is_from, is_letter_of, is_no_source, is_open, is_to, marked_received, next_letter, receive_by, received_from, reception_set, with_holding, without_letter}
 use Rattle.lwp_types.specs.State.{State, ThreadRow, block_set, is_agent, is_id, is_number, is_thread, passes, still, thread_of, with_block}
-use Rattle.lwp_types.specs.Step.{case_of, end_effects, ends, finished, step, step_by, step_if}
-use Rattle.lwp_types.specs.Unblock.{blocked, blocked_for, unblock}
+use Rattle.lwp_types.specs.Step.{case_of, end_effects, ends, step, step_by, step_if, step_outcome}
+use Rattle.lwp_types.specs.Unblock.{after_block, after_block_for, unblock}
 use Rattle.lwp_types.specs.declared.call.Answer.{Answer}
 use Rattle.lwp_types.specs.declared.call.Call.{Call}
 use Rattle.lwp_types.specs.declared.call.Mode.{Mode}
@@ -46,20 +46,20 @@ unfolding unless
 unless_passed s [] otherwise h = refl
 unless_passed s (check ∷ checks) otherwise h = by_test check.0 h.0 (unless_passed s checks otherwise h.1)
   where
-    by_test : (b : Bool) → b ≡ false → unless s checks otherwise ≡ otherwise → cond b (refused s check.1) (unless s checks otherwise) ≡ otherwise
+    by_test : (b : Bool) → b ≡ false → unless s checks otherwise ≡ otherwise → cond b (refusal_case s check.1) (unless s checks otherwise) ≡ otherwise
     by_test true e rest = absurd (cc)
     by_test false e rest = rest
 
-pub unless_struck : (s : State) (before : List Check) (check : Check) (otherwise : Case) → Passed before → check.0 ≡ true → unless s (before ++ check ∷ []) otherwise ≡ refused s check.1
+pub unless_struck : (s : State) (before : List Check) (check : Check) (otherwise : Case) → Passed before → check.0 ≡ true → unless s (before ++ check ∷ []) otherwise ≡ refusal_case s check.1
 unfolding unless
 unless_struck s [] check otherwise h e = by_test check.0 e
   where
-    by_test : (b : Bool) → b ≡ true → cond b (refused s check.1) otherwise ≡ refused s check.1
+    by_test : (b : Bool) → b ≡ true → cond b (refusal_case s check.1) otherwise ≡ refusal_case s check.1
     by_test true e = refl
     by_test false e = absurd (cc)
 unless_struck s (first ∷ before) check otherwise h e = by_test first.0 h.0 (unless_struck s before check otherwise h.1 e)
   where
-    by_test : (b : Bool) → b ≡ false → unless s (before ++ check ∷ []) otherwise ≡ refused s check.1 → cond b (refused s first.1) (unless s (before ++ check ∷ []) otherwise) ≡ refused s check.1
+    by_test : (b : Bool) → b ≡ false → unless s (before ++ check ∷ []) otherwise ≡ refusal_case s check.1 → cond b (refusal_case s first.1) (unless s (before ++ check ∷ []) otherwise) ≡ refusal_case s check.1
     by_test true e rest = absurd (cc)
     by_test false e rest = rest
 
@@ -145,7 +145,7 @@ module _ (s : State) (was : Lawful s None) (t u : ℕ) (l : Letter) (asks : Asks
     too_long : passes (λ (letter : Letter). nat_lt letter.room (length text)) (received_from s.letters t u) ≡ nat_lt l.room (length text)
     too_long = ap (passes (λ (letter : Letter). nat_lt letter.room (length text))) (found received)
 
-    replied_so : replied u text s ≡ unblock (answer.Reply text) u (record s { letters = without_letter u s.letters })
+    replied_so : after_reply u text s ≡ unblock (answer.Reply text) u (record s { letters = without_letter u s.letters })
     replied_so = by_agent (is_agent s u) (no_agent s None was.nine u row known)
       where
         by_agent : (b : Bool) → b ≡ false → cond b (still (record s { letters = without_letter u s.letters; agents = with_holding u false s.agents })) (unblock (answer.Reply text) u (record s { letters = without_letter u s.letters })) ≡ unblock (answer.Reply text) u (record s { letters = without_letter u s.letters })
@@ -155,8 +155,8 @@ module _ (s : State) (was : Lawful s None) (t u : ℕ) (l : Letter) (asks : Asks
     made_fits : length text ≤ l.room → case_of s t (call.Reply u text) ≡ with_zero (unblock (answer.Reply text) u (record s { letters = without_letter u s.letters }))
     made_fits fits = unless_passed s _ _ (ap not is_there, (waits_none, (too_long ∙ le-ltb l.room (length text) fits, tt))) ∙ ap with_zero replied_so
 
-    made_exceeds : l.room < length text → case_of s t (call.Reply u text) ≡ refused s error.InvalidArg
-    made_exceeds longer = unless_struck s (is_no_id s u ∷ (is_none (received_from s.letters t u), error.NoWait) ∷ []) (passes (λ (letter : Letter). nat_lt letter.room (length text)) (received_from s.letters t u), error.InvalidArg) (with_zero (replied u text s)) (ap not is_there, (waits_none, tt)) (too_long ∙ lt-ltb l.room (length text) longer)
+    made_exceeds : l.room < length text → case_of s t (call.Reply u text) ≡ refusal_case s error.InvalidArg
+    made_exceeds longer = unless_struck s (is_no_id s u ∷ (is_none (received_from s.letters t u), error.NoWait) ∷ []) (passes (λ (letter : Letter). nat_lt letter.room (length text)) (received_from s.letters t u), error.InvalidArg) (with_zero (after_reply u text s)) (ap not is_there, (waits_none, tt)) (too_long ∙ lt-ltb l.room (length text) longer)
 
     goes_now : sight (unblock (answer.Reply text) u (record s { letters = without_letter u s.letters })).after u ≡ record (going_on (sight s u)) { letters = [] }
     goes_now = (λ i. sight_by (now i) (filter_none (is_letter_of u) s.letters i)) ∙ goes (is_number u row) (eq-eqb row.number u (number_known s.threads u row known))
@@ -171,18 +171,18 @@ module _ (s : State) (was : Lawful s None) (t u : ℕ) (l : Letter) (asks : Asks
     told_one : (a : Answer) → answers_to u (effect.Answered u a ∷ []) ≡ a ∷ []
     told_one a = rw (eq-eqb u u refl) refl
 
-    is_replied : length text ≤ l.room → IsReplied u text s (finished t (call.Reply u text) (case_of s t (call.Reply u text)))
-    is_replied fits = subst (λ made. IsReplied u text s (finished t (call.Reply u text) made)) (sym (made_fits fits)) (record {
+    is_replied : length text ≤ l.room → IsReplied u text s (step_outcome t (call.Reply u text) (case_of s t (call.Reply u text)))
+    is_replied fits = subst (λ made. IsReplied u text s (step_outcome t (call.Reply u text) made)) (sym (made_fits fits)) (record {
       goes_on = goes_now;
       told = finished_told u t apart (call.Reply u text) (with_zero (unblock (answer.Reply text) u (record s { letters = without_letter u s.letters }))) ∙ told_one (answer.Reply text);
     })
 
-    is_left : l.room < length text → IsLeft u s (finished t (call.Reply u text) (case_of s t (call.Reply u text)))
-    is_left longer = subst (λ made. IsLeft u s (finished t (call.Reply u text) made)) (sym (made_exceeds longer)) (record { same = refl; quiet = finished_told u t apart (call.Reply u text) (refused s error.InvalidArg) })
+    is_left : l.room < length text → IsLeft u s (step_outcome t (call.Reply u text) (case_of s t (call.Reply u text)))
+    is_left longer = subst (λ made. IsLeft u s (step_outcome t (call.Reply u text) made)) (sym (made_exceeds longer)) (record { same = refl; quiet = finished_told u t apart (call.Reply u text) (refusal_case s error.InvalidArg) })
 
   -- ---- a receive
 
-  module _ (from : Option ℕ) (how : Mode) (first : unreceived s.letters t from ≡ Some l) where
+  module _ (from : Option ℕ) (how : Mode) (first : next_letter s.letters t from ≡ Some l) where
     named : (o : Option ℕ) → is_from o l ≡ true → ((is_no_source s o).0 ≡ false) × (passes (λ x. eqb x t) o ≡ false)
     named None h = (refl, refl)
     named (Some x) h =
@@ -192,7 +192,7 @@ module _ (s : State) (was : Lawful s None) (t u : ℕ) (l : Letter) (asks : Asks
     checks : ((is_no_source s from).0 ≡ false) × (passes (λ x. eqb x t) from ≡ false)
     checks = named from (and_parts (not l.received) (is_from from l) (find_passes (is_open from) (filter (is_to t) s.letters) l first)).1
 
-    made_received : case_of s t (call.Recv from how) ≡ answered (record s { letters = marked_received l.from s.letters }) (as_answer l)
+    made_received : case_of s t (call.Recv from how) ≡ answer_case (record s { letters = marked_received l.from s.letters }) (as_answer l)
     made_received = unless_passed s _ _ (checks.0, (checks.1, tt)) ∙ ap (receive_by s t from how) first
 
     marked : filter (is_letter_of u) (marked_received l.from s.letters) ≡ as_received l ∷ []
@@ -212,12 +212,12 @@ module _ (s : State) (was : Lawful s None) (t u : ℕ) (l : Letter) (asks : Asks
         no_end true = refl
         no_end false = refl
 
-    is_received : IsReceived u t l s (finished t (call.Recv from how) (case_of s t (call.Recv from how)))
+    is_received : IsReceived u t l s (step_outcome t (call.Recv from how) (case_of s t (call.Recv from how)))
     is_received =
         let after = record s { letters = marked_received l.from s.letters } in
-        subst (λ made. IsReceived u t l s (finished t (call.Recv from how) made)) (sym made_received) (record {
+        subst (λ made. IsReceived u t l s (step_outcome t (call.Recv from how) made)) (sym made_received) (record {
           seen = λ i. sight_by (thread_of s u) (marked i);
-          quiet = finished_told u t apart (call.Recv from how) (answered after (as_answer l));
+          quiet = finished_told u t apart (call.Recv from how) (answer_case after (as_answer l));
           handed = handed_one after (as_answer l);
         })
 
@@ -245,11 +245,11 @@ module _ (s : State) (t u : ℕ) (apart : t ≢ u) (here : Attends u Never s) wh
   unless_left [] otherwise fine = fine
   unless_left (check ∷ checks) otherwise fine = by_test check.0 (unless_left checks otherwise fine)
     where
-      by_test : (b : Bool) → IsLeft u s (of_case (unless s checks otherwise)) → IsLeft u s (of_case (cond b (refused s check.1) (unless s checks otherwise)))
+      by_test : (b : Bool) → IsLeft u s (of_case (unless s checks otherwise)) → IsLeft u s (of_case (cond b (refusal_case s check.1) (unless s checks otherwise)))
       by_test true rest = record { same = refl; quiet = refl }
       by_test false rest = rest
 
-  left_replied : (v : ℕ) (text : List ℕ) → v ≢ u → IsLeft u s (replied v text s)
+  left_replied : (v : ℕ) (text : List ℕ) → v ≢ u → IsLeft u s (after_reply v text s)
   left_replied v text other = by_agent (is_agent s v)
     where
       by_agent : (b : Bool) → IsLeft u s (cond b (still (record s { letters = without_letter v s.letters; agents = with_holding v false s.agents })) (unblock (answer.Reply text) v (record s { letters = without_letter v s.letters })))
@@ -265,21 +265,21 @@ module _ (s : State) (t u : ℕ) (apart : t ≢ u) (here : Attends u Never s) wh
       not_is : (n : ℕ) → not (eqb n u) ≡ true → n ≢ u
       not_is n h e = let bad : false ≡ true = sym (ap not (eq-eqb n u e)) ∙ h in cc
   left_received from mode.Poll None h = record { same = refl; quiet = refl }
-  left_received from mode.Block None h = blocked_left (blocked s t (block.Receiving from)) (block.Receiving from) refl refl
+  left_received from mode.Block None h = blocked_left (after_block s t (block.Receiving from)) (block.Receiving from) refl refl
   left_received from (mode.Until ticks) None h = by_ticks (eqb ticks 0)
     where
-      by_ticks : (b : Bool) → IsLeft u s (of_case (cond b (refused s error.Timeout) (unanswered (still (blocked_for s t (block.Receiving from) ticks)))))
+      by_ticks : (b : Bool) → IsLeft u s (of_case (cond b (refusal_case s error.Timeout) (silent_case (still (after_block_for s t (block.Receiving from) ticks)))))
       by_ticks true = record { same = refl; quiet = refl }
-      by_ticks false = blocked_left (blocked_for s t (block.Receiving from) ticks) (block.Receiving from) refl refl
+      by_ticks false = blocked_left (after_block_for s t (block.Receiving from) ticks) (block.Receiving from) refl refl
 
-  finished_left : (c : Call) → IsLeft u s (of_case (case_of s t c)) → IsLeft u s (finished t c (case_of s t c))
+  finished_left : (c : Call) → IsLeft u s (of_case (case_of s t c)) → IsLeft u s (step_outcome t c (case_of s t c))
   finished_left c left = record { same = left.same; quiet = finished_told u t apart c (case_of s t c) ∙ left.quiet }
 
 pub readers_leave_the_rest : ReadersLeaveTheRest
 unfolding step step_by
 readers_leave_the_rest s t u turn other attentive = record {
   replies = λ v text h. subst (λ o. IsLeft u s (step_if s (call.Reply v text) o)) (sym turn) (finished_left s t u (differs t other) here (call.Reply v text) (unless_left s t u (differs t other) here _ _ (left_replied s t u (differs t other) here v text (differs v h))));
-  receives = λ from how h. subst (λ o. IsLeft u s (step_if s (call.Recv from how) o)) (sym turn) (finished_left s t u (differs t other) here (call.Recv from how) (unless_left s t u (differs t other) here _ _ (left_received s t u (differs t other) here from how (unreceived s.letters t from) h)));
+  receives = λ from how h. subst (λ o. IsLeft u s (step_if s (call.Recv from how) o)) (sym turn) (finished_left s t u (differs t other) here (call.Recv from how) (unless_left s t u (differs t other) here _ _ (left_received s t u (differs t other) here from how (next_letter s.letters t from) h)));
 }
   where
     differs : (n : ℕ) → eqb n u ≡ false → n ≢ u

@@ -8,9 +8,9 @@ use Rattle.answer_laws.proofs.TalkTexts.{births_deliver}
 use Rattle.answer_laws.specs.Agents.{deliveries_to}
 use Rattle.answer_laws.specs.Clients.{delivered_to}
 use Rattle.answer_laws.specs.Lengths.{is_short}
-use Rattle.answer_laws.specs.Served.{CanGoOn, gone_on, line_is_short, moved_by, steps_of}
+use Rattle.answer_laws.specs.Served.{CanGoOn, after_move, after_moves, line_is_short, steps_of}
 use Rattle.answer_laws.specs.Stands.{texts_in}
-use Rattle.lwp_types.specs.Agents.{armed, deliver}
+use Rattle.lwp_types.specs.Agents.{deliver, is_event_armed}
 use Rattle.lwp_types.specs.Choice.{choice}
 use Rattle.lwp_types.specs.CountLaws.{count-append, count-cons, one}
 use Rattle.lwp_types.specs.Lawful.{Lawful}
@@ -18,13 +18,13 @@ use Rattle.lwp_types.specs.Names.{null_id, polled_as}
 use Rattle.lwp_types.specs.State.{Outcome, State, all_below}
 use Rattle.lwp_types.specs.declared.call.Call.{Call}
 use Rattle.lwp_types.specs.declared.call.Effect.{Effect}
-use Rattle.pod_events.specs.Events.{EventState, has_agent, is_trapped, passed_on, rites_event, take_event, trap_taken}
-use Rattle.pod_events.specs.Rites.{as_rites, deaths, first_reported, is_reported, mourned, report_text, reports_after, rites_said}
+use Rattle.pod_events.specs.Events.{EventState, after_pass_on, after_take_trap, has_agent, is_trapped, rites_event, take_event}
+use Rattle.pod_events.specs.Rites.{after_first_report, as_rites, dead_to_report, deaths, is_reported, report_text, reports_after, rites_said}
 use Rattle.pod_events.specs.Step.{event_step, event_step_by, event_step_if}
-use Rattle.pod_events.specs.Traps.{called as traps_called}
+use Rattle.pod_events.specs.Traps.{after_trap_and_call as traps_called}
 use Rattle.pod_laws.proofs.Elements.{all_filter}
 use Rattle.pod_laws.specs.Forgotten.{is_died}
-use Rattle.pod_runner.specs.Session.{Live, Made, Session, Setting, called, move, move_by, move_row, row_of, taken}
+use Rattle.pod_runner.specs.Session.{Live, Made, Session, Setting, call_move, move, move_by, move_row, row_of, take_move}
 use Rattle.pod_runner.specs.declared.session.Row.{Row}
 use Rattle.pod_runner.specs.declared.session.Took.{Took}
 use Rattle.session_laws.proofs.Pods.{call_moved}
@@ -80,21 +80,21 @@ module _ (a : ℕ) (es : EventState) (was : Lawful es.state None) (h : Below es)
   after_below : (now : State) (fs : List Effect) → es.state.births ≤ now.births → ((n : ℕ) → 1 ≤ count_by (is_died n) fs → n < now.births) → all_below now.births (reports_after es.state now es.reports fs) ≡ true
   after_below now fs more died = by_agent (has_agent now rites_event)
     where
-      by_agent : (b : Bool) → all_below now.births (cond b (es.reports ++ mourned es.state (deaths fs)) []) ≡ true
+      by_agent : (b : Bool) → all_below now.births (cond b (es.reports ++ dead_to_report es.state (deaths fs)) []) ≡ true
       by_agent false = refl
-      by_agent true = below_both now.births es.reports (mourned es.state (deaths fs)) (below_more es.state.births now.births es.reports more h)
+      by_agent true = below_both now.births es.reports (dead_to_report es.state (deaths fs)) (below_more es.state.births now.births es.reports more h)
           (all_filter (λ n. nat_lt n now.births) (λ n. nat_lt n now.births) (is_reported es.state) (λ n kept low. low) (deaths fs) (deaths_below now.births fs died))
 
   said : (now : State) (fs : List Effect) (reports : List ℕ) → all_below now.births reports ≡ true → texts_in a None fs ≡ []
       → (all_below (rites_said now fs reports).state.births (rites_said now fs reports).reports ≡ true) × ((rites_said now fs reports).state.births < null_id → list_all is_short (texts_in a None (rites_said now fs reports).effects) ≡ true)
-  said now fs reports below none = (subst (λ n. all_below n (rites_said now fs reports).reports ≡ true) (sym (births_said now fs reports)) (left_below (armed now rites_event) reports below), λ few. short_by (omega (arith, few, births_said now fs reports)) (armed now rites_event) reports below)
+  said now fs reports below none = (subst (λ n. all_below n (rites_said now fs reports).reports ≡ true) (sym (births_said now fs reports)) (left_below (is_event_armed now rites_event) reports below), λ few. short_by (omega (arith, few, births_said now fs reports)) (is_event_armed now rites_event) reports below)
     where
-      left_below : (b : Bool) (rs : List ℕ) → all_below now.births rs ≡ true → all_below now.births (cond b (first_reported now fs rs) (record { state = now; reports = rs; effects = fs })).reports ≡ true
+      left_below : (b : Bool) (rs : List ℕ) → all_below now.births rs ≡ true → all_below now.births (cond b (after_first_report now fs rs) (record { state = now; reports = rs; effects = fs })).reports ≡ true
       left_below true [] low = refl
       left_below false rs low = low
       left_below true (dead ∷ later) low = (and_parts (nat_lt dead now.births) (all_below now.births later) low).1
 
-      short_by : now.births < null_id → (b : Bool) (rs : List ℕ) → all_below now.births rs ≡ true → list_all is_short (texts_in a None (cond b (first_reported now fs rs) (record { state = now; reports = rs; effects = fs })).effects) ≡ true
+      short_by : now.births < null_id → (b : Bool) (rs : List ℕ) → all_below now.births rs ≡ true → list_all is_short (texts_in a None (cond b (after_first_report now fs rs) (record { state = now; reports = rs; effects = fs })).effects) ≡ true
       short_by few true [] low = ap (list_all is_short) none
       short_by few false rs low = ap (list_all is_short) none
       short_by few true (dead ∷ later) low =
@@ -106,9 +106,9 @@ module _ (a : ℕ) (es : EventState) (was : Lawful es.state None) (h : Below es)
 -- ---- a call, and a take
 
 died_by : (now : State) (fs : List Effect) (reports : List ℕ) → ((n : ℕ) → 1 ≤ count_by (is_died n) (rites_said now fs reports).effects → n < (rites_said now fs reports).state.births) → (n : ℕ) → 1 ≤ count_by (is_died n) fs → n < now.births
-died_by now fs reports died n some = subst (λ m. n < m) (births_said now fs reports) (died n (by_armed (armed now rites_event) reports))
+died_by now fs reports died n some = subst (λ m. n < m) (births_said now fs reports) (died n (by_armed (is_event_armed now rites_event) reports))
   where
-    by_armed : (b : Bool) (rs : List ℕ) → 1 ≤ count_by (is_died n) (cond b (first_reported now fs rs) (record { state = now; reports = rs; effects = fs })).effects
+    by_armed : (b : Bool) (rs : List ℕ) → 1 ≤ count_by (is_died n) (cond b (after_first_report now fs rs) (record { state = now; reports = rs; effects = fs })).effects
     by_armed true [] = some
     by_armed false rs = some
     by_armed true (dead ∷ later) = omega (arith, some, count-append (is_died n) fs (map (as_rites dead) (deliver now rites_event (report_text dead)).effects))
@@ -136,7 +136,7 @@ take_reported a es h e text short = by_trapped (is_trapped es.trapped e)
     by_test true = and_from _ _ short refl
     by_test false = refl
 
-    by_trapped : (b : Bool) → Below (cond b (trap_taken es e) (passed_on es (deliver es.state e text))).after × (list_all is_short (texts_in a (Some text) (cond b (trap_taken es e) (passed_on es (deliver es.state e text))).effects) ≡ true)
+    by_trapped : (b : Bool) → Below (cond b (after_take_trap es e) (after_pass_on es (deliver es.state e text))).after × (list_all is_short (texts_in a (Some text) (cond b (after_take_trap es e) (after_pass_on es (deliver es.state e text))).effects) ≡ true)
     by_trapped true = (h, by_test (eqb null_id a))
     by_trapped false = (
       subst (λ n. all_below n es.reports ≡ true) (sym (births_deliver es.state e text)) h,
@@ -155,7 +155,7 @@ module _ {B : Type 0} (setting : Setting B) where
   pushed steps m a one two = ap (list_all is_short) (sym (got_more steps m a)) ∙ all_both (delivered_to a (steps_of steps)) (texts_in a (option_map (λ (took : Took). took.line.text) m.take) m.effects) one two
 
   call_short : (live : Live B) → Lawful live.pod.state None → Below live.pod → (a : ℕ) → Reported a live.pod (move setting.next setting.bodies live).live.pod (move setting.next setting.bodies live).effects
-  unfolding move called
+  unfolding move call_move
   call_short live was h a = by_choice (choice live.pod.state)
     where
       by_row : (t : ℕ) (o : Option (Row B)) → Reported a live.pod (move_row setting.next setting.bodies live t o).live.pod (move_row setting.next setting.bodies live t o).effects
@@ -166,19 +166,19 @@ module _ {B : Type 0} (setting : Setting B) where
       by_choice None = record { below = h; short = λ few. refl }
       by_choice (Some t) = by_row t (row_of t live.rows)
 
-  move_short : (session : Session B) (m : Option Took) → Lawful session.live.pod.state None → IsShortSoFar session → (moved_by setting session m).live.pod.state.births < null_id → line_is_short m ≡ true → IsShortSoFar (moved_by setting session m)
-  unfolding taken
+  move_short : (session : Session B) (m : Option Took) → Lawful session.live.pod.state None → IsShortSoFar session → (after_move setting session m).live.pod.state.births < null_id → line_is_short m ≡ true → IsShortSoFar (after_move setting session m)
+  unfolding take_move
   move_short session None was h few line = record {
     below = (call_short session.live was h.below 0).below;
     short = λ a. pushed session.steps (record { take = None; effects = (move setting.next setting.bodies session.live).effects }) a (h.short a) ((call_short session.live was h.below a).short few);
   }
   move_short session (Some took) was h few line = record {
     below = (take_reported 0 session.live.pod h.below took.event took.line.text line).0;
-    short = λ a. pushed session.steps (record { take = Some took; effects = (taken setting.bodies took session.live).effects }) a (h.short a) (take_reported a session.live.pod h.below took.event took.line.text line).1;
+    short = λ a. pushed session.steps (record { take = Some took; effects = (take_move setting.bodies took session.live).effects }) a (h.short a) (take_reported a session.live.pod h.below took.event took.line.text line).1;
   }
 
-  pub moves_short : (moves : List (Option Took)) (session : Session B) → Lawful session.live.pod.state None → CanGoOn setting moves session → IsShortSoFar session → (gone_on setting moves session).live.pod.state.births < null_id → list_all line_is_short moves ≡ true → IsShortSoFar (gone_on setting moves session)
+  pub moves_short : (moves : List (Option Took)) (session : Session B) → Lawful session.live.pod.state None → CanGoOn setting moves session → IsShortSoFar session → (after_moves setting moves session).live.pod.state.births < null_id → list_all line_is_short moves ≡ true → IsShortSoFar (after_moves setting moves session)
   moves_short [] session was can h few lines = h
   moves_short (m ∷ ms) session was can h few lines =
       let parts = and_parts (line_is_short m) (list_all line_is_short ms) lines in
-      moves_short ms (moved_by setting session m) (moved_lawful setting session m can.0 was) can.1 (move_short session m was h (omega (arith, few, (gone_fades setting 0 ms (moved_by setting session m)).births)) parts.0) few parts.1
+      moves_short ms (after_move setting session m) (moved_lawful setting session m can.0 was) can.1 (move_short session m was h (omega (arith, few, (gone_fades setting 0 ms (after_move setting session m)).births)) parts.0) few parts.1

@@ -13,7 +13,7 @@ use Rattle.answer_laws.proofs.ThreadRows.{row_polled_other, row_polled_own, row_
 use Rattle.answer_laws.specs.Clients.{Step, all_sends_to, delivered_to, names_only, replied_in, replied_to, sends_nothing, sends_only, text_to}
 use Rattle.answer_laws.specs.Events.{machine_of}
 use Rattle.answer_laws.specs.Lengths.{is_short}
-use Rattle.answer_laws.specs.Served.{CanGoOn, LineServer, gone_on, is_move_due, moved_by, step_of, steps_of}
+use Rattle.answer_laws.specs.Served.{CanGoOn, LineServer, after_move, after_moves, is_move_due, step_of, steps_of}
 use Rattle.answer_laws.specs.Sights.{IsLeft, IsWoken, Sight, answers_to, sight}
 use Rattle.answer_laws.specs.Stands.{Becomes, HeardAs, Leaves, Stands, is_posted, is_short_to, last_heard, texts_in}
 use Rattle.answer_laws.specs.Talks.{Mail.Received, Talk}
@@ -23,7 +23,7 @@ use Rattle.line_server.specs.declared.session.SessionPlace.TheVariants as at
 use Rattle.lwp_types.specs.Choice.{choice}
 use Rattle.lwp_types.specs.CountLaws.{count_found_and, one}
 use Rattle.lwp_types.specs.Counts.{is_timed, timers_of}
-use Rattle.lwp_types.specs.Agents.{armed, deliver}
+use Rattle.lwp_types.specs.Agents.{deliver, is_event_armed}
 use Rattle.lwp_types.specs.Lawful.{Lawful}
 use Rattle.lwp_types.specs.Messages.{is_to}
 use Rattle.lwp_types.specs.Unblock.{zero_answer}
@@ -36,15 +36,15 @@ use Rattle.lwp_types.specs.declared.call.Call.{Call}
 use Rattle.lwp_types.specs.declared.call.Effect.{Effect}
 use Rattle.lwp_types.specs.declared.call.LwpErr.{LwpErr}
 use Rattle.pod_events.specs.Events.{EventState, is_takeable, is_trapped, rites_event, take_event}
-use Rattle.pod_events.specs.Rites.{as_rites, first_reported, report_text, reports_after, rites_said}
+use Rattle.pod_events.specs.Rites.{after_first_report, as_rites, report_text, reports_after, rites_said}
 use Rattle.pod_events.specs.Step.{event_step}
-use Rattle.pod_events.specs.Traps.{agent_event_of, called as traps_called, made, made_as, refused_by, stepped, trap_made, trap_of, trap_refusal}
+use Rattle.pod_events.specs.Traps.{after_call, after_call_as, after_machine_step, after_trap, after_trap_and_call as traps_called, agent_event_of, refused_by, trap_of, trap_refusal}
 use Rattle.pod_laws.proofs.Chosen.{chosen}
 use Rattle.pod_laws.proofs.Rowed.{once_threads}
 use Rattle.pod_laws.proofs.Elements.{differ}
 use Rattle.pod_laws.proofs.Fading.{Fades, fades_still, fades_then}
 use Rattle.pod_laws.specs.Forgotten.{is_died}
-use Rattle.pod_runner.specs.Session.{Live, Made, Session, Setting, called, move, move_by, move_row, proc_of, polled, row_of, settled, taken}
+use Rattle.pod_runner.specs.Session.{Live, Made, Session, Setting, call_move, move, move_by, move_row, proc_of, after_poll, row_of, after_settle, take_move}
 use Rattle.pod_runner.specs.declared.session.Row.{Row}
 use Rattle.pod_runner.specs.declared.session.Took.{Took}
 use Rattle.session_laws.proofs.Pods.{Moved, call_moved, take_moved}
@@ -93,25 +93,25 @@ module _ (s k : ℕ) (es : EventState) (turn : choice es.state ≡ Some s) (c : 
   unfolding step step_by
   head_step = subst (λ o. Heads (step_if es.state c o).effects) (sym turn) (head_called (drop 1 (step_by es.state s c).effects))
 
-  head_made : (trapped : List Bool) → Heads (made es.state trapped s c).effects
+  head_made : (trapped : List Bool) → Heads (after_call es.state trapped s c).effects
   head_made trapped = by_trap (trap_of c)
     where
-      by_refusal : (e : ℕ) (o : Option LwpErr) → Heads (trap_made es.state trapped s c e o).effects
+      by_refusal : (e : ℕ) (o : Option LwpErr) → Heads (after_trap es.state trapped s c e o).effects
       by_refusal e None = head_called (effect.Answered s zero_answer ∷ [])
       by_refusal e (Some why) = head_called (effect.Answered s (answer.Refused why) ∷ [])
 
-      by_agent : (b : Bool) → Heads (cond b (refused_by es.state trapped s c error.InUse) (stepped trapped (step es.state c))).effects
+      by_agent : (b : Bool) → Heads (cond b (refused_by es.state trapped s c error.InUse) (after_machine_step trapped (step es.state c))).effects
       by_agent true = head_called (effect.Answered s (answer.Refused error.InUse) ∷ [])
       by_agent false = head_step
 
-      by_trap : (o : Option ℕ) → Heads (made_as es.state trapped s c o).effects
+      by_trap : (o : Option ℕ) → Heads (after_call_as es.state trapped s c o).effects
       by_trap None = by_agent (passes (is_trapped trapped) (agent_event_of c))
       by_trap (Some e) = by_refusal e (trap_refusal es.state trapped e)
 
   head_said : (after : State) (fs : List Effect) (reports : List ℕ) → Heads fs → Heads (rites_said after fs reports).effects
-  head_said after fs reports heads = by_armed (armed after rites_event) reports
+  head_said after fs reports heads = by_armed (is_event_armed after rites_event) reports
     where
-      by_armed : (b : Bool) (rs : List ℕ) → Heads (cond b (first_reported after fs rs) (record { state = after; reports = rs; effects = fs })).effects
+      by_armed : (b : Bool) (rs : List ℕ) → Heads (cond b (after_first_report after fs rs) (record { state = after; reports = rs; effects = fs })).effects
       by_armed true [] = heads
       by_armed false rs = heads
       by_armed true (dead ∷ later) = λ all. heads (and_parts (list_all (sends_only s k) fs) (list_all (sends_only s k) (map (as_rites dead) (deliver after rites_event (report_text dead)).effects))
@@ -120,7 +120,7 @@ module _ (s k : ℕ) (es : EventState) (turn : choice es.state ≡ Some s) (c : 
   -- where no trap is raised before it, the call of s is told of
   pub sends_named : es.pending ≡ None → list_all (sends_only s k) (event_step es c).effects ≡ true → names_only k c ≡ true
   sends_named free all =
-      let out = made es.state es.trapped s c in
+      let out = after_call es.state es.trapped s c in
       let whole = event_is es s c turn ∙ ap (λ p. done_by es (traps_called es.state es.trapped s c p)) free in
       head_said out.state out.effects (reports_after es.state out.state es.reports out.effects) (head_made es.trapped) (ap (λ (o : Outcome). list_all (sends_only s k) o.effects) (sym whole) ∙ all)
 
@@ -196,13 +196,13 @@ module _ {B : Type 0} (setting : Setting B) (server : LineServer setting.next) (
       out = machine_of (event_step live.pod reply.0)
 
       abbrev rows2 : List (Row B)
-      rows2 = settled setting.bodies (proc_of reply.0) (event_step live.pod reply.0).effects (polled t reply.1 live.rows)
+      rows2 = after_settle setting.bodies (proc_of reply.0) (event_step live.pod reply.0).effects (after_poll t reply.1 live.rows)
 
       moved : Moved live.pod.state (event_step live.pod reply.0).after.state (event_step live.pod reply.0).effects
       moved = call_moved live.pod was reply.0
 
       s_on : is_thread out.after s ≡ true → (b : SessionBody) (z : Answer) → S_of live.rows b z → S_of rows2 b (last_heard z (answers_to s out.effects))
-      s_on lives b z row = row_settled s setting.bodies (proc_of reply.0) out.effects (polled t reply.1 live.rows) (record { tid = s; body = server.serving b; answer = z }) (row_polled_other s t t_s reply.1 live.rows ∙ row) (alive_then live.pod.state out.after out.effects moved s lives)
+      s_on lives b z row = row_settled s setting.bodies (proc_of reply.0) out.effects (after_poll t reply.1 live.rows) (record { tid = s; body = server.serving b; answer = z }) (row_polled_other s t t_s reply.1 live.rows ∙ row) (alive_then live.pod.state out.after out.effects moved s lives)
 
       left_so : sight live.pod.state s ≡ resting → is_thread out.after s ≡ true → IsLeft s live.pod.state out
       left_so seen lives = never_woken seen (living_is_left live.pod was t s turn t_s (attends_seen live.pod.state s block.Not (ap (λ (v : Sight). v.waits) seen) refl) (rests_untimed live.pod.state was s seen) (λ v. ap (λ (x : Sight). count_by (is_to v) x.letters) seen) reply.0 lives)
@@ -211,7 +211,7 @@ module _ {B : Type 0} (setting : Setting B) (server : LineServer setting.next) (
       other_call : eqb t k ≡ false → is_thread out.after k ≡ true → Phase s k out.after (S_of rows2) (K_of rows2) (λ b. got_in steps b ++ texts_in b None out.effects) (λ b. said_in steps b ++ replied_in s b out.effects)
       other_call t_k lives = phase_other s k live.pod.state was (S_of live.rows) (S_of rows2) (K_of live.rows) (K_of rows2) (got_in steps) (said_in steps) (λ b. texts_in b None out.effects) out (λ n. event_fades n live.pod reply.0)
           (λ b. (others_reply_nothing s b live.pod).0 t turn t_s reply.0) (λ b z. b) s_on
-          (λ b z row. row_settled k setting.bodies (proc_of reply.0) out.effects (polled t reply.1 live.rows) (record { tid = k; body = server.storing b; answer = z }) (row_polled_other k t t_k reply.1 live.rows ∙ row) (alive_then live.pod.state out.after out.effects moved k lives))
+          (λ b z row. row_settled k setting.bodies (proc_of reply.0) out.effects (after_poll t reply.1 live.rows) (record { tid = k; body = server.storing b; answer = z }) (row_polled_other k t t_k reply.1 live.rows ∙ row) (alive_then live.pod.state out.after out.effects moved k lives))
           goes left_so stood
         where
           goes : (a : ℕ) (sb : SessionBody) (sz : Answer) (kb : StoreBody) (kz : Answer) → K_of live.rows kb kz → (x : TellsAt s k a live.pod.state sb sz kb kz (got_in steps a) (said_in steps a)) → eqb null_id a ≡ false → (x.talk.agent_lives ≡ true) ⊎ (sb.place ≡ at.Agent) → (sb.place ≡ at.Start → out.after.births ≤ a) → is_thread out.after s ≡ true
@@ -235,12 +235,12 @@ module _ {B : Type 0} (setting : Setting B) (server : LineServer setting.next) (
       out_k = machine_of (event_step live.pod reply_k.0)
 
       abbrev rows_k : List (Row B)
-      rows_k = settled setting.bodies (proc_of reply_k.0) (event_step live.pod reply_k.0).effects (polled k reply_k.1 live.rows)
+      rows_k = after_settle setting.bodies (proc_of reply_k.0) (event_step live.pod reply_k.0).effects (after_poll k reply_k.1 live.rows)
 
       store_call : ((b : ℕ) → list_all is_short (got_in steps b) ≡ true) → is_thread out_k.after k ≡ true → Phase s k out_k.after (S_of rows_k) (K_of rows_k) (λ b. got_in steps b ++ texts_in b None out_k.effects) (λ b. said_in steps b ++ replied_in s b out_k.effects)
       store_call short lives = phase_other s k live.pod.state was (S_of live.rows) (S_of rows_k) (K_of live.rows) (K_of rows_k) (got_in steps) (said_in steps) (λ b. texts_in b None out_k.effects) out_k (λ n. event_fades n live.pod reply_k.0)
           (λ b. (others_reply_nothing s b live.pod).0 k turn k_s reply_k.0) (λ b z. (store_next b names z).1) (s_on k turn k_s reply_k)
-          (λ b z is. row_settled k setting.bodies (proc_of reply_k.0) out_k.effects (polled k reply_k.1 live.rows) (record { tid = k; body = server.storing (store_next b names z).1; answer = z })
+          (λ b z is. row_settled k setting.bodies (proc_of reply_k.0) out_k.effects (after_poll k reply_k.1 live.rows) (record { tid = k; body = server.storing (store_next b names z).1; answer = z })
           (row_polled_own k reply_k.1 live.rows (record { tid = k; body = server.storing b; answer = z }) is ∙ ap (λ (r : Polled B). Some (record { tid = k; body = r.1; answer = z })) (reply_is b z is))
           (alive_then live.pod.state out_k.after out_k.effects (call_moved live.pod was reply_k.0) k lives))
           goes (left_so k turn k_s reply_k) stood
@@ -287,7 +287,7 @@ module _ {B : Type 0} (setting : Setting B) (server : LineServer setting.next) (
       out_s = machine_of (event_step live.pod next_s.0)
 
       abbrev rows_s : List (Row B)
-      rows_s = settled setting.bodies (proc_of next_s.0) (event_step live.pod next_s.0).effects (polled s (server.serving next_s.1) live.rows)
+      rows_s = after_settle setting.bodies (proc_of next_s.0) (event_step live.pod next_s.0).effects (after_poll s (server.serving next_s.1) live.rows)
 
       same_row : (b : SessionBody) (z : Answer) → S_of live.rows b z → (b ≡ its.body) × (z ≡ its.answer)
       same_row b z is = let same = unsome (sym is ∙ its.row) in (server.one_session b its.body (ap (λ (r : Row B). r.body) same), ap (λ (r : Row B). r.answer) same)
@@ -295,9 +295,9 @@ module _ {B : Type 0} (setting : Setting B) (server : LineServer setting.next) (
       session_call : ((b : ℕ) → list_all is_short (got_in steps b) ≡ true) → eqb null_id live.pod.state.births ≡ false → is_thread out_s.after k ≡ true → list_all (sends_only s k) out_s.effects ≡ true
           → Phase s k out_s.after (S_of rows_s) (K_of rows_s) (λ b. got_in steps b ++ texts_in b None out_s.effects) (λ b. said_in steps b ++ replied_in s b out_s.effects)
       session_call short low lives sends = phase_own s k live.pod was turn (S_of live.rows) (S_of rows_s) (K_of live.rows) (K_of rows_s) (got_in steps) (said_in steps) its.body its.answer names same_row
-          (λ lives_s. row_settled s setting.bodies (proc_of next_s.0) out_s.effects (polled s (server.serving next_s.1) live.rows) (record { tid = s; body = server.serving next_s.1; answer = its.answer })
+          (λ lives_s. row_settled s setting.bodies (proc_of next_s.0) out_s.effects (after_poll s (server.serving next_s.1) live.rows) (record { tid = s; body = server.serving next_s.1; answer = its.answer })
           (row_polled_own s (server.serving next_s.1) live.rows (record { tid = s; body = server.serving its.body; answer = its.answer }) its.row) (alive_then live.pod.state out_s.after out_s.effects (call_moved live.pod was next_s.0) s lives_s))
-          (λ b z is. row_settled k setting.bodies (proc_of next_s.0) out_s.effects (polled s (server.serving next_s.1) live.rows) (record { tid = k; body = server.storing b; answer = z })
+          (λ b z is. row_settled k setting.bodies (proc_of next_s.0) out_s.effects (after_poll s (server.serving next_s.1) live.rows) (record { tid = k; body = server.storing b; answer = z })
           (row_polled_other k s s_k (server.serving next_s.1) live.rows ∙ is) (alive_then live.pod.state out_s.after out_s.effects (call_moved live.pod was next_s.0) k lives))
           short (λ free. sends_so s k next_s.0 (eqb s k) s_k (sends_named s k live.pod turn next_s.0 free sends)) low stood
 
@@ -308,7 +308,7 @@ module _ {B : Type 0} (setting : Setting B) (server : LineServer setting.next) (
 
     module _ (short : (b : ℕ) → list_all is_short (got_in steps b) ≡ true) (low : eqb null_id live.pod.state.births ≡ false) where
       abbrev CalledBehind : ℕ → Polled B → Type 0
-      CalledBehind t r = Behind None (called setting.bodies live t r).live (called setting.bodies live t r).effects
+      CalledBehind t r = Behind None (call_move setting.bodies live t r).live (call_move setting.bodies live t r).effects
 
       reply_behind : (t : ℕ) (r q : Polled B) → r ≡ q → CalledBehind t q → CalledBehind t r
       reply_behind t r q e = subst (CalledBehind t) (sym e)
@@ -317,17 +317,17 @@ module _ {B : Type 0} (setting : Setting B) (server : LineServer setting.next) (
       thread_behind t n r e = subst (λ m. CalledBehind m r) (sym e)
 
       session_behind : (turn : choice live.pod.state ≡ Some s) (row : Row B) (found : row_of s live.rows ≡ Some row) (names : Names) → CalledBehind s ((next_s turn names row found).0, server.serving (next_s turn names row found).1, (next_s turn names row found).2)
-      unfolding called
-      session_behind turn row found names lives sends = stood_push steps (record { take = None; effects = (out_s turn names row found).effects }) (called setting.bodies live s ((next_s turn names row found).0, server.serving (next_s turn names row found).1, (next_s turn names row found).2)).live
+      unfolding call_move
+      session_behind turn row found names lives sends = stood_push steps (record { take = None; effects = (out_s turn names row found).effects }) (call_move setting.bodies live s ((next_s turn names row found).0, server.serving (next_s turn names row found).1, (next_s turn names row found).2)).live
           (session_call turn names row found short low lives sends)
 
       store_behind : (turn : choice live.pod.state ≡ Some k) (row : Row B) (found : row_of k live.rows ≡ Some row) (names : Names) → CalledBehind k (setting.next row.body names row.answer)
-      unfolding called
-      store_behind turn row found names lives sends = stood_push steps (record { take = None; effects = (out_k turn names row found).effects }) (called setting.bodies live k (setting.next row.body names row.answer)).live (store_call turn names row found short lives)
+      unfolding call_move
+      store_behind turn row found names lives sends = stood_push steps (record { take = None; effects = (out_k turn names row found).effects }) (call_move setting.bodies live k (setting.next row.body names row.answer)).live (store_call turn names row found short lives)
 
       other_behind : (t : ℕ) (turn : choice live.pod.state ≡ Some t) → eqb t s ≡ false → eqb t k ≡ false → (reply : Polled B) → CalledBehind t reply
-      unfolding called
-      other_behind t turn t_s t_k reply lives sends = stood_push steps (record { take = None; effects = (out t turn t_s reply).effects }) (called setting.bodies live t reply).live (other_call t turn t_s reply t_k lives)
+      unfolding call_move
+      other_behind t turn t_s t_k reply lives sends = stood_push steps (record { take = None; effects = (out t turn t_s reply).effects }) (call_move setting.bodies live t reply).live (other_call t turn t_s reply t_k lives)
 
       called_stood : (t : ℕ) → choice live.pod.state ≡ Some t → (row : Row B) → row_of t live.rows ≡ Some row → (names : Names) → (d e : Bool) → eqb t s ≡ d → eqb t k ≡ e → CalledBehind t (setting.next row.body names row.answer)
       called_stood t turn row found names true e is is_k =
@@ -360,7 +360,7 @@ module _ {B : Type 0} (setting : Setting B) (server : LineServer setting.next) (
       out_t = machine_of (take_event live.pod took.event took.line.text)
 
       abbrev rows_t : List (Row B)
-      rows_t = settled setting.bodies None (take_event live.pod took.event took.line.text).effects live.rows
+      rows_t = after_settle setting.bodies None (take_event live.pod took.event took.line.text).effects live.rows
 
       moved_t : Moved live.pod.state out_t.after out_t.effects
       moved_t = take_moved live.pod was took.event took.line.text may
@@ -378,21 +378,21 @@ module _ {B : Type 0} (setting : Setting B) (server : LineServer setting.next) (
           goes a sb sz kb kz row x away ok low lives_s = inl (subst (λ body. Becomes s k a x.talk x.talk.session body x.waiting (texts_in a (Some took.line.text) out_t.effects) [] out_t) x.store
               (takes_are_events s k a live.pod was x.talk x.waiting x.stands away took.event took.line.text may))
 
-      pub take_stood : Behind (Some took) (taken setting.bodies took live).live (taken setting.bodies took live).effects
-      unfolding taken
-      take_stood = λ lives sends. stood_push steps (record { take = Some took; effects = out_t.effects }) (taken setting.bodies took live).live (take_phase lives)
+      pub take_stood : Behind (Some took) (take_move setting.bodies took live).live (take_move setting.bodies took live).effects
+      unfolding take_move
+      take_stood = λ lives sends. stood_push steps (record { take = Some took; effects = out_t.effects }) (take_move setting.bodies took live).live (take_phase lives)
 
   -- ---- moves
 
   -- a move, where it may be made
   pub moved_stood : (session : Session B) (m : Option Took) → Lawful session.live.pod.state None → is_move_due session m ≡ true → Stood session → is_thread session.live.pod.state k ≡ true → ((b : ℕ) → list_all is_short (got_in session.steps b) ≡ true) → eqb null_id session.live.pod.state.births ≡ false
-      → is_thread (moved_by setting session m).live.pod.state k ≡ true → all_sends_to s k (steps_of (moved_by setting session m).steps) ≡ true → Stood (moved_by setting session m)
+      → is_thread (after_move setting session m).live.pod.state k ≡ true → all_sends_to s k (steps_of (after_move setting session m).steps) ≡ true → Stood (after_move setting session m)
   moved_stood session None was due stood lives short low then sends = call_stood session.live session.steps was stood lives short low then (sends_last s k session.steps (record { take = None; effects = (move setting.next setting.bodies session.live).effects }) sends)
-  moved_stood session (Some took) was due stood lives short low then sends = take_stood session.live session.steps was stood lives took due then (sends_last s k session.steps (record { take = Some took; effects = (taken setting.bodies took session.live).effects }) sends)
+  moved_stood session (Some took) was due stood lives short low then sends = take_stood session.live session.steps was stood lives took due then (sends_last s k session.steps (record { take = Some took; effects = (take_move setting.bodies took session.live).effects }) sends)
 
 module _ {B : Type 0} (setting : Setting B) where
   row_lawful : (live : Live B) (t : ℕ) (o : Option (Row B)) → Lawful live.pod.state None → Lawful (move_row setting.next setting.bodies live t o).live.pod.state None
-  unfolding called
+  unfolding call_move
   row_lawful live t None was = was
   row_lawful live t (Some row) was = (call_moved live.pod was (setting.next row.body (polled_as t live.names) row.answer).0).lawful
 
@@ -404,14 +404,14 @@ module _ {B : Type 0} (setting : Setting B) where
       by_choice None = was
       by_choice (Some t) = row_lawful live t (row_of t live.rows) was
 
-  pub moved_lawful : (session : Session B) (m : Option Took) → is_move_due session m ≡ true → Lawful session.live.pod.state None → Lawful (moved_by setting session m).live.pod.state None
-  unfolding taken
+  pub moved_lawful : (session : Session B) (m : Option Took) → is_move_due session m ≡ true → Lawful session.live.pod.state None → Lawful (after_move setting session m).live.pod.state None
+  unfolding take_move
   moved_lawful session None due was = call_lawful session.live was
   moved_lawful session (Some took) due was = (take_moved session.live.pod was took.event took.line.text due).lawful
 
   module _ (n : ℕ) where
     row_fades : (live : Live B) (t : ℕ) (o : Option (Row B)) → Fades n live.pod.state (move_row setting.next setting.bodies live t o).live.pod.state
-    unfolding called
+    unfolding call_move
     row_fades live t None = fades_still n live.pod.state
     row_fades live t (Some row) = event_fades n live.pod (setting.next row.body (polled_as t live.names) row.answer).0
 
@@ -423,17 +423,17 @@ module _ {B : Type 0} (setting : Setting B) where
         by_choice None = fades_still n live.pod.state
         by_choice (Some t) = row_fades live t (row_of t live.rows)
 
-    pub moved_fades : (session : Session B) (m : Option Took) → Fades n session.live.pod.state (moved_by setting session m).live.pod.state
-    unfolding taken
+    pub moved_fades : (session : Session B) (m : Option Took) → Fades n session.live.pod.state (after_move setting session m).live.pod.state
+    unfolding take_move
     moved_fades session None = call_fades session.live
     moved_fades session (Some took) = take_fades n session.live.pod took.event took.line.text
 
-    pub gone_fades : (moves : List (Option Took)) (session : Session B) → Fades n session.live.pod.state (gone_on setting moves session).live.pod.state
+    pub gone_fades : (moves : List (Option Took)) (session : Session B) → Fades n session.live.pod.state (after_moves setting moves session).live.pod.state
     gone_fades [] session = fades_still n session.live.pod.state
-    gone_fades (m ∷ ms) session = fades_then n session.live.pod.state (moved_by setting session m).live.pod.state (gone_on setting ms (moved_by setting session m)).live.pod.state (moved_fades session m) (gone_fades ms (moved_by setting session m))
+    gone_fades (m ∷ ms) session = fades_then n session.live.pod.state (after_move setting session m).live.pod.state (after_moves setting ms (after_move setting session m)).live.pod.state (moved_fades session m) (gone_fades ms (after_move setting session m))
 
     -- who is there in the end, and was born, was there before
-    pub there_before : (moves : List (Option Took)) (session : Session B) → n < session.live.pod.state.births → is_thread (gone_on setting moves session).live.pod.state n ≡ true → is_thread session.live.pod.state n ≡ true
+    pub there_before : (moves : List (Option Took)) (session : Session B) → n < session.live.pod.state.births → is_thread (after_moves setting moves session).live.pod.state n ≡ true → is_thread session.live.pod.state n ≡ true
     there_before moves session below lives = by_lives (is_thread session.live.pod.state n) refl
       where
         by_lives : (b : Bool) → is_thread session.live.pod.state n ≡ b → b ≡ true
@@ -445,15 +445,15 @@ module _ {B : Type 0} (setting : Setting B) where
     pub rest : List Made
     pub is : after ≡ before ++ rest
 
-  moved_grows : (session : Session B) (m : Option Took) → Grows session.steps (moved_by setting session m).steps
+  moved_grows : (session : Session B) (m : Option Took) → Grows session.steps (after_move setting session m).steps
   moved_grows session None = record { rest = record { take = None; effects = (move setting.next setting.bodies session.live).effects } ∷ []; is = refl }
-  moved_grows session (Some took) = record { rest = record { take = Some took; effects = (taken setting.bodies took session.live).effects } ∷ []; is = refl }
+  moved_grows session (Some took) = record { rest = record { take = Some took; effects = (take_move setting.bodies took session.live).effects } ∷ []; is = refl }
 
-  pub gone_grows : (moves : List (Option Took)) (session : Session B) → Grows session.steps (gone_on setting moves session).steps
+  pub gone_grows : (moves : List (Option Took)) (session : Session B) → Grows session.steps (after_moves setting moves session).steps
   gone_grows [] session = record { rest = []; is = sym (append-nil session.steps) }
   gone_grows (m ∷ ms) session =
       let one = moved_grows session m in
-      let more = gone_grows ms (moved_by setting session m) in
+      let more = gone_grows ms (after_move setting session m) in
       record { rest = one.rest ++ more.rest; is = more.is ∙ ap (λ xs. xs ++ more.rest) one.is ∙ append_assoc session.steps one.rest more.rest }
 
 -- ---- from where the two stand, on and on
@@ -470,14 +470,14 @@ module _ {B : Type 0} (setting : Setting B) (server : LineServer setting.next) (
       ∙ ap (list_all is_short) (sym (flat_map-append (λ (step : Step). flat_map (text_to a step.text) step.effects) (steps_of before) (steps_of grows.rest)) ∙ ap (delivered_to a) (sym (map-append step_of before grows.rest)) ∙ ap (λ xs. delivered_to a (steps_of xs)) (sym grows.is)) ∙ all)).0
 
   pub gone_stood : (moves : List (Option Took)) (session : Session B) → Lawful session.live.pod.state None → CanGoOn setting moves session → Stood setting server s k s_k session → is_thread session.live.pod.state k ≡ true
-      → is_thread (gone_on setting moves session).live.pod.state k ≡ true → all_sends_to s k (steps_of (gone_on setting moves session).steps) ≡ true → ((a : ℕ) → list_all is_short (delivered_to a (steps_of (gone_on setting moves session).steps)) ≡ true) → (gone_on setting moves session).live.pod.state.births < null_id
-      → Stood setting server s k s_k (gone_on setting moves session)
+      → is_thread (after_moves setting moves session).live.pod.state k ≡ true → all_sends_to s k (steps_of (after_moves setting moves session).steps) ≡ true → ((a : ℕ) → list_all is_short (delivered_to a (steps_of (after_moves setting moves session).steps)) ≡ true) → (after_moves setting moves session).live.pod.state.births < null_id
+      → Stood setting server s k s_k (after_moves setting moves session)
   gone_stood [] session was can stood lives in_end sends short few = stood
   gone_stood (m ∷ ms) session was can stood lives in_end sends short few =
-      let next = moved_by setting session m in
+      let next = after_move setting session m in
       let born = born_below session.live.pod.state was k lives in
       let lives_next = there_before setting k ms next (omega (arith, born, (moved_fades setting k session m).births)) in_end in
       let low = ne_eqb null_id session.live.pod.state.births (λ e. omega (arith, few, e, (gone_fades setting k (m ∷ ms) session).births)) in
       gone_stood ms next (moved_lawful setting session m can.0 was) can.1
-      (moved_stood setting server s k s_k session m was can.0 stood lives (λ a. short_before a session.steps (gone_on setting (m ∷ ms) session).steps (gone_grows setting (m ∷ ms) session) (short a)) low lives_next (sends_before next.steps (gone_on setting ms next).steps (gone_grows setting ms next) sends))
+      (moved_stood setting server s k s_k session m was can.0 stood lives (λ a. short_before a session.steps (after_moves setting (m ∷ ms) session).steps (gone_grows setting (m ∷ ms) session) (short a)) low lives_next (sends_before next.steps (after_moves setting ms next).steps (gone_grows setting ms next) sends))
       lives_next in_end sends short few

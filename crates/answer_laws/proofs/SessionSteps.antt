@@ -12,15 +12,15 @@ use Rattle.answer_laws.specs.Lengths.{is_short}
 use Rattle.answer_laws.specs.Owners.{Sends, letter_sent, sending}
 use Rattle.answer_laws.specs.Sights.{IsLeft, IsSent, IsWoken, Sight, Spares, answers_to, going_on, sight}
 use Rattle.answer_laws.specs.Stands.{AgentIs, AgentIs.Gone, AgentIs.Made, AgentIs.Unmade, AgentLetters, AgentLetters.Idle, AgentLetters.Owed, AgentLetters.Waiting, Becomes, IsHeard, OpensInVain, SessionsCallsAreEvents, Stands, block_of, goes_on_with, is_posted, is_reading, is_short_reply, knows, line_letter, mail_letters, owes}
-use Rattle.answer_laws.specs.Talks.{Event, Event.Line, Event.OwnLetter, Event.SessionTurn, Mail, Mail.Nothing, Mail.Received, Mail.Sent, Stand, Stand.AwaitsLetter, Stand.AwaitsReply, Stand.Hears, Stand.IsOver, Talk, agent_told, deed_of, session_calls, session_turn, talked}
+use Rattle.answer_laws.specs.Talks.{Event, Event.Line, Event.OwnLetter, Event.SessionTurn, Mail, Mail.Nothing, Mail.Received, Mail.Sent, Stand, Stand.AwaitsLetter, Stand.AwaitsReply, Stand.Hears, Stand.IsOver, Talk, after_events, agent_told, deed_of, session_calls, session_turn}
 use Rattle.line_server.specs.Commands.{Command, command_of}
 use Rattle.line_server.specs.Sessions.{SessionBody, session_at, session_by, session_next, session_opened, session_received, session_receives, session_replies, session_returns, session_sends, session_told}
 use Rattle.line_server.specs.Tables.{is_quit}
 use Rattle.line_server.specs.Turns.{Turn, is_replied, stops}
 use Rattle.line_server.specs.declared.session.SessionPlace.{SessionPlace}
 use Rattle.line_server.specs.declared.session.SessionPlace.TheVariants as at
-use Rattle.lwp_types.specs.Agents.{agent_born, new_agent}
-use Rattle.lwp_types.specs.Case.{answered, is_at_limit, is_full, is_itself, is_no_thread, refused, unanswered}
+use Rattle.lwp_types.specs.Agents.{after_agent_birth, new_agent}
+use Rattle.lwp_types.specs.Case.{answer_case, is_at_limit, is_full, is_itself, is_no_thread, refusal_case, silent_case}
 use Rattle.lwp_types.specs.Choice.{choice}
 use Rattle.lwp_types.specs.CountLaws.{count-append}
 use Rattle.lwp_types.specs.Counts.{timers_of}
@@ -28,8 +28,8 @@ use Rattle.lwp_types.specs.Lawful.{Lawful}
 use Rattle.lwp_types.specs.Messages.{as_received, is_letter_of, is_to, post, takes_from}
 use Rattle.lwp_types.specs.Names.{Names, id_at}
 use Rattle.lwp_types.specs.State.{Outcome, State, ThreadRow, agent_of, is_agent, is_agent_row, is_id, is_thread, passes, thread_of}
-use Rattle.lwp_types.specs.Step.{case_of, finished, step, step_by, step_if}
-use Rattle.lwp_types.specs.Unblock.{blocked, is_timer_of, nonexist, zero_answer}
+use Rattle.lwp_types.specs.Step.{case_of, step, step_by, step_if, step_outcome}
+use Rattle.lwp_types.specs.Unblock.{after_block, is_timer_of, nonexist, zero_answer}
 use Rattle.lwp_types.specs.declared.call.Answer.{Answer}
 use Rattle.lwp_types.specs.declared.call.Call.{Call}
 use Rattle.lwp_types.specs.declared.call.Effect.{Effect}
@@ -183,7 +183,7 @@ module _ (s k a : ℕ) (st : State) (was : Lawful st None) (talk : Talk) (waitin
   s_seen : sight st s ≡ record { waits = Some block.Not; marks = mark.Frame ∷ []; letters = mail_letters s k talk.mail }
   s_seen = h.client ∙ ap (λ c. record { waits = Some (block_of (Some a) c); marks = mark.Frame ∷ []; letters = mail_letters s k talk.mail }) hears
 
-  step_is : (c : Call) → step st c ≡ finished s c (case_of st s c)
+  step_is : (c : Call) → step st c ≡ step_outcome s c (case_of st s c)
   unfolding step step_by
   step_is c = ap (step_if st c) turn
 
@@ -219,7 +219,7 @@ module _ (s k a : ℕ) (st : State) (was : Lawful st None) (talk : Talk) (waitin
 
   -- ---- the whole
 
-  goes : (c : Call) (body : SessionBody) (later : Talk) (events : List Event) → talked s a talk events ≡ later → later.session ≡ body → later.store ≡ talk.store → (waits : List (List ℕ)) → Stands s k a (step st c).after later waits
+  goes : (c : Call) (body : SessionBody) (later : Talk) (events : List Event) → after_events s a talk events ≡ later → later.session ≡ body → later.store ≡ talk.store → (waits : List (List ℕ)) → Stands s k a (step st c).after later waits
       → later.lines ++ waits ≡ (talk.lines ++ waiting) ++ [] → later.told ≡ talk.told ++ replied_in s a (step st c).effects → IsHeard talk.client later.client (answers_to s (step st c).effects) → (eqb s k ≡ false → IsHeard talk.keeper later.keeper (answers_to k (step st c).effects))
       → SessionGoesOn s k a talk waiting (replied_in s a (step st c).effects) body (step st c)
   goes c body later events now its its_store waits stands texts said heard heard_keeper = becomes_as s k a talk body talk.store waiting [] (replied_in s a (step st c).effects) (step st c) events later now its its_store waits stands texts said heard heard_keeper
@@ -239,7 +239,7 @@ module _ (s k a : ℕ) (st : State) (was : Lawful st None) (talk : Talk) (waitin
 
     -- ---- it receives
 
-    module _ (body : SessionBody) (its : body.agent ≡ a) (free : owes talk.session.place (Hears x) ≡ false) (now : talked s a talk (SessionTurn names ∷ []) ≡ record talk { session = session_at body at.Recv; client = cond talk.agent_lives AwaitsLetter (Hears nonexist) }) where
+    module _ (body : SessionBody) (its : body.agent ≡ a) (free : owes talk.session.place (Hears x) ≡ false) (now : after_events s a talk (SessionTurn names ∷ []) ≡ record talk { session = session_at body at.Recv; client = cond talk.agent_lives AwaitsLetter (Hears nonexist) }) where
       abbrev recv : Call
       recv = call.Recv (Some a) mode.Block
 
@@ -276,7 +276,7 @@ module _ (s k a : ℕ) (st : State) (was : Lawful st None) (talk : Talk) (waitin
       receives_made row there owns lives (Waiting text owed some letters) =
           let r = (owners_receive st was s a row turn there owns).finds (line_letter a s text false) letters refl in
           goes recv (session_at body at.Recv) (record talk { session = session_at body at.Recv; client = Hears (answer.Letter a text 240); lines = talk.lines ++ text ∷ [] }) (SessionTurn names ∷ Line text ∷ [])
-          (talked_append s a talk (SessionTurn names ∷ []) (Line text ∷ []) ∙ ap (λ t. talked s a t (Line text ∷ [])) (now ∙ ap (λ b. record talk { session = session_at body at.Recv; client = cond b AwaitsLetter (Hears nonexist) }) lives)
+          (talked_append s a talk (SessionTurn names ∷ []) (Line text ∷ []) ∙ ap (λ t. after_events s a t (Line text ∷ [])) (now ∙ ap (λ b. record talk { session = session_at body at.Recv; client = cond b AwaitsLetter (Hears nonexist) }) lives)
           ∙ line_is s a text (record talk { session = session_at body at.Recv; client = AwaitsLetter }) refl lives) refl refl []
           (record {
             client = r.itself_then ∙ s_seen;
@@ -313,7 +313,7 @@ module _ (s k a : ℕ) (st : State) (was : Lawful st None) (talk : Talk) (waitin
 
     -- ---- it replies
 
-    module _ (body : SessionBody) (text : List ℕ) (later_so : (y : Answer) → Then a false body (Hears y)) (owed : owes talk.session.place (Hears x) ≡ true) (short : talk.agent_lives ≡ true → is_short text ≡ true) (now : talked s a talk (SessionTurn names ∷ []) ≡ agent_told (record talk { session = body }) text) where
+    module _ (body : SessionBody) (text : List ℕ) (later_so : (y : Answer) → Then a false body (Hears y)) (owed : owes talk.session.place (Hears x) ≡ true) (short : talk.agent_lives ≡ true → is_short text ≡ true) (now : after_events s a talk (SessionTurn names ∷ []) ≡ agent_told (record talk { session = body }) text) where
       abbrev reply : Call
       reply = call.Reply a text
 
@@ -367,7 +367,7 @@ module _ (s k a : ℕ) (st : State) (was : Lawful st None) (talk : Talk) (waitin
 
     -- ---- it sends
 
-    module _ (s_k : eqb s k ≡ false) (body : SessionBody) (its : body.agent ≡ a) (text : List ℕ) (owed : owes talk.session.place (Hears x) ≡ true) (now : talked s a talk (SessionTurn names ∷ []) ≡ record talk { session = session_at body at.Send; mail = Sent text; client = AwaitsReply }) where
+    module _ (s_k : eqb s k ≡ false) (body : SessionBody) (its : body.agent ≡ a) (text : List ℕ) (owed : owes talk.session.place (Hears x) ≡ true) (now : after_events s a talk (SessionTurn names ∷ []) ≡ record talk { session = session_at body at.Send; mail = Sent text; client = AwaitsReply }) where
       abbrev send : Call
       send = call.Send k 240 text
 
@@ -380,9 +380,9 @@ module _ (s k a : ℕ) (st : State) (was : Lawful st None) (talk : Talk) (waitin
       agent_kept : s ≢ a → agent_sight (step st send).after a ≡ agent_sight st a
       agent_kept other = ap (λ out. agent_sight out.after a) (step_is send) ∙ by_checks (checked st _ _)
         where
-          by_checks : Checked st (is_no_thread st k ∷ is_itself s k ∷ []) (unanswered (post (letter_sent s k 240 text) (blocked st s block.Sending))) → agent_sight (finished s send (case_of st s send)).after a ≡ agent_sight st a
-          by_checks (Struck e is) = ap (λ made. agent_sight (finished s send made).after a) is
-          by_checks (Free passed is) = ap (λ made. agent_sight (finished s send made).after a) is ∙ kept_post a (blocked st s block.Sending) (letter_sent s k 240 text) other
+          by_checks : Checked st (is_no_thread st k ∷ is_itself s k ∷ []) (silent_case (post (letter_sent s k 240 text) (after_block st s block.Sending))) → agent_sight (step_outcome s send (case_of st s send)).after a ≡ agent_sight st a
+          by_checks (Struck e is) = ap (λ made. agent_sight (step_outcome s send made).after a) is
+          by_checks (Free passed is) = ap (λ made. agent_sight (step_outcome s send made).after a) is ∙ kept_post a (after_block st s block.Sending) (letter_sent s k 240 text) other
 
       known_send : eqb body.agent a ≡ true
       known_send = eq-eqb body.agent a its
@@ -428,7 +428,7 @@ module _ (s k a : ℕ) (st : State) (was : Lawful st None) (talk : Talk) (waitin
       sends_by AwaitsLetter e reads =
           let r = sends.handed (k_takes AwaitsLetter e) in
           goes send (session_at body at.Send) (record talk { session = session_at body at.Send; mail = Received text; client = AwaitsReply; keeper = Hears (answer.Letter s text 240) }) (SessionTurn names ∷ OwnLetter ∷ [])
-          (talked_append s a talk (SessionTurn names ∷ []) (OwnLetter ∷ []) ∙ ap (λ t. talked s a t (OwnLetter ∷ [])) now ∙ own_is s a text (record talk { session = session_at body at.Send; mail = Sent text; client = AwaitsReply }) e refl) refl refl waiting
+          (talked_append s a talk (SessionTurn names ∷ []) (OwnLetter ∷ []) ∙ ap (λ t. after_events s a t (OwnLetter ∷ [])) now ∙ own_is s a text (record talk { session = session_at body at.Send; mail = Sent text; client = AwaitsReply }) e refl) refl refl waiting
           (record {
             client = r.sender_then ∙ ap (λ (v : Sight). sending v (as_received (letter_sent s k 240 text))) s_seen ∙ ap (λ m. record { waits = Some block.Sending; marks = mark.Frame ∷ []; letters = mail_letters s k m ++ as_received (letter_sent s k 240 text) ∷ [] }) mail;
             keeper = λ apart. r.receiver_then ∙ ap going_on (h.keeper apart);
@@ -445,7 +445,7 @@ module _ (s k a : ℕ) (st : State) (was : Lawful st None) (talk : Talk) (waitin
     -- ---- every call of it that knows its agent
 
     abbrev Goes : Turn SessionBody → Type 0
-    Goes does = (talked s a talk (SessionTurn names ∷ []) ≡ session_calls a (record talk { session = does.1 }) (deed_of does.0)) → goes_on_with does.0 ≡ true → (talk.agent_lives ≡ true → is_short_reply does.0 ≡ true) → sends_well s k does.0 ≡ true
+    Goes does = (after_events s a talk (SessionTurn names ∷ []) ≡ session_calls a (record talk { session = does.1 }) (deed_of does.0)) → goes_on_with does.0 ≡ true → (talk.agent_lives ≡ true → is_short_reply does.0 ≡ true) → sends_well s k does.0 ≡ true
         → SessionGoesOn s k a talk waiting (replied_in s a (step st does.0).effects) does.1 (step st does.0)
 
     -- who sends has a store, and sends to that
@@ -465,7 +465,7 @@ module _ (s k a : ℕ) (st : State) (was : Lawful st None) (talk : Talk) (waitin
 
   -- ---- it asks for an agent
 
-  module _ (names : Names) (below : st.births ≤ a) (place : talk.session.place ≡ at.Start) (lives : talk.agent_lives ≡ true) (none : waiting ≡ []) (e : ℕ) (now : talked s a talk (SessionTurn names ∷ []) ≡ record talk { session = session_at talk.session at.Agent; client = Hears (cond talk.agent_lives (answer.Thread a) (answer.Refused error.NoRoom)) })
+  module _ (names : Names) (below : st.births ≤ a) (place : talk.session.place ≡ at.Start) (lives : talk.agent_lives ≡ true) (none : waiting ≡ []) (e : ℕ) (now : after_events s a talk (SessionTurn names ∷ []) ≡ record talk { session = session_at talk.session at.Agent; client = Hears (cond talk.agent_lives (answer.Thread a) (answer.Refused error.NoRoom)) })
       (given : (b : ℕ) → answers_to s (step st (call.Agent e)).effects ≡ answer.Thread b ∷ [] → b ≡ a) where
     abbrev ask : Call
     ask = call.Agent e
@@ -483,21 +483,21 @@ module _ (s k a : ℕ) (st : State) (was : Lawful st None) (talk : Talk) (waitin
     opens : SessionGoesOn s k a talk waiting (replied_in s a (step st ask).effects) (session_at talk.session at.Agent) (step st ask) ⊎ OpensInVain s talk (step st ask)
     opens = by_checks (checked st _ _)
       where
-        by_checks : Checked st (((eqb e 0) || nat_lt 32 e, error.InvalidArg) ∷ is_full 256 st.agents ∷ is_at_limit st.births st ∷ []) (answered (agent_born st s e) (answer.Thread st.births)) → SessionGoesOn s k a talk waiting (replied_in s a (step st ask).effects) (session_at talk.session at.Agent) (step st ask) ⊎ OpensInVain s talk (step st ask)
+        by_checks : Checked st (((eqb e 0) || nat_lt 32 e, error.InvalidArg) ∷ is_full 256 st.agents ∷ is_at_limit st.births st ∷ []) (answer_case (after_agent_birth st s e) (answer.Thread st.births)) → SessionGoesOn s k a talk waiting (replied_in s a (step st ask).effects) (session_at talk.session at.Agent) (step st ask) ⊎ OpensInVain s talk (step st ask)
         by_checks (Struck why is) = inr (record {
-          client = ap (λ out. sight out.after s) (step_is ask ∙ ap (finished s ask) is) ∙ s_seen ∙ ap (λ m. record { waits = Some block.Not; marks = mark.Frame ∷ []; letters = mail_letters s k m }) mail;
+          client = ap (λ out. sight out.after s) (step_is ask ∙ ap (step_outcome s ask) is) ∙ s_seen ∙ ap (λ m. record { waits = Some block.Not; marks = mark.Frame ∷ []; letters = mail_letters s k m }) mail;
           untimed = untimed_after ask s refl h.untimed;
           place = place;
           why = why;
-          told = ap (λ out. answers_to s out.effects) (step_is ask ∙ ap (finished s ask) is) ∙ told_itself s ask (refused st why);
+          told = ap (λ out. answers_to s out.effects) (step_is ask ∙ ap (step_outcome s ask) is) ∙ told_itself s ask (refusal_case st why);
         })
         by_checks (Free passed is) =
-            let told_so : answers_to s (step st ask).effects ≡ answer.Thread st.births ∷ [] = ap (λ out. answers_to s out.effects) (step_is ask ∙ ap (finished s ask) is) ∙ told_itself s ask (answered (agent_born st s e) (answer.Thread st.births)) in
+            let told_so : answers_to s (step st ask).effects ≡ answer.Thread st.births ∷ [] = ap (λ out. answers_to s out.effects) (step_is ask ∙ ap (step_outcome s ask) is) ∙ told_itself s ask (answer_case (after_agent_birth st s e) (answer.Thread st.births)) in
             let born = given st.births told_so in
             inl (goes ask (session_at talk.session at.Agent) (record talk { session = session_at talk.session at.Agent; client = Hears (answer.Thread a) }) (SessionTurn names ∷ [])
             (now ∙ ap (λ b. record talk { session = session_at talk.session at.Agent; client = Hears (cond b (answer.Thread a) (answer.Refused error.NoRoom)) }) lives) refl refl waiting
             (record {
-              client = ap (λ out. sight out.after s) (step_is ask ∙ ap (finished s ask) is) ∙ s_seen;
+              client = ap (λ out. sight out.after s) (step_is ask ∙ ap (step_outcome s ask) is) ∙ s_seen;
               keeper = λ s_k. (left_ask s_k).same ∙ h.keeper s_k;
               posted = ap (is_posted (Hears (answer.Thread a))) mail;
               placed = refl;
@@ -506,8 +506,8 @@ module _ (s k a : ℕ) (st : State) (was : Lawful st None) (talk : Talk) (waitin
               untimed_keeper = λ s_k. untimed_after ask k refl (h.untimed_keeper s_k);
               alone = λ same. record { mail = (h.alone same).mail; keeper = (h.alone same).keeper };
               agent = Made (new_agent st.births e s)
-                  (ap (λ out. agent_of out.after.agents a) (step_is ask ∙ ap (finished s ask) is) ∙ find_push_new (is_agent_row a) st.agents (new_agent st.births e s) (eq-eqb st.births a born) (none_found (agent_of st.agents a) absent.1))
-                  refl lives (eq-eqb a a refl) (Idle refl none (ap (λ out. filter (is_letter_of a) out.after.letters) (step_is ask ∙ ap (finished s ask) is) ∙ unborn_silent st was a below));
+                  (ap (λ out. agent_of out.after.agents a) (step_is ask ∙ ap (step_outcome s ask) is) ∙ find_push_new (is_agent_row a) st.agents (new_agent st.births e s) (eq-eqb st.births a born) (none_found (agent_of st.agents a) absent.1))
+                  refl lives (eq-eqb a a refl) (Idle refl none (ap (λ out. filter (is_letter_of a) out.after.letters) (step_is ask ∙ ap (step_outcome s ask) is) ∙ unborn_silent st was a below));
             })
             (sym (append-nil (talk.lines ++ waiting))) (sym (append-nil talk.told) ∙ ap (λ xs. talk.told ++ xs) (sym (replied_none ask refl)))
             (heard_one talk.client (answer.Thread a) (answers_to s (step st ask).effects) (told_so ∙ ap (λ n. answer.Thread n ∷ []) born)) (λ s_k. unheard talk.keeper (answers_to k (step st ask).effects) (left_ask s_k).quiet))
@@ -516,13 +516,13 @@ abbrev Coming : (s k a : ℕ) → State → Talk → List (List ℕ) → Turn Se
 Coming s k a st talk waiting does = SessionGoesOn s k a talk waiting (replied_in s a (step st does.0).effects) does.1 (step st does.0) ⊎ OpensInVain s talk (step st does.0)
 
 abbrev Opening : (s k a : ℕ) → State → Talk → List (List ℕ) → Names → Turn SessionBody → Type 0
-Opening s k a st talk waiting names does = (talked s a talk (SessionTurn names ∷ []) ≡ session_calls a (record talk { session = does.1 }) (deed_of does.0)) → ((b : ℕ) → answers_to s (step st does.0).effects ≡ answer.Thread b ∷ [] → b ≡ a) → Coming s k a st talk waiting does
+Opening s k a st talk waiting names does = (after_events s a talk (SessionTurn names ∷ []) ≡ session_calls a (record talk { session = does.1 }) (deed_of does.0)) → ((b : ℕ) → answers_to s (step st does.0).effects ≡ answer.Thread b ∷ [] → b ≡ a) → Coming s k a st talk waiting does
 
 pub sessions_calls_are_events : SessionsCallsAreEvents
 unfolding session_next
 sessions_calls_are_events s k a st was talk waiting h turn x hears names on short only given = by_agent h.agent
   where
-    now : talked s a talk (SessionTurn names ∷ []) ≡ session_calls a (record talk { session = (session_by talk.session names x talk.session.place).1 }) (deed_of (session_by talk.session names x talk.session.place).0)
+    now : after_events s a talk (SessionTurn names ∷ []) ≡ session_calls a (record talk { session = (session_by talk.session names x talk.session.place).1 }) (deed_of (session_by talk.session names x talk.session.place).0)
     now = ap (session_turn a names talk) hears
 
     knowing : knows a talk.session.agent talk.session.place talk.client ≡ true → Coming s k a st talk waiting (session_by talk.session names x talk.session.place)

@@ -11,24 +11,24 @@ use Rattle.answer_laws.specs.Lengths.{is_short}
 use Rattle.answer_laws.specs.Replies.{Asks, IsReplied, takes_other}
 use Rattle.answer_laws.specs.Sights.{IsLeft, Sight, answers_to, attends, going_on, sight, sight_by}
 use Rattle.answer_laws.specs.Stands.{AgentIs, AgentIs.Gone, AgentIs.Made, AgentIs.Unmade, AgentLetters, Becomes, IsHeard, Stands, StoresCallsAreEvents, block_of, goes_on_with, is_placed, is_posted, is_reading, is_short_to, knows, line_letter, mail_letters, owes}
-use Rattle.answer_laws.specs.Talks.{Deed.Replies, Event, Event.OtherLetter, Event.OwnLetter, Event.StoreTurn, Mail, Mail.Nothing, Mail.Received, Mail.Sent, Stand, Stand.AwaitsLetter, Stand.AwaitsReply, Stand.Hears, Stand.IsOver, Talk, deed_of, reply_answer, session_told, store_calls, store_turn, talked}
+use Rattle.answer_laws.specs.Talks.{Deed.Replies, Event, Event.OtherLetter, Event.OwnLetter, Event.StoreTurn, Mail, Mail.Nothing, Mail.Received, Mail.Sent, Stand, Stand.AwaitsLetter, Stand.AwaitsReply, Stand.Hears, Stand.IsOver, Talk, after_events, deed_of, reply_answer, session_told, store_calls, store_turn}
 use Rattle.line_server.specs.Stores.{StoreBody, is_invalid, store_by, store_next, store_received, store_receives}
 use Rattle.line_server.specs.Turns.{Turn, is_replied, stops}
 use Rattle.line_server.specs.declared.session.SessionPlace.{SessionPlace}
 use Rattle.line_server.specs.declared.session.SessionPlace.TheVariants as at
 use Rattle.line_server.specs.declared.store.StorePlace.{StorePlace}
 use Rattle.line_server.specs.declared.store.StorePlace.TheVariants as kept_at
-use Rattle.lwp_types.specs.Case.{Case, Check, answered, is_no_id, refused, unanswered, unless, with_zero}
+use Rattle.lwp_types.specs.Case.{Case, Check, answer_case, is_no_id, refusal_case, silent_case, unless, with_zero}
 use Rattle.lwp_types.specs.Choice.{choice}
 use Rattle.lwp_types.specs.CountLaws.{count-append}
 use Rattle.lwp_types.specs.Counts.{timers_of}
 use Rattle.lwp_types.specs.FirstLaws.{find-filter}
 use Rattle.lwp_types.specs.Lawful.{Lawful}
-use Rattle.lwp_types.specs.Messages.{as_answer, is_letter_of, is_open, is_to, marked_received, receive_by, received_from, replied, unreceived, with_holding, without_letter}
+use Rattle.lwp_types.specs.Messages.{after_reply, as_answer, is_letter_of, is_open, is_to, marked_received, next_letter, receive_by, received_from, with_holding, without_letter}
 use Rattle.lwp_types.specs.Names.{Names}
 use Rattle.lwp_types.specs.State.{Outcome, State, is_agent, is_id, is_thread, passes, still, thread_of}
-use Rattle.lwp_types.specs.Step.{case_of, finished, step, step_by, step_if}
-use Rattle.lwp_types.specs.Unblock.{blocked, is_timer_of, unblock, zero_answer}
+use Rattle.lwp_types.specs.Step.{case_of, step, step_by, step_if, step_outcome}
+use Rattle.lwp_types.specs.Unblock.{after_block, is_timer_of, unblock, zero_answer}
 use Rattle.lwp_types.specs.declared.call.Answer.{Answer}
 use Rattle.lwp_types.specs.declared.call.Call.{Call}
 use Rattle.lwp_types.specs.declared.call.LwpErr.{LwpErr}
@@ -91,7 +91,7 @@ module _ (body : StoreBody) where
 -- ---- checks and letters
 
 pub data Checked (s : State) (checks : List Check) (otherwise : Case) : Type 0 where
-  Struck : (e : LwpErr) → unless s checks otherwise ≡ refused s e → Checked s checks otherwise
+  Struck : (e : LwpErr) → unless s checks otherwise ≡ refusal_case s e → Checked s checks otherwise
   Free : Passed checks → unless s checks otherwise ≡ otherwise → Checked s checks otherwise
 
 pub checked : (s : State) (checks : List Check) (otherwise : Case) → Checked s checks otherwise
@@ -104,7 +104,7 @@ checked s (check ∷ checks) otherwise = by_test check.0 refl (checked s checks 
     by_test false e (Struck why is) = Struck why (rw e is)
     by_test false e (Free passed is) = Free (e, passed) (rw e is)
 
-pub second_strikes : (s : State) (one two : Check) (rest : List Check) (otherwise : Case) → one.0 ≡ false → two.0 ≡ true → unless s (one ∷ two ∷ rest) otherwise ≡ refused s two.1
+pub second_strikes : (s : State) (one two : Check) (rest : List Check) (otherwise : Case) → one.0 ≡ false → two.0 ≡ true → unless s (one ∷ two ∷ rest) otherwise ≡ refusal_case s two.1
 unfolding unless
 second_strikes s one two rest otherwise e f = rw (e, f) refl
 
@@ -176,7 +176,7 @@ sends_at AwaitsReply text at.Bye h p = absurd (cc)
 sends_at AwaitsReply text at.End h p = absurd (cc)
 sends_at IsOver text place h p = absurd (cc)
 
-pub own_is : (s a : ℕ) (text : List ℕ) (talk : Talk) → talk.keeper ≡ AwaitsLetter → talk.mail ≡ Sent text → talked s a talk (OwnLetter ∷ []) ≡ record talk { keeper = Hears (answer.Letter s text 240); mail = Received text }
+pub own_is : (s a : ℕ) (text : List ℕ) (talk : Talk) → talk.keeper ≡ AwaitsLetter → talk.mail ≡ Sent text → after_events s a talk (OwnLetter ∷ []) ≡ record talk { keeper = Hears (answer.Letter s text 240); mail = Received text }
 own_is s a text talk w m = rw (w, m) refl
 
 -- a session that sends knows its agent and owes a reply, however it goes on
@@ -202,37 +202,37 @@ module _ (k : ℕ) (st : State) (turn : choice st ≡ Some k) (k_seen : sight st
     pub seen : sight (step st c).after k ≡ record { waits = Some (block_of None stand); marks = mark.Frame ∷ []; letters = [] }
     pub told : answers_to k (step st c).effects ≡ heard
 
-  pub step_is : (c : Call) → step st c ≡ finished k c (case_of st k c)
+  pub step_is : (c : Call) → step st c ≡ step_outcome k c (case_of st k c)
   unfolding step step_by
   step_is c = ap (step_if st c) turn
 
-  keeps_made : (c : Call) (made : Case) (stand : Stand) (heard : List Answer) → case_of st k c ≡ made → sight (finished k c made).after k ≡ record { waits = Some (block_of None stand); marks = mark.Frame ∷ []; letters = [] } → answers_to k made.others ++ option_to_list made.own ≡ heard → Keeps c stand heard
+  keeps_made : (c : Call) (made : Case) (stand : Stand) (heard : List Answer) → case_of st k c ≡ made → sight (step_outcome k c made).after k ≡ record { waits = Some (block_of None stand); marks = mark.Frame ∷ []; letters = [] } → answers_to k made.others ++ option_to_list made.own ≡ heard → Keeps c stand heard
   keeps_made c made stand heard is seen told = record {
-    seen = ap (λ out. sight out.after k) (step_is c ∙ ap (finished k c) is) ∙ seen;
-    told = ap (λ out. answers_to k out.effects) (step_is c ∙ ap (finished k c) is) ∙ told_itself k c made ∙ told;
+    seen = ap (λ out. sight out.after k) (step_is c ∙ ap (step_outcome k c) is) ∙ seen;
+    told = ap (λ out. answers_to k out.effects) (step_is c ∙ ap (step_outcome k c) is) ∙ told_itself k c made ∙ told;
   }
 
   abbrev pub recv : Call
   recv = call.Recv None mode.Block
 
-  received_by : (o : Option Letter) → unreceived st.letters k None ≡ o → case_of st k recv ≡ receive_by st k None mode.Block o
+  received_by : (o : Option Letter) → next_letter st.letters k None ≡ o → case_of st k recv ≡ receive_by st k None mode.Block o
   received_by o e = unless_passed st _ _ (refl, (refl, tt)) ∙ ap (receive_by st k None mode.Block) e
 
-  pub keeps_waiting : unreceived st.letters k None ≡ None → Keeps recv AwaitsLetter []
-  keeps_waiting e = keeps_made recv (unanswered (still (blocked st k (block.Receiving None)))) AwaitsLetter [] (received_by None e)
+  pub keeps_waiting : next_letter st.letters k None ≡ None → Keeps recv AwaitsLetter []
+  keeps_waiting e = keeps_made recv (silent_case (still (after_block st k (block.Receiving None)))) AwaitsLetter [] (received_by None e)
       ((λ i. sight_by (blocked_row k (block.Receiving None) st.threads k_row.row k_row.known i) (filter (is_letter_of k) st.letters))
       ∙ ap (λ o. record (sight_by o (filter (is_letter_of k) st.letters)) { waits = Some (block.Receiving None) }) (sym k_row.known) ∙ ap (λ (v : Sight). record v { waits = Some (block.Receiving None) }) k_seen) refl
 
-  pub keeps_letter : (l : Letter) → unreceived st.letters k None ≡ Some l → Keeps recv (Hears (as_answer l)) (as_answer l ∷ [])
-  keeps_letter l e = keeps_made recv (answered (record st { letters = marked_received l.from st.letters }) (as_answer l)) (Hears (as_answer l)) (as_answer l ∷ []) (received_by (Some l) e)
+  pub keeps_letter : (l : Letter) → next_letter st.letters k None ≡ Some l → Keeps recv (Hears (as_answer l)) (as_answer l ∷ [])
+  keeps_letter l e = keeps_made recv (answer_case (record st { letters = marked_received l.from st.letters }) (as_answer l)) (Hears (as_answer l)) (as_answer l ∷ []) (received_by (Some l) e)
       ((λ i. sight_by (thread_of st k) (received_own k Never l.from (found_other k Never k st off (is_open None) l e) st.letters i)) ∙ k_seen) refl
 
   module _ (v : ℕ) (text : List ℕ) where
     abbrev answering : Call
     answering = call.Reply v text
 
-    pub keeps_refused : (e : LwpErr) → case_of st k answering ≡ refused st e → Keeps answering (Hears (answer.Refused e)) (answer.Refused e ∷ [])
-    keeps_refused e is = keeps_made answering (refused st e) (Hears (answer.Refused e)) (answer.Refused e ∷ []) is k_seen refl
+    pub keeps_refused : (e : LwpErr) → case_of st k answering ≡ refusal_case st e → Keeps answering (Hears (answer.Refused e)) (answer.Refused e ∷ [])
+    keeps_refused e is = keeps_made answering (refusal_case st e) (Hears (answer.Refused e)) (answer.Refused e ∷ []) is k_seen refl
 
     k_replied : v ≢ k → (b : Bool) → (sight (cond b (still (record st { letters = without_letter v st.letters; agents = with_holding v false st.agents })) (unblock (answer.Reply text) v (record st { letters = without_letter v st.letters }))).after k ≡ sight st k)
         × (answers_to k (cond b (still (record st { letters = without_letter v st.letters; agents = with_holding v false st.agents })) (unblock (answer.Reply text) v (record st { letters = without_letter v st.letters }))).effects ≡ [])
@@ -243,9 +243,9 @@ module _ (k : ℕ) (st : State) (turn : choice st ≡ Some k) (k_seen : sight st
         none true e = absurd (cc)
         none false e = refl
 
-    pub keeps_replied : v ≢ k → case_of st k answering ≡ with_zero (replied v text st) → Keeps answering (Hears zero_answer) (zero_answer ∷ [])
+    pub keeps_replied : v ≢ k → case_of st k answering ≡ with_zero (after_reply v text st) → Keeps answering (Hears zero_answer) (zero_answer ∷ [])
     keeps_replied other is = let w = k_replied other (is_agent st v) in
-        keeps_made answering (with_zero (replied v text st)) (Hears zero_answer) (zero_answer ∷ []) is (w.0 ∙ k_seen) (ap (λ xs. xs ++ zero_answer ∷ []) w.1)
+        keeps_made answering (with_zero (after_reply v text st)) (Hears zero_answer) (zero_answer ∷ []) is (w.0 ∙ k_seen) (ap (λ xs. xs ++ zero_answer ∷ []) w.1)
 
 -- ---- the store's turn
 
@@ -280,7 +280,7 @@ module _ (s k a : ℕ) (st : State) (was : Lawful st None) (talk : Talk) (waitin
   goes : (c : Call) (body : StoreBody) (stand : Stand) (heard : List Answer) → spares_agent a s c ≡ true → timers_asked st (Some k) c ≡ [] → (talk.session.place ≡ at.Start → (step st c).after.births ≤ a) → Keeps k st turn k_seen c stand heard → is_reading stand ≡ true → IsHeard talk.keeper stand heard
       → (client : Stand) (mail : Mail) → sight (step st c).after s ≡ record { waits = Some (block_of (Some a) client); marks = mark.Frame ∷ []; letters = mail_letters s k mail } → is_posted client mail ≡ true → is_placed client talk.session.place ≡ true
       → (AgentIs s a (step st c).after talk waiting → AgentIs s a (step st c).after (record talk { store = body; keeper = stand; client = client; mail = mail }) waiting) → IsHeard talk.client client (answers_to s (step st c).effects)
-      → (events : List Event) → talked s a talk events ≡ record talk { store = body; keeper = stand; client = client; mail = mail } → StoreGoesOn s k a talk waiting body (step st c)
+      → (events : List Event) → after_events s a talk events ≡ record talk { store = body; keeper = stand; client = client; mail = mail } → StoreGoesOn s k a talk waiting body (step st c)
   goes c body stand heard spared asks low keeps reads kept client mail seen posted placed agent told events now = becomes_as s k a talk talk.session body waiting [] [] (step st c) events (record talk { store = body; keeper = stand; client = client; mail = mail }) now refl refl waiting
       (record { client = seen; keeper = λ apart. keeps.seen; posted = posted; placed = placed; reads = reads; untimed = untimed_after c s asks h.untimed; untimed_keeper = λ apart. untimed_after c k asks (h.untimed_keeper apart); alone = λ same. differ (sym same ∙ s_k); agent = agent (agent_after c spared low h.agent) })
       (sym (append-nil (talk.lines ++ waiting))) (sym (append-nil talk.told)) told (λ apart. subst (IsHeard talk.keeper stand) (sym keeps.told) kept)
@@ -288,27 +288,27 @@ module _ (s k a : ℕ) (st : State) (was : Lawful st None) (talk : Talk) (waitin
   module _ (names : Names) (body : StoreBody) where
     -- ---- it receives
 
-    module _ (now : talked s a talk (StoreTurn None names ∷ []) ≡ record talk { store = body; keeper = AwaitsLetter }) (low : talk.session.place ≡ at.Start → (step st (recv k st turn k_seen)).after.births ≤ a) where
-      left_of : (o : Option Letter) → unreceived st.letters k None ≡ o → takes_other s o ≡ true → IsLeft s st (step st (recv k st turn k_seen))
+    module _ (now : after_events s a talk (StoreTurn None names ∷ []) ≡ record talk { store = body; keeper = AwaitsLetter }) (low : talk.session.place ≡ at.Start → (step st (recv k st turn k_seen)).after.births ≤ a) where
+      left_of : (o : Option Letter) → next_letter st.letters k None ≡ o → takes_other s o ≡ true → IsLeft s st (step st (recv k st turn k_seen))
       left_of o e h = (readers_leave_the_rest st k s turn k_s attends_s).receives None mode.Block (ap (takes_other s) e ∙ h)
 
       -- the session is left
-      goes_left : (stand : Stand) (heard : List Answer) → Keeps k st turn k_seen (recv k st turn k_seen) stand heard → is_reading stand ≡ true → IsHeard talk.keeper stand heard → IsLeft s st (step st (recv k st turn k_seen)) → (events : List Event) → talked s a talk events ≡ record talk { store = body; keeper = stand } → StoreGoesOn s k a talk waiting body (step st (recv k st turn k_seen))
+      goes_left : (stand : Stand) (heard : List Answer) → Keeps k st turn k_seen (recv k st turn k_seen) stand heard → is_reading stand ≡ true → IsHeard talk.keeper stand heard → IsLeft s st (step st (recv k st turn k_seen)) → (events : List Event) → after_events s a talk events ≡ record talk { store = body; keeper = stand } → StoreGoesOn s k a talk waiting body (step st (recv k st turn k_seen))
       goes_left stand heard keeps reads kept left events now2 = goes (recv k st turn k_seen) body stand heard refl refl low keeps reads kept talk.client talk.mail (left.same ∙ h.client) h.posted h.placed
           (λ agent. agent_as refl refl refl agent) (unheard talk.client (answers_to s (step st (recv k st turn k_seen)).effects) left.quiet) events now2
 
-      waits_now : unreceived st.letters k None ≡ None → StoreGoesOn s k a talk waiting body (step st (recv k st turn k_seen))
+      waits_now : next_letter st.letters k None ≡ None → StoreGoesOn s k a talk waiting body (step st (recv k st turn k_seen))
       waits_now e = goes_left AwaitsLetter [] (keeps_waiting k st turn k_seen e) refl (λ z h. tt) (left_of None e refl) (StoreTurn None names ∷ []) now
 
       heard_letter : (l : Letter) → IsHeard talk.keeper (Hears (as_answer l)) (as_answer l ∷ [])
       heard_letter l = heard_one talk.keeper (as_answer l) (as_answer l ∷ []) refl
 
-      from_other : (l : Letter) → unreceived st.letters k None ≡ Some l → is_letter_of s l ≡ false → StoreGoesOn s k a talk waiting body (step st (recv k st turn k_seen))
+      from_other : (l : Letter) → next_letter st.letters k None ≡ Some l → is_letter_of s l ≡ false → StoreGoesOn s k a talk waiting body (step st (recv k st turn k_seen))
       from_other l e other = goes_left (Hears (as_answer l)) (as_answer l ∷ []) (keeps_letter k st turn k_seen l e) refl (heard_letter l) (left_of (Some l) e (ap not other)) (StoreTurn None names ∷ OtherLetter l.from l.text l.room ∷ [])
-          (talked_append s a talk (StoreTurn None names ∷ []) (OtherLetter l.from l.text l.room ∷ []) ∙ ap (λ t. talked s a t (OtherLetter l.from l.text l.room ∷ [])) now
+          (talked_append s a talk (StoreTurn None names ∷ []) (OtherLetter l.from l.text l.room ∷ []) ∙ ap (λ t. after_events s a t (OtherLetter l.from l.text l.room ∷ [])) now
           ∙ other_is s a l.from l.text l.room (record talk { store = body; keeper = AwaitsLetter }) refl (apart_of l.from s other))
 
-      from_session : (l : Letter) → unreceived st.letters k None ≡ Some l → is_letter_of s l ≡ true → (m : Mail) → talk.mail ≡ m → StoreGoesOn s k a talk waiting body (step st (recv k st turn k_seen))
+      from_session : (l : Letter) → next_letter st.letters k None ≡ Some l → is_letter_of s l ≡ true → (m : Mail) → talk.mail ≡ m → StoreGoesOn s k a talk waiting body (step st (recv k st turn k_seen))
       from_session l e its Nothing m = absurd (found_none (is_open None) (is_to k) (is_letter_of s) st.letters l e its (ap (λ x. x.letters) h.client ∙ ap (mail_letters s k) m))
       from_session l e its (Received text) m =
           let same = found_one (is_open None) (is_to k) (is_letter_of s) st.letters l (line_letter s k text true) e its (ap (λ x. x.letters) h.client ∙ ap (mail_letters s k) m) in
@@ -325,12 +325,12 @@ module _ (s k a : ℕ) (st : State) (was : Lawful st None) (talk : Talk) (waitin
           (r.seen ∙ ap (λ (v : Sight). record v { letters = line_letter s k text true ∷ [] }) h.client)
           (posted_received talk.client text (subst (λ m. is_posted talk.client m ≡ true) m h.posted)) h.placed (λ agent. agent_as refl refl refl agent)
           (unheard talk.client (answers_to s (step st (recv k st turn k_seen)).effects) r.quiet) (StoreTurn None names ∷ OwnLetter ∷ [])
-          (talked_append s a talk (StoreTurn None names ∷ []) (OwnLetter ∷ []) ∙ ap (λ t. talked s a t (OwnLetter ∷ [])) now ∙ own_is s a text (record talk { store = body; keeper = AwaitsLetter }) refl m)
+          (talked_append s a talk (StoreTurn None names ∷ []) (OwnLetter ∷ []) ∙ ap (λ t. after_events s a t (OwnLetter ∷ [])) now ∙ own_is s a text (record talk { store = body; keeper = AwaitsLetter }) refl m)
 
       receives : StoreGoesOn s k a talk waiting body (step st (recv k st turn k_seen))
-      receives = by_letter (unreceived st.letters k None) refl
+      receives = by_letter (next_letter st.letters k None) refl
         where
-          by_letter : (o : Option Letter) → unreceived st.letters k None ≡ o → StoreGoesOn s k a talk waiting body (step st (recv k st turn k_seen))
+          by_letter : (o : Option Letter) → next_letter st.letters k None ≡ o → StoreGoesOn s k a talk waiting body (step st (recv k st turn k_seen))
           by_letter None e = waits_now e
           by_letter (Some l) e = by_sender (is_letter_of s l) refl
             where
@@ -340,7 +340,7 @@ module _ (s k a : ℕ) (st : State) (was : Lawful st None) (talk : Talk) (waitin
 
     -- ---- it replies
 
-    module _ (v : ℕ) (text : List ℕ) (now : (refusal : Option LwpErr) → talked s a talk (StoreTurn refusal names ∷ []) ≡ store_calls s refusal (record talk { store = body }) (Replies v text))
+    module _ (v : ℕ) (text : List ℕ) (now : (refusal : Option LwpErr) → after_events s a talk (StoreTurn refusal names ∷ []) ≡ store_calls s refusal (record talk { store = body }) (Replies v text))
         (low : talk.session.place ≡ at.Start → (step st (call.Reply v text)).after.births ≤ a) (short : (sent : List ℕ) → talk.mail ≡ Received sent → is_short_to s (call.Reply v text) ≡ true) where
       abbrev reply : Call
       reply = call.Reply v text
@@ -349,7 +349,7 @@ module _ (s k a : ℕ) (st : State) (was : Lawful st None) (talk : Talk) (waitin
       heard_so y = heard_one talk.keeper y (y ∷ []) refl
 
       -- the session is left
-      reply_left : (y : Answer) → Keeps k st turn k_seen reply (Hears y) (y ∷ []) → IsLeft s st (step st reply) → (events : List Event) → talked s a talk events ≡ record talk { store = body; keeper = Hears y } → StoreGoesOn s k a talk waiting body (step st reply)
+      reply_left : (y : Answer) → Keeps k st turn k_seen reply (Hears y) (y ∷ []) → IsLeft s st (step st reply) → (events : List Event) → after_events s a talk events ≡ record talk { store = body; keeper = Hears y } → StoreGoesOn s k a talk waiting body (step st reply)
       reply_left y keeps left events now2 = goes reply body (Hears y) (y ∷ []) refl refl low keeps refl (heard_so y) talk.client talk.mail (left.same ∙ h.client) h.posted h.placed
           (λ agent. agent_as refl refl refl agent) (unheard talk.client (answers_to s (step st reply).effects) left.quiet) events now2
 
@@ -360,20 +360,20 @@ module _ (s k a : ℕ) (st : State) (was : Lawful st None) (talk : Talk) (waitin
           left : IsLeft s st (step st reply)
           left = (readers_leave_the_rest st k s turn k_s attends_s).replies v text other
 
-          now_other : (refusal : Option LwpErr) → talked s a talk (StoreTurn refusal names ∷ []) ≡ record talk { store = body; keeper = Hears (reply_answer refusal) }
+          now_other : (refusal : Option LwpErr) → after_events s a talk (StoreTurn refusal names ∷ []) ≡ record talk { store = body; keeper = Hears (reply_answer refusal) }
           now_other refusal = now refusal ∙ by_test (eqb v s) other
             where
               by_test : (b : Bool) → b ≡ false → cond b (session_told (record talk { store = body }) text talk.mail) (record talk { store = body; keeper = Hears (reply_answer refusal) }) ≡ record talk { store = body; keeper = Hears (reply_answer refusal) }
               by_test true e = absurd (cc)
               by_test false e = refl
 
-          by_checks : Checked st (is_no_id st v ∷ (is_none (received_from st.letters k v), error.NoWait) ∷ (passes (λ (letter : Letter). nat_lt letter.room (length text)) (received_from st.letters k v), error.InvalidArg) ∷ []) (with_zero (replied v text st)) → StoreGoesOn s k a talk waiting body (step st reply)
+          by_checks : Checked st (is_no_id st v ∷ (is_none (received_from st.letters k v), error.NoWait) ∷ (passes (λ (letter : Letter). nat_lt letter.room (length text)) (received_from st.letters k v), error.InvalidArg) ∷ []) (with_zero (after_reply v text st)) → StoreGoesOn s k a talk waiting body (step st reply)
           by_checks (Struck e is) = reply_left (answer.Refused e) (keeps_refused k st turn k_seen v text e is) left (StoreTurn (Some e) names ∷ []) (now_other (Some e))
           by_checks (Free passed is) = reply_left zero_answer (keeps_replied k st turn k_seen v text (replied_other k Never k st (off k st turn k_seen) v passed.1.0) is) left (StoreTurn None names ∷ []) (now_other None)
 
       -- to the session
       module _ (same : v ≡ s) where
-        now_own : talked s a talk (StoreTurn None names ∷ []) ≡ session_told (record talk { store = body }) text talk.mail
+        now_own : after_events s a talk (StoreTurn None names ∷ []) ≡ session_told (record talk { store = body }) text talk.mail
         now_own = now None ∙ by_test (eqb v s) (eq-eqb v s same)
           where
             by_test : (b : Bool) → b ≡ true → cond b (session_told (record talk { store = body }) text talk.mail) (record talk { store = body; keeper = Hears zero_answer }) ≡ session_told (record talk { store = body }) text talk.mail
@@ -397,13 +397,13 @@ module _ (s k a : ℕ) (st : State) (was : Lawful st None) (talk : Talk) (waitin
                 by_thread true e = refl
                 by_thread false e = absurd (cc)
 
-            is : case_of st k reply ≡ refused st error.NoWait
+            is : case_of st k reply ≡ refusal_case st error.NoWait
             is = second_strikes st _ _ _ _ (ap not there) (ap is_none missing)
 
             left : IsLeft s st (step st reply)
             left = record {
-              same = ap (λ out. sight out.after s) (step_is k st turn k_seen reply ∙ ap (finished k reply) is);
-              quiet = ap (λ out. answers_to s out.effects) (step_is k st turn k_seen reply ∙ ap (finished k reply) is) ∙ told_other s k (apart_of k s k_s) reply (refused st error.NoWait);
+              same = ap (λ out. sight out.after s) (step_is k st turn k_seen reply ∙ ap (step_outcome k reply) is);
+              quiet = ap (λ out. answers_to s out.effects) (step_is k st turn k_seen reply ∙ ap (step_outcome k reply) is) ∙ told_other s k (apart_of k s k_s) reply (refusal_case st error.NoWait);
             }
 
         received_one : (sent : List ℕ) → talk.mail ≡ Received sent → StoreGoesOn s k a talk waiting body (step st reply)
@@ -425,8 +425,8 @@ module _ (s k a : ℕ) (st : State) (was : Lawful st None) (talk : Talk) (waitin
             place : talk.session.place ≡ at.Send
             place = sends_at talk.client sent talk.session.place (subst (λ m. is_posted talk.client m ≡ true) e h.posted) h.placed
 
-            by_checks : Checked st (is_no_id st v ∷ (is_none (received_from st.letters k v), error.NoWait) ∷ (passes (λ (letter : Letter). nat_lt letter.room (length text)) (received_from st.letters k v), error.InvalidArg) ∷ []) (with_zero (replied v text st)) → StoreGoesOn s k a talk waiting body (step st reply)
-            by_checks (Struck why is) = absurd (let bad : answer.Reply text ∷ [] ≡ [] = sym r.told ∙ ap (λ out. answers_to s out.effects) (step_is k st turn k_seen reply ∙ ap (finished k reply) is) ∙ told_other s k (apart_of k s k_s) reply (refused st why) in cc)
+            by_checks : Checked st (is_no_id st v ∷ (is_none (received_from st.letters k v), error.NoWait) ∷ (passes (λ (letter : Letter). nat_lt letter.room (length text)) (received_from st.letters k v), error.InvalidArg) ∷ []) (with_zero (after_reply v text st)) → StoreGoesOn s k a talk waiting body (step st reply)
+            by_checks (Struck why is) = absurd (let bad : answer.Reply text ∷ [] ≡ [] = sym r.told ∙ ap (λ out. answers_to s out.effects) (step_is k st turn k_seen reply ∙ ap (step_outcome k reply) is) ∙ told_other s k (apart_of k s k_s) reply (refusal_case st why) in cc)
             by_checks (Free passed is) = goes reply body (Hears zero_answer) (zero_answer ∷ []) refl refl low (keeps_replied k st turn k_seen v text (replied_other k Never k st (off k st turn k_seen) v passed.1.0) is) refl (heard_so zero_answer)
                 (Hears (answer.Reply text)) Nothing (r.goes_on ∙ ap (λ (v : Sight). record (going_on v) { letters = [] }) h.client) refl refl
                 (λ agent. agent_sends s a (step st reply).after talk _ waiting place refl refl agent)
@@ -449,7 +449,7 @@ module _ (s k a : ℕ) (st : State) (was : Lawful st None) (talk : Talk) (waitin
 
   module _ (names : Names) where
     abbrev Goes : Turn StoreBody → Type 0
-    Goes does = ((refusal : Option LwpErr) → talked s a talk (StoreTurn refusal names ∷ []) ≡ store_calls s refusal (record talk { store = does.1 }) (deed_of does.0)) → goes_on_with does.0 ≡ true → ((sent : List ℕ) → talk.mail ≡ Received sent → is_short_to s does.0 ≡ true)
+    Goes does = ((refusal : Option LwpErr) → after_events s a talk (StoreTurn refusal names ∷ []) ≡ store_calls s refusal (record talk { store = does.1 }) (deed_of does.0)) → goes_on_with does.0 ≡ true → ((sent : List ℕ) → talk.mail ≡ Received sent → is_short_to s does.0 ≡ true)
         → (talk.session.place ≡ at.Start → (step st does.0).after.births ≤ a) → StoreGoesOn s k a talk waiting does.1 (step st does.0)
 
     goes_so : (does : Turn StoreBody) → StoreDoes does → Goes does
@@ -462,5 +462,5 @@ unfolding store_next
 stores_calls_are_events s k a st was talk waiting h s_k turn x hears names on short low =
     goes_so s k a st was talk waiting h s_k turn x hears names (store_by talk.store x talk.store.place) (does_by talk.store x talk.store.place) now on short low
   where
-    now : (refusal : Option LwpErr) → talked s a talk (StoreTurn refusal names ∷ []) ≡ store_calls s refusal (record talk { store = (store_by talk.store x talk.store.place).1 }) (deed_of (store_by talk.store x talk.store.place).0)
+    now : (refusal : Option LwpErr) → after_events s a talk (StoreTurn refusal names ∷ []) ≡ store_calls s refusal (record talk { store = (store_by talk.store x talk.store.place).1 }) (deed_of (store_by talk.store x talk.store.place).0)
     now refusal = ap (store_turn s refusal names talk) hears

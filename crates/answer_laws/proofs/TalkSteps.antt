@@ -4,14 +4,14 @@ use Rattle.answer_laws.proofs.Others.{others_leave_it}
 use Rattle.answer_laws.specs.Agents.{agent_sight, no_agent, spares_agent}
 use Rattle.answer_laws.specs.Sights.{IsLeft, IsSent, IsWoken, Spares, answers_to, attends, going_on, is_attentive, sight, waits_for, written_to}
 use Rattle.answer_laws.specs.Stands.{AgentIs, AgentIs.Gone, AgentIs.Made, AgentIs.Unmade, AgentLetters, Becomes, IsHeard, IsUnwritten, Leaves, OthersCallsAreEvents, Stands, block_of, is_placed, is_posted, is_reading, knows, mail_letters, owes}
-use Rattle.answer_laws.specs.Talks.{Event, Event.AgentEnds, Event.OtherLetter, Mail, Mail.Nothing, Mail.Received, Mail.Sent, Stand, Stand.AwaitsLetter, Stand.AwaitsReply, Stand.Hears, Stand.IsOver, Talk, line_refused, talk_on, talked}
+use Rattle.answer_laws.specs.Talks.{Event, Event.AgentEnds, Event.OtherLetter, Mail, Mail.Nothing, Mail.Received, Mail.Sent, Stand, Stand.AwaitsLetter, Stand.AwaitsReply, Stand.Hears, Stand.IsOver, Talk, after_events, line_refused, talk_on}
 use Rattle.line_server.specs.declared.session.SessionPlace.{SessionPlace}
 use Rattle.line_server.specs.declared.session.SessionPlace.TheVariants as at
 use Rattle.lwp_types.specs.Choice.{choice}
 use Rattle.lwp_types.specs.CountLaws.{count-append, one}
 use Rattle.lwp_types.specs.Counts.{has_its_block, is_block_of, timers_of}
 use Rattle.lwp_types.specs.Lawful.{Lawful}
-use Rattle.lwp_types.specs.Messages.{is_to, unreceived}
+use Rattle.lwp_types.specs.Messages.{is_to, next_letter}
 use Rattle.lwp_types.specs.State.{Outcome, State, ThreadRow, agent_numbers, agent_of, all_below, is_agent, is_agent_row, is_id, is_number, is_thread, numbers, passes, thread_of}
 use Rattle.lwp_types.specs.Step.{step}
 use Rattle.lwp_types.specs.Unblock.{is_timer_of, nonexist}
@@ -54,7 +54,7 @@ parts_of false false h = (refl, refl)
 
 -- ---- what the talk says
 
-pub talked_append : (s a : ℕ) (talk : Talk) (xs ys : List Event) → talked s a talk (xs ++ ys) ≡ talked s a (talked s a talk xs) ys
+pub talked_append : (s a : ℕ) (talk : Talk) (xs ys : List Event) → after_events s a talk (xs ++ ys) ≡ after_events s a (after_events s a talk xs) ys
 talked_append s a talk [] ys = refl
 talked_append s a talk (x ∷ xs) ys = talked_append s a (talk_on s a talk x) xs ys
 
@@ -91,7 +91,7 @@ awaited_there st was u a seen = by_row (thread_of st u) refl seen
     by_block : (row : ThreadRow) (b : Block) → b ≡ block.Receiving (Some a) → is_block_of st row.number b ≡ true → is_id st a ≡ true
     by_block row b e h = by_parts (is_id st a) (eqb a row.number) (subst (λ b. is_block_of st row.number b ≡ true) e h)
       where
-        by_parts : (x y : Bool) → (not (not x || y) && is_none (unreceived st.letters row.number (Some a))) ≡ true → x ≡ true
+        by_parts : (x y : Bool) → (not (not x || y) && is_none (next_letter st.letters row.number (Some a))) ≡ true → x ≡ true
         by_parts true y h = refl
         by_parts false y h = absurd (cc)
 
@@ -105,7 +105,7 @@ awaited_there st was u a seen = by_row (thread_of st u) refl seen
 pub record KeeperTo (s k a : ℕ) (talk : Talk) (out : Outcome) : Type 0 where
   pub events : List Event
   pub keeper : Stand
-  pub is : talked s a talk events ≡ record talk { keeper = keeper }
+  pub is : after_events s a talk events ≡ record talk { keeper = keeper }
   pub seen : eqb s k ≡ false → sight out.after k ≡ record { waits = Some (block_of None keeper); marks = mark.Frame ∷ []; letters = [] }
   pub reads : is_reading keeper ≡ true
   pub heard : eqb s k ≡ false → IsHeard talk.keeper keeper (answers_to k out.effects)
@@ -116,7 +116,7 @@ pub record ClientTo (s k a : ℕ) (talk : Talk) (waiting : List (List ℕ)) (out
   pub events : List Event
   pub client : Stand
   pub lives : Bool
-  pub is : (keeper : Stand) → talked s a (record talk { keeper = keeper }) events ≡ record talk { keeper = keeper; client = client; agent_lives = lives }
+  pub is : (keeper : Stand) → after_events s a (record talk { keeper = keeper }) events ≡ record talk { keeper = keeper; client = client; agent_lives = lives }
   pub seen : sight out.after s ≡ record { waits = Some (block_of (Some a) client); marks = mark.Frame ∷ []; letters = mail_letters s k talk.mail }
   pub posted : is_posted client talk.mail ≡ true
   pub placed : is_placed client talk.session.place ≡ true
@@ -152,8 +152,8 @@ becomes s k a talk waiting out timers timers_k one two = record {
   heard_keeper = λ s_k. subst (λ (x : Talk). IsHeard talk.keeper x.keeper (answers_to k out.effects)) (sym now) (one.heard s_k);
 }
   where
-    now : talked s a talk (one.events ++ two.events) ≡ record talk { keeper = one.keeper; client = two.client; agent_lives = two.lives }
-    now = talked_append s a talk one.events two.events ∙ ap (λ x. talked s a x two.events) one.is ∙ two.is one.keeper
+    now : after_events s a talk (one.events ++ two.events) ≡ record talk { keeper = one.keeper; client = two.client; agent_lives = two.lives }
+    now = talked_append s a talk one.events two.events ∙ ap (λ x. after_events s a x two.events) one.is ∙ two.is one.keeper
 
 -- nothing is heard
 pub unheard : (stand : Stand) (answers : List Answer) → answers ≡ [] → IsHeard stand stand answers
@@ -165,7 +165,7 @@ heard_one before x answers one = subst (IsHeard before (Hears x)) (sym one) (λ 
 
 -- ---- a letter for the store
 
-pub other_is : (s a x : ℕ) (text : List ℕ) (room : ℕ) (talk : Talk) → talk.keeper ≡ AwaitsLetter → x ≢ s → talked s a talk (OtherLetter x text room ∷ []) ≡ record talk { keeper = Hears (answer.Letter x text room) }
+pub other_is : (s a x : ℕ) (text : List ℕ) (room : ℕ) (talk : Talk) → talk.keeper ≡ AwaitsLetter → x ≢ s → after_events s a talk (OtherLetter x text room ∷ []) ≡ record talk { keeper = Hears (answer.Letter x text room) }
 other_is s a x text room talk waits other = rw (waits, ne_eqb x s other) refl
 
 -- the store is left, if there is one

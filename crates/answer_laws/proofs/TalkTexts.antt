@@ -6,18 +6,18 @@ use Rattle.answer_laws.proofs.TalkSteps.{IsMade, KeeperTo, attends_seen, attenti
 use Rattle.answer_laws.specs.Agents.{IsHandedOn, IsReached, Reaches, agent_sight, deliveries_to, is_busy}
 use Rattle.answer_laws.specs.Sights.{IsLeft, answers_to, going_on, sight}
 use Rattle.answer_laws.specs.Stands.{AgentIs, AgentIs.Gone, AgentIs.Made, AgentIs.Unmade, AgentLetters, AgentLetters.Idle, AgentLetters.Owed, AgentLetters.Waiting, Becomes, DeliveriesAreEvents, IsHeard, Stands, block_of, is_placed, is_posted, knows, line_letter, owes}
-use Rattle.answer_laws.specs.Talks.{Event, Event.Line, Stand, Stand.AwaitsLetter, Stand.AwaitsReply, Stand.Hears, Stand.IsOver, Talk, talked}
+use Rattle.answer_laws.specs.Talks.{Event, Event.Line, Stand, Stand.AwaitsLetter, Stand.AwaitsReply, Stand.Hears, Stand.IsOver, Talk, after_events}
 use Rattle.line_server.specs.Sessions.{SessionBody}
 use Rattle.line_server.specs.Stores.{StoreBody}
 use Rattle.line_server.specs.declared.session.SessionPlace.{SessionPlace}
 use Rattle.line_server.specs.declared.session.SessionPlace.TheVariants as at
-use Rattle.lwp_types.specs.Agents.{armed, deliver, deliver_to, event_agents, is_armed, is_for, message}
+use Rattle.lwp_types.specs.Agents.{deliver, deliver_to, event_agents, is_armed, is_event_armed, is_for, message}
 use Rattle.lwp_types.specs.CountLaws.{count-cons, count_and-le, count_not_found, one}
 use Rattle.lwp_types.specs.Counts.{has_owner_and_event, is_between, is_sending, timers_of}
 use Rattle.lwp_types.specs.Lawful.{Lawful}
 use Rattle.lwp_types.specs.Messages.{as_answer, as_received, is_letter_of, post, takes_from, with_holding}
 use Rattle.lwp_types.specs.State.{Outcome, State, ThreadRow, agent_of, and_then, for_each, is_agent, is_agent_row, is_empty, is_id, is_number, is_thread, passes, still, thread_of}
-use Rattle.lwp_types.specs.Time.{due_threads, may_tick, tick, ticked, time_out}
+use Rattle.lwp_types.specs.Time.{after_tick, due_threads, may_tick, tick, time_out}
 use Rattle.lwp_types.specs.Unblock.{is_timer_of, nonexist, unblock}
 use Rattle.lwp_types.specs.declared.call.Answer.{Answer}
 use Rattle.lwp_types.specs.declared.rows.AgentRow.{AgentRow}
@@ -66,7 +66,7 @@ unborn_silent st was s low = none_kept (is_letter_of s) st.letters (omega (
     none_of {X} (Some x) e = absurd (cc)
 
 -- events that lead to a talk in which the pod stands
-abbrev pub becomes_as : (s k a : ℕ) (talk : Talk) (session : SessionBody) (store : StoreBody) (waiting delivered replies : List (List ℕ)) (out : Outcome) (events : List Event) (later : Talk) → talked s a talk events ≡ later → later.session ≡ session → later.store ≡ store → (waits : List (List ℕ)) → Stands s k a out.after later waits
+abbrev pub becomes_as : (s k a : ℕ) (talk : Talk) (session : SessionBody) (store : StoreBody) (waiting delivered replies : List (List ℕ)) (out : Outcome) (events : List Event) (later : Talk) → after_events s a talk events ≡ later → later.session ≡ session → later.store ≡ store → (waits : List (List ℕ)) → Stands s k a out.after later waits
     → later.lines ++ waits ≡ (talk.lines ++ waiting) ++ delivered → later.told ≡ talk.told ++ replies → IsHeard talk.client later.client (answers_to s out.effects) → (eqb s k ≡ false → IsHeard talk.keeper later.keeper (answers_to k out.effects))
     → Becomes s k a talk session store waiting delivered replies out
 becomes_as s k a talk session store waiting delivered replies out events later now its_session its_store waits stands texts said heard heard_keeper = record {
@@ -81,7 +81,7 @@ becomes_as s k a talk session store waiting delivered replies out events later n
   heard_keeper = λ s_k. subst (λ (x : Talk). IsHeard talk.keeper x.keeper (answers_to k out.effects)) (sym now) (heard_keeper s_k);
 }
 
-pub line_is : (s a : ℕ) (text : List ℕ) (talk : Talk) → talk.client ≡ AwaitsLetter → talk.agent_lives ≡ true → talked s a talk (Line text ∷ []) ≡ record talk { client = Hears (answer.Letter a text 240); lines = talk.lines ++ text ∷ [] }
+pub line_is : (s a : ℕ) (text : List ℕ) (talk : Talk) → talk.client ≡ AwaitsLetter → talk.agent_lives ≡ true → after_events s a talk (Line text ∷ []) ≡ record talk { client = Hears (answer.Letter a text 240); lines = talk.lines ++ text ∷ [] }
 line_is s a text talk waits lives = rw (waits, lives) refl
 
 pub placed_recv : (place : SessionPlace) → is_placed AwaitsLetter place ≡ true → place ≡ at.Recv
@@ -113,7 +113,7 @@ module _ where
 
   births_tick : (s : State) → (tick s).after.births ≡ s.births
   unfolding and_then
-  births_tick s = births_each time_out (λ v now. refl) (due_threads (ticked s)) (ticked s)
+  births_tick s = births_each time_out (λ v now. refl) (due_threads (after_tick s)) (after_tick s)
 
   pub births_deliver : (s : State) (e : ℕ) (text : List ℕ) → (deliver s e text).after.births ≡ s.births
   unfolding deliver
@@ -256,7 +256,7 @@ module _ (s k a : ℕ) (st : State) (was : Lawful st None) (talk : Talk) (waitin
         subst (λ n. Becomes s k a talk talk.session talk.store waiting (replicate n text) [] out) (sym both.0.once)
         (becomes_as s k a talk talk.session talk.store waiting (text ∷ []) [] out (keeper_to.events ++ Line text ∷ [])
         (record talk { keeper = keeper_to.keeper; client = Hears (answer.Letter a text 240); lines = talk.lines ++ text ∷ [] })
-        (talked_append s a talk keeper_to.events (Line text ∷ []) ∙ ap (λ x. talked s a x (Line text ∷ [])) keeper_to.is ∙ line_is s a text (record talk { keeper = keeper_to.keeper }) waits m.lives) refl refl
+        (talked_append s a talk keeper_to.events (Line text ∷ []) ∙ ap (λ x. after_events s a x (Line text ∷ [])) keeper_to.is ∙ line_is s a text (record talk { keeper = keeper_to.keeper }) waits m.lives) refl refl
         []
         (record {
           client = handed.goes_on ∙ ap going_on h.client;

@@ -5,7 +5,7 @@ use Rattle.lwp_types.specs.CountLaws.{count-cons, one}
 use Rattle.lwp_types.specs.declared.call.Answer.{Answer}
 use Rattle.lwp_types.specs.declared.call.Effect.{Effect}
 use Rattle.pod_laws.specs.Forgotten.{is_died}
-use Rattle.pod_runner.specs.Session.{answered, polled, row_of, rows_born, settled, thread_in, with_row, without_row}
+use Rattle.pod_runner.specs.Session.{after_answer, after_poll, after_settle, row_of, rows_born, thread_in, with_row, without_row}
 use Rattle.pod_runner.specs.declared.session.Row.{Row}
 use Rattle.std.proofs.Common.{Bool, List, None, Option, Some, [], ap, arith, cond, count_by, eqb, false, refl, subst, sym, true, ℕ, ◌++◌, ◌∙◌, ◌∷◌, ◌≡◌}
 use Rattle.std.proofs.lemmas.Bool.{eqb-true}
@@ -67,24 +67,24 @@ module _ {B : Type 0} (u : ℕ) where
       by_test true e rest = head_own r (rs ++ ys) e ∙ ap Some (found_head r row rs (eqb r.tid u) e found)
       by_test false e rest = head_other r (rs ++ ys) e ∙ rest (found_later r row rs (eqb r.tid u) e found)
 
-  row_answered : (t : ℕ) (a : Answer) (rows : List (Row B)) (row : Row B) → row_of u rows ≡ Some row → (b : Bool) → eqb t u ≡ b → row_of u (answered t a rows) ≡ Some (cond b (record row { answer = a }) row)
-  row_answered t a rows row found true e = subst (λ n. row_of u (answered n a rows) ≡ Some (record row { answer = a })) (sym (eqb-true t u e)) (row_changed (λ row. record row { answer = a }) (λ r. refl) rows row found)
+  row_answered : (t : ℕ) (a : Answer) (rows : List (Row B)) (row : Row B) → row_of u rows ≡ Some row → (b : Bool) → eqb t u ≡ b → row_of u (after_answer t a rows) ≡ Some (cond b (record row { answer = a }) row)
+  row_answered t a rows row found true e = subst (λ n. row_of u (after_answer n a rows) ≡ Some (record row { answer = a })) (sym (eqb-true t u e)) (row_changed (λ row. record row { answer = a }) (λ r. refl) rows row found)
   row_answered t a rows row found false e = row_kept t e (λ row. record row { answer = a }) (λ r. refl) rows ∙ found
 
   -- the effects of a step in which it doesn't die
-  pub row_settled : (bodies : List B) (born : Option ℕ) (es : List Effect) (rows : List (Row B)) (row : Row B) → row_of u rows ≡ Some row → count_by (is_died u) es ≡ 0 → row_of u (settled bodies born es rows) ≡ Some (record row { answer = last_heard row.answer (answers_to u es) })
+  pub row_settled : (bodies : List B) (born : Option ℕ) (es : List Effect) (rows : List (Row B)) (row : Row B) → row_of u rows ≡ Some row → count_by (is_died u) es ≡ 0 → row_of u (after_settle bodies born es rows) ≡ Some (record row { answer = last_heard row.answer (answers_to u es) })
   row_settled bodies born [] rows row found none = found
   row_settled bodies born (effect.Answered t a ∷ es) rows row found none = by_test (eqb t u) refl
-      (λ r f. row_settled bodies born es (answered t a rows ++ rows_born bodies born (thread_in a)) r f (omega (arith, none, count-cons (is_died u) (effect.Answered t a) es)))
+      (λ r f. row_settled bodies born es (after_answer t a rows ++ rows_born bodies born (thread_in a)) r f (omega (arith, none, count-cons (is_died u) (effect.Answered t a) es)))
     where
       push : Option Answer → List Answer → List Answer
       push None rest = rest
       push (Some a) rest = a ∷ rest
 
-      by_test : (b : Bool) → eqb t u ≡ b → ((r : Row B) → row_of u (answered t a rows ++ rows_born bodies born (thread_in a)) ≡ Some r → row_of u (settled bodies born es (answered t a rows ++ rows_born bodies born (thread_in a))) ≡ Some (record r { answer = last_heard r.answer (answers_to u es) }))
-          → row_of u (settled bodies born es (answered t a rows ++ rows_born bodies born (thread_in a))) ≡ Some (record row { answer = last_heard row.answer (push (cond b (Some a) None) (answers_to u es)) })
-      by_test true e rest = rest (record row { answer = a }) (row_before (answered t a rows) (rows_born bodies born (thread_in a)) (record row { answer = a }) (row_answered t a rows row found true e))
-      by_test false e rest = rest row (row_before (answered t a rows) (rows_born bodies born (thread_in a)) row (row_answered t a rows row found false e))
+      by_test : (b : Bool) → eqb t u ≡ b → ((r : Row B) → row_of u (after_answer t a rows ++ rows_born bodies born (thread_in a)) ≡ Some r → row_of u (after_settle bodies born es (after_answer t a rows ++ rows_born bodies born (thread_in a))) ≡ Some (record r { answer = last_heard r.answer (answers_to u es) }))
+          → row_of u (after_settle bodies born es (after_answer t a rows ++ rows_born bodies born (thread_in a))) ≡ Some (record row { answer = last_heard row.answer (push (cond b (Some a) None) (answers_to u es)) })
+      by_test true e rest = rest (record row { answer = a }) (row_before (after_answer t a rows) (rows_born bodies born (thread_in a)) (record row { answer = a }) (row_answered t a rows row found true e))
+      by_test false e rest = rest row (row_before (after_answer t a rows) (rows_born bodies born (thread_in a)) row (row_answered t a rows row found false e))
   row_settled bodies born (effect.Died t ∷ es) rows row found none = row_settled bodies born es (without_row t rows) row (row_stays t (by_test (eqb t u) refl) rows ∙ found) (omega (arith, none, count-cons (is_died u) (effect.Died t) es))
     where
       by_test : (b : Bool) → eqb t u ≡ b → b ≡ false
@@ -99,8 +99,8 @@ module _ {B : Type 0} (u : ℕ) where
   row_settled bodies born (effect.Rites a d ∷ es) rows row found none = row_settled bodies born es rows row found (omega (arith, none, count-cons (is_died u) (effect.Rites a d) es))
 
   -- a body that was polled
-  pub row_polled_own : (body : B) (rows : List (Row B)) (row : Row B) → row_of u rows ≡ Some row → row_of u (polled u body rows) ≡ Some (record row { body = body })
+  pub row_polled_own : (body : B) (rows : List (Row B)) (row : Row B) → row_of u rows ≡ Some row → row_of u (after_poll u body rows) ≡ Some (record row { body = body })
   row_polled_own body rows row found = row_changed (λ row. record row { body = body }) (λ r. refl) rows row found
 
-  pub row_polled_other : (t : ℕ) → eqb t u ≡ false → (body : B) (rows : List (Row B)) → row_of u (polled t body rows) ≡ row_of u rows
+  pub row_polled_other : (t : ℕ) → eqb t u ≡ false → (body : B) (rows : List (Row B)) → row_of u (after_poll t body rows) ≡ row_of u rows
   row_polled_other t other body rows = row_kept t other (λ row. record row { body = body }) (λ r. refl) rows

@@ -1,18 +1,18 @@
 -- What the machine tells others than the caller names no thread; and the caller is answered with somebody born, if with anybody.
 use Rattle.lwp_types.specs.Agents.{agent_gone, agents_of, deliver, deliver_to, end_agent, event_agents, message}
-use Rattle.lwp_types.specs.Case.{Case, Check, refused, unanswered, unless, valued, with_zero}
+use Rattle.lwp_types.specs.Case.{Case, Check, refusal_case, silent_case, unless, value_case, with_zero}
 use Rattle.lwp_types.specs.Choice.{choice}
-use Rattle.lwp_types.specs.Conditions.{waited}
+use Rattle.lwp_types.specs.Conditions.{after_wait}
 use Rattle.lwp_types.specs.Death.{answer_joiners, bury, death, destroy, end_agents, refuse_receivers, refuse_sender, refuse_senders, release_all, return_from, run_all_exits, withdraw}
-use Rattle.lwp_types.specs.Exceptions.{caught_marks, exits_of, first_frames, found, frames, later_frames, with_match}
-use Rattle.lwp_types.specs.Exits.{caught, exit_case, leave_frame, notified_by, run_exit, unwind}
-use Rattle.lwp_types.specs.Messages.{as_answer, as_received, post, receive_by, receivers_of, replied, senders_to, takes_from, unreceived, with_holding, without_letter}
+use Rattle.lwp_types.specs.Exceptions.{caught_marks, exits_of, first_frames, frames, handler_of, later_frames, with_match}
+use Rattle.lwp_types.specs.Exits.{catch_case, exit_case, leave_frame, notified_by, run_exit, unwind}
+use Rattle.lwp_types.specs.Messages.{after_reply, as_answer, as_received, next_letter, post, receive_by, receivers_of, senders_to, takes_from, with_holding, without_letter}
 use Rattle.lwp_types.specs.MonitorRelease.{grant, last_lock, next_owner, release, without_lock}
-use Rattle.lwp_types.specs.Monitors.{depth_in, entered, exited, is_owned_by_other, requested, with_depth}
-use Rattle.lwp_types.specs.State.{Outcome, State, ThreadRow, and_then, for_each, in_order, is_agent, marked, marks_in, passes, still, thread_of}
-use Rattle.lwp_types.specs.Step.{case_of, end_effects, ends, finished, own_effects, step, step_by, step_if}
-use Rattle.lwp_types.specs.Time.{due_threads, is_asleep_in, tick, ticked, time_out}
-use Rattle.lwp_types.specs.Unblock.{blocked, blocked_for, nonexist, timed_out, unblock, zero_answer}
+use Rattle.lwp_types.specs.Monitors.{after_exit, after_request, depth_in, enter_case, is_owned_by_other, with_depth}
+use Rattle.lwp_types.specs.State.{Outcome, State, ThreadRow, and_then, for_each, in_order, is_agent, marks_in, passes, still, thread_of, with_marks_of}
+use Rattle.lwp_types.specs.Step.{case_of, end_effects, ends, own_effects, step, step_by, step_if, step_outcome}
+use Rattle.lwp_types.specs.Time.{after_tick, due_threads, is_asleep_in, tick, time_out}
+use Rattle.lwp_types.specs.Unblock.{after_block, after_block_for, nonexist, timed_out, unblock, zero_answer}
 use Rattle.lwp_types.specs.declared.call.Answer.{Answer}
 use Rattle.lwp_types.specs.declared.call.Call.{Call}
 use Rattle.lwp_types.specs.declared.call.Effect.{Effect}
@@ -75,7 +75,7 @@ module _ (n : ℕ) where
   named_release : (m : ℕ) (s : State) → AllNamed n (release m s).effects
   named_release m s = named_grant (next_owner s m) (record s { locks = without_lock m s.locks })
 
-  named_exited : (m : ℕ) (s : State) → AllNamed n (exited m s).effects
+  named_exited : (m : ℕ) (s : State) → AllNamed n (after_exit m s).effects
   named_exited m s = by_depth (nat_le (depth_in s.locks m) 1)
     where
       by_depth : (b : Bool) → AllNamed n (cond b (release m s) (still (record s { locks = with_depth m (depth_in s.locks m - 1) s.locks }))).effects
@@ -89,16 +89,16 @@ module _ (n : ℕ) where
       by_test true = (tt, tt)
       by_test false = tt
 
-  named_replied : (u : ℕ) (text : List ℕ) (s : State) → AllNamed n (replied u text s).effects
+  named_replied : (u : ℕ) (text : List ℕ) (s : State) → AllNamed n (after_reply u text s).effects
   named_replied u text s = by_agent (is_agent s u)
     where
       by_agent : (b : Bool) → AllNamed n (cond b (still (record s { letters = without_letter u s.letters; agents = with_holding u false s.agents })) (unblock (answer.Reply text) u (record s { letters = without_letter u s.letters }))).effects
       by_agent true = tt
       by_agent false = (tt, tt)
 
-  named_waited : (t c : ℕ) (o : Option Lock) (s : State) → AllNamed n (waited t c o s).effects
+  named_waited : (t c : ℕ) (o : Option Lock) (s : State) → AllNamed n (after_wait t c o s).effects
   named_waited t c None s = tt
-  named_waited t c (Some lock) s = named_release lock.mon (blocked (record s { waits = s.waits ++ record { cond = c; tid = t; depth = lock.depth } ∷ [] }) t (block.Waiting c))
+  named_waited t c (Some lock) s = named_release lock.mon (after_block (record s { waits = s.waits ++ record { cond = c; tid = t; depth = lock.depth } ∷ [] }) t (block.Waiting c))
 
   named_end_agent : (a : ℕ) (s : State) → AllNamed n (end_agent a s).effects
   named_end_agent a s = named_then (for_each (unblock nonexist) (receivers_of s a) s) (λ now. still (agent_gone a now)) (named_each (unblock nonexist) (λ t s. (tt, tt)) (receivers_of s a) s) tt
@@ -109,7 +109,7 @@ module _ (n : ℕ) where
   named_unless s [] otherwise fine = fine
   named_unless s (check ∷ checks) otherwise fine = by_test check.0 (named_unless s checks otherwise fine)
     where
-      by_test : (b : Bool) → AllNamed n (unless s checks otherwise).others → AllNamed n (cond b (refused s check.1) (unless s checks otherwise)).others
+      by_test : (b : Bool) → AllNamed n (unless s checks otherwise).others → AllNamed n (cond b (refusal_case s check.1) (unless s checks otherwise)).others
       by_test true rest = tt
       by_test false rest = rest
 
@@ -129,7 +129,7 @@ module _ (n : ℕ) where
   named_run t x s = named_append n (exit_case s t x.call).others _ (named_exit_case s t x.call) (tt, tt)
 
   named_unwind : (t : ℕ) (kept gone : List Mark) (s : State) → AllNamed n (unwind t kept gone s).effects
-  named_unwind t kept gone s = named_each (run_exit t) (named_run t) (exits_of gone) (marked s t kept)
+  named_unwind t kept gone s = named_each (run_exit t) (named_run t) (exits_of gone) (with_marks_of s t kept)
 
   -- ---- deliveries
 
@@ -144,7 +144,7 @@ module _ (n : ℕ) where
       by_sleep false = (tt, tt)
 
   named_tick : (s : State) → AllNamed n (tick s).effects
-  named_tick s = named_then (record { after = ticked s; effects = effect.Ticked (s.now + 1) ∷ [] }) (λ now. for_each time_out (due_threads now) now) (tt, tt) (named_each time_out named_time_out (due_threads (ticked s)) (ticked s))
+  named_tick s = named_then (record { after = after_tick s; effects = effect.Ticked (s.now + 1) ∷ [] }) (λ now. for_each time_out (due_threads now) now) (tt, tt) (named_each time_out named_time_out (due_threads (after_tick s)) (after_tick s))
 
   pub named_deliver : (s : State) (e : ℕ) (text : List ℕ) → AllNamed n (deliver s e text).effects
   unfolding deliver
@@ -220,8 +220,8 @@ unfolding unless
 checked s [] otherwise fine = fine
 checked s (check ∷ checks) otherwise fine = by_test check.0 (checked s checks otherwise fine)
   where
-    by_test : (b : Bool) → CaseNames (unless s checks otherwise) → CaseNames (cond b (refused s check.1) (unless s checks otherwise))
-    by_test true rest = plainly (refused s check.1) (λ m. tt) refl
+    by_test : (b : Bool) → CaseNames (unless s checks otherwise) → CaseNames (cond b (refusal_case s check.1) (unless s checks otherwise))
+    by_test true rest = plainly (refusal_case s check.1) (λ m. tt) refl
     by_test false rest = rest
 
 quiet : {made : Case} → ((m : ℕ) → AllNamed m made.others) → own_named made.own ≡ None → CaseNames made
@@ -236,14 +236,14 @@ received_names s t from mode.Poll None = quiet (λ m. tt) refl
 received_names s t from mode.Poll (Some letter) = quiet (λ m. tt) refl
 received_names s t from mode.Block None = quiet (λ m. tt) refl
 received_names s t from mode.Block (Some letter) = quiet (λ m. tt) refl
-received_names s t from (mode.Until ticks) None = either_case (eqb ticks 0) (refused s error.Timeout) (unanswered (still (blocked_for s t (block.Receiving from) ticks))) (quiet (λ m. tt) refl) (quiet (λ m. tt) refl)
+received_names s t from (mode.Until ticks) None = either_case (eqb ticks 0) (refusal_case s error.Timeout) (silent_case (still (after_block_for s t (block.Receiving from) ticks))) (quiet (λ m. tt) refl) (quiet (λ m. tt) refl)
 received_names s t from (mode.Until ticks) (Some letter) = quiet (λ m. tt) refl
 
 match_names : (s : State) (on_match : Found → Case) (o : Option Found) → ((f : Found) → CaseNames (on_match f)) → CaseNames (with_match s on_match o)
 match_names s on_match None named = quiet (λ m. tt) refl
 match_names s on_match (Some f) named = named f
 
-caught_names : (s : State) (t p : ℕ) (f : Found) → CaseNames (caught s t p f)
+caught_names : (s : State) (t p : ℕ) (f : Found) → CaseNames (catch_case s t p f)
 caught_names s t p f = quiet (λ m. named_unwind m t (caught_marks f (marks_in s t)) (later_frames f.depth (marks_in s t)) s) refl
 
 notified_names : (s : State) (t p : ℕ) (f : Found) (h : Func) → CaseNames (notified_by s t p f h)
@@ -254,18 +254,18 @@ notified_names s t p f func.Nothing = caught_names s t p f
 destroy_names : (s : State) (t u : ℕ) → CaseNames (destroy s t u)
 destroy_names s t u = checked s _ _ (by_agent (is_agent s u))
   where
-    by_self : (b : Bool) → CaseNames (cond b (unanswered (death u s)) (with_zero (death u s)))
+    by_self : (b : Bool) → CaseNames (cond b (silent_case (death u s)) (with_zero (death u s)))
     by_self true = quiet (λ m. named_death m u s) refl
     by_self false = quiet (λ m. named_death m u s) refl
 
-    by_agent : (b : Bool) → CaseNames (cond b (with_zero (end_agent u s)) (cond (eqb t u) (unanswered (death u s)) (with_zero (death u s))))
+    by_agent : (b : Bool) → CaseNames (cond b (with_zero (end_agent u s)) (cond (eqb t u) (silent_case (death u s)) (with_zero (death u s))))
     by_agent true = quiet (λ m. named_end_agent m u s) refl
     by_agent false = by_self (eqb t u)
 
 return_names : (s : State) (t : ℕ) → CaseNames (return_from s t)
 return_names s t = by_frames (nat_le 2 (frames (marks_in s t)))
   where
-    by_frames : (b : Bool) → CaseNames (cond b (leave_frame s t) (unanswered (death t s)))
+    by_frames : (b : Bool) → CaseNames (cond b (leave_frame s t) (silent_case (death t s)))
     by_frames true = quiet (λ m. named_unwind m t (first_frames (frames (marks_in s t) - 1) (marks_in s t)) (later_frames (frames (marks_in s t) - 1) (marks_in s t)) s) refl
     by_frames false = quiet (λ m. named_death m t s) refl
 
@@ -273,25 +273,25 @@ return_names s t = by_frames (nat_le 2 (frames (marks_in s t)))
 case_names : (s : State) (t : ℕ) → t < s.births → (c : Call) → CaseNames (case_of s t c)
 case_names s t born (call.Create number prio flags) = checked s _ _ (record { others = λ m. tt; own = omega arith })
 case_names s t born (call.Destroy u) = destroy_names s t u
-case_names s t born (call.Sleep ticks) = either_case (eqb ticks 0) (valued s 0) (unanswered (still (blocked_for s t block.Sleeping ticks))) (quiet (λ m. tt) refl) (quiet (λ m. tt) refl)
+case_names s t born (call.Sleep ticks) = either_case (eqb ticks 0) (value_case s 0) (silent_case (still (after_block_for s t block.Sleeping ticks))) (quiet (λ m. tt) refl) (quiet (λ m. tt) refl)
 case_names s t born call.Me = record { others = λ m. tt; own = born }
 case_names s t born call.GetExit = quiet (λ m. tt) refl
 case_names s t born call.Threads = quiet (λ m. tt) refl
-case_names s t born (call.Send u room text) = checked s _ _ (quiet (λ m. named_post m (record { from = t; to = u; text = text; room = room; received = false }) (blocked s t block.Sending)) refl)
-case_names s t born (call.Recv from how) = checked s _ _ (received_names s t from how (unreceived s.letters t from))
+case_names s t born (call.Send u room text) = checked s _ _ (quiet (λ m. named_post m (record { from = t; to = u; text = text; room = room; received = false }) (after_block s t block.Sending)) refl)
+case_names s t born (call.Recv from how) = checked s _ _ (received_names s t from how (next_letter s.letters t from))
 case_names s t born (call.Reply u text) = checked s _ _ (quiet (λ m. named_replied m u text s) refl)
 case_names s t born call.Senders = quiet (λ m. tt) refl
 case_names s t born call.Receivers = quiet (λ m. tt) refl
-case_names s t born (call.Enter m) = checked s _ _ (either_case (is_owned_by_other s.locks t m) (unanswered (still (requested s t m))) (entered s t m) (quiet (λ m. tt) refl) (quiet (λ m. tt) refl))
+case_names s t born (call.Enter m) = checked s _ _ (either_case (is_owned_by_other s.locks t m) (silent_case (still (after_request s t m))) (enter_case s t m) (quiet (λ m. tt) refl) (quiet (λ m. tt) refl))
 case_names s t born (call.MonExit m) = checked s _ _ (quiet (λ n. named_exited n m s) refl)
 case_names s t born (call.MonBreak m) = checked s _ _ (quiet (λ n. named_release n m s) refl)
 case_names s t born call.Monitors = quiet (λ m. tt) refl
 case_names s t born (call.Wait c) = checked s _ _ (quiet (λ m. named_waited m t c (last_lock s.locks t) s) refl)
 case_names s t born call.Conditions = quiet (λ m. tt) refl
 case_names s t born call.Return = return_names s t
-case_names s t born (call.Raise p) = checked s _ _ (match_names s (caught s t p) (found s t p) (caught_names s t p))
-case_names s t born (call.ExcNotify p) = checked s _ _ (match_names s (λ f. notified_by s t p f f.func) (found s t p) (λ f. notified_names s t p f f.func))
-case_names s t born (call.Bound p) = checked s _ _ (match_names s _ (found s t p) (λ f. quiet (λ m. tt) refl))
+case_names s t born (call.Raise p) = checked s _ _ (match_names s (catch_case s t p) (handler_of s t p) (caught_names s t p))
+case_names s t born (call.ExcNotify p) = checked s _ _ (match_names s (λ f. notified_by s t p f f.func) (handler_of s t p) (λ f. notified_names s t p f f.func))
+case_names s t born (call.Bound p) = checked s _ _ (match_names s _ (handler_of s t p) (λ f. quiet (λ m. tt) refl))
 case_names s t born (call.Agent e) = checked s _ _ (record { others = λ m. tt; own = omega arith })
 case_names s t born call.Agents = quiet (λ m. tt) refl
 case_names s t born (call.Trap e) = quiet (λ m. tt) refl
@@ -300,7 +300,7 @@ case_names s t born _ = checked s _ _ (quiet (λ m. tt) refl)
 
 -- ---- a step
 
-finished_named : (n t : ℕ) (c : Call) (made : Case) → Names n made → AllNamed n (finished t c made).effects
+finished_named : (n t : ℕ) (c : Call) (made : Case) → Names n made → AllNamed n (step_outcome t c made).effects
 finished_named n t c made h = (tt, named_append n made.others (own_effects t made.own ++ end_effects made.after) (h.others n) (named_append n (own_effects t made.own) (end_effects made.after) (by_own made.own h.own) (by_end (ends made.after))))
   where
     by_own : (o : Option Answer) → Below n (own_named o) → AllNamed n (own_effects t o)

@@ -13,14 +13,14 @@ use Rattle.answer_laws.specs.Births.{is_send_of}
 use Rattle.answer_laws.specs.Clients.{delivered_to, names_only, replied_in, sends_nothing}
 use Rattle.answer_laws.specs.Events.{machine_of}
 use Rattle.answer_laws.specs.Lengths.{is_short}
-use Rattle.answer_laws.specs.Served.{CanGoOn, LineServer, gone_on, is_move_due, moved_by, steps_of}
+use Rattle.answer_laws.specs.Served.{CanGoOn, LineServer, after_move, after_moves, is_move_due, steps_of}
 use Rattle.answer_laws.specs.Sights.{IsLeft, IsWoken, Sight, sight}
 use Rattle.answer_laws.specs.Stands.{AgentIs.Unmade, Becomes, HeardAs, Leaves, block_of, mail_letters, texts_in}
 use Rattle.answer_laws.specs.Talks.{Mail.Nothing, Stand.Hears}
 use Rattle.line_server.specs.Sessions.{SessionBody, session_next, session_opening}
 use Rattle.line_server.specs.Stores.{StoreBody, store_opening}
 use Rattle.line_server.specs.declared.session.SessionPlace.TheVariants as at
-use Rattle.lwp_types.specs.Agents.{armed, deliver}
+use Rattle.lwp_types.specs.Agents.{deliver, is_event_armed}
 use Rattle.lwp_types.specs.Choice.{choice}
 use Rattle.lwp_types.specs.Lawful.{Lawful}
 use Rattle.lwp_types.specs.Messages.{is_to}
@@ -34,11 +34,11 @@ use Rattle.lwp_types.specs.declared.call.Call.{Call}
 use Rattle.lwp_types.specs.declared.call.Effect.{Effect}
 use Rattle.lwp_types.specs.declared.call.LwpErr.{LwpErr}
 use Rattle.pod_events.specs.Events.{EventState, is_takeable, is_trapped, rites_event, take_event}
-use Rattle.pod_events.specs.Rites.{as_rites, first_reported, report_text, reports_after, rites_said}
+use Rattle.pod_events.specs.Rites.{after_first_report, as_rites, report_text, reports_after, rites_said}
 use Rattle.pod_events.specs.Step.{event_step}
-use Rattle.pod_events.specs.Traps.{agent_event_of, called as traps_called, made as traps_made, made_as, refused_by, stepped, trap_made, trap_of, trap_refusal}
+use Rattle.pod_events.specs.Traps.{after_call as traps_made, after_call_as, after_machine_step, after_trap, after_trap_and_call as traps_called, agent_event_of, refused_by, trap_of, trap_refusal}
 use Rattle.pod_laws.proofs.Elements.{differ}
-use Rattle.pod_runner.specs.Session.{Live, Made, Session, Setting, called, move, move_by, move_row, polled, proc_of, row_of, settled, taken}
+use Rattle.pod_runner.specs.Session.{Live, Made, Session, Setting, after_poll, after_settle, call_move, move, move_by, move_row, proc_of, row_of, take_move}
 use Rattle.pod_runner.specs.declared.session.Row.{Row}
 use Rattle.pod_runner.specs.declared.session.Took.{Took}
 use Rattle.session_laws.proofs.Pods.{call_moved, take_moved}
@@ -92,22 +92,22 @@ module _ (s : ℕ) where
     heads_made : Heads (traps_made es.state es.trapped s c).effects
     heads_made = by_trap (trap_of c)
       where
-        by_refusal : (e : ℕ) (o : Option LwpErr) → Heads (trap_made es.state es.trapped s c e o).effects
+        by_refusal : (e : ℕ) (o : Option LwpErr) → Heads (after_trap es.state es.trapped s c e o).effects
         by_refusal e None = heads_called (effect.Answered s zero_answer ∷ [])
         by_refusal e (Some why) = heads_called (effect.Answered s (answer.Refused why) ∷ [])
 
-        by_agent : (b : Bool) → Heads (cond b (refused_by es.state es.trapped s c error.InUse) (stepped es.trapped (step es.state c))).effects
+        by_agent : (b : Bool) → Heads (cond b (refused_by es.state es.trapped s c error.InUse) (after_machine_step es.trapped (step es.state c))).effects
         by_agent true = heads_called (effect.Answered s (answer.Refused error.InUse) ∷ [])
         by_agent false = heads_step
 
-        by_trap : (o : Option ℕ) → Heads (made_as es.state es.trapped s c o).effects
+        by_trap : (o : Option ℕ) → Heads (after_call_as es.state es.trapped s c o).effects
         by_trap None = by_agent (passes (is_trapped es.trapped) (agent_event_of c))
         by_trap (Some e) = by_refusal e (trap_refusal es.state es.trapped e)
 
     heads_said : (after : State) (fs : List Effect) (reports : List ℕ) → Heads fs → Heads (rites_said after fs reports).effects
-    heads_said after fs reports heads = by_armed (armed after rites_event) reports
+    heads_said after fs reports heads = by_armed (is_event_armed after rites_event) reports
       where
-        by_armed : (b : Bool) (rs : List ℕ) → Heads (cond b (first_reported after fs rs) (record { state = after; reports = rs; effects = fs })).effects
+        by_armed : (b : Bool) (rs : List ℕ) → Heads (cond b (after_first_report after fs rs) (record { state = after; reports = rs; effects = fs })).effects
         by_armed true [] = heads
         by_armed false rs = heads
         by_armed true (dead ∷ later) = any_before fs (map (as_rites dead) (deliver after rites_event (report_text dead)).effects) heads
@@ -129,18 +129,18 @@ module _ {B : Type 0} (setting : Setting B) (server : LineServer setting.next) (
   -- so it is of the calls among these moves
   abbrev pub Quiet : List (Option Took) → Session B → Type 0
   Quiet [] session = Unit {0}
-  Quiet (m ∷ ms) session = (m ≡ None → IsQuiet session.live) × Quiet ms (moved_by setting session m)
+  Quiet (m ∷ ms) session = (m ≡ None → IsQuiet session.live) × Quiet ms (after_move setting session m)
 
-  pub quiet_behind : (one two : List (Option Took)) (session : Session B) → Quiet (one ++ two) session → Quiet two (gone_on setting one session)
+  pub quiet_behind : (one two : List (Option Took)) (session : Session B) → Quiet (one ++ two) session → Quiet two (after_moves setting one session)
   quiet_behind [] two session quiet = quiet
-  quiet_behind (m ∷ ms) two session quiet = quiet_behind ms two (moved_by setting session m) quiet.1
+  quiet_behind (m ∷ ms) two session quiet = quiet_behind ms two (after_move setting session m) quiet.1
 
   -- the effects of its call
   pub own_effects : (live : Live B) → choice live.pod.state ≡ Some s → (b : SessionBody) (z : Answer) → row_of s live.rows ≡ Some (record { tid = s; body = server.serving b; answer = z })
       → (move setting.next setting.bodies live).effects ≡ (event_step live.pod (session_next b (polled_as s live.names) z).0).effects
-  unfolding move called
+  unfolding move call_move
   own_effects live turn b z row = ap (λ o. (move_by setting.next setting.bodies live o).effects) turn ∙ ap (λ o. (move_row setting.next setting.bodies live s o).effects) row
-      ∙ ap (λ (r : Polled B). (called setting.bodies live s r).effects) (server.serves b (polled_as s live.names) z)
+      ∙ ap (λ (r : Polled B). (call_move setting.bodies live s r).effects) (server.serves b (polled_as s live.names) z)
 
   pub is_quiet_by : (live : Live B) → list_any (is_send_of s) (move setting.next setting.bodies live).effects ≡ false → IsQuiet live
   is_quiet_by live none turn free b z row = by_test (sends_nothing c) refl
@@ -215,12 +215,12 @@ module _ {B : Type 0} (setting : Setting B) (server : LineServer setting.next) (
       out = machine_of (event_step live.pod reply.0)
 
       abbrev rows2 : List (Row B)
-      rows2 = settled setting.bodies (proc_of reply.0) (event_step live.pod reply.0).effects (polled t reply.1 live.rows)
+      rows2 = after_settle setting.bodies (proc_of reply.0) (event_step live.pod reply.0).effects (after_poll t reply.1 live.rows)
 
       other_call : Phase s s out.after (S_of setting server s k s_k rows2) Unpolled (λ b. got_in setting server s k s_k steps b ++ texts_in b None out.effects) (λ b. said_in setting server s k s_k steps b ++ replied_in s b out.effects)
       other_call = phase_other s s live.pod.state was (S_of setting server s k s_k live.rows) (S_of setting server s k s_k rows2) Unpolled Unpolled (got_in setting server s k s_k steps) (said_in setting server s k s_k steps) (λ b. texts_in b None out.effects) out (λ n. event_fades n live.pod reply.0)
           (λ b. (others_reply_nothing s b live.pod).0 t turn t_s reply.0) (λ b z. b)
-          (λ lives b z row. row_settled s setting.bodies (proc_of reply.0) out.effects (polled t reply.1 live.rows) (record { tid = s; body = server.serving b; answer = z }) (row_polled_other s t t_s reply.1 live.rows ∙ row)
+          (λ lives b z row. row_settled s setting.bodies (proc_of reply.0) out.effects (after_poll t reply.1 live.rows) (record { tid = s; body = server.serving b; answer = z }) (row_polled_other s t t_s reply.1 live.rows ∙ row)
           (alive_then live.pod.state out.after out.effects (call_moved live.pod was reply.0) s lives))
           (λ b z is. is) goes
           (λ seen lives. never_woken seen (living_is_left live.pod was t s turn t_s (attends_seen live.pod.state s block.Not (ap (λ (v : Sight). v.waits) seen) refl) (rests_untimed live.pod.state was s seen) (λ v. ap (λ (x : Sight). count_by (is_to v) x.letters) seen) reply.0 lives))
@@ -247,7 +247,7 @@ module _ {B : Type 0} (setting : Setting B) (server : LineServer setting.next) (
       out_s = machine_of (event_step live.pod next_s.0)
 
       abbrev rows_s : List (Row B)
-      rows_s = settled setting.bodies (proc_of next_s.0) (event_step live.pod next_s.0).effects (polled s (server.serving next_s.1) live.rows)
+      rows_s = after_settle setting.bodies (proc_of next_s.0) (event_step live.pod next_s.0).effects (after_poll s (server.serving next_s.1) live.rows)
 
       same_row : (b : SessionBody) (z : Answer) → S_of setting server s k s_k live.rows b z → (b ≡ its.body) × (z ≡ its.answer)
       same_row b z is = let same = unsome (sym is ∙ its.row) in (server.one_session b its.body (ap (λ (r : Row B). r.body) same), ap (λ (r : Row B). r.answer) same)
@@ -255,7 +255,7 @@ module _ {B : Type 0} (setting : Setting B) (server : LineServer setting.next) (
       own_call : IsQuiet setting server s live → ((b : ℕ) → list_all is_short (got_in setting server s k s_k steps b) ≡ true) → eqb null_id live.pod.state.births ≡ false
           → Phase s s out_s.after (S_of setting server s k s_k rows_s) Unpolled (λ b. got_in setting server s k s_k steps b ++ texts_in b None out_s.effects) (λ b. said_in setting server s k s_k steps b ++ replied_in s b out_s.effects)
       own_call quiet short low = phase_own s s live.pod was turn (S_of setting server s k s_k live.rows) (S_of setting server s k s_k rows_s) Unpolled Unpolled (got_in setting server s k s_k steps) (said_in setting server s k s_k steps) its.body its.answer (polled_as s live.names) same_row
-          (λ lives. row_settled s setting.bodies (proc_of next_s.0) out_s.effects (polled s (server.serving next_s.1) live.rows) (record { tid = s; body = server.serving next_s.1; answer = its.answer })
+          (λ lives. row_settled s setting.bodies (proc_of next_s.0) out_s.effects (after_poll s (server.serving next_s.1) live.rows) (record { tid = s; body = server.serving next_s.1; answer = its.answer })
           (row_polled_own s (server.serving next_s.1) live.rows (record { tid = s; body = server.serving its.body; answer = its.answer }) its.row) (alive_then live.pod.state out_s.after out_s.effects (call_moved live.pod was next_s.0) s lives))
           (λ b z is. is) short (λ free. sends_none s next_s.0 (eqb s s) (eq-eqb s s refl) (quiet turn free its.body its.answer its.row)) low lone
 
@@ -266,15 +266,15 @@ module _ {B : Type 0} (setting : Setting B) (server : LineServer setting.next) (
       Behind after fs = Lone (record { live = after; steps = steps ++ record { take = None; effects = fs } ∷ [] })
 
       abbrev Calls : ℕ → Polled B → Type 0
-      Calls t r = Behind (called setting.bodies live t r).live (called setting.bodies live t r).effects
+      Calls t r = Behind (call_move setting.bodies live t r).live (call_move setting.bodies live t r).effects
 
       own_behind : (turn : choice live.pod.state ≡ Some s) (row : Row B) (found : row_of s live.rows ≡ Some row) → Calls s ((next_s turn row found).0, server.serving (next_s turn row found).1, (next_s turn row found).2)
-      unfolding called
-      own_behind turn row found = lone_push steps (record { take = None; effects = (out_s turn row found).effects }) (called setting.bodies live s ((next_s turn row found).0, server.serving (next_s turn row found).1, (next_s turn row found).2)).live (own_call turn row found quiet short low)
+      unfolding call_move
+      own_behind turn row found = lone_push steps (record { take = None; effects = (out_s turn row found).effects }) (call_move setting.bodies live s ((next_s turn row found).0, server.serving (next_s turn row found).1, (next_s turn row found).2)).live (own_call turn row found quiet short low)
 
       other_behind : (t : ℕ) (turn : choice live.pod.state ≡ Some t) → eqb t s ≡ false → (reply : Polled B) → Calls t reply
-      unfolding called
-      other_behind t turn t_s reply = lone_push steps (record { take = None; effects = (out t turn t_s reply).effects }) (called setting.bodies live t reply).live (other_call t turn t_s reply)
+      unfolding call_move
+      other_behind t turn t_s reply = lone_push steps (record { take = None; effects = (out t turn t_s reply).effects }) (call_move setting.bodies live t reply).live (other_call t turn t_s reply)
 
       as_own : (r q : Polled B) → r ≡ q → Calls s q → Calls s r
       as_own r q e = subst (Calls s) (sym e)
@@ -307,7 +307,7 @@ module _ {B : Type 0} (setting : Setting B) (server : LineServer setting.next) (
       out_t = machine_of (take_event live.pod took.event took.line.text)
 
       abbrev rows_t : List (Row B)
-      rows_t = settled setting.bodies None (take_event live.pod took.event took.line.text).effects live.rows
+      rows_t = after_settle setting.bodies None (take_event live.pod took.event took.line.text).effects live.rows
 
       take_phase : Phase s s out_t.after (S_of setting server s k s_k rows_t) Unpolled (λ b. got_in setting server s k s_k steps b ++ texts_in b (Some took.line.text) out_t.effects) (λ b. said_in setting server s k s_k steps b ++ replied_in s b out_t.effects)
       take_phase = phase_other s s live.pod.state was (S_of setting server s k s_k live.rows) (S_of setting server s k s_k rows_t) Unpolled Unpolled (got_in setting server s k s_k steps) (said_in setting server s k s_k steps) (λ b. texts_in b (Some took.line.text) out_t.effects) out_t (λ n. take_fades n live.pod took.event took.line.text)
@@ -321,25 +321,25 @@ module _ {B : Type 0} (setting : Setting B) (server : LineServer setting.next) (
           goes a sb sz kb kz row x away ok low lives = inl (subst (λ body. Becomes s s a x.talk x.talk.session body x.waiting (texts_in a (Some took.line.text) out_t.effects) [] out_t) x.store
               (takes_are_events s s a live.pod was x.talk x.waiting x.stands away took.event took.line.text may))
 
-      take_behind : Lone (record { live = (taken setting.bodies took live).live; steps = steps ++ record { take = Some took; effects = (taken setting.bodies took live).effects } ∷ [] })
-      unfolding taken
-      take_behind = lone_push steps (record { take = Some took; effects = out_t.effects }) (taken setting.bodies took live).live take_phase
+      take_behind : Lone (record { live = (take_move setting.bodies took live).live; steps = steps ++ record { take = Some took; effects = (take_move setting.bodies took live).effects } ∷ [] })
+      unfolding take_move
+      take_behind = lone_push steps (record { take = Some took; effects = out_t.effects }) (take_move setting.bodies took live).live take_phase
 
   -- ---- moves
 
   lone_moved : (session : Session B) (m : Option Took) → Lawful session.live.pod.state None → is_move_due session m ≡ true → (m ≡ None → IsQuiet setting server s session.live) → Lone session → ((b : ℕ) → list_all is_short (got_in setting server s k s_k session.steps b) ≡ true) → eqb null_id session.live.pod.state.births ≡ false
-      → Lone (moved_by setting session m)
+      → Lone (after_move setting session m)
   lone_moved session None was due quiet lone short low = call_behind session.live session.steps was lone (quiet refl) short low
   lone_moved session (Some took) was due quiet lone short low = take_behind session.live session.steps was lone took due
 
   pub lone_moves : (moves : List (Option Took)) (session : Session B) → Lawful session.live.pod.state None → CanGoOn setting moves session → Quiet setting server s moves session → Lone session
-      → ((a : ℕ) → list_all is_short (delivered_to a (steps_of (gone_on setting moves session).steps)) ≡ true) → (gone_on setting moves session).live.pod.state.births < null_id → Lone (gone_on setting moves session)
+      → ((a : ℕ) → list_all is_short (delivered_to a (steps_of (after_moves setting moves session).steps)) ≡ true) → (after_moves setting moves session).live.pod.state.births < null_id → Lone (after_moves setting moves session)
   lone_moves [] session was can quiet lone short few = lone
   lone_moves (m ∷ ms) session was can quiet lone short few =
-      let next = moved_by setting session m in
+      let next = after_move setting session m in
       let low = ne_eqb null_id session.live.pod.state.births (λ e. omega (arith, few, e, (gone_fades setting k (m ∷ ms) session).births)) in
       lone_moves ms next (moved_lawful setting session m can.0 was) can.1 quiet.1
-      (lone_moved session m was can.0 quiet.0 lone (λ a. short_before setting server s k s_k a session.steps (gone_on setting (m ∷ ms) session).steps (gone_grows setting (m ∷ ms) session) (short a)) low) short few
+      (lone_moved session m was can.0 quiet.0 lone (λ a. short_before setting server s k s_k a session.steps (after_moves setting (m ∷ ms) session).steps (gone_grows setting (m ∷ ms) session) (short a)) low) short few
 
 -- ---- it meets its store
 

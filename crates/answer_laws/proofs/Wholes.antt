@@ -6,7 +6,7 @@ use Rattle.answer_laws.proofs.Phases.{Phase.Starting, TellsAt, born_below, phase
 use Rattle.answer_laws.proofs.Reports.{moves_short}
 use Rattle.answer_laws.proofs.Servings.{K_of, S_of, gone_fades, gone_stood, moved_fades, moved_lawful, there_before}
 use Rattle.answer_laws.specs.Clients.{IsAnsweredInTurn, delivered_to, replied_to}
-use Rattle.answer_laws.specs.Served.{Begins, CanGoOn, InWholeSessions, LineServer, Serves, TextsAreShort, gone_on, moved_by, steps_of}
+use Rattle.answer_laws.specs.Served.{Begins, CanGoOn, InWholeSessions, LineServer, Serves, TextsAreShort, after_move, after_moves, steps_of}
 use Rattle.answer_laws.specs.Sights.{Sight}
 use Rattle.answer_laws.specs.Stands.{block_of}
 use Rattle.line_server.specs.Sessions.{session_opening}
@@ -38,21 +38,21 @@ in_whole_sessions B setting server least most s k event place first moves birth 
     was = Lawful-opening setting.params least most
 
     one : Session B
-    one = gone_on setting first start
+    one = after_moves setting first start
 
     before : Session B
-    before = gone_on setting moves one
+    before = after_moves setting moves one
 
     after : Session B
-    after = moved_by setting before birth
+    after = after_move setting before birth
 
-    before_is : gone_on setting (first ++ moves) start ≡ before
+    before_is : after_moves setting (first ++ moves) start ≡ before
     before_is = gone_append setting first moves start
 
-    after_is : gone_on setting (first ++ (moves ++ birth ∷ [])) start ≡ after
+    after_is : after_moves setting (first ++ (moves ++ birth ∷ [])) start ≡ after
     after_is = gone_append setting first (moves ++ birth ∷ []) start ∙ gone_push setting moves birth one
 
-    whole : gone_on setting (first ++ (moves ++ birth ∷ later)) start ≡ gone_on setting later after
+    whole : after_moves setting (first ++ (moves ++ birth ∷ later)) start ≡ after_moves setting later after
     whole = gone_append setting first (moves ++ birth ∷ later) start ∙ gone_append setting moves (birth ∷ later) one
 
     can_first_part : CanGoOn setting first start
@@ -88,7 +88,7 @@ in_whole_sessions B setting server least most s k event place first moves birth 
     s_k : eqb s k ≡ false
     s_k = ne_eqb s k (λ e. omega (arith, e, low_before, born))
 
-    answers : Serves s k (gone_on setting later after) → TextsAreShort (gone_on setting later after) → AreAnswered (gone_on setting later after)
+    answers : Serves s k (after_moves setting later after) → TextsAreShort (after_moves setting later after) → AreAnswered (after_moves setting later after)
     answers ends short =
         let lives_after = there_before setting k later after (omega (arith, born, (moved_fades setting k before birth).births)) ends.lives in
         let lives_before = there_before setting k (birth ∷ []) before born lives_after in
@@ -102,7 +102,7 @@ in_whole_sessions B setting server least most s k event place first moves birth 
         (λ a low away. subst (λ xs. TellsAt s k a after.live.pod.state (session_opening event place) zero_answer alone.body alone.answer xs (replied_to s a (steps_of after.steps))) (sym (untold a low away))
         (subst (λ xs. TellsAt s k a after.live.pod.state (session_opening event place) zero_answer alone.body alone.answer [] xs) (sym (silent a)) (meet s k event place a s_k after.live.pod.state was_after begins_s.thread alone.body alone.answer alone.alone low)))
         refl silent in
-        let end = gone_on setting later after in
+        let end = after_moves setting later after in
         phase_first s k end.live.pod.state (S_of setting server s k s_k end.live.rows) (K_of setting server s k s_k end.live.rows) (λ b. delivered_to b (steps_of end.steps)) (λ b. replied_to s b (steps_of end.steps))
         (gone_stood setting server s k s_k later after was_after can_end.1 stood (alive_seen after.live.pod.state k (block_of None alone.alone.stand) (ap (λ (v : Sight). v.waits) alone.alone.seen)) ends.lives ends.sends short ends.few) a
 

@@ -13,13 +13,13 @@ use Rattle.answer_laws.proofs.Naming.{from_null_names}
 use Rattle.answer_laws.proofs.Openings.{sessions_are_reached}
 use Rattle.answer_laws.proofs.Servings.{Grows, gone_grows, moved_fades, moved_lawful}
 use Rattle.answer_laws.specs.Clients.{Step, replied_in, replied_to, reply_to}
-use Rattle.answer_laws.specs.Served.{CanGoOn, gone_on, moved_by, step_of, steps_of}
-use Rattle.answer_laws.specs.Written.{ClientsAreWritten, RepliesAreWritten, is_reply_of, is_reply_to, replies_are_of, spelled}
+use Rattle.answer_laws.specs.Served.{CanGoOn, after_move, after_moves, step_of, steps_of}
+use Rattle.answer_laws.specs.Written.{ClientsAreWritten, RepliesAreWritten, is_reply_of, is_reply_to, replies_are_of, text_lines}
 use Rattle.lwp_types.specs.Names.{polled_as}
 use Rattle.pod_laws.proofs.Opening.{Lawful-opening}
 use Rattle.pod_runner.specs.Play.{play}
 use Rattle.pod_runner.specs.Session as Sessions
-use Rattle.pod_runner.specs.Session.{Session, Setting, called, move, move_by, move_row, opening_session, row_of, taken}
+use Rattle.pod_runner.specs.Session.{Session, Setting, call_move, move, move_by, move_row, opening_session, row_of, take_move}
 use Rattle.pod_runner.specs.declared.session.Row.{Row}
 use Rattle.pod_runner.specs.declared.session.Took.{Took}
 use Rattle.script_answers.specs.Replies.{Known, agent_event, agents_after, call_in, is_event, known_in, known_step, nothing_known, replies_in, reply_line, told_by, with_agent}
@@ -32,15 +32,15 @@ use Rattle.std.proofs.lemmas.Grind.{flat_map-append}
 use Rattle.std.proofs.lemmas.List.{map-append}
 use Rattle.std.proofs.lemmas.List.Folds.{list_all-append}
 use Rattle.answer_laws.specs.Sights.{IsDelivered, IsLeft, IsWoken, answers_to, sight}
-use Rattle.lwp_types.specs.Agents.{agent_born, armed, deliver}
-use Rattle.lwp_types.specs.Case.{Case, answered, is_at_limit, is_full, is_no_id, refused, with_zero}
+use Rattle.lwp_types.specs.Agents.{after_agent_birth, deliver, is_event_armed}
+use Rattle.lwp_types.specs.Case.{Case, answer_case, is_at_limit, is_full, is_no_id, refusal_case, with_zero}
 use Rattle.lwp_types.specs.Choice.{choice}
 use Rattle.lwp_types.specs.CountLaws.{count_found_and, one}
 use Rattle.lwp_types.specs.Counts.{is_timed, timers_of}
 use Rattle.lwp_types.specs.Lawful.{Lawful}
-use Rattle.lwp_types.specs.Messages.{received_from, replied, without_letter, with_holding}
+use Rattle.lwp_types.specs.Messages.{received_from, after_reply, without_letter, with_holding}
 use Rattle.lwp_types.specs.State.{Outcome, State, ThreadRow, is_agent, is_id, is_not_blocked, is_number, passes, still, thread_of}
-use Rattle.lwp_types.specs.Step.{case_of, end_effects, ends, finished, own_effects, step, step_by, step_if}
+use Rattle.lwp_types.specs.Step.{case_of, end_effects, ends, own_effects, step, step_by, step_if, step_outcome}
 use Rattle.lwp_types.specs.Unblock.{unblock, zero_answer}
 use Rattle.lwp_types.specs.declared.call.Answer.{Answer}
 use Rattle.lwp_types.specs.declared.call.Call.{Call}
@@ -50,9 +50,9 @@ use Rattle.lwp_types.specs.declared.rows.Block.{Block}
 use Rattle.lwp_types.specs.declared.rows.Letter.{Letter}
 use Rattle.pod_events.proofs.MildCalls.{case_toll, is_tame}
 use Rattle.pod_events.specs.Events.{EventState, is_trapped, rites_event}
-use Rattle.pod_events.specs.Rites.{as_rites, first_reported, report_text, reports_after, rites_said}
+use Rattle.pod_events.specs.Rites.{after_first_report, as_rites, report_text, reports_after, rites_said}
 use Rattle.pod_events.specs.Step.{event_step}
-use Rattle.pod_events.specs.Traps.{Trapping, agent_event_of, but_call, called as traps_called, is_catch, is_given, made as traps_made, made_as, notice, refused_by, stepped, trap_made, trap_of, trap_refusal}
+use Rattle.pod_events.specs.Traps.{Trapping, after_call as traps_made, after_call_as, after_machine_step, after_trap, after_trap_and_call as traps_called, agent_event_of, but_call, is_catch, is_given, notice, refused_by, trap_of, trap_refusal}
 use Rattle.pod_laws.proofs.Chosen.{chosen}
 use Rattle.pod_laws.proofs.Elements.{differ}
 use Rattle.pod_laws.proofs.EveryStep.{Lawful-step}
@@ -183,9 +183,9 @@ callless_but st c = by_choice (choice st)
         (callless_then (own_effects t made.own) (end_effects made.after) (own_none t made.own) (end_none made.after (ends made.after)))
 
 callless_said : (after : State) (es : List Effect) (reports : List ℕ) → Callless es → made_in (rites_said after es reports).effects ≡ None
-callless_said after es reports callless = by_armed (armed after rites_event) reports
+callless_said after es reports callless = by_armed (is_event_armed after rites_event) reports
   where
-    by_armed : (b : Bool) (rs : List ℕ) → made_in (cond b (first_reported after es rs) (record { state = after; reports = rs; effects = es })).effects ≡ None
+    by_armed : (b : Bool) (rs : List ℕ) → made_in (cond b (after_first_report after es rs) (record { state = after; reports = rs; effects = es })).effects ≡ None
     by_armed true [] = callless_whole es callless
     by_armed false rs = callless_whole es callless
     by_armed true (dead ∷ later) = let sent = (deliver after rites_event (report_text dead)).effects in callless_whole (es ++ map (as_rites dead) sent) (callless_then es (map (as_rites dead) sent) callless (callless_rites dead sent (tame_deliver after rites_event (report_text dead))))
@@ -248,17 +248,17 @@ module _ (t : ℕ) (c : Call) where
   headed_append es xs h = ap (λ zs. zs ++ xs) h ∙ ap (λ zs. effect.Called t c ∷ zs) (sym (ap (λ zs. drop 1 (zs ++ xs)) h))
 
   headed_said : (after : State) (es : List Effect) (reports : List ℕ) → Headed es → Headed (rites_said after es reports).effects
-  headed_said after es reports h = by_armed (armed after rites_event) reports
+  headed_said after es reports h = by_armed (is_event_armed after rites_event) reports
     where
-      by_armed : (b : Bool) (rs : List ℕ) → Headed (cond b (first_reported after es rs) (record { state = after; reports = rs; effects = es })).effects
+      by_armed : (b : Bool) (rs : List ℕ) → Headed (cond b (after_first_report after es rs) (record { state = after; reports = rs; effects = es })).effects
       by_armed true [] = h
       by_armed false rs = h
       by_armed true (dead ∷ later) = headed_append es (map (as_rites dead) (deliver after rites_event (report_text dead)).effects) h
 
   said_answers : (after : State) (es : List Effect) (reports : List ℕ) → Lawful after None → IsFree after t → answers_to t (rites_said after es reports).effects ≡ answers_to t es
-  said_answers after es reports was free = by_armed (armed after rites_event) reports
+  said_answers after es reports was free = by_armed (is_event_armed after rites_event) reports
     where
-      by_armed : (b : Bool) (rs : List ℕ) → answers_to t (cond b (first_reported after es rs) (record { state = after; reports = rs; effects = es })).effects ≡ answers_to t es
+      by_armed : (b : Bool) (rs : List ℕ) → answers_to t (cond b (after_first_report after es rs) (record { state = after; reports = rs; effects = es })).effects ≡ answers_to t es
       by_armed true [] = refl
       by_armed false rs = refl
       by_armed true (dead ∷ later) = answers_append t es (map (as_rites dead) (deliver after rites_event (report_text dead)).effects) ∙ ap (λ xs. answers_to t es ++ xs) (unreported t dead after was free) ∙ append-nil (answers_to t es)
@@ -267,7 +267,7 @@ module _ (st : State) (was : Lawful st None) (t : ℕ) (turn : choice st ≡ Som
   free_now : IsFree st t
   free_now = chosen_free st was t turn
 
-  step_is : (c : Call) → step st c ≡ finished t c (case_of st t c)
+  step_is : (c : Call) → step st c ≡ step_outcome t c (case_of st t c)
   unfolding step step_by
   step_is c = ap (step_if st c) turn
 
@@ -277,15 +277,15 @@ module _ (st : State) (was : Lawful st None) (t : ℕ) (turn : choice st ≡ Som
       headed_step : Headed t c (step st c).effects
       headed_step = ap (λ (out : Outcome). out.effects) (step_is c) ∙ ap (λ zs. effect.Called t c ∷ zs) (sym (ap (λ (out : Outcome). drop 1 out.effects) (step_is c)))
 
-      by_refusal : (e : ℕ) (o : Option LwpErr) → Headed t c (trap_made st trapped t c e o).effects
+      by_refusal : (e : ℕ) (o : Option LwpErr) → Headed t c (after_trap st trapped t c e o).effects
       by_refusal e None = refl
       by_refusal e (Some why) = refl
 
-      by_agent : (b : Bool) → Headed t c (cond b (refused_by st trapped t c error.InUse) (stepped trapped (step st c))).effects
+      by_agent : (b : Bool) → Headed t c (cond b (refused_by st trapped t c error.InUse) (after_machine_step trapped (step st c))).effects
       by_agent true = refl
       by_agent false = headed_step
 
-      by_trap : (o : Option ℕ) → Headed t c (made_as st trapped t c o).effects
+      by_trap : (o : Option ℕ) → Headed t c (after_call_as st trapped t c o).effects
       by_trap None = by_agent (passes (is_trapped trapped) (agent_event_of c))
       by_trap (Some e) = by_refusal e (trap_refusal st trapped e)
 
@@ -296,7 +296,7 @@ module _ (st : State) (was : Lawful st None) (t : ℕ) (turn : choice st ≡ Som
     there : list_any is_zero (answers_to t out.effects) ≡ true → is_id st v ≡ true
     free : IsFree out.after t
 
-  replied_made : (v : ℕ) (text : List ℕ) (made : Case) (xs : List Answer) → answers_to t made.others ++ option_to_list made.own ≡ xs → last_zero false xs ≡ list_any is_zero xs → (list_any is_zero xs ≡ true → is_id st v ≡ true) → IsFree made.after t → Replied v (finished t (call.Reply v text) made)
+  replied_made : (v : ℕ) (text : List ℕ) (made : Case) (xs : List Answer) → answers_to t made.others ++ option_to_list made.own ≡ xs → last_zero false xs ≡ list_any is_zero xs → (list_any is_zero xs ≡ true → is_id st v ≡ true) → IsFree made.after t → Replied v (step_outcome t (call.Reply v text) made)
   replied_made v text made xs is agrees there free =
       let told_so = told_itself t (call.Reply v text) made ∙ is in
       record {
@@ -324,13 +324,13 @@ module _ (st : State) (was : Lawful st None) (t : ℕ) (turn : choice st ≡ Som
 
       by_kind : is_id st v ≡ true → (b d : Bool) → eqb v t ≡ d
           → (case_of st t (call.Reply v text) ≡ with_zero (cond b (still (record st { letters = without_letter v st.letters; agents = with_holding v false st.agents })) (unblock (answer.Reply text) v (record st { letters = without_letter v st.letters }))))
-          → Replied v (finished t (call.Reply v text) (case_of st t (call.Reply v text)))
-      by_kind there true d e is = subst (λ made. Replied v (finished t (call.Reply v text) made)) (sym is) (replied_made v text (with_zero (still (record st { letters = without_letter v st.letters; agents = with_holding v false st.agents }))) (zero_answer ∷ []) refl refl (λ any. there) free_now)
-      by_kind there false true e is = subst (λ made. Replied v (finished t (call.Reply v text) made)) (sym is) (replied_made v text (with_zero (unblock (answer.Reply text) v (record st { letters = without_letter v st.letters }))) (answer.Reply text ∷ zero_answer ∷ []) (rw e refl) refl (λ any. there) (woken true e))
-      by_kind there false false e is = subst (λ made. Replied v (finished t (call.Reply v text) made)) (sym is) (replied_made v text (with_zero (unblock (answer.Reply text) v (record st { letters = without_letter v st.letters }))) (zero_answer ∷ []) (rw e refl) refl (λ any. there) (woken false e))
+          → Replied v (step_outcome t (call.Reply v text) (case_of st t (call.Reply v text)))
+      by_kind there true d e is = subst (λ made. Replied v (step_outcome t (call.Reply v text) made)) (sym is) (replied_made v text (with_zero (still (record st { letters = without_letter v st.letters; agents = with_holding v false st.agents }))) (zero_answer ∷ []) refl refl (λ any. there) free_now)
+      by_kind there false true e is = subst (λ made. Replied v (step_outcome t (call.Reply v text) made)) (sym is) (replied_made v text (with_zero (unblock (answer.Reply text) v (record st { letters = without_letter v st.letters }))) (answer.Reply text ∷ zero_answer ∷ []) (rw e refl) refl (λ any. there) (woken true e))
+      by_kind there false false e is = subst (λ made. Replied v (step_outcome t (call.Reply v text) made)) (sym is) (replied_made v text (with_zero (unblock (answer.Reply text) v (record st { letters = without_letter v st.letters }))) (zero_answer ∷ []) (rw e refl) refl (λ any. there) (woken false e))
 
-      by_checks : Checked st (is_no_id st v ∷ (is_none (received_from st.letters t v), error.NoWait) ∷ (passes (λ (letter : Letter). nat_lt letter.room (length text)) (received_from st.letters t v), error.InvalidArg) ∷ []) (with_zero (replied v text st)) → Replied v (finished t (call.Reply v text) (case_of st t (call.Reply v text)))
-      by_checks (Struck e is) = subst (λ made. Replied v (finished t (call.Reply v text) made)) (sym is) (replied_made v text (refused st e) (answer.Refused e ∷ []) refl refl (λ any. absurd (cc)) free_now)
+      by_checks : Checked st (is_no_id st v ∷ (is_none (received_from st.letters t v), error.NoWait) ∷ (passes (λ (letter : Letter). nat_lt letter.room (length text)) (received_from st.letters t v), error.InvalidArg) ∷ []) (with_zero (after_reply v text st)) → Replied v (step_outcome t (call.Reply v text) (case_of st t (call.Reply v text)))
+      by_checks (Struck e is) = subst (λ made. Replied v (step_outcome t (call.Reply v text) made)) (sym is) (replied_made v text (refusal_case st e) (answer.Refused e ∷ []) refl refl (λ any. absurd (cc)) free_now)
       by_checks (Free passed is) = by_kind (not_not (is_id st v) passed.0) (is_agent st v) (eqb v t) refl is
 
   -- ---- an agent
@@ -349,15 +349,15 @@ module _ (st : State) (was : Lawful st None) (t : ℕ) (turn : choice st ≡ Som
       new_of : (out : Outcome) (xs : List Answer) → answers_to t out.effects ≡ xs → ((b : ℕ) → last_thread None xs ≡ Some b → b ≡ st.births) → (b : ℕ) → last_thread None (answers_to t out.effects) ≡ Some b → b ≡ st.births
       new_of out xs is new b given = new b (ap (last_thread None) (sym is) ∙ given)
 
-      by_checks : Checked st (((eqb e 0) || nat_lt 32 e, error.InvalidArg) ∷ is_full 256 st.agents ∷ is_at_limit st.births st ∷ []) (answered (agent_born st t e) (answer.Thread st.births))
-          → ((b : ℕ) → last_thread None (answers_to t (finished t (call.Agent e) (case_of st t (call.Agent e))).effects) ≡ Some b → b ≡ st.births) × IsFree (finished t (call.Agent e) (case_of st t (call.Agent e))).after t
+      by_checks : Checked st (((eqb e 0) || nat_lt 32 e, error.InvalidArg) ∷ is_full 256 st.agents ∷ is_at_limit st.births st ∷ []) (answer_case (after_agent_birth st t e) (answer.Thread st.births))
+          → ((b : ℕ) → last_thread None (answers_to t (step_outcome t (call.Agent e) (case_of st t (call.Agent e))).effects) ≡ Some b → b ≡ st.births) × IsFree (step_outcome t (call.Agent e) (case_of st t (call.Agent e))).after t
       by_checks (Struck why is) = (
-        new_of (finished t (call.Agent e) (case_of st t (call.Agent e))) (answer.Refused why ∷ []) (ap (λ made. answers_to t (finished t (call.Agent e) made).effects) is ∙ told_itself t (call.Agent e) (refused st why)) (λ b bad. absurd (cc)),
-        ap (λ made. (sight (finished t (call.Agent e) made).after t).waits) is ∙ free_now,
+        new_of (step_outcome t (call.Agent e) (case_of st t (call.Agent e))) (answer.Refused why ∷ []) (ap (λ made. answers_to t (step_outcome t (call.Agent e) made).effects) is ∙ told_itself t (call.Agent e) (refusal_case st why)) (λ b bad. absurd (cc)),
+        ap (λ made. (sight (step_outcome t (call.Agent e) made).after t).waits) is ∙ free_now,
       )
       by_checks (Free passed is) = (
-        new_of (finished t (call.Agent e) (case_of st t (call.Agent e))) (answer.Thread st.births ∷ []) (ap (λ made. answers_to t (finished t (call.Agent e) made).effects) is ∙ told_itself t (call.Agent e) (answered (agent_born st t e) (answer.Thread st.births))) (λ b same. sym (unsome same)),
-        ap (λ made. (sight (finished t (call.Agent e) made).after t).waits) is ∙ free_now,
+        new_of (step_outcome t (call.Agent e) (case_of st t (call.Agent e))) (answer.Thread st.births ∷ []) (ap (λ made. answers_to t (step_outcome t (call.Agent e) made).effects) is ∙ told_itself t (call.Agent e) (answer_case (after_agent_birth st t e) (answer.Thread st.births))) (λ b same. sym (unsome same)),
+        ap (λ made. (sight (step_outcome t (call.Agent e) made).after t).waits) is ∙ free_now,
       )
 
       stepped_so : ((b : ℕ) → last_thread None (answers_to t (step st (call.Agent e)).effects) ≡ Some b → b ≡ st.births) × IsFree (step st (call.Agent e)).after t
@@ -366,7 +366,7 @@ module _ (st : State) (was : Lawful st None) (t : ℕ) (turn : choice st ≡ Som
       refused_so : answers_to t (effect.Called t (call.Agent e) ∷ effect.Answered t (answer.Refused error.InUse) ∷ []) ≡ answer.Refused error.InUse ∷ []
       refused_so = rw (eq-eqb t t refl) refl
 
-      by_agent : (b : Bool) → Given (cond b (refused_by st trapped t (call.Agent e) error.InUse) (stepped trapped (step st (call.Agent e))))
+      by_agent : (b : Bool) → Given (cond b (refused_by st trapped t (call.Agent e) error.InUse) (after_machine_step trapped (step st (call.Agent e))))
       by_agent true = record { new = λ b given. absurd (let bad : None ≡ Some b = ap (last_thread None) (sym refused_so) ∙ given in cc); lawful = was; free = free_now }
       by_agent false = record { new = stepped_so.0; lawful = Lawful-step st was (call.Agent e); free = stepped_so.1 }
 
@@ -414,9 +414,9 @@ module _ (st : State) (was : Lawful st None) (t : ℕ) (turn : choice st ≡ Som
   }
 
 trapped_said : (t e : ℕ) (after : State) (es : List Effect) (reports : List ℕ) → (rites_said after (effect.Trapped t e ∷ es) reports).effects ≡ effect.Trapped t e ∷ (rites_said after es reports).effects
-trapped_said t e after es reports = by_armed (armed after rites_event) reports
+trapped_said t e after es reports = by_armed (is_event_armed after rites_event) reports
   where
-    by_armed : (b : Bool) (rs : List ℕ) → (cond b (first_reported after (effect.Trapped t e ∷ es) rs) (record { state = after; reports = rs; effects = effect.Trapped t e ∷ es })).effects ≡ effect.Trapped t e ∷ (cond b (first_reported after es rs) (record { state = after; reports = rs; effects = es })).effects
+    by_armed : (b : Bool) (rs : List ℕ) → (cond b (after_first_report after (effect.Trapped t e ∷ es) rs) (record { state = after; reports = rs; effects = effect.Trapped t e ∷ es })).effects ≡ effect.Trapped t e ∷ (cond b (after_first_report after es rs) (record { state = after; reports = rs; effects = es })).effects
     by_armed true [] = refl
     by_armed false rs = refl
     by_armed true (dead ∷ later) = refl
@@ -435,7 +435,7 @@ module _ (es : EventState) (was : Lawful es.state None) (t : ℕ) (turn : choice
           let reports = reports_after es.state (step es.state d).after es.reports fs in
           Muffled (callless_said (step es.state d).after fs reports (λ ys none. callless_but es.state d ys none)) (λ s a. mute_said s a (step es.state d).after fs reports (λ ys none. mute_but s a es.state d ys none))
 
-      by_given : (b d : Bool) → Form t es.state c (Done (let out = cond b (traps_made es.state es.trapped t c) (cond d (stepped es.trapped (but_call (step es.state (call.ExcNotify e)))) (stepped es.trapped (but_call (step es.state (call.Destroy t))))) in record out { effects = effect.Trapped t e ∷ out.effects }))
+      by_given : (b d : Bool) → Form t es.state c (Done (let out = cond b (traps_made es.state es.trapped t c) (cond d (after_machine_step es.trapped (but_call (step es.state (call.ExcNotify e)))) (after_machine_step es.trapped (but_call (step es.state (call.Destroy t))))) in record out { effects = effect.Trapped t e ∷ out.effects }))
       by_given true d =
           let out = traps_made es.state es.trapped t c in
           let reports = reports_after es.state out.state es.reports (effect.Trapped t e ∷ out.effects) in
@@ -466,7 +466,7 @@ asked event (Some made) = asked_of event made
 
 -- of a step's call, and of the accepted replies of s to a in the step
 pub record Facts (s e a : ℕ) (st : State) (o : Option Made) (rs : List (List ℕ)) : Type 0 where
-  pub written : is_reply_of s a o ≡ true → told_by (a ∷ []) o ≡ spelled rs
+  pub written : is_reply_of s a o ≡ true → told_by (a ∷ []) o ≡ text_lines rs
   pub unborn : st.births ≤ a → rs ≡ []
   pub new : (b : ℕ) → asked (Some e) o ≡ Some b → b ≡ st.births
   pub untold : told_by [] o ≡ []
@@ -481,7 +481,7 @@ eqb_turned m n = by_same (cases_eq m n)
     by_same (inl same) = eq-eqb m n same ∙ sym (eq-eqb n m (sym same))
     by_same (inr other) = ne_eqb m n other ∙ sym (ne_eqb n m (λ e. other (sym e)))
 
-one_line : (text : List ℕ) (z p q d any : Bool) → p ≡ q → (d ≡ true → any ≡ z) → (not (q && z) || d) ≡ true → cond z (cond (p || false) (text ++ 10 ∷ []) []) [] ≡ spelled (cond (d && any) (cond q (text ∷ []) []) [])
+one_line : (text : List ℕ) (z p q d any : Bool) → p ≡ q → (d ≡ true → any ≡ z) → (not (q && z) || d) ≡ true → cond z (cond (p || false) (text ++ 10 ∷ []) []) [] ≡ text_lines (cond (d && any) (cond q (text ∷ []) []) [])
 one_line text false p q true true same agrees of = differ (agrees refl)
 one_line text false p q true false same agrees of = refl
 one_line text false p q false any same agrees of = refl
@@ -529,13 +529,13 @@ module _ (s e a : ℕ) (st : State) (was : Lawful st None) (t : ℕ) where
 
         by_kind : Kind c → Facts s e a st (Some m) (replied_in s a (effect.Called t c ∷ rest))
         by_kind (IsOther lines replies asks) = record {
-          written = λ of. told_is (a ∷ []) ∙ none_of z (reply_line (a ∷ []) c) (lines (a ∷ [])) ∙ ap spelled (sym (no_line a (eqb t s && list_any (is_told s is_zero) rest) c (replies a)));
+          written = λ of. told_is (a ∷ []) ∙ none_of z (reply_line (a ∷ []) c) (lines (a ∷ [])) ∙ ap text_lines (sym (no_line a (eqb t s && list_any (is_told s is_zero) rest) c (replies a)));
           unborn = λ low. no_line a (eqb t s && list_any (is_told s is_zero) rest) c (replies a);
           new = λ b given. never None refl b given asks;
           untold = told_is [] ∙ none_of z (reply_line [] c) (lines []);
         }
         by_kind (IsAgent n is) = record {
-          written = λ of. told_is (a ∷ []) ∙ none_of z (reply_line (a ∷ []) c) (ap (reply_line (a ∷ [])) is) ∙ ap spelled (sym (no_line a (eqb t s && list_any (is_told s is_zero) rest) c (ap (reply_to a) is)));
+          written = λ of. told_is (a ∷ []) ∙ none_of z (reply_line (a ∷ []) c) (ap (reply_line (a ∷ [])) is) ∙ ap text_lines (sym (no_line a (eqb t s && list_any (is_told s is_zero) rest) c (ap (reply_to a) is)));
           unborn = λ low. no_line a (eqb t s && list_any (is_told s is_zero) rest) c (ap (reply_to a) is);
           new = λ b given. by_event b (eqb n e) (sym (ap (λ o. cond (is_event (Some e) o) (last_thread None (answers_to t rest)) None) (ap agent_event is)) ∙ sym asked_is ∙ given);
           untold = told_is [] ∙ none_of z (reply_line [] c) (ap (reply_line []) is);
@@ -547,7 +547,7 @@ module _ (s e a : ℕ) (st : State) (was : Lawful st None) (t : ℕ) where
         by_kind (IsReply v text is) = record {
           written = λ of. told_is (a ∷ []) ∙ ap (λ c. cond z (reply_line (a ∷ []) c) []) is
               ∙ one_line text z (eqb a v) (eqb v a) (eqb t s) (list_any (is_told s is_zero) rest) (eqb_turned a v) (any_is v text is) (sym (ap (λ c. not (is_reply_to a c && z) || eqb t s) is) ∙ sym of_is ∙ of)
-              ∙ ap (λ c. spelled (cond (eqb t s && list_any (is_told s is_zero) rest) (reply_to a c) [])) (sym is);
+              ∙ ap (λ c. text_lines (cond (eqb t s && list_any (is_told s is_zero) rest) (reply_to a c) [])) (sym is);
           unborn = λ low. ap (λ c. cond (eqb t s && list_any (is_told s is_zero) rest) (reply_to a c) []) is ∙ by_tests low (eqb t s) (list_any (is_told s is_zero) rest) (eqb v a) refl refl refl;
           new = λ b given. never None refl b given (ap agent_event is);
           untold = told_is [] ∙ none_of z (reply_line [] c) (ap (reply_line []) is);
@@ -589,7 +589,7 @@ fold_push f z (y ∷ ys) x = fold_push f (f z y) ys x
 module _ {B : Type 0} (setting : Setting B) (s e a : ℕ) where
   abbrev made_of : Session B → Option Took → Sessions.Made
   made_of session None = record { take = None; effects = (move setting.next setting.bodies session.live).effects }
-  made_of session (Some took) = record { take = Some took; effects = (taken setting.bodies took session.live).effects }
+  made_of session (Some took) = record { take = Some took; effects = (take_move setting.bodies took session.live).effects }
 
   abbrev call_of : Session B → Option Took → Option Made
   call_of session m = call_in (made_of session m).take (made_of session m).effects
@@ -600,28 +600,28 @@ module _ {B : Type 0} (setting : Setting B) (s e a : ℕ) where
   abbrev said : Session B → List (List ℕ)
   said session = replied_to s a (steps_of session.steps)
 
-  pushed : (session : Session B) (m : Option Took) → (moved_by setting session m).steps ≡ session.steps ++ made_of session m ∷ []
+  pushed : (session : Session B) (m : Option Took) → (after_move setting session m).steps ≡ session.steps ++ made_of session m ∷ []
   pushed session None = refl
   pushed session (Some took) = refl
 
-  agents_then : (session : Session B) (m : Option Took) → (known (moved_by setting session m)).agents ≡ with_agent (known session).agents (asked (Some e) (call_of session m))
+  agents_then : (session : Session B) (m : Option Took) → (known (after_move setting session m)).agents ≡ with_agent (known session).agents (asked (Some e) (call_of session m))
   agents_then session m = ap (λ steps. (known_in (Some e) steps).agents) (pushed session m) ∙ ap (λ (k : Known). k.agents) (fold_push (known_step (Some e)) nothing_known session.steps (made_of session m)) ∙ by_call (call_of session m)
     where
       by_call : (o : Option Made) → agents_after (Some e) (known session).agents o ≡ with_agent (known session).agents (asked (Some e) o)
       by_call None = refl
       by_call (Some made) = refl
 
-  replies_then : (session : Session B) (m : Option Took) → (known (moved_by setting session m)).replies ≡ (known session).replies ++ told_by (known session).agents (call_of session m)
+  replies_then : (session : Session B) (m : Option Took) → (known (after_move setting session m)).replies ≡ (known session).replies ++ told_by (known session).agents (call_of session m)
   replies_then session m = ap (λ steps. (known_in (Some e) steps).replies) (pushed session m) ∙ ap (λ (k : Known). k.replies) (fold_push (known_step (Some e)) nothing_known session.steps (made_of session m))
 
-  said_then : (session : Session B) (m : Option Took) → said (moved_by setting session m) ≡ said session ++ replied_in s a (made_of session m).effects
+  said_then : (session : Session B) (m : Option Took) → said (after_move setting session m) ≡ said session ++ replied_in s a (made_of session m).effects
   said_then session m = ap (λ steps. replied_to s a (steps_of steps)) (pushed session m) ∙ ap (replied_to s a) (map-append step_of session.steps (made_of session m ∷ []))
       ∙ flat_map-append (λ (step : Step). replied_in s a step.effects) (steps_of session.steps) (step_of (made_of session m) ∷ []) ∙ ap (λ xs. said session ++ xs) (append-nil (replied_in s a (made_of session m).effects))
 
   -- ---- a move
 
   move_facts : (session : Session B) (m : Option Took) → Lawful session.live.pod.state None → Facts s e a session.live.pod.state (call_of session m) (replied_in s a (made_of session m).effects)
-  unfolding move called taken
+  unfolding move call_move take_move
   move_facts session None was = by_choice (choice session.live.pod.state) refl
     where
       by_row : (t : ℕ) → choice session.live.pod.state ≡ Some t → (o : Option (Row B)) → Facts s e a session.live.pod.state (made_in (move_row setting.next setting.bodies session.live t o).effects) (replied_in s a (move_row setting.next setting.bodies session.live t o).effects)
@@ -634,11 +634,11 @@ module _ {B : Type 0} (setting : Setting B) (s e a : ℕ) where
   move_facts session (Some took) was = subst (Facts s e a session.live.pod.state None) (sym ((others_reply_nothing s a session.live.pod).1 took.event took.line.text)) (no_facts s e a session.live.pod.state)
 
   -- the agents so far stay
-  agents_stay : (moves : List (Option Took)) (session : Session B) → More (known session).agents (known (gone_on setting moves session)).agents
+  agents_stay : (moves : List (Option Took)) (session : Session B) → More (known session).agents (known (after_moves setting moves session)).agents
   agents_stay [] session = record { rest = []; is = sym (append-nil (known session).agents) }
-  agents_stay (m ∷ ms) session = by_asked (asked (Some e) (call_of session m)) (agents_then session m) (agents_stay ms (moved_by setting session m))
+  agents_stay (m ∷ ms) session = by_asked (asked (Some e) (call_of session m)) (agents_then session m) (agents_stay ms (after_move setting session m))
     where
-      by_asked : (o : Option ℕ) → (known (moved_by setting session m)).agents ≡ with_agent (known session).agents o → More (known (moved_by setting session m)).agents (known (gone_on setting ms (moved_by setting session m))).agents → More (known session).agents (known (gone_on setting ms (moved_by setting session m))).agents
+      by_asked : (o : Option ℕ) → (known (after_move setting session m)).agents ≡ with_agent (known session).agents o → More (known (after_move setting session m)).agents (known (after_moves setting ms (after_move setting session m))).agents → More (known session).agents (known (after_moves setting ms (after_move setting session m))).agents
       by_asked None is more = record { rest = more.rest; is = more.is ∙ ap (λ xs. xs ++ more.rest) is }
       by_asked (Some b) is more = record { rest = b ∷ more.rest; is = more.is ∙ ap (λ xs. xs ++ more.rest) is ∙ append_assoc (known session).agents (b ∷ []) more.rest }
 
@@ -649,71 +649,71 @@ module _ {B : Type 0} (setting : Setting B) (s e a : ℕ) where
   no_second agents end b two last more = let same : a ∷ b ∷ more.rest ≡ a ∷ [] = sym (more.is ∙ ap (λ xs. xs ++ more.rest) two) ∙ last in cc
 
   -- before the agent is made it isn't born
-  unborn_before : (moves : List (Option Took)) (session : Session B) → Lawful session.live.pod.state None → CanGoOn setting moves session → (known session).agents ≡ [] → (known (gone_on setting moves session)).agents ≡ a ∷ [] → session.live.pod.state.births ≤ a
+  unborn_before : (moves : List (Option Took)) (session : Session B) → Lawful session.live.pod.state None → CanGoOn setting moves session → (known session).agents ≡ [] → (known (after_moves setting moves session)).agents ≡ a ∷ [] → session.live.pod.state.births ≤ a
   unborn_before [] session was can none last = absurd (let bad : [] ≡ a ∷ [] = sym none ∙ last in cc)
   unborn_before (m ∷ ms) session was can none last = by_asked (asked (Some e) (call_of session m)) refl (agents_then session m ∙ ap (λ xs. with_agent xs (asked (Some e) (call_of session m))) none)
-      (λ still. unborn_before ms (moved_by setting session m) (moved_lawful setting session m can.0 was) can.1 still last)
+      (λ still. unborn_before ms (after_move setting session m) (moved_lawful setting session m can.0 was) can.1 still last)
     where
-      by_asked : (o : Option ℕ) → asked (Some e) (call_of session m) ≡ o → (known (moved_by setting session m)).agents ≡ with_agent [] (asked (Some e) (call_of session m)) → ((known (moved_by setting session m)).agents ≡ [] → (moved_by setting session m).live.pod.state.births ≤ a) → session.live.pod.state.births ≤ a
+      by_asked : (o : Option ℕ) → asked (Some e) (call_of session m) ≡ o → (known (after_move setting session m)).agents ≡ with_agent [] (asked (Some e) (call_of session m)) → ((known (after_move setting session m)).agents ≡ [] → (after_move setting session m).live.pod.state.births ≤ a) → session.live.pod.state.births ≤ a
       by_asked None is agents later = omega (arith, later (agents ∙ ap (with_agent []) is), (moved_fades setting 0 session m).births)
       by_asked (Some b) is agents later =
-          let same = first_is (known (moved_by setting session m)).agents (known (gone_on setting ms (moved_by setting session m))).agents b (agents ∙ ap (with_agent []) is) last (agents_stay ms (moved_by setting session m)) in
+          let same = first_is (known (after_move setting session m)).agents (known (after_moves setting ms (after_move setting session m))).agents b (agents ∙ ap (with_agent []) is) last (agents_stay ms (after_move setting session m)) in
           omega (arith, same, (move_facts session m was).new b is)
 
   -- what was told so far are the replies, from the birth of the agent on
   data Stage (session : Session B) : Type 0 where
     Before : (known session).agents ≡ [] → (known session).replies ≡ [] → said session ≡ [] → Stage session
-    During : (known session).agents ≡ a ∷ [] → (known session).replies ≡ spelled (said session) → Stage session
+    During : (known session).agents ≡ a ∷ [] → (known session).replies ≡ text_lines (said session) → Stage session
 
-  spelled_append : (xs ys : List (List ℕ)) → spelled xs ++ spelled ys ≡ spelled (xs ++ ys)
+  spelled_append : (xs ys : List (List ℕ)) → text_lines xs ++ text_lines ys ≡ text_lines (xs ++ ys)
   spelled_append xs ys = sym (flat_map-append (λ (text : List ℕ). text ++ 10 ∷ []) xs ys)
 
   both_none : {X : Type 0} (xs ys : List X) → xs ≡ [] → ys ≡ [] → xs ++ ys ≡ []
   both_none xs ys one two = λ i. one i ++ two i
 
   stage_next : (session : Session B) (m : Option Took) → Lawful session.live.pod.state None → ((known session).agents ≡ [] → session.live.pod.state.births ≤ a) → is_reply_of s a (call_of session m) ≡ true
-      → (end : List ℕ) → end ≡ a ∷ [] → More (known (moved_by setting session m)).agents end → Stage session → Stage (moved_by setting session m)
+      → (end : List ℕ) → end ≡ a ∷ [] → More (known (after_move setting session m)).agents end → Stage session → Stage (after_move setting session m)
   stage_next session m was low of end last more (Before none unsaid silent) = by_asked (asked (Some e) (call_of session m)) (agents_then session m ∙ ap (λ xs. with_agent xs (asked (Some e) (call_of session m))) none)
     where
       facts : Facts s e a session.live.pod.state (call_of session m) (replied_in s a (made_of session m).effects)
       facts = move_facts session m was
 
-      said_none : said (moved_by setting session m) ≡ []
+      said_none : said (after_move setting session m) ≡ []
       said_none = said_then session m ∙ both_none (said session) (replied_in s a (made_of session m).effects) silent (facts.unborn (low none))
 
-      replies_none : (known (moved_by setting session m)).replies ≡ []
+      replies_none : (known (after_move setting session m)).replies ≡ []
       replies_none = replies_then session m ∙ both_none (known session).replies (told_by (known session).agents (call_of session m)) unsaid (ap (λ xs. told_by xs (call_of session m)) none ∙ facts.untold)
 
-      by_asked : (o : Option ℕ) → (known (moved_by setting session m)).agents ≡ with_agent [] o → Stage (moved_by setting session m)
+      by_asked : (o : Option ℕ) → (known (after_move setting session m)).agents ≡ with_agent [] o → Stage (after_move setting session m)
       by_asked None agents = Before agents replies_none said_none
-      by_asked (Some b) agents = During (agents ∙ ap (λ n. n ∷ []) (first_is (known (moved_by setting session m)).agents end b agents last more)) (replies_none ∙ ap spelled (sym said_none))
+      by_asked (Some b) agents = During (agents ∙ ap (λ n. n ∷ []) (first_is (known (after_move setting session m)).agents end b agents last more)) (replies_none ∙ ap text_lines (sym said_none))
   stage_next session m was low of end last more (During one told_so) = by_asked (asked (Some e) (call_of session m)) (agents_then session m ∙ ap (λ xs. with_agent xs (asked (Some e) (call_of session m))) one)
     where
       facts : Facts s e a session.live.pod.state (call_of session m) (replied_in s a (made_of session m).effects)
       facts = move_facts session m was
 
-      replies_so : (known (moved_by setting session m)).replies ≡ spelled (said (moved_by setting session m))
-      replies_so = replies_then session m ∙ (λ i. told_so i ++ (ap (λ xs. told_by xs (call_of session m)) one ∙ facts.written of) i) ∙ spelled_append (said session) (replied_in s a (made_of session m).effects) ∙ ap spelled (sym (said_then session m))
+      replies_so : (known (after_move setting session m)).replies ≡ text_lines (said (after_move setting session m))
+      replies_so = replies_then session m ∙ (λ i. told_so i ++ (ap (λ xs. told_by xs (call_of session m)) one ∙ facts.written of) i) ∙ spelled_append (said session) (replied_in s a (made_of session m).effects) ∙ ap text_lines (sym (said_then session m))
 
-      by_asked : (o : Option ℕ) → (known (moved_by setting session m)).agents ≡ with_agent (a ∷ []) o → Stage (moved_by setting session m)
+      by_asked : (o : Option ℕ) → (known (after_move setting session m)).agents ≡ with_agent (a ∷ []) o → Stage (after_move setting session m)
       by_asked None agents = During agents replies_so
-      by_asked (Some b) agents = absurd (no_second (known (moved_by setting session m)).agents end b agents last more)
+      by_asked (Some b) agents = absurd (no_second (known (after_move setting session m)).agents end b agents last more)
 
   -- of the steps in the end, those so far pass, and the next one
-  passes_next : (session : Session B) (m : Option Took) (end : List Sessions.Made) → Grows setting (moved_by setting session m).steps end → replies_are_of s a end ≡ true → is_reply_of s a (call_of session m) ≡ true
+  passes_next : (session : Session B) (m : Option Took) (end : List Sessions.Made) → Grows setting (after_move setting session m).steps end → replies_are_of s a end ≡ true → is_reply_of s a (call_of session m) ≡ true
   passes_next session m end grows all =
       let is : end ≡ session.steps ++ (made_of session m ∷ grows.rest) = grows.is ∙ ap (λ xs. xs ++ grows.rest) (pushed session m) ∙ append_assoc session.steps (made_of session m ∷ []) grows.rest in
       let parts = and_parts (replies_are_of s a session.steps) (replies_are_of s a (made_of session m ∷ grows.rest)) (sym (list_all-append (λ (step : Sessions.Made). is_reply_of s a (call_in step.take step.effects)) session.steps (made_of session m ∷ grows.rest)) ∙ ap (replies_are_of s a) (sym is) ∙ all) in
       (and_parts (is_reply_of s a (call_of session m)) (replies_are_of s a grows.rest) parts.1).0
 
-  stages : (moves : List (Option Took)) (session : Session B) → Lawful session.live.pod.state None → CanGoOn setting moves session → Stage session → (known (gone_on setting moves session)).agents ≡ a ∷ [] → replies_are_of s a (gone_on setting moves session).steps ≡ true → Stage (gone_on setting moves session)
+  stages : (moves : List (Option Took)) (session : Session B) → Lawful session.live.pod.state None → CanGoOn setting moves session → Stage session → (known (after_moves setting moves session)).agents ≡ a ∷ [] → replies_are_of s a (after_moves setting moves session).steps ≡ true → Stage (after_moves setting moves session)
   stages [] session was can stage last all = stage
   stages (m ∷ ms) session was can stage last all =
-      let next = moved_by setting session m in
+      let next = after_move setting session m in
       stages ms next (moved_lawful setting session m can.0 was) can.1
-      (stage_next session m was (λ none. unborn_before (m ∷ ms) session was can none last) (passes_next session m (gone_on setting ms next).steps (gone_grows setting ms next) all) (known (gone_on setting ms next)).agents last (agents_stay ms next) stage) last all
+      (stage_next session m was (λ none. unborn_before (m ∷ ms) session was can none last) (passes_next session m (after_moves setting ms next).steps (gone_grows setting ms next) all) (known (after_moves setting ms next)).agents last (agents_stay ms next) stage) last all
 
-  written_of : (session : Session B) → (known session).agents ≡ a ∷ [] → Stage session → (known session).replies ≡ spelled (said session)
+  written_of : (session : Session B) → (known session).agents ≡ a ∷ [] → Stage session → (known session).replies ≡ text_lines (said session)
   written_of session last (Before none unsaid silent) = absurd (let bad : [] ≡ a ∷ [] = sym none ∙ last in cc)
   written_of session last (During one told_so) = told_so
 
@@ -722,11 +722,11 @@ unfolding replies_in
 replies_are_written B setting least most takes n defined s e a agents of =
     let r = sessions_are_reached B setting takes n defined in
     let start = opening_session setting in
-    let is : (play setting takes n).steps ≡ (gone_on setting r.moves start).steps = ap (λ (x : Session B). x.steps) r.is in
-    let last : (known_in (Some e) (gone_on setting r.moves start).steps).agents ≡ a ∷ [] = ap (λ steps. (known_in (Some e) steps).agents) (sym is) ∙ agents in
+    let is : (play setting takes n).steps ≡ (after_moves setting r.moves start).steps = ap (λ (x : Session B). x.steps) r.is in
+    let last : (known_in (Some e) (after_moves setting r.moves start).steps).agents ≡ a ∷ [] = ap (λ steps. (known_in (Some e) steps).agents) (sym is) ∙ agents in
     ap (λ steps. (known_in (Some e) steps).replies) is
-    ∙ written_of setting s e a (gone_on setting r.moves start) last (stages setting s e a r.moves start (Lawful-opening setting.params least most) r.can (Before refl refl refl) last (ap (replies_are_of s a) (sym is) ∙ of))
-    ∙ ap (λ steps. spelled (replied_to s a (steps_of steps))) (sym is)
+    ∙ written_of setting s e a (after_moves setting r.moves start) last (stages setting s e a r.moves start (Lawful-opening setting.params least most) r.can (Before refl refl refl) last (ap (replies_are_of s a) (sym is) ∙ of))
+    ∙ ap (λ steps. text_lines (replied_to s a (steps_of steps))) (sym is)
 
 pub clients_are_written : ClientsAreWritten
 clients_are_written script least most takes n defined s k in_s in_k event place apart early begins_s body_s begins_k body_k serves lines client e a its agents of = record {

@@ -1,6 +1,6 @@
 -- In which procedure a thread begins, as the steps of a session tell it.
 use Rattle.answer_laws.specs.Clients.{IsAnsweredInTurn, sends_nothing}
-use Rattle.answer_laws.specs.Known.{KnowsItsNames, scripted}
+use Rattle.answer_laws.specs.Known.{KnowsItsNames, script_setting}
 use Rattle.answer_laws.specs.Served.{LineServer, Serves, line_is_short, steps_of}
 use Rattle.line_server.specs.Sessions.{SessionBody, session_opening}
 use Rattle.line_server.specs.Stores.{StoreBody, store_opening}
@@ -75,8 +75,8 @@ InEverySession B = (setting : Setting B) (server : LineServer setting.next) → 
 -- And in every session of every script, where at the opening each name is null, or stands for somebody born; or else by the same premise.
 abbrev pub InEveryScript : Type 0
 InEveryScript = (bodies : List ThreadBody) (params : PodParams) (names : Names)
-    → IsAnsweredAlways (scripted bodies params names) Serving Storing (λ s k end. KnowsItsNames (opening_session (scripted bodies params names)) ⊎ IsUnsentTill s k end)
+    → IsAnsweredAlways (script_setting bodies params names) Serving Storing (λ s k end. KnowsItsNames (opening_session (script_setting bodies params names)) ⊎ IsUnsentTill s k end)
 
 -- With names that are null at the opening nothing is asked of a session that is born before its store.
 abbrev pub FromNullNames : Type 0
-FromNullNames = (bodies : List ThreadBody) (params : PodParams) (threads monitors conditions : ℕ) → IsAnsweredAlways (scripted bodies params (null_names threads monitors conditions)) Serving Storing (λ s k end. Unit {0})
+FromNullNames = (bodies : List ThreadBody) (params : PodParams) (threads monitors conditions : ℕ) → IsAnsweredAlways (script_setting bodies params (null_names threads monitors conditions)) Serving Storing (λ s k end. Unit {0})

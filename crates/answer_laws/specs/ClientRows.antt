@@ -52,8 +52,8 @@ trapped_and_gone = calls (effect.Called 0 (call.Destroy 7) ∷ effect.Died 7 ∷
 -- ---- births
 
 -- a step with no line, as a session has it
-abbrev pub called : List Effect → Made
-called es = record { take = None; effects = es }
+abbrev pub call_made : List Effect → Made
+call_made es = record { take = None; effects = es }
 
 -- of no special kind
 abbrev pub plain : Flags
@@ -61,10 +61,10 @@ plain = record { suspended = false; nolastrites = false; server = false }
 
 -- thread 0 creates a thread of procedure 5, which asks who it is; a Create is refused, and behind a trap another thread begins in procedure 6
 abbrev pub two_created : List Made
-two_created = called (effect.Called 0 (call.Create 5 2 plain) ∷ effect.Answered 0 (answer.Thread 1) ∷ [])
-    ∷ called (effect.Called 1 call.Me ∷ effect.Answered 1 (answer.Thread 1) ∷ [])
-    ∷ called (effect.Called 0 (call.Create 9 1 plain) ∷ effect.Answered 0 nonexist ∷ [])
-    ∷ called (effect.Trapped 0 5 ∷ effect.Called 0 (call.Create 6 1 plain) ∷ effect.Answered 0 (answer.Thread 2) ∷ [])
+two_created = call_made (effect.Called 0 (call.Create 5 2 plain) ∷ effect.Answered 0 (answer.Thread 1) ∷ [])
+    ∷ call_made (effect.Called 1 call.Me ∷ effect.Answered 1 (answer.Thread 1) ∷ [])
+    ∷ call_made (effect.Called 0 (call.Create 9 1 plain) ∷ effect.Answered 0 nonexist ∷ [])
+    ∷ call_made (effect.Trapped 0 5 ∷ effect.Called 0 (call.Create 6 1 plain) ∷ effect.Answered 0 (answer.Thread 2) ∷ [])
     ∷ []
 
 -- threads 1 and 2 begin in these procedures, and threads 0 and 3 in none that a step tells
@@ -73,10 +73,10 @@ Begin steps one two = (begins_in 1 steps ≡ Some one) × (begins_in 2 steps ≡
 
 -- thread 0 creates thread 1, which sends to it, and then thread 2
 abbrev pub sent_between : List Made
-sent_between = called (effect.Called 0 (call.Create 5 2 plain) ∷ effect.Answered 0 (answer.Thread 1) ∷ [])
-    ∷ called (effect.Called 1 (call.Agent 1) ∷ effect.Answered 1 (answer.Thread 4) ∷ [])
-    ∷ called (effect.Called 1 (call.Send 0 240 (codes "hello")) ∷ [])
-    ∷ called (effect.Called 0 (call.Create 6 1 plain) ∷ effect.Answered 0 (answer.Thread 2) ∷ [])
+sent_between = call_made (effect.Called 0 (call.Create 5 2 plain) ∷ effect.Answered 0 (answer.Thread 1) ∷ [])
+    ∷ call_made (effect.Called 1 (call.Agent 1) ∷ effect.Answered 1 (answer.Thread 4) ∷ [])
+    ∷ call_made (effect.Called 1 (call.Send 0 240 (codes "hello")) ∷ [])
+    ∷ call_made (effect.Called 0 (call.Create 6 1 plain) ∷ effect.Answered 0 (answer.Thread 2) ∷ [])
     ∷ []
 
 -- thread 1 has sent something when thread 2 is born, and nothing when thread 4 is, though it calls; thread 0 has sent nothing, which creates them

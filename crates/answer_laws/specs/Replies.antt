@@ -2,7 +2,7 @@
 use Rattle.answer_laws.specs.Sights.{IsLeft, answers_to, attends, going_on, sight}
 use Rattle.lwp_types.specs.Choice.{choice}
 use Rattle.lwp_types.specs.Lawful.{Lawful}
-use Rattle.lwp_types.specs.Messages.{as_answer, as_received, is_letter_of, unreceived}
+use Rattle.lwp_types.specs.Messages.{as_answer, as_received, is_letter_of, next_letter}
 use Rattle.lwp_types.specs.State.{Outcome, State, is_thread, passes}
 use Rattle.lwp_types.specs.Step.{step}
 use Rattle.lwp_types.specs.declared.call.Mode.{Mode}
@@ -44,7 +44,7 @@ pub record IsReceived (u t : ℕ) (letter : Letter) (s : State) (out : Outcome) 
 -- A receive that finds the letter is answered it, as it was sent.
 abbrev pub ReceivesAreTheLetters : Type 0
 ReceivesAreTheLetters = (s : State) → Lawful s None → (t u : ℕ) → choice s ≡ Some t → (letter : Letter) → Asks s u t letter → (from : Option ℕ) (how : Mode)
-    → unreceived s.letters t from ≡ Some letter → IsReceived u t letter s (step s (call.Recv from how))
+    → next_letter s.letters t from ≡ Some letter → IsReceived u t letter s (step s (call.Recv from how))
 
 -- it doesn't take a letter of u
 abbrev pub takes_other : ℕ → Option Letter → Bool
@@ -53,7 +53,7 @@ takes_other u letter = not (passes (is_letter_of u) letter)
 -- Whom u has written to leaves it alone as well, as long as it replies to others, and receives the letters of others or waits for one.
 pub record LeavesTheRest (s : State) (u t : ℕ) : Type 0 where
   pub replies : (v : ℕ) (text : List ℕ) → (v == u) ≡ false → IsLeft u s (step s (call.Reply v text))
-  pub receives : (from : Option ℕ) (how : Mode) → IsTrue (takes_other u (unreceived s.letters t from)) → IsLeft u s (step s (call.Recv from how))
+  pub receives : (from : Option ℕ) (how : Mode) → IsTrue (takes_other u (next_letter s.letters t from)) → IsLeft u s (step s (call.Recv from how))
 
 abbrev pub ReadersLeaveTheRest : Type 0
 ReadersLeaveTheRest = (s : State) → (t u : ℕ) → choice s ≡ Some t → (t == u) ≡ false → IsTrue (attends s u) → LeavesTheRest s u t

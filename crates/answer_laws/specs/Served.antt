@@ -30,9 +30,9 @@ pub record LineServer {B : Type 0} (next : Next B) : Type 0 where
   pub one_store : (b c : StoreBody) → storing b ≡ storing c → b ≡ c
 
 -- a session one move on: a take, or else a call
-abbrev pub moved_by : {B : Type 0} → Setting B → Session B → Option Took → Session B
-moved_by setting s None = call_step setting s
-moved_by setting s (Some took) = take_step setting took s
+abbrev pub after_move : {B : Type 0} → Setting B → Session B → Option Took → Session B
+after_move setting s None = call_step setting s
+after_move setting s (Some took) = take_step setting took s
 
 -- the move may be made
 abbrev pub is_move_due : {B : Type 0} → Session B → Option Took → Bool
@@ -40,14 +40,14 @@ is_move_due s None = is_call_due s
 is_move_due s (Some took) = is_take_due took s
 
 -- the session after these moves, the first one first
-abbrev pub gone_on : {B : Type 0} → Setting B → List (Option Took) → Session B → Session B
-gone_on setting [] s = s
-gone_on setting (move ∷ moves) s = gone_on setting moves (moved_by setting s move)
+abbrev pub after_moves : {B : Type 0} → Setting B → List (Option Took) → Session B → Session B
+after_moves setting [] s = s
+after_moves setting (move ∷ moves) s = after_moves setting moves (after_move setting s move)
 
 -- each of them could be made when it was
 abbrev pub CanGoOn : {B : Type 0} → Setting B → List (Option Took) → Session B → Type 0
 CanGoOn setting [] s = Unit {0}
-CanGoOn setting (move ∷ moves) s = IsTrue (is_move_due s move) × CanGoOn setting moves (moved_by setting s move)
+CanGoOn setting (move ∷ moves) s = IsTrue (is_move_due s move) × CanGoOn setting moves (after_move setting s move)
 
 -- what the steps of a session tell of a client: the text of the line that was taken, if one was, and the effects
 abbrev pub step_of : Made → Step
@@ -64,8 +64,8 @@ pub record Begins {B : Type 0} (u : ℕ) (body : B) (live : Live B) : Type 0 whe
   pub thread : sight live.pod.state u ≡ record { waits = Some block.Not; marks = mark.Frame ∷ []; letters = [] }
 
 -- a session that begins here, with no steps so far
-abbrev pub begun : {B : Type 0} → Live B → Session B
-begun live = record { live = live; steps = [] }
+abbrev pub session_from : {B : Type 0} → Live B → Session B
+session_from live = record { live = live; steps = [] }
 
 -- ---- what is asked of a session up to its end
 
@@ -84,18 +84,18 @@ TextsAreShort end = (a : ℕ) → list_all is_short (delivered_to a (steps_of en
 abbrev pub ClientsAreAnsweredInTurn : Type 0 → Type 0
 ClientsAreAnsweredInTurn B = (setting : Setting B) (server : LineServer setting.next) (s k event place : ℕ) → (s == k) ≡ false
     → (live : Live B) → Lawful live.pod.state None → Begins k (server.storing store_opening) live → Begins s (server.serving (session_opening event place)) live
-    → (moves : List (Option Took)) → CanGoOn setting moves (begun live) → Serves s k (gone_on setting moves (begun live)) → TextsAreShort (gone_on setting moves (begun live))
-    → (a : ℕ) → IsAnsweredInTurn s a (steps_of (gone_on setting moves (begun live)).steps)
+    → (moves : List (Option Took)) → CanGoOn setting moves (session_from live) → Serves s k (after_moves setting moves (session_from live)) → TextsAreShort (after_moves setting moves (session_from live))
+    → (a : ℕ) → IsAnsweredInTurn s a (steps_of (after_moves setting moves (session_from live)).steps)
 
 -- So it is where the session begins by a move behind some others since the store began, before which it wasn't born; whoever else the store
 -- has served till then.
 abbrev pub LaterClientsAreAnsweredInTurn : Type 0 → Type 0
 LaterClientsAreAnsweredInTurn B = (setting : Setting B) (server : LineServer setting.next) (s k event place : ℕ)
     → (first : Live B) → Lawful first.pod.state None → Begins k (server.storing store_opening) first
-    → (moves : List (Option Took)) (birth : Option Took) → CanGoOn setting (moves ++ birth ∷ []) (begun first) → (gone_on setting moves (begun first)).live.pod.state.births ≤ s
-    → (live : Live B) → live ≡ (gone_on setting (moves ++ birth ∷ []) (begun first)).live → Begins s (server.serving (session_opening event place)) live
-    → (later : List (Option Took)) → CanGoOn setting later (begun live) → Serves s k (gone_on setting later (begun live)) → TextsAreShort (gone_on setting later (begun live))
-    → (a : ℕ) → IsAnsweredInTurn s a (steps_of (gone_on setting later (begun live)).steps)
+    → (moves : List (Option Took)) (birth : Option Took) → CanGoOn setting (moves ++ birth ∷ []) (session_from first) → (after_moves setting moves (session_from first)).live.pod.state.births ≤ s
+    → (live : Live B) → live ≡ (after_moves setting (moves ++ birth ∷ []) (session_from first)).live → Begins s (server.serving (session_opening event place)) live
+    → (later : List (Option Took)) → CanGoOn setting later (session_from live) → Serves s k (after_moves setting later (session_from live)) → TextsAreShort (after_moves setting later (session_from live))
+    → (a : ℕ) → IsAnsweredInTurn s a (steps_of (after_moves setting later (session_from live)).steps)
 
 -- ---- whole sessions
 
@@ -110,11 +110,11 @@ line_is_short (Some took) = is_short took.line.text
 abbrev pub IsAnsweredInIt : {B : Type 0} → Setting B → (SessionBody → B) → (StoreBody → B) → Type 0
 IsAnsweredInIt setting serving storing = 1 ≤ setting.params.maxpri → setting.params.maxpri ≤ 255 → (s k event place : ℕ)
     → (first moves : List (Option Took)) (birth : Option Took) (later : List (Option Took)) → CanGoOn setting (first ++ (moves ++ birth ∷ later)) (opening_session setting)
-    → Begins k (storing store_opening) (gone_on setting first (opening_session setting)).live
-    → (gone_on setting (first ++ moves) (opening_session setting)).live.pod.state.births ≤ s
-    → Begins s (serving (session_opening event place)) (gone_on setting (first ++ (moves ++ birth ∷ [])) (opening_session setting)).live
-    → Serves s k (gone_on setting (first ++ (moves ++ birth ∷ later)) (opening_session setting)) → list_all line_is_short (first ++ (moves ++ birth ∷ later)) ≡ true
-    → (a : ℕ) → IsAnsweredInTurn s a (steps_of (gone_on setting (first ++ (moves ++ birth ∷ later)) (opening_session setting)).steps)
+    → Begins k (storing store_opening) (after_moves setting first (opening_session setting)).live
+    → (after_moves setting (first ++ moves) (opening_session setting)).live.pod.state.births ≤ s
+    → Begins s (serving (session_opening event place)) (after_moves setting (first ++ (moves ++ birth ∷ [])) (opening_session setting)).live
+    → Serves s k (after_moves setting (first ++ (moves ++ birth ∷ later)) (opening_session setting)) → list_all line_is_short (first ++ (moves ++ birth ∷ later)) ≡ true
+    → (a : ℕ) → IsAnsweredInTurn s a (steps_of (after_moves setting (first ++ (moves ++ birth ∷ later)) (opening_session setting)).steps)
 
 abbrev pub InWholeSessions : Type 0 → Type 0
 InWholeSessions B = (setting : Setting B) (server : LineServer setting.next) → IsAnsweredInIt setting server.serving server.storing
@@ -123,7 +123,7 @@ InWholeSessions B = (setting : Setting B) (server : LineServer setting.next) →
 pub record IsReached {B : Type 0} (setting : Setting B) (session : Session B) : Type 0 where
   pub moves : List (Option Took)
   pub can : CanGoOn setting moves (opening_session setting)
-  pub is : session ≡ gone_on setting moves (opening_session setting)
+  pub is : session ≡ after_moves setting moves (opening_session setting)
 
 -- Every session is reached so.
 abbrev pub SessionsAreReached : Type 0 → Type 0

@@ -1,11 +1,11 @@
 -- How a pod stands in which a session and a store talk: the machine's state, and the talk that it comes to.
 use Rattle.answer_laws.specs.Agents.{agent_sight, deliveries_to, spares_agent}
-use Rattle.lwp_types.specs.Agents.{armed, deliver}
+use Rattle.lwp_types.specs.Agents.{deliver, is_event_armed}
 use Rattle.answer_laws.specs.Clients.{replied_in, sends_well, text_to}
 use Rattle.answer_laws.specs.Events.{machine_of}
 use Rattle.answer_laws.specs.Lengths.{is_short}
 use Rattle.answer_laws.specs.Sights.{answers_to, sight}
-use Rattle.answer_laws.specs.Talks.{Event, Mail, Mail.Nothing, Mail.Received, Mail.Sent, Stand, Stand.AwaitsLetter, Stand.AwaitsReply, Stand.Hears, Stand.IsOver, Talk, talked}
+use Rattle.answer_laws.specs.Talks.{Event, Mail, Mail.Nothing, Mail.Received, Mail.Sent, Stand, Stand.AwaitsLetter, Stand.AwaitsReply, Stand.Hears, Stand.IsOver, Talk, after_events}
 use Rattle.line_server.specs.declared.session.SessionPlace.{SessionPlace}
 use Rattle.line_server.specs.declared.session.SessionPlace.TheVariants as at
 use Rattle.line_server.specs.Sessions.{SessionBody, session_next}
@@ -135,15 +135,15 @@ IsHeard before after answers = (z : Answer) → HeardAs before z → HeardAs aft
 -- accepted
 pub record Becomes (s k a : ℕ) (talk : Talk) (session : SessionBody) (store : StoreBody) (waiting delivered replies : List (List ℕ)) (out : Outcome) : Type 0 where
   pub events : List Event
-  pub session_then : (talked s a talk events).session ≡ session
-  pub store_then : (talked s a talk events).store ≡ store
+  pub session_then : (after_events s a talk events).session ≡ session
+  pub store_then : (after_events s a talk events).store ≡ store
   -- the texts that wait for the session then
   pub waits : List (List ℕ)
-  pub stands : Stands s k a out.after (talked s a talk events) waits
-  pub texts : (talked s a talk events).lines ++ waits ≡ (talk.lines ++ waiting) ++ delivered
-  pub said : (talked s a talk events).told ≡ talk.told ++ replies
-  pub heard : IsHeard talk.client (talked s a talk events).client (answers_to s out.effects)
-  pub heard_keeper : (s == k) ≡ false → IsHeard talk.keeper (talked s a talk events).keeper (answers_to k out.effects)
+  pub stands : Stands s k a out.after (after_events s a talk events) waits
+  pub texts : (after_events s a talk events).lines ++ waits ≡ (talk.lines ++ waiting) ++ delivered
+  pub said : (after_events s a talk events).told ≡ talk.told ++ replies
+  pub heard : IsHeard talk.client (after_events s a talk events).client (answers_to s out.effects)
+  pub heard_keeper : (s == k) ≡ false → IsHeard talk.keeper (after_events s a talk events).keeper (answers_to k out.effects)
 
 -- the session has asked for an agent in vain
 pub record OpensInVain (s : ℕ) (talk : Talk) (out : Outcome) : Type 0 where
@@ -169,7 +169,7 @@ OthersCallsAreEvents = (s k a : ℕ) (state : State) → Lawful state None → (
 -- A text that is delivered is a line of the session's agent, or a letter to the store, or nothing.
 abbrev pub DeliveriesAreEvents : Type 0
 DeliveriesAreEvents = (s k a : ℕ) (state : State) → Lawful state None → (talk : Talk) (waiting : List (List ℕ)) → Stands s k a state talk waiting
-    → (e : ℕ) (text : List ℕ) → armed state e ≡ true
+    → (e : ℕ) (text : List ℕ) → is_event_armed state e ≡ true
     → Becomes s k a talk talk.session talk.store waiting (replicate (deliveries_to a (deliver state e text).effects) text) [] (deliver state e text)
 
 -- a call that doesn't end its thread

@@ -187,8 +187,8 @@ talk_on s a talk AgentEnds = agent_ends talk
 talk_on s a talk SessionDies = session_dies talk
 
 -- some of these in turn
-abbrev pub talked : ℕ → ℕ → Talk → List Event → Talk
-talked s a talk events = fold (talk_on s a) talk events
+abbrev pub after_events : ℕ → ℕ → Talk → List Event → Talk
+after_events s a talk events = fold (talk_on s a) talk events
 
 -- ---- the law
 
@@ -200,4 +200,4 @@ pub record AreFirst (texts others : List (List ℕ)) : Type 0 where
 -- Whatever happens and whatever others send to the store, what the client is told is a first part of the answers to its lines.
 abbrev pub TalksAreAnswers : Type 0
 TalksAreAnswers = (s a event store : ℕ) (events : List Event)
-    → AreFirst (talked s a (opening_talk event store) events).told (line_answers (talked s a (opening_talk event store) events).lines)
+    → AreFirst (after_events s a (opening_talk event store) events).told (line_answers (after_events s a (opening_talk event store) events).lines)

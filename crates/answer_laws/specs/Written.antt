@@ -21,8 +21,8 @@ use Rattle.std.specs.List.{flat_map, list_all}
 use Rattle.std.specs.Prelude.{Bool, List, None, Option, Some, [], false, not, true, ℕ, ◌&&◌, ◌++◌, ◌==◌, ◌∷◌, ◌≡◌, ◌≤◌, ◌||◌}
 
 -- each text on a line of its own
-abbrev pub spelled : List (List ℕ) → List ℕ
-spelled texts = flat_map (λ text. text ++ 10 ∷ []) texts
+abbrev pub text_lines : List (List ℕ) → List ℕ
+text_lines texts = flat_map (λ text. text ++ 10 ∷ []) texts
 
 -- the call is a reply to a
 abbrev pub is_reply_to : ℕ → Call → Bool
@@ -43,13 +43,13 @@ replies_are_of s a steps = list_all (λ step. is_reply_of s a (call_in step.take
 abbrev pub RepliesAreWritten : Type 0 → Type 0
 RepliesAreWritten B = (setting : Setting B) → 1 ≤ setting.params.maxpri → setting.params.maxpri ≤ 255 → (takes : List Took) (n : ℕ) → IsDefined setting takes n
     → (s e a : ℕ) → (known_in (Some e) (play setting takes n).steps).agents ≡ a ∷ [] → replies_are_of s a (play setting takes n).steps ≡ true
-    → replies_in (Some e) (play setting takes n).steps ≡ spelled (replied_to s a (steps_of (play setting takes n).steps))
+    → replies_in (Some e) (play setting takes n).steps ≡ text_lines (replied_to s a (steps_of (play setting takes n).steps))
 
 -- these bytes are the first answers to the lines delivered to a, each on a line of its own
 pub record IsFirstWritten (a : ℕ) (steps : List Sessions.Made) (bytes : List ℕ) : Type 0 where
   pub texts : List (List ℕ)
   pub first : AreFirst texts (line_answers (delivered_to a (steps_of steps)))
-  pub written : bytes ≡ spelled texts
+  pub written : bytes ≡ text_lines texts
 
 -- So what `answers` writes of a client of a script, in each of its sessions: where the client's event has had one agent, and of the accepted replies
 -- to that all are of one client's session, it is a first part of the answers to the lines delivered to that agent.

@@ -52,15 +52,15 @@ in_front part (Ok parts) = Ok (part ∷ parts)
 in_front part (Err bad) = Err (suc bad)
 
 -- a part, if there is one, and those behind it
-abbrev pub followed : Option Part → (Part → Result (List Part) ℕ) → Result (List Part) ℕ
-followed None behind = Err 0
-followed (Some part) behind = in_front part (behind part)
+abbrev pub part_and_others : Option Part → (Part → Result (List Part) ℕ) → Result (List Part) ℕ
+part_and_others None behind = Err 0
+part_and_others (Some part) behind = in_front part (behind part)
 
 -- the parts from a place on, of which so many may come; or how many are good before the first bad one
 abbrev pub parts_from : ℕ → List ℕ → ℕ → Result (List Part) ℕ
 parts_from zero bytes at = if nat_le (length bytes) at then Ok [] else Err 0
 parts_from (suc many) bytes at =
-    if nat_le (length bytes) at then Ok [] else followed (part_at bytes at) (λ part. parts_from many bytes part.to)
+    if nat_le (length bytes) at then Ok [] else part_and_others (part_at bytes at) (λ part. parts_from many bytes part.to)
 
 -- the parts of a text, at most 1,000, or the number of the first bad one; a text may have 33,554,432 bytes
 abbrev pub parts_of : List ℕ → Result (List Part) ℕ

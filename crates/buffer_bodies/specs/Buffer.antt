@@ -30,59 +30,59 @@ pub record Buffer : Type 0 where
 -- ---- what it does with a letter
 
 -- a reply is put behind those to be made
-abbrev pub replied : ℕ → List ℕ → Buffer → Buffer
-replied to text buffer = record buffer { replies = buffer.replies ++ (to, text) ∷ [] }
+abbrev pub after_reply : ℕ → List ℕ → Buffer → Buffer
+after_reply to text buffer = record buffer { replies = buffer.replies ++ (to, text) ∷ [] }
 
 -- a producer hears that its item was taken
-abbrev pub thanked : ℕ → Buffer → Buffer
-thanked producer buffer = replied producer [] buffer
+abbrev pub after_thank : ℕ → Buffer → Buffer
+after_thank producer buffer = after_reply producer [] buffer
 
 -- a consumer gets an item
-abbrev pub handed : ℕ → List ℕ → Buffer → Buffer
-handed consumer item buffer = replied consumer item (record buffer { left = buffer.left - 1 })
+abbrev pub after_hand : ℕ → List ℕ → Buffer → Buffer
+after_hand consumer item buffer = after_reply consumer item (record buffer { left = buffer.left - 1 })
 
 -- an item is put behind the others
-abbrev pub stored : List ℕ → Buffer → Buffer
-stored item buffer = record buffer { items = buffer.items ++ item ∷ [] }
+abbrev pub after_store : List ℕ → Buffer → Buffer
+after_store item buffer = record buffer { items = buffer.items ++ item ∷ [] }
 
 -- an item for which nobody asks is stored where there is room; else its producer waits
-abbrev pub kept : ℕ → List ℕ → Buffer → Buffer
-kept producer item buffer = if nat_lt (length buffer.items) buffer.room
-    then thanked producer (stored item buffer)
+abbrev pub after_keep : ℕ → List ℕ → Buffer → Buffer
+after_keep producer item buffer = if nat_lt (length buffer.items) buffer.room
+    then after_thank producer (after_store item buffer)
     else record buffer { waiting = buffer.waiting ++ (producer, item) ∷ [] }
 
 -- an item comes: the consumer that has asked longest gets it, if one has
-abbrev pub put_by : ℕ → List ℕ → Buffer → List ℕ → Buffer
-put_by producer item buffer [] = kept producer item buffer
-put_by producer item buffer (consumer ∷ others) = thanked producer (handed consumer item (record buffer { asking = others }))
+abbrev pub after_put_by : ℕ → List ℕ → Buffer → List ℕ → Buffer
+after_put_by producer item buffer [] = after_keep producer item buffer
+after_put_by producer item buffer (consumer ∷ others) = after_thank producer (after_hand consumer item (record buffer { asking = others }))
 
-abbrev pub put : ℕ → List ℕ → Buffer → Buffer
-put producer item buffer = put_by producer item buffer buffer.asking
+abbrev pub after_put : ℕ → List ℕ → Buffer → Buffer
+after_put producer item buffer = after_put_by producer item buffer buffer.asking
 
 -- there is room again: the item that has waited longest is stored, if one has
-abbrev pub refilled_by : Buffer → List Letter → Buffer
-refilled_by buffer [] = buffer
-refilled_by buffer (letter ∷ others) = thanked letter.0 (stored letter.1 (record buffer { waiting = others }))
+abbrev pub after_refill_by : Buffer → List Letter → Buffer
+after_refill_by buffer [] = buffer
+after_refill_by buffer (letter ∷ others) = after_thank letter.0 (after_store letter.1 (record buffer { waiting = others }))
 
-abbrev pub refilled : Buffer → Buffer
-refilled buffer = refilled_by buffer buffer.waiting
+abbrev pub after_refill : Buffer → Buffer
+after_refill buffer = after_refill_by buffer buffer.waiting
 
 -- a consumer asks: it gets the oldest item, or waits for one
-abbrev pub get_by : ℕ → Buffer → List (List ℕ) → Buffer
-get_by consumer buffer [] = record buffer { asking = buffer.asking ++ consumer ∷ [] }
-get_by consumer buffer (item ∷ others) = refilled (handed consumer item (record buffer { items = others }))
+abbrev pub after_get_by : ℕ → Buffer → List (List ℕ) → Buffer
+after_get_by consumer buffer [] = record buffer { asking = buffer.asking ++ consumer ∷ [] }
+after_get_by consumer buffer (item ∷ others) = after_refill (after_hand consumer item (record buffer { items = others }))
 
-abbrev pub get : ℕ → Buffer → Buffer
-get consumer buffer = get_by consumer buffer buffer.items
+abbrev pub after_get : ℕ → Buffer → Buffer
+after_get consumer buffer = after_get_by consumer buffer buffer.items
 
 -- an empty letter asks for an item, any other is one
-abbrev pub lettered : ℕ → List ℕ → Buffer → Buffer
-lettered from [] buffer = get from buffer
-lettered from (byte ∷ bytes) buffer = put from (byte ∷ bytes) buffer
+abbrev pub after_take_letter : ℕ → List ℕ → Buffer → Buffer
+after_take_letter from [] buffer = after_get from buffer
+after_take_letter from (byte ∷ bytes) buffer = after_put from (byte ∷ bytes) buffer
 
 -- what it makes of an answer: only letters tell it something
 abbrev pub after_answer : Answer → Buffer → Buffer
-after_answer (answer.Letter from text room) buffer = lettered from text buffer
+after_answer (answer.Letter from text room) buffer = after_take_letter from text buffer
 after_answer _ buffer = buffer
 
 -- ---- what it calls

@@ -1,5 +1,5 @@
 // The thread that keeps items.
-ghost use Rattle.buffer_bodies.specs.Buffer.{after_answer, buffer_next, calls, get, handed, kept, lettered, opening, put, refilled, replied, rests, speaks, stored, thanked};
+ghost use Rattle.buffer_bodies.specs.Buffer.{after_answer, after_get, after_hand, after_keep, after_put, after_refill, after_reply, after_store, after_take_letter, after_thank, buffer_next, calls, opening, rests, speaks};
 ghost use Rattle.std.specs.Prelude.{◌≡◌, OnOk};
 
 use lwp_types::{Answer, Call, Flags, Mode, NoMemory, Text, Tid};
@@ -60,34 +60,34 @@ impl<'s> Buffer<'s> {
     }
 
     fn reply(&mut self, to: Tid, text: Text<'s>) -> Result<(), NoMemory>
-        ensures { OnOk result (self.new ≡ replied to text.entry self.old) }
+        ensures { OnOk result (self.new ≡ after_reply to text.entry self.old) }
     {
         self.replies.push_back((to, text))?;
         Ok(())
     }
 
     fn thank(&mut self, producer: Tid) -> Result<(), NoMemory>
-        ensures { OnOk result (self.new ≡ thanked producer self.old) }
+        ensures { OnOk result (self.new ≡ after_thank producer self.old) }
     {
         self.reply(producer, Text::empty())
     }
 
     fn hand(&mut self, consumer: Tid, item: Text<'s>) -> Result<(), NoMemory>
-        ensures { OnOk result (self.new ≡ handed consumer item.entry self.old) }
+        ensures { OnOk result (self.new ≡ after_hand consumer item.entry self.old) }
     {
         self.left = self.left.saturating_sub(1);
         self.reply(consumer, item)
     }
 
     fn store(&mut self, item: Text<'s>) -> Result<(), NoMemory>
-        ensures { OnOk result (self.new ≡ stored item.entry self.old) }
+        ensures { OnOk result (self.new ≡ after_store item.entry self.old) }
     {
         self.items.push_back(item)?;
         Ok(())
     }
 
     fn keep(&mut self, producer: Tid, item: Text<'s>) -> Result<(), NoMemory>
-        ensures { OnOk result (self.new ≡ kept producer item.entry self.old) }
+        ensures { OnOk result (self.new ≡ after_keep producer item.entry self.old) }
     {
         if self.items.len() < self.room {
             self.store(item)?;
@@ -98,7 +98,7 @@ impl<'s> Buffer<'s> {
     }
 
     fn put(&mut self, producer: Tid, item: Text<'s>) -> Result<(), NoMemory>
-        ensures { OnOk result (self.new ≡ put producer item.entry self.old) }
+        ensures { OnOk result (self.new ≡ after_put producer item.entry self.old) }
     {
         match self.asking.pop_front() {
             Some(consumer) => {
@@ -110,7 +110,7 @@ impl<'s> Buffer<'s> {
     }
 
     fn refill(&mut self) -> Result<(), NoMemory>
-        ensures { OnOk result (self.new ≡ refilled self.old) }
+        ensures { OnOk result (self.new ≡ after_refill self.old) }
     {
         match self.waiting.pop_front() {
             Some((producer, item)) => {
@@ -122,7 +122,7 @@ impl<'s> Buffer<'s> {
     }
 
     fn get(&mut self, consumer: Tid) -> Result<(), NoMemory>
-        ensures { OnOk result (self.new ≡ get consumer self.old) }
+        ensures { OnOk result (self.new ≡ after_get consumer self.old) }
     {
         match self.items.pop_front() {
             Some(item) => {
@@ -137,7 +137,7 @@ impl<'s> Buffer<'s> {
     }
 
     fn take_letter(&mut self, from: Tid, text: Text<'s>) -> Result<(), NoMemory>
-        ensures { OnOk result (self.new ≡ lettered from text.entry self.old) }
+        ensures { OnOk result (self.new ≡ after_take_letter from text.entry self.old) }
     {
         if text.len() == 0 {
             self.get(from)

@@ -167,7 +167,7 @@ none-on c (w ∷ ws) none = by_test (is_on c w) none (none-on c ws)
 pub none_is_woken : NoneIsWoken
 none_is_woken t c none = none-on c t.waits none
 
-pub once_woken : (t : ConditionTable) (c : ℕ) → IsWaitedOnce t c → (o : Option WaitRec) → IsWaitedOnce (table.woken t o) c
+pub once_woken : (t : ConditionTable) (c : ℕ) → IsWaitedOnce t c → (o : Option WaitRec) → IsWaitedOnce (table.after_wake t o) c
 once_woken t c once None u = once u
 once_woken t c once (Some w) u = omega (arith, once u, count-filter-le (λ w. is_on c w && is_wait_of u w) (λ v. not (is_wait_of w.tid v)) t.waits)
 
@@ -181,11 +181,11 @@ all_are_woken t c (suc n) once few = by_first (table.first_wait t c) refl (λ af
   where
     by_first : (o : Option WaitRec) → table.first_wait t c ≡ o
         → ((after : ConditionTable) → IsWaitedOnce after c → length (table.waits_on after c) ≤ n → woken_by n after c ≡ table.waits_on after c)
-        → first_and o (woken_by n (table.woken t o) c) ≡ table.waits_on t c
+        → first_and o (woken_by n (table.after_wake t o) c) ≡ table.waits_on t c
     by_first None first rest = sym (none_is_woken t c first)
-    by_first (Some w) first rest = ap (λ ws. w ∷ ws) (rest (table.woken t (Some w)) (once_woken t c once (Some w)) fewer) ∙ sym (first_is_woken t c once w first)
+    by_first (Some w) first rest = ap (λ ws. w ∷ ws) (rest (table.after_wake t (Some w)) (once_woken t c once (Some w)) fewer) ∙ sym (first_is_woken t c once w first)
       where
-        fewer : length (table.waits_on (table.woken t (Some w)) c) ≤ n
+        fewer : length (table.waits_on (table.after_wake t (Some w)) c) ≤ n
         fewer = omega (arith, few, ap length (first_is_woken t c once w first))
 
 -- ranks
@@ -201,16 +201,16 @@ ranked-requeued before after u p its others (w ∷ ws) all = (here, ranked-reque
     ]
 
 module _ (priority : ℕ → ℕ) (t : ConditionTable) (ranked : AreRanked priority t.waits) where
-  pub ranked_forgotten : (u : ℕ) → AreRanked priority (table.forgotten t u).waits
+  pub ranked_forgotten : (u : ℕ) → AreRanked priority (table.after_forget t u).waits
   ranked_forgotten u = All-filter _ _ t.waits ranked
 
-  pub ranked_waited : (w : WaitRec) → w.prio ≡ priority w.tid → AreRanked priority (table.waited t w).waits
+  pub ranked_waited : (w : WaitRec) → w.prio ≡ priority w.tid → AreRanked priority (table.after_wait t w).waits
   ranked_waited w its = All-push _ t.waits w ranked its
 
 pub ranked_same : (before after : ℕ → ℕ) (t : ConditionTable) → AreRanked before t.waits → ((v : ℕ) → after v ≡ before v) → AreRanked after t.waits
 ranked_same before after t ranked same = All-weaker _ _ (λ w e. e ∙ sym (same w.tid)) t.waits ranked
 
-pub ranked_requeued : (before after : ℕ → ℕ) (t : ConditionTable) (u p : ℕ) → AreRanked before t.waits → after u ≡ p → ((v : ℕ) → v ≢ u → after v ≡ before v) → AreRanked after (table.requeued t u p).waits
+pub ranked_requeued : (before after : ℕ → ℕ) (t : ConditionTable) (u p : ℕ) → AreRanked before t.waits → after u ≡ p → ((v : ℕ) → v ≢ u → after v ≡ before v) → AreRanked after (table.after_requeue t u p).waits
 ranked_requeued before after t u p ranked its others = ranked-requeued before after u p its others t.waits ranked
 
 pub ranks_last : RanksLast

@@ -95,38 +95,38 @@ abbrev pub empty_table : ℕ → ConditionTable
 empty_table limit = record { conditions = []; births = 0; limit = limit; waits = []; places = 0 }
 
 -- places for n waits at least
-abbrev pub reserved : ConditionTable → ℕ → ConditionTable
-reserved s n = record s { places = max s.places n }
+abbrev pub after_reserve : ConditionTable → ℕ → ConditionTable
+after_reserve s n = record s { places = max s.places n }
 
 -- the number of a condition that is born now
 abbrev pub newborn : ConditionTable → Option ℕ
 newborn s = if is_full s then None else Some s.births
 
 -- one condition of monitor m more, if one may be born
-abbrev pub created : ConditionTable → ℕ → ConditionTable
-created s m = if is_full s then s else record s { conditions = s.conditions ++ record { number = s.births; mon = m } ∷ []; births = s.births + 1 }
+abbrev pub after_create : ConditionTable → ℕ → ConditionTable
+after_create s m = if is_full s then s else record s { conditions = s.conditions ++ record { number = s.births; mon = m } ∷ []; births = s.births + 1 }
 
 -- the condition is gone
-abbrev pub destroyed : ConditionTable → ℕ → ConditionTable
-destroyed s c = record s { conditions = without_condition c s.conditions }
+abbrev pub after_destroy : ConditionTable → ℕ → ConditionTable
+after_destroy s c = record s { conditions = without_condition c s.conditions }
 
 -- all conditions of the monitor are gone
-abbrev pub destroyed_of : ConditionTable → ℕ → ConditionTable
-destroyed_of s m = record s { conditions = without_conditions_of m s.conditions }
+abbrev pub after_destroy_of : ConditionTable → ℕ → ConditionTable
+after_destroy_of s m = record s { conditions = without_conditions_of m s.conditions }
 
 -- one more waits, behind all others
-abbrev pub waited : ConditionTable → WaitRec → ConditionTable
-waited s w = record s { waits = s.waits ++ w ∷ [] }
+abbrev pub after_wait : ConditionTable → WaitRec → ConditionTable
+after_wait s w = record s { waits = s.waits ++ w ∷ [] }
 
 -- whoever was chosen waits no more
-abbrev pub woken : ConditionTable → Option WaitRec → ConditionTable
-woken s None = s
-woken s (Some w) = record s { waits = without_wait w.tid s.waits }
+abbrev pub after_wake : ConditionTable → Option WaitRec → ConditionTable
+after_wake s None = s
+after_wake s (Some w) = record s { waits = without_wait w.tid s.waits }
 
 -- the priority of t is another from now on
-abbrev pub requeued : ConditionTable → ℕ → ℕ → ConditionTable
-requeued s t p = record s { waits = with_priority t p s.waits }
+abbrev pub after_requeue : ConditionTable → ℕ → ℕ → ConditionTable
+after_requeue s t p = record s { waits = with_priority t p s.waits }
 
 -- t waits no more
-abbrev pub forgotten : ConditionTable → ℕ → ConditionTable
-forgotten s t = record s { waits = without_wait t s.waits }
+abbrev pub after_forget : ConditionTable → ℕ → ConditionTable
+after_forget s t = record s { waits = without_wait t s.waits }

@@ -54,21 +54,21 @@ WaitOfAgrees = (t : ConditionTable) (s : State) (c u : ℕ) → IsWaitedOnce t c
 -- whoever is woken waits no more, as there
 abbrev pub WakingAgrees : Type 0
 WakingAgrees = (t : ConditionTable) (s : State) (w : WaitRec)
-    → with_conditions (table.woken t (Some w)) s ≡ record (with_conditions t s) { waits = machine.without_wait w.tid (with_conditions t s).waits }
+    → with_conditions (table.after_wake t (Some w)) s ≡ record (with_conditions t s) { waits = machine.without_wait w.tid (with_conditions t s).waits }
 
 -- what a thread waited for is forgotten as there
 abbrev pub ForgettingAgrees : Type 0
 ForgettingAgrees = (t : ConditionTable) (s : State) (u : ℕ)
-    → with_conditions (table.forgotten t u) s ≡ record (with_conditions t s) { waits = machine.without_wait u (with_conditions t s).waits }
+    → with_conditions (table.after_forget t u) s ≡ record (with_conditions t s) { waits = machine.without_wait u (with_conditions t s).waits }
 
 -- one more waits behind all others, as there
 abbrev pub WaitingAgrees : Type 0
 WaitingAgrees = (t : ConditionTable) (s : State) (w : WaitRec)
-    → with_conditions (table.waited t w) s ≡ record (with_conditions t s) { waits = map machine_row t.waits ++ machine_row w ∷ [] }
+    → with_conditions (table.after_wait t w) s ≡ record (with_conditions t s) { waits = map machine_row t.waits ++ machine_row w ∷ [] }
 
 -- a priority that is given changes nothing there
 abbrev pub RequeuesAgree : Type 0
-RequeuesAgree = (t : ConditionTable) (s : State) (u p : ℕ) → with_conditions (table.requeued t u p) s ≡ with_conditions t s
+RequeuesAgree = (t : ConditionTable) (s : State) (u p : ℕ) → with_conditions (table.after_requeue t u p) s ≡ with_conditions t s
 
 -- To broadcast is to wake the first until nobody waits.
 
@@ -80,12 +80,12 @@ first_and (Some w) ws = w ∷ ws
 -- whom n broadcasts wake, one after the other
 abbrev pub woken_by : ℕ → ConditionTable → ℕ → List WaitRec
 woken_by zero t c = []
-woken_by (suc n) t c = first_and (table.first_wait t c) (woken_by n (table.woken t (table.first_wait t c)) c)
+woken_by (suc n) t c = first_and (table.first_wait t c) (woken_by n (table.after_wake t (table.first_wait t c)) c)
 
 -- the first that is woken is the first that waits, and then the others wait
 abbrev pub FirstIsWoken : Type 0
 FirstIsWoken = (t : ConditionTable) (c : ℕ) → IsWaitedOnce t c → (w : WaitRec) → table.first_wait t c ≡ Some w
-    → table.waits_on t c ≡ w ∷ table.waits_on (table.woken t (Some w)) c
+    → table.waits_on t c ≡ w ∷ table.waits_on (table.after_wake t (Some w)) c
 
 -- nobody is woken only where nobody waits
 abbrev pub NoneIsWoken : Type 0
@@ -99,7 +99,7 @@ AllAreWoken = (t : ConditionTable) (c n : ℕ) → IsWaitedOnce t c → length (
 
 -- also where some are gone, where one came that has its thread's, and where a thread has another priority
 pub record RanksLast : Type 0 where
-  pub forgotten : (priority : ℕ → ℕ) (t : ConditionTable) → AreRanked priority t.waits → (u : ℕ) → AreRanked priority (table.forgotten t u).waits
-  pub waited : (priority : ℕ → ℕ) (t : ConditionTable) → AreRanked priority t.waits → (w : WaitRec) → w.prio ≡ priority w.tid → AreRanked priority (table.waited t w).waits
-  pub requeued : (before after : ℕ → ℕ) (t : ConditionTable) (u p : ℕ) → AreRanked before t.waits → after u ≡ p → ((v : ℕ) → v ≢ u → after v ≡ before v) → AreRanked after (table.requeued t u p).waits
+  pub forgotten : (priority : ℕ → ℕ) (t : ConditionTable) → AreRanked priority t.waits → (u : ℕ) → AreRanked priority (table.after_forget t u).waits
+  pub waited : (priority : ℕ → ℕ) (t : ConditionTable) → AreRanked priority t.waits → (w : WaitRec) → w.prio ≡ priority w.tid → AreRanked priority (table.after_wait t w).waits
+  pub requeued : (before after : ℕ → ℕ) (t : ConditionTable) (u p : ℕ) → AreRanked before t.waits → after u ≡ p → ((v : ℕ) → v ≢ u → after v ≡ before v) → AreRanked after (table.after_requeue t u p).waits
   pub same : (before after : ℕ → ℕ) (t : ConditionTable) → AreRanked before t.waits → ((v : ℕ) → after v ≡ before v) → AreRanked after t.waits

@@ -2,7 +2,7 @@
 ghost use Rattle.std.specs.Prelude.{◌≡◌, ◌<◌, ◌≤◌, false, length, map, IsTrue, IsOk, IfOk, OnOk, OnErr};
 ghost use Rattle.lwp_types.specs.First.{FindsBest};
 ghost use Rattle.lwp_types.specs.Conditions.{condition_numbers};
-ghost use Rattle.conditions.specs.ConditionTable.{created, destroyed, destroyed_of, empty_table, first_wait, forgotten, has_waits, is_live, is_waited_in, is_waiting, monitor_of, newborn, next_notified, requeued, reserved, wait_of, waited, waits_on, woken};
+ghost use Rattle.conditions.specs.ConditionTable.{after_create, after_destroy, after_destroy_of, after_forget, after_requeue, after_reserve, after_wait, after_wake, empty_table, first_wait, has_waits, is_live, is_waited_in, is_waiting, monitor_of, newborn, next_notified, wait_of, waits_on};
 
 use crate::WaitRec;
 use crate::rows::{list, row_of, take_out, take_out_of};
@@ -66,7 +66,7 @@ impl Conditions {
 
     /// Makes places for `n` waits in all; so many may then wait with no more memory.
     pub fn reserve(&mut self, n: usize) -> Result<(), NoMemory>
-        ensures ok { OnOk result (self.new ≡ reserved self.old n) }
+        ensures ok { OnOk result (self.new ≡ after_reserve self.old n) }
         ensures err { OnErr result (self.new ≡ self.old) }
         ensures has_room { n ≤ self.old.places → IsOk result }
     {
@@ -76,7 +76,7 @@ impl Conditions {
     /// A condition of the monitor, or None where none may be born.
     pub fn create(&mut self, mon: Mid) -> Result<Option<Cid>, NoMemory>
         ensures value { IfOk result (λ made. made ≡ newborn self.old) }
-        ensures ok { OnOk result (self.new ≡ created self.old mon) }
+        ensures ok { OnOk result (self.new ≡ after_create self.old mon) }
         ensures err { OnErr result (self.new ≡ self.old) }
     {
         let births = self.births;
@@ -116,7 +116,7 @@ impl Conditions {
     /// Ends a condition that nobody waits on.
     pub fn destroy(&mut self, cond: Cid)
         requires { is_waited_in self.old.waits cond ≡ false }
-        ensures { self.new ≡ destroyed self.old cond }
+        ensures { self.new ≡ after_destroy self.old cond }
     {
         take_out(&mut self.rows, cond);
     }
@@ -124,7 +124,7 @@ impl Conditions {
     /// Ends all conditions of a monitor; nobody waits on any of them.
     pub fn destroy_of(&mut self, mon: Mid)
         requires { has_waits self.old mon ≡ false }
-        ensures { self.new ≡ destroyed_of self.old mon }
+        ensures { self.new ≡ after_destroy_of self.old mon }
     {
         take_out_of(&mut self.rows, mon);
     }
@@ -134,7 +134,7 @@ impl Conditions {
         requires live { IsTrue (is_live self.old wait.cond) }
         requires waits_nowhere { is_waiting self.old wait.tid ≡ false }
         requires room { length self.old.waits < self.old.places }
-        ensures { self.new ≡ waited self.old wait }
+        ensures { self.new ≡ after_wait self.old wait }
     {
         self.waits.join(Waiting {
             what: wait.cond.number,
@@ -147,7 +147,7 @@ impl Conditions {
     /// Wakes the one to notify, if anybody waits on the condition.
     pub fn notify(&mut self, cond: Cid) -> Option<WaitRec>
         ensures value { result ≡ next_notified self.old cond }
-        ensures after { self.new ≡ woken self.old result }
+        ensures after { self.new ≡ after_wake self.old result }
         ensures first_best { FindsBest (λ w. w.prio) (waits_on self.old cond) result }
     {
         let next = self.waits.best(cond.number)?;
@@ -158,7 +158,7 @@ impl Conditions {
     /// Wakes the one that came first. To wake all that wait on the condition, it is called until it answers None.
     pub fn broadcast(&mut self, cond: Cid) -> Option<WaitRec>
         ensures value { result ≡ first_wait self.old cond }
-        ensures after { self.new ≡ woken self.old result }
+        ensures after { self.new ≡ after_wake self.old result }
     {
         let next = self.waits.first(cond.number)?;
         self.waits.leave(next.tid);
@@ -168,7 +168,7 @@ impl Conditions {
     /// Wakes the thread, if it waits on the condition.
     pub fn send_to(&mut self, cond: Cid, tid: Tid) -> Option<WaitRec>
         ensures value { result ≡ wait_of self.old cond tid }
-        ensures after { self.new ≡ woken self.old result }
+        ensures after { self.new ≡ after_wake self.old result }
     {
         let next = self.waits.found(cond.number, tid)?;
         self.waits.leave(next.tid);
@@ -177,14 +177,14 @@ impl Conditions {
 
     /// Gives the thread's wait, if it has one, a priority. The wait keeps its place.
     pub fn requeue(&mut self, tid: Tid, prio: u32)
-        ensures { self.new ≡ requeued self.old tid prio }
+        ensures { self.new ≡ after_requeue self.old tid prio }
     {
         self.waits.set_prio(tid, prio);
     }
 
     /// Forgets the thread's wait, if it has one.
     pub fn forget(&mut self, tid: Tid)
-        ensures { self.new ≡ forgotten self.old tid }
+        ensures { self.new ≡ after_forget self.old tid }
     {
         self.waits.leave(tid);
     }

@@ -1,6 +1,6 @@
 -- Agents end, and their numbers are free.
 use Rattle.death_cleanup.proofs.Notes.{noted-removed}
-use Rattle.agents.specs.Roster.{destroyed, first_of, without_first, without_found}
+use Rattle.agents.specs.Roster.{after_destroy, first_of, without_first, without_found}
 use Rattle.death_cleanup.proofs.Burials.{rows-removed}
 use Rattle.death_cleanup.proofs.Draining.{Draining, came_then, done, fewer, first_room, goes_on}
 use Rattle.death_cleanup.proofs.Fronts.{Front, found_first, found_none}
@@ -10,7 +10,7 @@ use Rattle.death_cleanup.specs.Comes.{CameTo, HasRoom}
 use Rattle.death_cleanup.specs.Moves.{agent_over}
 use Rattle.death_cleanup.specs.Ties.{HasLawfulThreads, InStep}
 use Rattle.death_cleanup.specs.View.{rows_of, state_of}
-use Rattle.death_cleanup.specs.Waits.{dismissed}
+use Rattle.death_cleanup.specs.Waits.{after_dismiss}
 use Rattle.death_cleanup.specs.declared.parts.Parts.{Parts}
 use Rattle.death_cleanup.specs.declared.rows.Awaited.TheVariants as awaited
 use Rattle.lwp_types.specs.Agents.{agents_of, belongs_to, end_agent, without_agent}
@@ -27,8 +27,8 @@ use Rattle.lwp_types.specs.declared.rows.AgentRow.{AgentRow}
 use Rattle.lwp_types.specs.declared.rows.Block.TheVariants as block
 use Rattle.pod_laws.proofs.DeathLoops.{Unowning, end_first}
 use Rattle.pod_laws.proofs.Drains.{keys_times}
-use Rattle.messages.specs.MessageTable.{forgotten}
-use Rattle.stale_ids.specs.Register.{removed, without}
+use Rattle.messages.specs.MessageTable.{after_forget}
+use Rattle.stale_ids.specs.Register.{after_remove, without}
 use Rattle.std.proofs.Common.{Bool, List, None, Option, Some, [], ap, arith, cond, eqb, false, length, length-append, not, refl, sym, true, ℕ, ◌&&◌, ◌++◌, ◌<◌, ◌∙◌, ◌∷◌, ◌≡◌, ◌≤◌}
 use Rattle.std.proofs.lemmas.Bool.{eq-eqb}
 use Rattle.std.proofs.lemmas.List.{append-nil}
@@ -76,7 +76,7 @@ others-same a (row ∷ rows) none = by_test (is_number a row) (others-same a row
 module _ (parts : Parts) (a : ℕ) (no_thread : is_thread (state_of parts) a ≡ false) where
   -- the parts without the agent's letter and its number
   abbrev pub cleared : Parts
-  cleared = record parts { messages = forgotten parts.messages a; ids = removed parts.ids a }
+  cleared = record parts { messages = after_forget parts.messages a; ids = after_remove parts.ids a }
 
   rows-same : rows_of parts.last_prio parts.sched.threads (without a parts.ids.live) ≡ (state_of parts).threads
   rows-same = rows-removed parts.last_prio a parts.sched.threads parts.ids.live ∙ others-same a (state_of parts).threads no_thread
@@ -109,13 +109,13 @@ module _ (parts : Parts) (a : ℕ) (no_thread : is_thread (state_of parts) a ≡
 
 module _ (a : ℕ) (parts mid : Parts) (before now : List Effect) (no_thread : is_thread (state_of parts) a ≡ false) (came : CameTo parts mid before now (dismissed awaited.Letter a (state_of parts))) where
   pub came_over : CameTo parts (cleared mid a (ap (λ s. is_thread s a) came.state ∙ threads-kept nonexist a (receivers_of (state_of parts) a) (state_of parts) ∙ no_thread)) before now (agent_over a (state_of parts))
-  came_over = came_then parts mid _ before now now (dismissed awaited.Letter a (state_of parts)) (λ after. still (record after { letters = without_letter a after.letters })) came
+  came_over = came_then parts mid _ before now now (after_dismiss awaited.Letter a (state_of parts)) (λ after. still (record after { letters = without_letter a after.letters })) came
       (came_cleared mid a (ap (λ s. is_thread s a) came.state ∙ threads-kept nonexist a (receivers_of (state_of parts) a) (state_of parts) ∙ no_thread) now came.step)
 
 -- the threads go on before the rest
-pub over_room : (a : ℕ) (s : State) (effects : List Effect) → HasRoom effects (agent_over a s) 0 → HasRoom effects (dismissed awaited.Letter a s) 0
+pub over_room : (a : ℕ) (s : State) (effects : List Effect) → HasRoom effects (agent_over a s) 0 → HasRoom effects (after_dismiss awaited.Letter a s) 0
 unfolding and_then
-over_room a s effects room = omega (arith, room, length-append (dismissed awaited.Letter a s).effects [])
+over_room a s effects room = omega (arith, room, length-append (after_dismiss awaited.Letter a s).effects [])
 
 pub fewer-agents : (a : ℕ) (rows : List AgentRow) → length (without_agent a rows) ≤ length rows
 fewer-agents a [] = omega arith
@@ -128,10 +128,10 @@ fewer-agents a (row ∷ rows) = by_test (is_agent_row a row) (fewer-agents a row
 module _ (parts : Parts) (a : ℕ) where
   -- the parts in which the agent isn't listed any more
   abbrev pub unlisted : Parts
-  unlisted = record parts { agents = destroyed parts.agents a }
+  unlisted = record parts { agents = after_destroy parts.agents a }
 
   pub unlisted_step : InStep parts → InStep unlisted
-  unlisted_step step = InStep-agents parts step (destroyed parts.agents a) (fewer-agents a parts.agents.agents)
+  unlisted_step step = InStep-agents parts step (after_destroy parts.agents a) (fewer-agents a parts.agents.agents)
 
   pub unlisted_room : (effects : List Effect) → HasRoom effects (end_agent a (state_of parts)) 0 → HasRoom effects (agent_over a (state_of unlisted)) 0
   unlisted_room effects room = omega (arith, room, ap (λ (o : Outcome). length o.effects) (over-is-end a (state_of parts)))

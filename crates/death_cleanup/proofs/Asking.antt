@@ -7,7 +7,7 @@ use Rattle.conditions.specs.Machine.{IsWaitedOnce}
 use Rattle.conditions.specs.declared.waits.WaitRec.{WaitRec}
 use Rattle.death_cleanup.proofs.Crowds.{Stand, a_place, none_there, nowhere}
 use Rattle.death_cleanup.proofs.Looks.{find-row, same-some, waits}
-use Rattle.death_cleanup.specs.Moves.{MayAsk, block_set, kind_set, signalled}
+use Rattle.death_cleanup.specs.Moves.{MayAsk, after_signal, block_set, kind_set}
 use Rattle.death_cleanup.specs.Ties.{InStep}
 use Rattle.death_cleanup.specs.View.{known_of, row_of, row_onto, rows_of, state_of}
 use Rattle.death_cleanup.specs.declared.parts.Parts.{Parts}
@@ -19,7 +19,7 @@ use Rattle.lwp_types.specs.Lawful.{NineParts, is_same_option}
 use Rattle.lwp_types.specs.Monitors.{is_owned_by_other}
 use Rattle.lwp_types.specs.State as machine
 use Rattle.lwp_types.specs.State.{State, ThreadRow, is_not_blocked, is_number, member, passes}
-use Rattle.lwp_types.specs.Conditions.{woken}
+use Rattle.lwp_types.specs.Conditions.{after_wake}
 use Rattle.lwp_types.specs.declared.rows.Block.{Block}
 use Rattle.lwp_types.specs.declared.rows.Block.TheVariants as block
 use Rattle.lwp_types.specs.declared.rows.CondRow.{CondRow}
@@ -158,7 +158,7 @@ module _ (parts : Parts) (t c m : ℕ) (w : WaitRec) (ws : List WaitRec) (h : Si
   abbrev row : CondRow
   row = record { number = c; mon = m }
 
-  after : Waking parts.dying t c row (map cond.machine_row ws) (woken m (cond.machine_row w) (state_of parts))
+  after : Waking parts.dying t c row (map cond.machine_row ws) (after_wake m (cond.machine_row w) (state_of parts))
   after = waking_next parts.dying t c row (cond.machine_row w) (map cond.machine_row ws) (state_of parts) h.waking
 
   who : Waiter (state_of parts) w.tid c
@@ -193,33 +193,33 @@ module _ (parts : Parts) (t c m : ℕ) (w : WaitRec) (ws : List WaitRec) (h : Si
       counted [] = refl
       counted (r ∷ rs) = omega (arith, counted rs, count-cons (mon.is_request_of w.tid) r rs, count-cons (λ (r : Request). eqb r.tid w.tid) (mon.machine_row r) (map mon.machine_row rs))
 
-  threads-are : (state_of (signalled parts m w)).threads ≡ machine.with_block w.tid (block.Entering m) (state_of parts).threads
+  threads-are : (state_of (after_signal parts m w)).threads ≡ machine.with_block w.tid (block.Entering m) (state_of parts).threads
   threads-are = rows-reblocked parts.last_prio w.tid (block.Entering m) parts.sched.threads parts.ids.live
 
   -- what the machine makes of it
-  pub signalled-is : state_of (signalled parts m w) ≡ woken m (cond.machine_row w) (state_of parts)
+  pub signalled-is : state_of (after_signal parts m w) ≡ after_wake m (cond.machine_row w) (state_of parts)
   signalled-is = rw (
     threads-are,
     map-append mon.machine_row parts.mons.requests (record { mon = m; tid = w.tid; prio = w.prio; depth = w.depth } ∷ []),
     conds.without-row w.tid parts.conds.waits,
   ) refl
 
-  same-priority : (u : ℕ) → machine.priority_in (state_of (signalled parts m w)) u ≡ machine.priority_in (state_of parts) u
+  same-priority : (u : ℕ) → machine.priority_in (state_of (after_signal parts m w)) u ≡ machine.priority_in (state_of parts) u
   same-priority u = ap (λ rows. unwrap_or (option_map (λ (row : ThreadRow). row.priority) (find (is_number u) rows)) 0) threads-are ∙ priority-same w.tid u (block.Entering m) (state_of parts).threads
 
   module _ (ranked : w.prio ≡ machine.priority_in (state_of parts) w.tid) where
-    pub InStep-signalled : InStep (signalled parts m w)
+    pub InStep-signalled : InStep (after_signal parts m w)
     InStep-signalled = record {
       tied = record {
         known = λ u. h.step.tied.known u ∙ ap (λ b. b && not (is_same_option parts.dying u)) (sym (ap (λ rows. is_some (find (is_number u) rows)) threads-are ∙ ap is_some (find-row w.tid u (block.Entering m) (state_of parts).threads) ∙ same-some (machine.block_set w.tid (block.Entering m)) (find (is_number u) (state_of parts).threads)));
         waits = λ u. h.step.tied.waits u ∙ sym (ap (λ rows. passes waits (find (is_number u) rows)) threads-are ∙ blocked-same parts w.tid (block.Entering m) refl waiting u);
       };
       ranked = record {
-        requests = mons.ranked_same (machine.priority_in (state_of parts)) (machine.priority_in (state_of (signalled parts m w))) (mon.requested parts.mons asks) (mons.ranked_requested (machine.priority_in (state_of parts)) parts.mons h.step.ranked.requests asks ranked) same-priority;
-        waits = conds.ranked_same (machine.priority_in (state_of parts)) (machine.priority_in (state_of (signalled parts m w))) (cond.woken parts.conds (Some w)) (conds.ranked_forgotten (machine.priority_in (state_of parts)) parts.conds h.step.ranked.waits w.tid) same-priority;
+        requests = mons.ranked_same (machine.priority_in (state_of parts)) (machine.priority_in (state_of (after_signal parts m w))) (mon.after_request parts.mons asks) (mons.ranked_requested (machine.priority_in (state_of parts)) parts.mons h.step.ranked.requests asks ranked) same-priority;
+        waits = conds.ranked_same (machine.priority_in (state_of parts)) (machine.priority_in (state_of (after_signal parts m w))) (cond.after_wake parts.conds (Some w)) (conds.ranked_forgotten (machine.priority_in (state_of parts)) parts.conds h.step.ranked.waits w.tid) same-priority;
       };
       roomy =
-          let same : length (state_of (signalled parts m w)).threads ≡ length (state_of parts).threads = ap length threads-are ∙ rows-length w.tid (block.Entering m) (state_of parts).threads in
+          let same : length (state_of (after_signal parts m w)).threads ≡ length (state_of parts).threads = ap length threads-are ∙ rows-length w.tid (block.Entering m) (state_of parts).threads in
           record { letters = omega (arith, same, h.step.roomy.letters); threads = omega (arith, same, h.step.roomy.threads); requests = omega (arith, same, h.step.roomy.requests); waits = omega (arith, same, h.step.roomy.waits) };
       monitors = h.step.monitors;
       conditions = h.step.conditions;
@@ -229,5 +229,5 @@ module _ (parts : Parts) (t c m : ℕ) (w : WaitRec) (ws : List WaitRec) (h : Si
         asks : EntryRequest
         asks = record { mon = m; tid = w.tid; prio = w.prio; depth = w.depth }
 
-    pub Signalling-next : Signalling t c m ws (signalled parts m w)
+    pub Signalling-next : Signalling t c m ws (after_signal parts m w)
     Signalling-next = record { waking = rw signalled-is after; step = InStep-signalled }

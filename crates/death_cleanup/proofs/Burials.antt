@@ -1,6 +1,6 @@
 -- A dying thread is gone.
 use Rattle.death_cleanup.proofs.Notes.{noted-removed}
-use Rattle.death_cleanup.specs.Moves.{buried}
+use Rattle.death_cleanup.specs.Moves.{after_bury}
 use Rattle.death_cleanup.specs.Ties.{InStep, IsTied}
 use Rattle.death_cleanup.specs.View.{known_of, row_onto, rows_of, state_of}
 use Rattle.death_cleanup.specs.declared.parts.Parts.{Parts}
@@ -73,16 +73,16 @@ find-others t u (row ∷ rows) = elim (cases_eq row.number t) [
       | inr other ↦ rw (ne_eqb row.number u other) rest
     ]
 
-pub buried-is : (parts : Parts) (t : ℕ) → state_of (buried parts t) ≡ (bury t (state_of parts)).after
+pub buried-is : (parts : Parts) (t : ℕ) → state_of (after_bury parts t) ≡ (bury t (state_of parts)).after
 buried-is parts t = ap (λ rows. record (state_of parts) { threads = rows }) (rows-removed parts.last_prio t parts.sched.threads parts.ids.live)
 
-pub IsTied-buried : (parts : Parts) (t : ℕ) → IsTied parts → parts.dying ≡ Some t → IsTied (buried parts t)
+pub IsTied-buried : (parts : Parts) (t : ℕ) → IsTied parts → parts.dying ≡ Some t → IsTied (after_bury parts t)
 IsTied-buried parts t tied dying = record {
   known = λ u. tied.known u ∙ ap (λ d. is_thread (state_of parts) u && not (is_same_option d u)) dying ∙ here u (find (is_number u) (state_of parts).threads) ∙ sym (ap (λ o. is_some o && true) (after u));
   waits = λ u. tied.waits u ∙ waiting u ∙ sym (ap (passes (λ (row : ThreadRow). not (is_not_blocked row.block))) (after u));
 }
   where
-    after : (u : ℕ) → find (is_number u) (state_of (buried parts t)).threads ≡ cond (eqb u t) None (find (is_number u) (state_of parts).threads)
+    after : (u : ℕ) → find (is_number u) (state_of (after_bury parts t)).threads ≡ cond (eqb u t) None (find (is_number u) (state_of parts).threads)
     after u = ap (find (is_number u)) (rows-removed parts.last_prio t parts.sched.threads parts.ids.live) ∙ find-others t u (state_of parts).threads
 
     here : (u : ℕ) (o : Option ThreadRow) → (is_some o && not (eqb t u)) ≡ (is_some (cond (eqb u t) None o) && true)
@@ -140,19 +140,19 @@ module _ (parts : Parts) (t : ℕ) (forgotten : Forgotten (state_of parts) t) wh
       let no_agent : machine.is_agent buried_state t ≡ false = false_of _ (ap (λ o. not (is_some o && machine.is_agent buried_state t)) (sym who.known) ∙ forgotten.nine.numbers.2 t) in
       unnamed buried_state nine t (ap (λ b. b || machine.is_agent buried_state t) no_thread ∙ no_agent)
 
-  priority-other : (u : ℕ) → eqb u t ≡ false → machine.priority_in (state_of parts) u ≡ machine.priority_in (state_of (buried parts t)) u
+  priority-other : (u : ℕ) → eqb u t ≡ false → machine.priority_in (state_of parts) u ≡ machine.priority_in (state_of (after_bury parts t)) u
   priority-other u away = sym (ap (λ o. unwrap_or (option_map (λ (row : ThreadRow). row.priority) o) 0)
       (ap (find (is_number u)) (rows-removed parts.last_prio t parts.sched.threads parts.ids.live) ∙ find-others t u (state_of parts).threads ∙ ap (λ c. cond c None (find (is_number u) (state_of parts).threads)) away))
 
-  fewer : length (state_of (buried parts t)).threads ≤ length (state_of parts).threads
+  fewer : length (state_of (after_bury parts t)).threads ≤ length (state_of parts).threads
   fewer = omega (arith, ap length (rows-removed parts.last_prio t parts.sched.threads parts.ids.live), others-fewer t (state_of parts).threads)
 
-  pub InStep-buried : InStep parts → parts.dying ≡ Some t → InStep (buried parts t)
+  pub InStep-buried : InStep parts → parts.dying ≡ Some t → InStep (after_bury parts t)
   InStep-buried step dying = record {
     tied = IsTied-buried parts t step.tied dying;
     ranked = record {
-      requests = uncounted_all mon_table.machine_row (λ r. eqb r.tid t) (λ (r : EntryRequest). r.prio ≡ machine.priority_in (state_of parts) r.tid) (λ r. r.prio ≡ machine.priority_in (state_of (buried parts t)) r.tid) (λ r away e. e ∙ priority-other r.tid away) parts.mons.requests nobody.requests step.ranked.requests;
-      waits = uncounted_all cond_table.machine_row (λ w. eqb w.tid t) (λ (w : WaitRec). w.prio ≡ machine.priority_in (state_of parts) w.tid) (λ w. w.prio ≡ machine.priority_in (state_of (buried parts t)) w.tid) (λ w away e. e ∙ priority-other w.tid away) parts.conds.waits nobody.waits step.ranked.waits;
+      requests = uncounted_all mon_table.machine_row (λ r. eqb r.tid t) (λ (r : EntryRequest). r.prio ≡ machine.priority_in (state_of parts) r.tid) (λ r. r.prio ≡ machine.priority_in (state_of (after_bury parts t)) r.tid) (λ r away e. e ∙ priority-other r.tid away) parts.mons.requests nobody.requests step.ranked.requests;
+      waits = uncounted_all cond_table.machine_row (λ w. eqb w.tid t) (λ (w : WaitRec). w.prio ≡ machine.priority_in (state_of parts) w.tid) (λ w. w.prio ≡ machine.priority_in (state_of (after_bury parts t)) w.tid) (λ w away e. e ∙ priority-other w.tid away) parts.conds.waits nobody.waits step.ranked.waits;
     };
     roomy = record { letters = omega (arith, fewer, step.roomy.letters); threads = omega (arith, fewer, step.roomy.threads); requests = omega (arith, fewer, step.roomy.requests); waits = omega (arith, fewer, step.roomy.waits) };
     monitors = step.monitors;

@@ -1,20 +1,20 @@
 -- How many effects a death has: each thread that goes on waited, so no more are answered than wait.
 use Rattle.death_cleanup.proofs.Looks.{find-row}
 use Rattle.lwp_types.specs.Agents.{agent_gone, agents_of, end_agent}
-use Rattle.lwp_types.specs.Case.{Case, Check, refused, unless}
+use Rattle.lwp_types.specs.Case.{Case, Check, refusal_case, unless}
 use Rattle.lwp_types.specs.Choice.{is_eligible, is_eligible_in}
 use Rattle.lwp_types.specs.CountLaws.{count-cons, count-reverse, one, one-le}
 use Rattle.lwp_types.specs.Counts.{has_its_marks}
 use Rattle.lwp_types.specs.Death.{answer_joiners, bury, death, end_agents, joins, refuse_receivers, refuse_sender, refuse_senders, release_all, run_all_exits, withdraw}
 use Rattle.lwp_types.specs.Exits.{exit_case, run_exit}
 use Rattle.lwp_types.specs.Lawful.{NineParts}
-use Rattle.lwp_types.specs.Messages.{awaits, letters_of, replied, senders_to, with_holding, without_letter}
-use Rattle.lwp_types.specs.Monitors.{depth_in, exited, with_depth}
+use Rattle.lwp_types.specs.Messages.{after_reply, awaits, letters_of, senders_to, with_holding, without_letter}
+use Rattle.lwp_types.specs.Monitors.{after_exit, depth_in, with_depth}
 use Rattle.lwp_types.specs.Exceptions.{exit_of, exits_of, is_exit, is_frame}
 use Rattle.lwp_types.specs.MonitorRelease.{grant, last_lock, next_owner, release, without_lock}
-use Rattle.lwp_types.specs.State.{Outcome, State, ThreadRow, and_then, block_set, for_each, in_order, is_agent, is_id, is_not_blocked, is_number, is_thread, marked, marks_in, marks_set, passes, still, suspension_set, thread_of, with_block, with_marks, with_suspension}
+use Rattle.lwp_types.specs.State.{Outcome, State, ThreadRow, and_then, block_set, for_each, in_order, is_agent, is_id, is_not_blocked, is_number, is_thread, marks_in, marks_set, passes, still, suspension_set, thread_of, with_block, with_marks, with_marks_of, with_suspension}
 use Rattle.lwp_types.specs.Unblock.{nonexist, unblock, zero_answer}
-use Rattle.lwp_types.specs.Conditions.{condition_of, is_lock_of, waking, woken, woken_all}
+use Rattle.lwp_types.specs.Conditions.{after_wake, after_wake_all, condition_of, is_lock_of, waking}
 use Rattle.lwp_types.specs.declared.call.Answer.{Answer}
 use Rattle.lwp_types.specs.declared.call.Answer.TheVariants as answer
 use Rattle.lwp_types.specs.declared.call.ExitCall.{ExitCall}
@@ -113,14 +113,14 @@ spends_grant s d was m (Some r) e =
 pub spends_release : (s : State) (d : Option ℕ) → NineParts s d → (m : ℕ) → Spends 0 s (release m s)
 spends_release s d was m = spends_grant s d was m (next_owner s m) refl
 
-spends_exited : (s : State) (d : Option ℕ) → NineParts s d → (m : ℕ) → Spends 0 s (exited m s)
+spends_exited : (s : State) (d : Option ℕ) → NineParts s d → (m : ℕ) → Spends 0 s (after_exit m s)
 spends_exited s d was m = by_depth (nat_le (depth_in s.locks m) 1)
   where
     by_depth : (b : Bool) → Spends 0 s (cond b (release m s) (still (record s { locks = with_depth m (depth_in s.locks m - 1) s.locks })))
     by_depth true = spends_release s d was m
     by_depth false = spends_quiet s (record s { locks = with_depth m (depth_in s.locks m - 1) s.locks }) (omega arith)
 
-spends_replied : (s : State) (d : Option ℕ) → NineParts s d → (v : ℕ) (text : List ℕ) → is_id s v ≡ true → 1 ≤ letters_of s.letters v → Spends 0 s (replied v text s)
+spends_replied : (s : State) (d : Option ℕ) → NineParts s d → (v : ℕ) (text : List ℕ) → is_id s v ≡ true → 1 ≤ letters_of s.letters v → Spends 0 s (after_reply v text s)
 spends_replied s d was v text lives some = by_agent (is_agent s v) lives
   where
     by_agent : (b : Bool) → (is_thread s v || b) ≡ true → Spends 0 s (cond b (still (record s { letters = without_letter v s.letters; agents = with_holding v false s.agents })) (unblock (answer.Reply text) v (record s { letters = without_letter v s.letters })))
@@ -134,11 +134,11 @@ spends_replied s d was v text lives some = by_agent (is_agent s v) lives
         either false e = e
 
 -- those who are woken wait on
-waking_same : (d : Option ℕ) (t c : ℕ) (row : CondRow) (ws : List WaitRow) (now : State) → Waking d t c row ws now → waiting (fold (λ now w. woken row.mon w now) now ws) ≡ waiting now
+waking_same : (d : Option ℕ) (t c : ℕ) (row : CondRow) (ws : List WaitRow) (now : State) → Waking d t c row ws now → waiting (fold (λ now w. after_wake row.mon w now) now ws) ≡ waiting now
 waking_same d t c row [] now was = refl
 waking_same d t c row (w ∷ ws) now was =
     let who = waiter now d was.nine w.tid c (wait_listed d t c row w ws now was) in
-    waking_same d t c row ws (woken row.mon w now) (waking_next d t c row w ws now was)
+    waking_same d t c row ws (after_wake row.mon w now) (waking_next d t c row w ws now was)
     ∙ omega (arith, put_one now d was.nine w.tid who.row who.known (block.Entering row.mon), ap (λ b. one (not (is_not_blocked b))) who.waits)
 
 spends_unless : (s : State) (checks : List Check) (otherwise : Case) → (Passed checks → Spends 0 s (of_case otherwise)) → Spends 0 s (of_case (unless s checks otherwise))
@@ -146,16 +146,16 @@ unfolding unless
 spends_unless s [] otherwise fine = fine tt
 spends_unless s (check ∷ checks) otherwise fine = by_test check.0 refl (λ here. spends_unless s checks otherwise (λ rest. fine (here, rest)))
   where
-    by_test : (b : Bool) → check.0 ≡ b → (check.0 ≡ false → Spends 0 s (of_case (unless s checks otherwise))) → Spends 0 s (of_case (cond b (refused s check.1) (unless s checks otherwise)))
+    by_test : (b : Bool) → check.0 ≡ b → (check.0 ≡ false → Spends 0 s (of_case (unless s checks otherwise))) → Spends 0 s (of_case (cond b (refusal_case s check.1) (unless s checks otherwise)))
     by_test true e rest = spends_still s
     by_test false e rest = rest e
 
 spends_waking : (s : State) (d : Option ℕ) → NineParts s d → (t c : ℕ) (more : List Check) (ws : List WaitRow) → Among s c ws → Spends 0 s (of_case (waking s t c more ws))
 spends_waking s d was t c more ws among = spends_unless s _ _ (λ passed. by_row (condition_of s.conditions c) refl (true_of _ passed.1.0))
   where
-    by_row : (o : Option CondRow) → condition_of s.conditions c ≡ o → passes (λ lock. is_lock_of lock o) (last_lock s.locks t) ≡ true → Spends 0 s (record { after = woken_all o ws s; effects = [] })
+    by_row : (o : Option CondRow) → condition_of s.conditions c ≡ o → passes (λ lock. is_lock_of lock o) (last_lock s.locks t) ≡ true → Spends 0 s (record { after = after_wake_all o ws s; effects = [] })
     by_row None e last = spends_still s
-    by_row (Some row) e last = spends_quiet s (woken_all (Some row) ws s) (omega (arith, waking_same d t c row ws s (waking_begins s d was t c ws among row e last)))
+    by_row (Some row) e last = spends_quiet s (after_wake_all (Some row) ws s) (omega (arith, waking_same d t c row ws s (waking_begins s d was t c ws among row e last)))
 
 sum-suspension : (v : ℕ) (b : Bool) (rows : List ThreadRow) → sum_by waits_one (with_suspension v b rows) ≡ sum_by waits_one rows
 sum-suspension v b [] = refl
@@ -232,7 +232,7 @@ module _ (t : ℕ) where
 
   spends_unwound : (s : State) → NineParts s (Some t) → Spends (length (exits_of (marks_in s t))) s (run_all_exits t s)
   spends_unwound s was =
-      let rest = spends_each (λ s. NineParts s (Some t)) (run_exit t) (λ x s was. run_exit_keeps (Some t) t x s was) (spends_run (Some t) t) (exits_of (marks_in s t)) (marked s t []) (unmarked_nine s t was) in
+      let rest = spends_each (λ s. NineParts s (Some t)) (run_exit t) (λ x s was. run_exit_keeps (Some t) t x s was) (spends_run (Some t) t) (exits_of (marks_in s t)) (with_marks_of s t []) (unmarked_nine s t was) in
       record { few = omega (arith, rest.few, sum-marks t [] s.threads) }
 
 -- how many wait, and how many exit procedures there are

@@ -2,7 +2,7 @@
 use Rattle.death_cleanup.specs.Comes.{CameTo, HasRoom}
 use Rattle.death_cleanup.specs.Ties.{HasLawfulThreads, InStep, LawfulParts}
 use Rattle.death_cleanup.specs.View.{state_of}
-use Rattle.death_cleanup.specs.Waits.{dismissed}
+use Rattle.death_cleanup.specs.Waits.{after_dismiss}
 use Rattle.death_cleanup.specs.declared.parts.Parts.{Parts}
 use Rattle.death_cleanup.specs.declared.rows.Awaited.TheVariants as awaited
 use Rattle.death_cleanup.proofs.Costs.{death_few}
@@ -146,10 +146,10 @@ module _ (parts : Parts) (t : ℕ) (lawful : LawfulParts parts) (none : parts.dy
             size5 : length m5 ≡ length m4 + length (refuse_senders t s4).effects
             size5 = ap length told5 ∙ length-append m4 (refuse_senders t s4).effects
 
-            pub room5 : HasRoom m5 (dismissed awaited.Letter t (state_of p5)) 0
+            pub room5 : HasRoom m5 (after_dismiss awaited.Letter t (state_of p5)) 0
             room5 = omega (arith, few, room, size2, size3, size4, size5, ap (λ s. length (refuse_receivers t s).effects) after5)
 
-            module _ (p6 : Parts) (m6 : List Effect) (came6 : CameTo p5 p6 m5 m6 (dismissed awaited.Letter t (state_of p5))) where
+            module _ (p6 : Parts) (m6 : List Effect) (came6 : CameTo p5 p6 m5 m6 (after_dismiss awaited.Letter t (state_of p5))) where
               after6 : state_of p6 ≡ s6
               after6 = came6.state ∙ ap (λ s. (refuse_receivers t s).after) after5
 
@@ -162,10 +162,10 @@ module _ (parts : Parts) (t : ℕ) (lawful : LawfulParts parts) (none : parts.dy
               size6 : length m6 ≡ length m5 + length (refuse_receivers t s5).effects
               size6 = ap length told6 ∙ length-append m5 (refuse_receivers t s5).effects
 
-              pub room6 : HasRoom m6 (dismissed awaited.Death t (state_of p6)) 0
+              pub room6 : HasRoom m6 (after_dismiss awaited.Death t (state_of p6)) 0
               room6 = omega (arith, few, room, size2, size3, size4, size5, size6, ap (λ s. length (answer_joiners t s).effects) after6)
 
-              module _ (p7 : Parts) (m7 : List Effect) (came7 : CameTo p6 p7 m6 m7 (dismissed awaited.Death t (state_of p6))) where
+              module _ (p7 : Parts) (m7 : List Effect) (came7 : CameTo p6 p7 m6 m7 (after_dismiss awaited.Death t (state_of p6))) where
                 after7 : state_of p7 ≡ s7
                 after7 = came7.state ∙ ap (λ s. (answer_joiners t s).after) after6
 

@@ -1,6 +1,6 @@
 -- The pod of the test is lawful, since calls and a delivery lead to it.
 use Rattle.death_cleanup.specs.Example as example
-use Rattle.death_cleanup.specs.Example.{called, waiting}
+use Rattle.death_cleanup.specs.Example.{after_calls, waiting}
 use Rattle.death_cleanup.specs.Ties.{LawfulParts}
 use Rattle.death_cleanup.specs.View.{state_of}
 use Rattle.lwp_types.specs.Agents.{deliver}
@@ -17,7 +17,7 @@ use Rattle.pod_sched.specs.declared.rows.Known.{Known}
 use Rattle.std.specs.List.{find}
 use Rattle.std.specs.Prelude.{Some, is_some}
 
-Lawful-called : (cs : List Call) (s : State) → Lawful s None → Lawful (called s cs) None
+Lawful-called : (cs : List Call) (s : State) → Lawful s None → Lawful (after_calls s cs) None
 Lawful-called [] s was = was
 Lawful-called (c ∷ cs) s was = Lawful-called cs (step s c).after (Lawful-step s was c)
 
@@ -26,7 +26,7 @@ unfolding step step_by unless and_then in_order for_each
 Lawful-waiting =
     let first = opening (record { maxpri = 9; births = 100; procs = 1 }) in
     let begins = Lawful-opening (record { maxpri = 9; births = 100; procs = 1 }) (omega arith) (omega arith) in
-    Lawful-deliver (called first example.calls) (Lawful-called example.calls first begins) 3 refl []
+    Lawful-deliver (after_calls first example.calls) (Lawful-called example.calls first begins) 3 refl []
 
 same : state_of example.parts ≡ waiting
 unfolding step step_by unless and_then in_order for_each deliver

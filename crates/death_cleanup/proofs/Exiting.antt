@@ -5,8 +5,8 @@ use Rattle.death_cleanup.specs.View.{state_of}
 use Rattle.death_cleanup.specs.declared.parts.Parts.{Parts}
 use Rattle.lwp_types.specs.Case.{Case, Check, unless}
 use Rattle.lwp_types.specs.Exits.{exit_case, run_exit}
-use Rattle.lwp_types.specs.Messages.{replied, with_holding, without_letter}
-use Rattle.lwp_types.specs.Monitors.{depth_in, exited, with_depth}
+use Rattle.lwp_types.specs.Messages.{after_reply, with_holding, without_letter}
+use Rattle.lwp_types.specs.Monitors.{after_exit, depth_in, with_depth}
 use Rattle.lwp_types.specs.MonitorRelease.{grant, next_owner, release, without_lock}
 use Rattle.lwp_types.specs.State.{State, is_agent, still}
 use Rattle.lwp_types.specs.Unblock.{unblock, zero_answer}
@@ -48,14 +48,14 @@ few_released m s = by_next (next_owner s m)
     by_next None = omega arith
     by_next (Some r) = omega arith
 
-few_exited : (m : ℕ) (s : State) → length (exited m s).effects ≤ 1
+few_exited : (m : ℕ) (s : State) → length (after_exit m s).effects ≤ 1
 few_exited m s = by_test (nat_le (depth_in s.locks m) 1)
   where
     by_test : (b : Bool) → length (cond b (release m s) (still (record s { locks = with_depth m (depth_in s.locks m - 1) s.locks }))).effects ≤ 1
     by_test true = few_released m s
     by_test false = omega arith
 
-few_replied : (u : ℕ) (text : List ℕ) (s : State) → length (replied u text s).effects ≤ 1
+few_replied : (u : ℕ) (text : List ℕ) (s : State) → length (after_reply u text s).effects ≤ 1
 few_replied u text s = by_test (is_agent s u)
   where
     by_test : (b : Bool) → length (cond b (still (record s { letters = without_letter u s.letters; agents = with_holding u false s.agents })) (unblock (answer.Reply text) u (record s { letters = without_letter u s.letters }))).effects ≤ 1

@@ -2,7 +2,7 @@
 use Rattle.death_cleanup.proofs.Living.{later-absent}
 use Rattle.death_cleanup.proofs.Notes.{looked, named-by, noted-left}
 use Rattle.death_cleanup.proofs.Orders.{AreOrdered-removed, any-place, any-removed, before-not, before-says, ordered-at, same-run}
-use Rattle.death_cleanup.specs.Named.{AreOrdered, HasNoWaiter, HasWaiter, IsGap, all_noted, covers, is_before, is_on, is_wait, kind_name, run, run_of, waits_at}
+use Rattle.death_cleanup.specs.Named.{AreOrdered, HasNoWaiter, HasWaiter, IsGap, all_noted, covers, is_before, is_on, is_wait, kind_name, run_number, run_of, waits_at}
 use Rattle.death_cleanup.specs.Waits.{first_waiting, waits_for}
 use Rattle.death_cleanup.specs.declared.rows.Awaited.{Awaited}
 use Rattle.death_cleanup.specs.declared.rows.Kind.{Kind}
@@ -57,22 +57,22 @@ first-is p o (live ∷ living) rising sound most = by_test (p live.1) refl (λ l
 pub record Reached (what : Awaited) (t : ℕ) (living : List (ℕ × Kind)) (waits : List NamedWait) (at : ℕ) : Type 0 where
   pub ordered : AreOrdered waits
   pub noted : all_noted waits living ≡ true
-  pub gap : IsGap (run what t) 0 waits at
+  pub gap : IsGap (run_number what t) 0 waits at
 
 module _ (what : Awaited) (t : ℕ) (living : List (ℕ × Kind)) (rising : AreRising living) (waits : List NamedWait) (at : ℕ) (reached : Reached what t living waits at) where
   -- whoever waits for t so is noted from this place on
-  noted-ahead : (n : ℕ) (k : Kind) (d : NamedWait) → value_of n living ≡ Some k → waits_for what t k ≡ true → record { place : ℕ; from : at ≤ place; within : place < length waits; tid : (get_or waits place d).tid ≡ n; own : run_of (get_or waits place d) ≡ run what t }
+  noted-ahead : (n : ℕ) (k : Kind) (d : NamedWait) → value_of n living ≡ Some k → waits_for what t k ≡ true → record { place : ℕ; from : at ≤ place; within : place < length waits; tid : (get_or waits place d).tid ≡ n; own : run_of (get_or waits place d) ≡ run_number what t }
   noted-ahead n k d is here =
       let covered : covers waits n (kind_name k) ≡ true = looked (λ m l. covers waits m (kind_name l)) living reached.noted n k is in
-      let some : list_any (is_wait (run what t) n) waits ≡ true = (rw (named-by what t k here) at covered) in
-      let there = any-place (is_wait (run what t) n) waits d some in
-      let both = and_parts (eqb (get_or waits there.place d).tid n) (eqb (run_of (get_or waits there.place d)) (run what t)) there.passes in
+      let some : list_any (is_wait (run_number what t) n) waits ≡ true = (rw (named-by what t k here) at covered) in
+      let there = any-place (is_wait (run_number what t) n) waits d some in
+      let both = and_parts (eqb (get_or waits there.place d).tid n) (eqb (run_of (get_or waits there.place d)) (run_number what t)) there.passes in
       let own = eqb-true _ _ both.1 in
       record {
         place = there.place;
         from = elim (cases_lt there.place at) [
           | inl before ↦
-              let says = before-says (get_or waits there.place d) (run what t) 0 (reached.gap.below there.place d before) in
+              let says = before-says (get_or waits there.place d) (run_number what t) 0 (reached.gap.below there.place d before) in
               let low : (get_or waits there.place d).tid < 0 = says.1 own in
               absurd (omega (arith, low))
           | inr from ↦ from
@@ -83,18 +83,18 @@ module _ (what : Awaited) (t : ℕ) (living : List (ℕ × Kind)) (rising : AreR
       }
 
   -- nobody is found where they end
-  pub reached-none : HasNoWaiter (run what t) waits at → None ≡ first_waiting what t living
+  pub reached-none : HasNoWaiter (run_number what t) waits at → None ≡ first_waiting what t living
   reached-none none = first-is (waits_for what t) None living rising (λ m is. absurd (cc)) (λ n k is here. absurd (
       let d : NamedWait = record { what = what; of = t; tid = n } in
       let ahead = noted-ahead n k d is here in
       let first : at < length waits = omega (arith, ahead.from, ahead.within) in
-      let least : run what t ≤ run_of (get_or waits at d) = (before-not (get_or waits at d) (run what t) 0 (reached.gap.above at d (omega arith) first)).0 in
+      let least : run_number what t ≤ run_of (get_or waits at d) = (before-not (get_or waits at d) (run_number what t) 0 (reached.gap.above at d (omega arith) first)).0 in
       elim (cases_lt at ahead.place) [
         | inl later ↦ none d first (omega (arith, least, (ordered-at waits at ahead.place d reached.ordered later ahead.within).low, ahead.own))
         | inr same ↦ none d first (ap (λ i. run_of (get_or waits i d)) (let e : at ≡ ahead.place = omega (arith, same, ahead.from) in e) ∙ ahead.own)
       ]))
 
-  module _ (w : NamedWait) (here : HasWaiter (run what t) w waits at) where
+  module _ (w : NamedWait) (here : HasWaiter (run_number what t) w waits at) where
     for-this : (w.what ≡ what) × (w.of ≡ t)
     for-this = same-run w.what what w.of t here.own
 
@@ -128,7 +128,7 @@ module _ (what : Awaited) (t : ℕ) (living : List (ℕ × Kind)) (rising : AreR
       noted = noted-left waits (remove waits at) w living rising off (λ r n other some. any-removed (is_wait r n) waits at w here.within (ap (is_wait r n) (here.here w) ∙ other) some) reached.noted;
       gap = record {
         within = omega (arith, length-remove waits at here.within, here.within);
-        below = λ j d lt. ap (is_before (run what t) 0) (get_or-remove_below waits at d j lt here.within) ∙ reached.gap.below j d lt;
-        above = λ j d ge lt. ap (is_before (run what t) 0) (get_or-remove_above waits at d j ge here.within) ∙ reached.gap.above (j + 1) d (omega (arith, ge)) (omega (arith, lt, length-remove waits at here.within));
+        below = λ j d lt. ap (is_before (run_number what t) 0) (get_or-remove_below waits at d j lt here.within) ∙ reached.gap.below j d lt;
+        above = λ j d ge lt. ap (is_before (run_number what t) 0) (get_or-remove_above waits at d j ge here.within) ∙ reached.gap.above (j + 1) d (omega (arith, ge)) (omega (arith, lt, length-remove waits at here.within));
       };
     }

@@ -2,7 +2,7 @@
 use Rattle.death_cleanup.proofs.Notes.{noted-block}
 use Rattle.death_cleanup.proofs.Looks.{IsRanked-waked, IsRoomy-waked, IsTied-waked, waked-is}
 use Rattle.death_cleanup.specs.Comes.{CameTo}
-use Rattle.death_cleanup.specs.Moves.{waked}
+use Rattle.death_cleanup.specs.Moves.{after_wake}
 use Rattle.death_cleanup.specs.Named.{IsNoteOf, NameNote}
 use Rattle.death_cleanup.specs.Ties.{InStep}
 use Rattle.death_cleanup.specs.View.{state_of}
@@ -18,7 +18,7 @@ use Rattle.messages.specs.MessageTable.{MessageTable}
 use Rattle.std.proofs.Common.{List, [], arith, length, refl, true, ℕ, ◌++◌, ◌∷◌, ◌≡◌, ◌≤◌}
 
 module _ (parts : Parts) (step : InStep parts) where
-  pub InStep-waked : (t : ℕ) → InStep (waked parts t)
+  pub InStep-waked : (t : ℕ) → InStep (after_wake parts t)
   InStep-waked t = record {
     tied = IsTied-waked parts step.tied t;
     ranked = IsRanked-waked parts t step.ranked;
@@ -62,5 +62,5 @@ module _ (parts : Parts) (step : InStep parts) where
   }
 
   -- a thread goes on
-  pub came_waked : (t : ℕ) (a : Answer) (effects : List Effect) → is_blocked_in (state_of parts) t ≡ true → CameTo parts (waked parts t) effects (effects ++ effect.Answered t a ∷ []) (unblock a t (state_of parts))
+  pub came_waked : (t : ℕ) (a : Answer) (effects : List Effect) → is_blocked_in (state_of parts) t ≡ true → CameTo parts (after_wake parts t) effects (effects ++ effect.Answered t a ∷ []) (unblock a t (state_of parts))
   came_waked t a effects waits = record { state = waked-is parts t waits; effects = refl; step = InStep-waked t; dying = refl }

@@ -2,8 +2,8 @@
 use Rattle.death_cleanup.specs.Ties.{InStep, LawfulParts}
 use Rattle.death_cleanup.specs.View.{state_of}
 use Rattle.death_cleanup.specs.declared.parts.Parts.{Parts}
-use Rattle.lwp_types.specs.Case.{refused, unless, with_zero}
-use Rattle.lwp_types.specs.Monitors.{depth_in, exited, is_owner, monitor_break, monitor_exit, with_depth}
+use Rattle.lwp_types.specs.Case.{refusal_case, unless, with_zero}
+use Rattle.lwp_types.specs.Monitors.{after_exit, depth_in, is_owner, monitor_break, monitor_exit, with_depth}
 use Rattle.lwp_types.specs.MonitorRelease.{lock_of, next_owner, release}
 use Rattle.lwp_types.specs.State.{State, is_blocked_in, is_not_blocked, member, passes, priority_in}
 use Rattle.lwp_types.specs.declared.rows.Lock.{Lock}
@@ -33,25 +33,25 @@ module _ (parts : Parts) (step : InStep parts) where
   granted-places t None = (refl, refl)
   granted-places t (Some r) = (refl, refl)
 
-  pub InStep-released : (m : ℕ) → InStep (record parts { mons = mon.released parts.mons m })
+  pub InStep-released : (m : ℕ) → InStep (record parts { mons = mon.after_release parts.mons m })
   InStep-released m =
-      let same = granted-places (mon.freed parts.mons m) (mon.next_request parts.mons m) in
-      InStep-monitors (mon.released parts.mons m) (ranked_released (priority_in (state_of parts)) parts.mons step.ranked.requests m) same.0 same.1
+      let same = granted-places (mon.after_give_up parts.mons m) (mon.next_request parts.mons m) in
+      InStep-monitors (mon.after_release parts.mons m) (ranked_released (priority_in (state_of parts)) parts.mons step.ranked.requests m) same.0 same.1
 
-  pub InStep-exited : (m : ℕ) → InStep (record parts { mons = mon.exited parts.mons m })
-  InStep-exited m = InStep-monitors (mon.exited parts.mons m) (ranked_exited (priority_in (state_of parts)) parts.mons step.ranked.requests m) (by_test (mon.is_outermost parts.mons m)).0 (by_test (mon.is_outermost parts.mons m)).1
+  pub InStep-exited : (m : ℕ) → InStep (record parts { mons = mon.after_exit parts.mons m })
+  InStep-exited m = InStep-monitors (mon.after_exit parts.mons m) (ranked_exited (priority_in (state_of parts)) parts.mons step.ranked.requests m) (by_test (mon.is_outermost parts.mons m)).0 (by_test (mon.is_outermost parts.mons m)).1
     where
-      by_test : (b : Bool) → ((cond b (mon.released parts.mons m) (record parts.mons { locks = with_depth m (depth_in parts.mons.locks m - 1) parts.mons.locks })).places ≡ parts.mons.places)
-          × ((cond b (mon.released parts.mons m) (record parts.mons { locks = with_depth m (depth_in parts.mons.locks m - 1) parts.mons.locks })).limit ≡ parts.mons.limit)
-      by_test true = granted-places (mon.freed parts.mons m) (mon.next_request parts.mons m)
+      by_test : (b : Bool) → ((cond b (mon.after_release parts.mons m) (record parts.mons { locks = with_depth m (depth_in parts.mons.locks m - 1) parts.mons.locks })).places ≡ parts.mons.places)
+          × ((cond b (mon.after_release parts.mons m) (record parts.mons { locks = with_depth m (depth_in parts.mons.locks m - 1) parts.mons.locks })).limit ≡ parts.mons.limit)
+      by_test true = granted-places (mon.after_give_up parts.mons m) (mon.next_request parts.mons m)
       by_test false = (refl, refl)
 
   -- what the machine makes of it
-  pub released-is : (m : ℕ) (o : Option ℕ) → o ≡ mon.next_owner parts.mons m → release m (state_of parts) ≡ with_owner o (state_of (record parts { mons = mon.released parts.mons m }))
-  released-is m o e = releases_agree parts.mons (state_of parts) step.ranked.requests m ∙ ap (λ u. with_owner u (state_of (record parts { mons = mon.released parts.mons m }))) (sym e)
+  pub released-is : (m : ℕ) (o : Option ℕ) → o ≡ mon.next_owner parts.mons m → release m (state_of parts) ≡ with_owner o (state_of (record parts { mons = mon.after_release parts.mons m }))
+  released-is m o e = releases_agree parts.mons (state_of parts) step.ranked.requests m ∙ ap (λ u. with_owner u (state_of (record parts { mons = mon.after_release parts.mons m }))) (sym e)
 
-  pub exited-is : (m : ℕ) (o : Option ℕ) → o ≡ mon.owner_after parts.mons m → exited m (state_of parts) ≡ with_owner o (state_of (record parts { mons = mon.exited parts.mons m }))
-  exited-is m o e = leaves_agree parts.mons (state_of parts) step.ranked.requests m ∙ ap (λ u. with_owner u (state_of (record parts { mons = mon.exited parts.mons m }))) (sym e)
+  pub exited-is : (m : ℕ) (o : Option ℕ) → o ≡ mon.owner_after parts.mons m → after_exit m (state_of parts) ≡ with_owner o (state_of (record parts { mons = mon.after_exit parts.mons m }))
+  exited-is m o e = leaves_agree parts.mons (state_of parts) step.ranked.requests m ∙ ap (λ u. with_owner u (state_of (record parts { mons = mon.after_exit parts.mons m }))) (sym e)
 
 module _ (parts : Parts) (lawful : LawfulParts parts) where
   -- who is next waits
@@ -86,24 +86,24 @@ free-is locks m o b owner is = by_lock (lock_of locks m) (ap is_some (sym owner)
 -- the calls, by what they ask first
 
 module _ (s : State) (t m : ℕ) where
-  pub exit-absent : member m s.monitors ≡ false → monitor_exit s t m ≡ refused s error.NonExist
+  pub exit-absent : member m s.monitors ≡ false → monitor_exit s t m ≡ refusal_case s error.NonExist
   unfolding unless
   exit-absent none = rw none refl
 
-  pub exit-other : member m s.monitors ≡ true → is_owner s.locks t m ≡ false → monitor_exit s t m ≡ refused s error.InvalidArg
+  pub exit-other : member m s.monitors ≡ true → is_owner s.locks t m ≡ false → monitor_exit s t m ≡ refusal_case s error.InvalidArg
   unfolding unless
   exit-other live other = rw (live, other) refl
 
-  pub exit-own : member m s.monitors ≡ true → is_owner s.locks t m ≡ true → monitor_exit s t m ≡ with_zero (exited m s)
+  pub exit-own : member m s.monitors ≡ true → is_owner s.locks t m ≡ true → monitor_exit s t m ≡ with_zero (after_exit m s)
   unfolding unless
   exit-own live own = rw (live, own) refl
 
 module _ (s : State) (m : ℕ) where
-  pub break-absent : member m s.monitors ≡ false → monitor_break s m ≡ refused s error.NonExist
+  pub break-absent : member m s.monitors ≡ false → monitor_break s m ≡ refusal_case s error.NonExist
   unfolding unless
   break-absent none = rw none refl
 
-  pub break-free : member m s.monitors ≡ true → is_none (lock_of s.locks m) ≡ true → monitor_break s m ≡ refused s error.NotOwned
+  pub break-free : member m s.monitors ≡ true → is_none (lock_of s.locks m) ≡ true → monitor_break s m ≡ refusal_case s error.NotOwned
   unfolding unless
   break-free live free = rw (live, free) refl
 

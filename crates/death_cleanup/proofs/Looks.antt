@@ -1,5 +1,5 @@
 -- What each part's change comes to in the machine's state.
-use Rattle.death_cleanup.specs.Moves.{block_set, kind_set, waked}
+use Rattle.death_cleanup.specs.Moves.{after_wake, block_set, kind_set}
 use Rattle.death_cleanup.specs.Ties.{IsRanked, IsRoomy, IsTied}
 use Rattle.death_cleanup.specs.View.{known_of, row_of, row_onto, rows_of, state_of}
 use Rattle.death_cleanup.specs.declared.parts.Parts.{Parts}
@@ -153,10 +153,10 @@ waiter-lives parts t is = by_row (machine.thread_of (state_of parts) t) is
     by_row (Some row) h = refl
 
 -- a thread goes on: the state, and what ties the parts
-pub waked-is : (parts : Parts) (t : ℕ) → machine.is_blocked_in (state_of parts) t ≡ true → state_of (waked parts t) ≡ machine_unblock.unblocked (state_of parts) t
+pub waked-is : (parts : Parts) (t : ℕ) → machine.is_blocked_in (state_of parts) t ≡ true → state_of (after_wake parts t) ≡ machine_unblock.after_unblock (state_of parts) t
 waked-is parts t is = rw (rows-block parts.last_prio t block.Not false parts.sched.threads parts.ids.live, suspended-same parts t (waiter-lives parts t is)) refl
 
-pub IsTied-waked : (parts : Parts) → IsTied parts → (t : ℕ) → IsTied (waked parts t)
+pub IsTied-waked : (parts : Parts) → IsTied parts → (t : ℕ) → IsTied (after_wake parts t)
 IsTied-waked parts tied t = record {
   known = λ u. ap is_some (find-known t u false parts.sched.threads) ∙ same-some (sched.block_set t false) (find (sched.is_of u) parts.sched.threads) ∙ tied.known u
       ∙ ap (λ b. b && not (is_same_option parts.dying u)) (sym (ap (λ rows. is_some (find (is_number u) rows)) (rows-block parts.last_prio t block.Not false parts.sched.threads parts.ids.live)
@@ -169,7 +169,7 @@ rows-length : (t : ℕ) (b : Block) (rows : List ThreadRow) → length (machine.
 rows-length t b [] = refl
 rows-length t b (row ∷ rows) = omega (arith, rows-length t b rows)
 
-priority-same : (parts : Parts) (t u : ℕ) → machine.priority_in (state_of (waked parts t)) u ≡ machine.priority_in (state_of parts) u
+priority-same : (parts : Parts) (t u : ℕ) → machine.priority_in (state_of (after_wake parts t)) u ≡ machine.priority_in (state_of parts) u
 priority-same parts t u = ap (λ rows. prio (find (is_number u) rows)) (rows-block parts.last_prio t block.Not false parts.sched.threads parts.ids.live) ∙ ap prio (find-row t u block.Not (state_of parts).threads) ∙ same (find (is_number u) (state_of parts).threads)
   where
     prio : Option ThreadRow → ℕ
@@ -179,15 +179,15 @@ priority-same parts t u = ap (λ rows. prio (find (is_number u) rows)) (rows-blo
     same None = refl
     same (Some row) = refl
 
-pub IsRanked-waked : (parts : Parts) (t : ℕ) → IsRanked parts → IsRanked (waked parts t)
+pub IsRanked-waked : (parts : Parts) (t : ℕ) → IsRanked parts → IsRanked (after_wake parts t)
 IsRanked-waked parts t ranked = record {
-  requests = All-weaker (λ (r : EntryRequest). r.prio ≡ machine.priority_in (state_of parts) r.tid) (λ r. r.prio ≡ machine.priority_in (state_of (waked parts t)) r.tid) (λ r e. e ∙ sym (priority-same parts t r.tid)) parts.mons.requests ranked.requests;
-  waits = All-weaker (λ (w : WaitRec). w.prio ≡ machine.priority_in (state_of parts) w.tid) (λ w. w.prio ≡ machine.priority_in (state_of (waked parts t)) w.tid) (λ w e. e ∙ sym (priority-same parts t w.tid)) parts.conds.waits ranked.waits;
+  requests = All-weaker (λ (r : EntryRequest). r.prio ≡ machine.priority_in (state_of parts) r.tid) (λ r. r.prio ≡ machine.priority_in (state_of (after_wake parts t)) r.tid) (λ r e. e ∙ sym (priority-same parts t r.tid)) parts.mons.requests ranked.requests;
+  waits = All-weaker (λ (w : WaitRec). w.prio ≡ machine.priority_in (state_of parts) w.tid) (λ w. w.prio ≡ machine.priority_in (state_of (after_wake parts t)) w.tid) (λ w e. e ∙ sym (priority-same parts t w.tid)) parts.conds.waits ranked.waits;
 }
 
-pub IsRoomy-waked : (parts : Parts) (t : ℕ) → IsRoomy parts → IsRoomy (waked parts t)
+pub IsRoomy-waked : (parts : Parts) (t : ℕ) → IsRoomy parts → IsRoomy (after_wake parts t)
 IsRoomy-waked parts t roomy =
-    let same : length (state_of (waked parts t)).threads ≡ length (state_of parts).threads = ap length (rows-block parts.last_prio t block.Not false parts.sched.threads parts.ids.live) ∙ rows-length t block.Not (state_of parts).threads in
+    let same : length (state_of (after_wake parts t)).threads ≡ length (state_of parts).threads = ap length (rows-block parts.last_prio t block.Not false parts.sched.threads parts.ids.live) ∙ rows-length t block.Not (state_of parts).threads in
     record { letters = omega (arith, same, roomy.letters); threads = omega (arith, same, roomy.threads); requests = omega (arith, same, roomy.requests); waits = omega (arith, same, roomy.waits) }
 
 -- who is found under a number

@@ -2,7 +2,7 @@
 use Rattle.death_cleanup.proofs.Living.{later-absent}
 use Rattle.death_cleanup.proofs.Orders.{same-run}
 use Rattle.death_cleanup.specs.Moves.{block_set, kind_marked, kind_set, stack_set}
-use Rattle.death_cleanup.specs.Named.{IsNoteOf, NameNote, all_noted, block_name, covers, is_on, is_one, is_wait, kind_name, named_wait, run, run_of, threads_in}
+use Rattle.death_cleanup.specs.Named.{IsNoteOf, NameNote, all_noted, block_name, covers, is_on, is_one, is_wait, kind_name, named_wait, run_number, run_of, threads_in}
 use Rattle.death_cleanup.specs.View.{known_of, row_onto, rows_of}
 use Rattle.death_cleanup.specs.Waits.{block_waits, waits_for}
 use Rattle.death_cleanup.specs.declared.rows.Awaited.{Awaited}
@@ -157,10 +157,10 @@ waits-named (kind.Thread rec) name e = by_block rec.block e
     by_block block.Sleeping e = absurd (cc)
 
 -- the wait of a thread that waits so goes on
-is-on-named : (living : List (ℕ × Kind)) (n : ℕ) (k : Kind) (name : Awaited × ℕ) → value_of n living ≡ Some k → kind_name k ≡ Some name → (w : NamedWait) → is_wait (run name.0 name.1) n w ≡ true → is_on living w ≡ true
+is-on-named : (living : List (ℕ × Kind)) (n : ℕ) (k : Kind) (name : Awaited × ℕ) → value_of n living ≡ Some k → kind_name k ≡ Some name → (w : NamedWait) → is_wait (run_number name.0 name.1) n w ≡ true → is_on living w ≡ true
 is-on-named living n k name is e w here =
-    let both = and_parts (eqb w.tid n) (eqb (run_of w) (run name.0 name.1)) here in
-    let same = same-run w.what name.0 w.of name.1 (eqb-true (run_of w) (run name.0 name.1) both.1) in
+    let both = and_parts (eqb w.tid n) (eqb (run_of w) (run_number name.0 name.1)) here in
+    let same = same-run w.what name.0 w.of name.1 (eqb-true (run_of w) (run_number name.0 name.1) both.1) in
     rw (eqb-true w.tid n both.0, is, same.0, same.1) (waits-named k name e)
 
 any_kept : {X : Type 0} (p keep : X → Bool) → ((x : X) → p x ≡ true → keep x ≡ true) → (xs : List X) → list_any p xs ≡ true → list_any p (filter keep xs) ≡ true
@@ -177,7 +177,7 @@ any_kept p keep imp (x ∷ xs) h = by_here (p x) refl h (λ rest. any_kept p kee
 
 -- other waits are noted, which have those of the threads that wait
 noted-waits : (waits others : List NamedWait) (living : List (ℕ × Kind)) → AreRising living
-    → ((n : ℕ) (k : Kind) (name : Awaited × ℕ) → value_of n living ≡ Some k → kind_name k ≡ Some name → list_any (is_wait (run name.0 name.1) n) waits ≡ true → list_any (is_wait (run name.0 name.1) n) others ≡ true)
+    → ((n : ℕ) (k : Kind) (name : Awaited × ℕ) → value_of n living ≡ Some k → kind_name k ≡ Some name → list_any (is_wait (run_number name.0 name.1) n) waits ≡ true → list_any (is_wait (run_number name.0 name.1) n) others ≡ true)
     → all_noted waits living ≡ true → all_noted others living ≡ true
 noted-waits waits others living rising has all = all_looked (λ n k. covers others n (kind_name k)) living rising (λ n k is. by_name n k is (kind_name k) refl (looked (λ m l. covers waits m (kind_name l)) living all n k is))
   where
@@ -187,13 +187,13 @@ noted-waits waits others living rising has all = all_looked (λ n k. covers othe
 
 -- without the waits that go on no longer
 pub noted-pruned : (waits : List NamedWait) (living : List (ℕ × Kind)) → AreRising living → all_noted waits living ≡ true → all_noted (filter (is_on living) waits) living ≡ true
-noted-pruned waits living rising all = noted-waits waits (filter (is_on living) waits) living rising (λ n k name is e h. any_kept (is_wait (run name.0 name.1) n) (is_on living) (is-on-named living n k name is e) waits h) all
+noted-pruned waits living rising all = noted-waits waits (filter (is_on living) waits) living rising (λ n k name is e h. any_kept (is_wait (run_number name.0 name.1) n) (is_on living) (is-on-named living n k name is e) waits h) all
 
 -- a wait that goes on no longer is left out
 pub noted-left : (waits less : List NamedWait) (w : NamedWait) (living : List (ℕ × Kind)) → AreRising living → is_on living w ≡ false → ((r n : ℕ) → is_wait r n w ≡ false → list_any (is_wait r n) waits ≡ true → list_any (is_wait r n) less ≡ true) → all_noted waits living ≡ true → all_noted less living ≡ true
-noted-left waits less w living rising off others all = noted-waits waits less living rising (λ n k name is e h. others (run name.0 name.1) n (by_test n k name is e (is_wait (run name.0 name.1) n w) refl) h) all
+noted-left waits less w living rising off others all = noted-waits waits less living rising (λ n k name is e h. others (run_number name.0 name.1) n (by_test n k name is e (is_wait (run_number name.0 name.1) n w) refl) h) all
   where
-    by_test : (n : ℕ) (k : Kind) (name : Awaited × ℕ) → value_of n living ≡ Some k → kind_name k ≡ Some name → (c : Bool) → is_wait (run name.0 name.1) n w ≡ c → is_wait (run name.0 name.1) n w ≡ false
+    by_test : (n : ℕ) (k : Kind) (name : Awaited × ℕ) → value_of n living ≡ Some k → kind_name k ≡ Some name → (c : Bool) → is_wait (run_number name.0 name.1) n w ≡ c → is_wait (run_number name.0 name.1) n w ≡ false
     by_test n k name is e false other = other
     by_test n k name is e true same = absurd (let no : false ≡ true = sym off ∙ is-on-named living n k name is e w same in cc)
 
@@ -203,7 +203,7 @@ noted-more waits more living grows all = all_weaker (λ (live : ℕ × Kind). co
   where
     by_name : (n : ℕ) (o : Option (Awaited × ℕ)) → covers waits n o ≡ true → covers more n o ≡ true
     by_name n None h = refl
-    by_name n (Some name) h = grows (run name.0 name.1) n h
+    by_name n (Some name) h = grows (run_number name.0 name.1) n h
 
 -- the wait that a thread is about to begin is noted, if it begins one
 pub covers-none : (waits : List NamedWait) (n : ℕ) (o : Option (Awaited × ℕ)) → named_wait n o ≡ None → covers waits n o ≡ true

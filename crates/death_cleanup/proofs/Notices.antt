@@ -5,11 +5,11 @@ use Rattle.conditions.specs.ConditionTable as cond
 use Rattle.conditions.specs.ConditionTable.{is_on, is_wait_of}
 use Rattle.conditions.specs.declared.waits.WaitRec.{WaitRec}
 use Rattle.death_cleanup.proofs.Asking.{IsWaitedOnce-lawful, Signalling, Signalling-next, signalled-is}
-use Rattle.death_cleanup.specs.Moves.{signalled}
+use Rattle.death_cleanup.specs.Moves.{after_signal}
 use Rattle.death_cleanup.specs.Ties.{InStep, LawfulParts}
 use Rattle.death_cleanup.specs.View.{state_of}
 use Rattle.death_cleanup.specs.declared.parts.Parts.{Parts}
-use Rattle.lwp_types.specs.Case.{Check, is_no_thread, refused, unless, valued}
+use Rattle.lwp_types.specs.Case.{Check, is_no_thread, refusal_case, unless, value_case}
 use Rattle.lwp_types.specs.CountLaws.{count-filter-le}
 use Rattle.lwp_types.specs.Choice.{best_by}
 use Rattle.lwp_types.specs.First.{IsFirstBest}
@@ -17,7 +17,7 @@ use Rattle.lwp_types.specs.FirstLaws.{finds_best}
 use Rattle.lwp_types.specs.MonitorRelease.{last_lock}
 use Rattle.lwp_types.specs.State.{State, is_empty, is_thread, passes, priority_in}
 use Rattle.lwp_types.specs.Conditions as machine
-use Rattle.lwp_types.specs.Conditions.{broadcast, cond_send, condition_of, is_condition, notify, waking, woken, woken_all}
+use Rattle.lwp_types.specs.Conditions.{after_wake, after_wake_all, broadcast, cond_send, condition_of, is_condition, notify, waking}
 use Rattle.lwp_types.specs.declared.call.LwpErr.TheVariants as error
 use Rattle.lwp_types.specs.declared.rows.CondRow.{CondRow}
 use Rattle.lwp_types.specs.declared.rows.WaitRow.{WaitRow}
@@ -49,16 +49,16 @@ row-none rows c its = by_row (condition_of rows c) its
 
 -- a call that wakes, by what it asks first
 module _ (s : State) (t c : ℕ) (more : List Check) (ws : List WaitRow) where
-  pub waking-absent : condition_of s.conditions c ≡ None → waking s t c more ws ≡ refused s error.NonExist
+  pub waking-absent : condition_of s.conditions c ≡ None → waking s t c more ws ≡ refusal_case s error.NonExist
   unfolding unless
   waking-absent none = rw none refl
 
   module _ (m : ℕ) (found : condition_of s.conditions c ≡ Some (record { number = c; mon = m })) where
-    pub waking-other : passes (λ lock. eqb m lock.mon) (last_lock s.locks t) ≡ false → waking s t c more ws ≡ refused s error.NotOwned
+    pub waking-other : passes (λ lock. eqb m lock.mon) (last_lock s.locks t) ≡ false → waking s t c more ws ≡ refusal_case s error.NotOwned
     unfolding unless
     waking-other other = rw (found, other) refl
 
-    pub waking-made : passes (λ lock. eqb m lock.mon) (last_lock s.locks t) ≡ true → waking s t c more ws ≡ unless s more (valued (fold (λ now w. woken m w now) s ws) 0)
+    pub waking-made : passes (λ lock. eqb m lock.mon) (last_lock s.locks t) ≡ true → waking s t c more ws ≡ unless s more (value_case (fold (λ now w. after_wake m w now) s ws) 0)
     unfolding unless
     waking-made last = rw (found, last) refl
 
@@ -104,14 +104,14 @@ module _ (parts : Parts) (lawful : LawfulParts parts) (t c m : ℕ) (found : con
   begins-all = begins (cond.waits_on parts.conds c) (rw (conds.waits_agree parts.conds (state_of parts) c) at (all_among (state_of parts) parts.dying lawful.nine c))
 
   -- nobody is notified, or one is
-  pub notify-none : None ≡ cond.next_notified parts.conds c → notify (state_of parts) t c ≡ valued (state_of parts) 0
+  pub notify-none : None ≡ cond.next_notified parts.conds c → notify (state_of parts) t c ≡ value_case (state_of parts) 0
   unfolding unless
-  notify-none e = waking-made (state_of parts) t c [] _ m found last ∙ ap (λ ws. valued (fold (λ now w. woken m w now) (state_of parts) ws) 0) (notified-is parts lawful.step c None e)
+  notify-none e = waking-made (state_of parts) t c [] _ m found last ∙ ap (λ ws. value_case (fold (λ now w. after_wake m w now) (state_of parts) ws) 0) (notified-is parts lawful.step c None e)
 
-  pub notify-one : (w : WaitRec) → Some w ≡ cond.next_notified parts.conds c → notify (state_of parts) t c ≡ valued (state_of (signalled parts m w)) 0
+  pub notify-one : (w : WaitRec) → Some w ≡ cond.next_notified parts.conds c → notify (state_of parts) t c ≡ value_case (state_of (after_signal parts m w)) 0
   unfolding unless
-  notify-one w e = waking-made (state_of parts) t c [] _ m found last ∙ ap (λ ws. valued (fold (λ now w. woken m w now) (state_of parts) ws) 0) (notified-is parts lawful.step c (Some w) e)
-      ∙ ap (λ s. valued s 0) (sym (signalled-is parts t c m w [] (begins-best (Some w) e)))
+  notify-one w e = waking-made (state_of parts) t c [] _ m found last ∙ ap (λ ws. value_case (fold (λ now w. after_wake m w now) (state_of parts) ws) 0) (notified-is parts lawful.step c (Some w) e)
+      ∙ ap (λ s. value_case s 0) (sym (signalled-is parts t c m w [] (begins-best (Some w) e)))
 
   -- one thread is woken
   module _ (u : ℕ) where
@@ -132,17 +132,17 @@ module _ (parts : Parts) (lawful : LawfulParts parts) (t c m : ℕ) (found : con
     pub begins-one : (w : WaitRec) → Some w ≡ cond.wait_of parts.conds c u → Signalling t c m (w ∷ []) parts
     begins-one w e = begins (w ∷ []) (rw (sent-is (Some w) e) at one-among)
 
-    pub sent-absent : is_thread (state_of parts) u ≡ false → cond_send (state_of parts) t c u ≡ refused (state_of parts) error.NonExist
+    pub sent-absent : is_thread (state_of parts) u ≡ false → cond_send (state_of parts) t c u ≡ refusal_case (state_of parts) error.NonExist
     unfolding unless
     sent-absent none = waking-made (state_of parts) t c asks (machine.wait_of (state_of parts).waits c u) m found last ∙ rw none refl
 
-    pub sent-none : is_thread (state_of parts) u ≡ true → None ≡ cond.wait_of parts.conds c u → cond_send (state_of parts) t c u ≡ refused (state_of parts) error.NoWait
+    pub sent-none : is_thread (state_of parts) u ≡ true → None ≡ cond.wait_of parts.conds c u → cond_send (state_of parts) t c u ≡ refusal_case (state_of parts) error.NoWait
     unfolding unless
     sent-none lives e = waking-made (state_of parts) t c asks (machine.wait_of (state_of parts).waits c u) m found last ∙ rw (lives, sent-is None e) refl
 
-    pub sent-one : (w : WaitRec) → is_thread (state_of parts) u ≡ true → Some w ≡ cond.wait_of parts.conds c u → cond_send (state_of parts) t c u ≡ valued (state_of (signalled parts m w)) 0
+    pub sent-one : (w : WaitRec) → is_thread (state_of parts) u ≡ true → Some w ≡ cond.wait_of parts.conds c u → cond_send (state_of parts) t c u ≡ value_case (state_of (after_signal parts m w)) 0
     unfolding unless
-    sent-one w lives e = waking-made (state_of parts) t c asks (machine.wait_of (state_of parts).waits c u) m found last ∙ rw (lives, sent-is (Some w) e) (ap (λ s. valued s 0) (sym (signalled-is parts t c m w [] (begins-one w e))))
+    sent-one w lives e = waking-made (state_of parts) t c asks (machine.wait_of (state_of parts).waits c u) m found last ∙ rw (lives, sent-is (Some w) e) (ap (λ s. value_case s 0) (sym (signalled-is parts t c m w [] (begins-one w e))))
 
 -- ---- all are woken
 
@@ -151,14 +151,14 @@ pub record Broadcasting (c m : ℕ) (start parts : Parts) : Type 0 where
   pub caller : ℕ
   pub left : Signalling caller c m (cond.waits_on parts.conds c) parts
   pub dying : parts.dying ≡ start.dying
-  pub state : fold (λ now w. woken m w now) (state_of parts) (map cond.machine_row (cond.waits_on parts.conds c)) ≡ fold (λ now w. woken m w now) (state_of start) (map cond.machine_row (cond.waits_on start.conds c))
+  pub state : fold (λ now w. after_wake m w now) (state_of parts) (map cond.machine_row (cond.waits_on parts.conds c)) ≡ fold (λ now w. after_wake m w now) (state_of start) (map cond.machine_row (cond.waits_on start.conds c))
 
 module _ (c m : ℕ) (start parts : Parts) (h : Broadcasting c m start parts) where
   module _ (w : WaitRec) (first : cond.first_wait parts.conds c ≡ Some w) where
-    parted : cond.waits_on parts.conds c ≡ w ∷ cond.waits_on (cond.woken parts.conds (Some w)) c
+    parted : cond.waits_on parts.conds c ≡ w ∷ cond.waits_on (cond.after_wake parts.conds (Some w)) c
     parted = conds.first_is_woken parts.conds c (IsWaitedOnce-lawful parts h.left.waking.nine c) w first
 
-    pub now : Signalling h.caller c m (w ∷ cond.waits_on (cond.woken parts.conds (Some w)) c) parts
+    pub now : Signalling h.caller c m (w ∷ cond.waits_on (cond.after_wake parts.conds (Some w)) c) parts
     now = rw parted at h.left
 
     pub first-ranked : w.prio ≡ priority_in (state_of parts) w.tid
@@ -166,20 +166,20 @@ module _ (c m : ℕ) (start parts : Parts) (h : Broadcasting c m start parts) wh
         let all = rw parted at (All-filter (λ (v : WaitRec). v.prio ≡ priority_in (state_of parts) v.tid) (is_on c) parts.conds.waits h.left.step.ranked.waits) in
         all.0
 
-    pub fewer-wait : length (cond.waits_on (cond.woken parts.conds (Some w)) c) < length (cond.waits_on parts.conds c)
+    pub fewer-wait : length (cond.waits_on (cond.after_wake parts.conds (Some w)) c) < length (cond.waits_on parts.conds c)
     fewer-wait = omega (arith, ap length parted)
 
-    pub Broadcasting-next : Broadcasting c m start (signalled parts m w)
+    pub Broadcasting-next : Broadcasting c m start (after_signal parts m w)
     Broadcasting-next = record {
       caller = h.caller;
-      left = Signalling-next parts h.caller c m w (cond.waits_on (cond.woken parts.conds (Some w)) c) now first-ranked;
+      left = Signalling-next parts h.caller c m w (cond.waits_on (cond.after_wake parts.conds (Some w)) c) now first-ranked;
       dying = h.dying;
-      state = ap (λ s. fold (λ now w. woken m w now) s (map cond.machine_row (cond.waits_on (cond.woken parts.conds (Some w)) c))) (signalled-is parts h.caller c m w (cond.waits_on (cond.woken parts.conds (Some w)) c) now)
-          ∙ ap (λ ws. fold (λ now w. woken m w now) (state_of parts) (map cond.machine_row ws)) (sym parted) ∙ h.state;
+      state = ap (λ s. fold (λ now w. after_wake m w now) s (map cond.machine_row (cond.waits_on (cond.after_wake parts.conds (Some w)) c))) (signalled-is parts h.caller c m w (cond.waits_on (cond.after_wake parts.conds (Some w)) c) now)
+          ∙ ap (λ ws. fold (λ now w. after_wake m w now) (state_of parts) (map cond.machine_row ws)) (sym parted) ∙ h.state;
     }
 
   -- nobody waits any more
-  pub all-woken : cond.first_wait parts.conds c ≡ None → fold (λ now w. woken m w now) (state_of start) (machine.waits_on (state_of start).waits c) ≡ state_of parts
+  pub all-woken : cond.first_wait parts.conds c ≡ None → fold (λ now w. after_wake m w now) (state_of start) (machine.waits_on (state_of start).waits c) ≡ state_of parts
   all-woken none =
-      ap (fold (λ now w. woken m w now) (state_of start)) (conds.waits_agree start.conds (state_of start) c) ∙ sym h.state
-      ∙ ap (λ ws. fold (λ now w. woken m w now) (state_of parts) (map cond.machine_row ws)) (conds.none_is_woken parts.conds c none)
+      ap (fold (λ now w. after_wake m w now) (state_of start)) (conds.waits_agree start.conds (state_of start) c) ∙ sym h.state
+      ∙ ap (λ ws. fold (λ now w. after_wake m w now) (state_of parts) (map cond.machine_row ws)) (conds.none_is_woken parts.conds c none)

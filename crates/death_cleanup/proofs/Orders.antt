@@ -1,5 +1,5 @@
 -- How the waits that are noted stand.
-use Rattle.death_cleanup.specs.Named.{AreOrdered, HasNoWaiter, IsBefore, IsBeforeLast, IsGap, is_before, is_wait, rank, run, run_of}
+use Rattle.death_cleanup.specs.Named.{AreOrdered, HasNoWaiter, IsBefore, IsBeforeLast, IsGap, is_before, is_wait, rank, run_number, run_of}
 use Rattle.death_cleanup.specs.declared.rows.Awaited.{Awaited}
 use Rattle.death_cleanup.specs.declared.rows.Awaited.TheVariants as awaited
 use Rattle.death_cleanup.specs.declared.rows.NamedWait.{NamedWait}
@@ -16,7 +16,7 @@ rank-le awaited.Death = omega arith
 rank-le awaited.Letter = omega arith
 
 -- the waits of one run are for the same
-pub same-run : (a b : Awaited) (x y : ℕ) → run a x ≡ run b y → (a ≡ b) × (x ≡ y)
+pub same-run : (a b : Awaited) (x y : ℕ) → run_number a x ≡ run_number b y → (a ≡ b) × (x ≡ y)
 same-run awaited.Death awaited.Death x y e = (refl, omega (arith, e))
 same-run awaited.Death awaited.Letter x y e = absurd (omega (arith, e))
 same-run awaited.Letter awaited.Death x y e = absurd (omega (arith, e))

@@ -3,7 +3,7 @@ use Rattle.death_cleanup.specs.Comes.{Answers, CameTo}
 use Rattle.death_cleanup.specs.Ties.{InStep}
 use Rattle.death_cleanup.specs.View.{state_of}
 use Rattle.death_cleanup.specs.declared.parts.Parts.{Parts}
-use Rattle.lwp_types.specs.Case.{Case, answered, refused, with_zero}
+use Rattle.lwp_types.specs.Case.{Case, answer_case, refusal_case, with_zero}
 use Rattle.lwp_types.specs.State.{Outcome, still}
 use Rattle.lwp_types.specs.Unblock.{zero_answer}
 use Rattle.lwp_types.specs.declared.call.Answer.{Answer}
@@ -32,7 +32,7 @@ came_quietly old new effects out step same e = record {
 }
 
 -- a call that is refused
-pub answers_refused : (parts : Parts) (effects : List Effect) (made : Case) (e : LwpErr) → InStep parts → made ≡ refused (state_of parts) e → Answers parts parts effects effects made (answer.Refused e)
+pub answers_refused : (parts : Parts) (effects : List Effect) (made : Case) (e : LwpErr) → InStep parts → made ≡ refusal_case (state_of parts) e → Answers parts parts effects effects made (answer.Refused e)
 answers_refused parts effects made e step is = record {
   came = came_quietly parts parts effects (record { after = made.after; effects = made.others }) step refl (ap (λ (c : Case). record { after = c.after; effects = c.others }) is);
   own = ap (λ (c : Case). c.own) is;
@@ -46,7 +46,7 @@ answers_zero old new before after out made came is = record {
 }
 
 -- a call that concerns nobody else
-pub answers_quietly : (old new : Parts) (effects : List Effect) (made : Case) (a : Answer) → InStep new → new.dying ≡ old.dying → made ≡ answered (state_of new) a → Answers old new effects effects made a
+pub answers_quietly : (old new : Parts) (effects : List Effect) (made : Case) (a : Answer) → InStep new → new.dying ≡ old.dying → made ≡ answer_case (state_of new) a → Answers old new effects effects made a
 answers_quietly old new effects made a step same is = record {
   came = came_quietly old new effects (record { after = made.after; effects = made.others }) step same (ap (λ (c : Case). record { after = c.after; effects = c.others }) is);
   own = ap (λ (c : Case). c.own) is;

@@ -12,7 +12,7 @@ use Rattle.lwp_types.specs.State.{State, ThreadRow, is_blocked_in, is_not_blocke
 use Rattle.lwp_types.specs.Unblock.{nonexist, unblock}
 use Rattle.lwp_types.specs.declared.call.Effect.{Effect}
 use Rattle.lwp_types.specs.declared.rows.Letter.{Letter}
-use Rattle.messages.specs.MessageTable.{first_to, popped, without_found}
+use Rattle.messages.specs.MessageTable.{after_pop, first_to, without_found}
 use Rattle.pod_laws.proofs.DeathLoops.{Lonely, first_sender, refuse_first}
 use Rattle.std.proofs.Common.{List, None, Option, Some, ap, arith, length, not, refl, true, ℕ, ◌<◌, ◌∙◌, ◌≡◌}
 use Rattle.std.specs.Prelude.{option_map}
@@ -41,10 +41,10 @@ module _ (t : ℕ) where
   module _ (start : Parts) (before : List Effect) (parts : Parts) (after : List Effect) (h : Draining (Lonely t) list refuse_sender 0 start before parts after) where
     -- the parts without the letter that was found
     abbrev pub lighter : Parts
-    lighter = record parts { messages = popped parts.messages t }
+    lighter = record parts { messages = after_pop parts.messages t }
 
     pub lighter_step : InStep lighter
-    lighter_step = InStep-messages parts h.step (popped parts.messages t) refl
+    lighter_step = InStep-messages parts h.step (after_pop parts.messages t) refl
 
     module _ (x : ℕ) (found : first parts.messages.letters ≡ Some x) where
       front : Front (list (state_of parts)) x

@@ -4,9 +4,9 @@ use Rattle.death_cleanup.proofs.Keeping.{InStep-agents, InStep-messages}
 use Rattle.death_cleanup.specs.Ties.{InStep, LawfulParts}
 use Rattle.death_cleanup.specs.View.{state_of}
 use Rattle.death_cleanup.specs.declared.parts.Parts.{Parts}
-use Rattle.lwp_types.specs.Case.{refused, unless, with_zero}
+use Rattle.lwp_types.specs.Case.{refusal_case, unless, with_zero}
 use Rattle.lwp_types.specs.Counts.{is_one_kind}
-use Rattle.lwp_types.specs.Messages.{received_from, replied, reply, with_holding}
+use Rattle.lwp_types.specs.Messages.{after_reply, received_from, reply, with_holding}
 use Rattle.lwp_types.specs.State.{State, agent_of, is_agent, is_blocked_in, is_id, is_not_blocked, is_thread, passes, still, thread_of}
 use Rattle.lwp_types.specs.Unblock.{unblock}
 use Rattle.lwp_types.specs.declared.call.LwpErr.{LwpErr}
@@ -47,34 +47,34 @@ thread-apart s u apart is = by_test (is_thread s u) (is_agent s u) apart is
     by_test false true h e = absurd (let no-way : false ≡ true = e in cc)
 
 module _ (s : State) (t u : ℕ) (text : List ℕ) where
-  pub reply-absent : is_id s u ≡ false → reply s t u text ≡ refused s error.NonExist
+  pub reply-absent : is_id s u ≡ false → reply s t u text ≡ refusal_case s error.NonExist
   unfolding unless
   reply-absent none = rw none refl
 
   -- the refusals of the messages are those of the call
-  pub reply-refused : is_id s u ≡ true → (e : LwpErr) → refusal (received_from s.letters t u) (length text) ≡ Some e → reply s t u text ≡ refused s e
+  pub reply-refused : is_id s u ≡ true → (e : LwpErr) → refusal (received_from s.letters t u) (length text) ≡ Some e → reply s t u text ≡ refusal_case s e
   unfolding unless
   reply-refused lives e cause = rw lives (by_letter (received_from s.letters t u) cause)
     where
-      by_test : (letter : Letter) (b : Bool) → cond b (Some error.InvalidArg) None ≡ Some e → cond b (refused s error.InvalidArg) (with_zero (replied u text s)) ≡ refused s e
-      by_test letter true h = let same : error.InvalidArg ≡ e = cc in ap (refused s) same
+      by_test : (letter : Letter) (b : Bool) → cond b (Some error.InvalidArg) None ≡ Some e → cond b (refusal_case s error.InvalidArg) (with_zero (after_reply u text s)) ≡ refusal_case s e
+      by_test letter true h = let same : error.InvalidArg ≡ e = cc in ap (refusal_case s) same
       by_test letter false h = absurd (cc)
 
       by_letter : (o : Option Letter) → refusal o (length text) ≡ Some e
-          → cond (is_none o) (refused s error.NoWait) (cond (passes (λ letter. nat_lt letter.room (length text)) o) (refused s error.InvalidArg) (with_zero (replied u text s))) ≡ refused s e
-      by_letter None h = let same : error.NoWait ≡ e = cc in ap (refused s) same
+          → cond (is_none o) (refusal_case s error.NoWait) (cond (passes (λ letter. nat_lt letter.room (length text)) o) (refusal_case s error.InvalidArg) (with_zero (after_reply u text s))) ≡ refusal_case s e
+      by_letter None h = let same : error.NoWait ≡ e = cc in ap (refusal_case s) same
       by_letter (Some letter) h = by_test letter (nat_lt letter.room (length text)) h
 
-  pub reply-made : is_id s u ≡ true → refusal (received_from s.letters t u) (length text) ≡ None → reply s t u text ≡ with_zero (replied u text s)
+  pub reply-made : is_id s u ≡ true → refusal (received_from s.letters t u) (length text) ≡ None → reply s t u text ≡ with_zero (after_reply u text s)
   unfolding unless
   reply-made lives fine = rw lives (by_letter (received_from s.letters t u) fine)
     where
-      by_test : (b : Bool) → ◌≡◌ {A = Option LwpErr} (cond b (Some error.InvalidArg) None) None → cond b (refused s error.InvalidArg) (with_zero (replied u text s)) ≡ with_zero (replied u text s)
+      by_test : (b : Bool) → ◌≡◌ {A = Option LwpErr} (cond b (Some error.InvalidArg) None) None → cond b (refusal_case s error.InvalidArg) (with_zero (after_reply u text s)) ≡ with_zero (after_reply u text s)
       by_test true h = absurd (cc)
       by_test false h = refl
 
       by_letter : (o : Option Letter) → refusal o (length text) ≡ None
-          → cond (is_none o) (refused s error.NoWait) (cond (passes (λ letter. nat_lt letter.room (length text)) o) (refused s error.InvalidArg) (with_zero (replied u text s))) ≡ with_zero (replied u text s)
+          → cond (is_none o) (refusal_case s error.NoWait) (cond (passes (λ letter. nat_lt letter.room (length text)) o) (refusal_case s error.InvalidArg) (with_zero (after_reply u text s))) ≡ with_zero (after_reply u text s)
       by_letter None h = absurd (cc)
       by_letter (Some letter) h = by_test (nat_lt letter.room (length text)) h
 
@@ -93,22 +93,22 @@ length-holding a b (row ∷ rows) = omega (arith, length-holding a b rows)
 module _ (parts : Parts) (u : ℕ) where
   -- the parts without the letter of u
   abbrev pub lighter : Parts
-  lighter = record parts { messages = messages.forgotten parts.messages u }
+  lighter = record parts { messages = messages.after_forget parts.messages u }
 
   pub InStep-lighter : InStep parts → InStep lighter
-  InStep-lighter step = InStep-messages parts step (messages.forgotten parts.messages u) refl
+  InStep-lighter step = InStep-messages parts step (messages.after_forget parts.messages u) refl
 
   -- an agent can take the next event
   abbrev pub rearmed : Parts
-  rearmed = record lighter { agents = roster.released parts.agents u }
+  rearmed = record lighter { agents = roster.after_release parts.agents u }
 
   pub InStep-rearmed : InStep parts → InStep rearmed
-  InStep-rearmed step = InStep-agents lighter (InStep-lighter step) (roster.released parts.agents u) (omega (arith, length-holding u false parts.agents.agents))
+  InStep-rearmed step = InStep-agents lighter (InStep-lighter step) (roster.after_release parts.agents u) (omega (arith, length-holding u false parts.agents.agents))
 
-  pub replied-agent : (text : List ℕ) → is_agent (state_of parts) u ≡ true → replied u text (state_of parts) ≡ still (state_of rearmed)
+  pub replied-agent : (text : List ℕ) → is_agent (state_of parts) u ≡ true → after_reply u text (state_of parts) ≡ still (state_of rearmed)
   replied-agent text is = rw is refl
 
-  pub replied-thread : (text : List ℕ) → is_agent (state_of parts) u ≡ false → replied u text (state_of parts) ≡ unblock (answer.Reply text) u (state_of lighter)
+  pub replied-thread : (text : List ℕ) → is_agent (state_of parts) u ≡ false → after_reply u text (state_of parts) ≡ unblock (answer.Reply text) u (state_of lighter)
   replied-thread text none = rw none refl
 
   -- a thread that sent a letter waits for the reply

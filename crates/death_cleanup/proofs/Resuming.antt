@@ -6,11 +6,11 @@ use Rattle.death_cleanup.specs.declared.parts.Parts.{Parts}
 use Rattle.death_cleanup.specs.declared.rows.Kind.{Kind}
 use Rattle.death_cleanup.specs.declared.rows.Kind.TheVariants as kind
 use Rattle.death_cleanup.specs.declared.rows.ThreadRec.{ThreadRec}
-use Rattle.lwp_types.specs.Case.{refused, unless, valued}
+use Rattle.lwp_types.specs.Case.{refusal_case, unless, value_case}
 use Rattle.lwp_types.specs.Lawful.{is_same_option}
 use Rattle.lwp_types.specs.State as machine
 use Rattle.lwp_types.specs.State.{State, ThreadRow, is_not_blocked, is_number, is_thread, passes}
-use Rattle.lwp_types.specs.Threads.{resume, resumed, set_exit}
+use Rattle.lwp_types.specs.Threads.{after_resume, resume, set_exit}
 use Rattle.lwp_types.specs.declared.call.LwpErr.TheVariants as error
 use Rattle.monitors.proofs.Machine as mons
 use Rattle.conditions.proofs.Machine as conds
@@ -84,16 +84,16 @@ unknown-same t (row ∷ known) h = elim (cases_eq row.tid t) [
   | inr away ↦ rw (ne_eqb row.tid t away) (ap (λ rows. row ∷ rows) (unknown-same t known (rw (ne_eqb row.tid t away) at h)))
 ]
 
-pub resumed-unknown : (s : sched.Schedule) (t : ℕ) → sched.knows s t ≡ false → sched.resumed s t ≡ s
+pub resumed-unknown : (s : sched.Schedule) (t : ℕ) → sched.knows s t ≡ false → sched.after_resume s t ≡ s
 resumed-unknown s t unknown = by_found (find (sched.is_of t) s.threads) refl unknown
   where
-    by_found : (o : Option Known) → find (sched.is_of t) s.threads ≡ o → is_some o ≡ false → sched.resumed s t ≡ s
+    by_found : (o : Option Known) → find (sched.is_of t) s.threads ≡ o → is_some o ≡ false → sched.after_resume s t ≡ s
     by_found None e h = rw (e, unknown-same t s.threads e) refl
     by_found (Some row) e h = absurd (cc)
 
 module _ (parts : Parts) (t : ℕ) where
   abbrev pub resumed-parts : Parts
-  resumed-parts = record parts { sched = sched.resumed parts.sched t }
+  resumed-parts = record parts { sched = sched.after_resume parts.sched t }
 
   threads-are : (state_of resumed-parts).threads ≡ machine.with_suspension t false (state_of parts).threads
   threads-are = rows-resumed parts.last_prio t parts.sched.threads parts.ids.live
@@ -140,27 +140,27 @@ module _ (parts : Parts) (t : ℕ) where
         waiting None = refl
         waiting (Some row) = refl
 
-    resumed-is : is_thread (state_of parts) t ≡ true → resumed (state_of parts) t ≡ state_of resumed-parts
+    resumed-is : is_thread (state_of parts) t ≡ true → after_resume (state_of parts) t ≡ state_of resumed-parts
     resumed-is lives = rw (threads-are, suspended-same parts t lives, sym (step.tied.waits t)) refl
 
-    pub resume-is : is_thread (state_of parts) t ≡ true → resume (state_of parts) t ≡ valued (state_of resumed-parts) 0
+    pub resume-is : is_thread (state_of parts) t ≡ true → resume (state_of parts) t ≡ value_case (state_of resumed-parts) 0
     unfolding unless
-    resume-is lives = rw lives (ap (λ s. valued s 0) (resumed-is lives))
+    resume-is lives = rw lives (ap (λ s. value_case s 0) (resumed-is lives))
 
-    pub resume-vain : is_thread (state_of parts) t ≡ true → sched.knows parts.sched t ≡ false → resume (state_of parts) t ≡ valued (state_of parts) 0
-    resume-vain lives unknown = resume-is lives ∙ ap (λ s. valued (state_of (record parts { sched = s })) 0) (resumed-unknown parts.sched t unknown)
+    pub resume-vain : is_thread (state_of parts) t ≡ true → sched.knows parts.sched t ≡ false → resume (state_of parts) t ≡ value_case (state_of parts) 0
+    resume-vain lives unknown = resume-is lives ∙ ap (λ s. value_case (state_of (record parts { sched = s })) 0) (resumed-unknown parts.sched t unknown)
 
-pub resume-absent : (s : State) (t : ℕ) → is_thread s t ≡ false → resume s t ≡ refused s error.NonExist
+pub resume-absent : (s : State) (t : ℕ) → is_thread s t ≡ false → resume s t ≡ refusal_case s error.NonExist
 unfolding unless
 resume-absent s t none = rw none refl
 
 -- the exit status
 
-pub exit-high : (s : State) (code : ℕ) → 99 < code → set_exit s code ≡ refused s error.InvalidArg
+pub exit-high : (s : State) (code : ℕ) → 99 < code → set_exit s code ≡ refusal_case s error.InvalidArg
 unfolding unless
 exit-high s code high = rw (lt-ltb 99 code high) refl
 
-pub exit-low : (s : State) (code : ℕ) → code ≤ 99 → set_exit s code ≡ valued (record s { status = code }) 0
+pub exit-low : (s : State) (code : ℕ) → code ≤ 99 → set_exit s code ≡ value_case (record s { status = code }) 0
 unfolding unless
 exit-low s code low = rw (le-ltb 99 code low) refl
 

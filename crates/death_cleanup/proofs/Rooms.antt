@@ -2,7 +2,7 @@
 use Rattle.death_cleanup.proofs.Crowds.{Stand, fits, once}
 use Rattle.death_cleanup.proofs.Looks.{row_under, rows-under}
 use Rattle.death_cleanup.proofs.Notes.{named-by, threads-rows}
-use Rattle.death_cleanup.specs.Named.{AreOrdered, IsBefore, block_name, is_on, is_wait, run, run_of, threads_in}
+use Rattle.death_cleanup.specs.Named.{AreOrdered, IsBefore, block_name, is_on, is_wait, run_number, run_of, threads_in}
 use Rattle.death_cleanup.specs.View.{rows_of}
 use Rattle.death_cleanup.specs.Waits.{waits_for}
 use Rattle.death_cleanup.specs.declared.rows.Awaited.{Awaited}
@@ -24,7 +24,7 @@ abbrev by_name : Block → Bool
 by_name b = is_some (block_name b)
 
 abbrev run_in : Block → ℕ
-run_in b = unwrap_or (option_map (λ (name : Awaited × ℕ). run name.0 name.1) (block_name b)) 0
+run_in b = unwrap_or (option_map (λ (name : Awaited × ℕ). run_number name.0 name.1) (block_name b)) 0
 
 abbrev waits_in : ℕ → ThreadRow → Bool
 waits_in r row = by_name row.block && eqb (run_in row.block) r

@@ -1,14 +1,14 @@
 -- Exit procedures neither look at a thread's marks nor change them.
 use Rattle.death_cleanup.proofs.Looks.{find-row, same-some}
-use Rattle.lwp_types.specs.Case.{Case, Check, refused, unless, valued, with_zero}
+use Rattle.lwp_types.specs.Case.{Case, Check, refusal_case, unless, value_case, with_zero}
 use Rattle.lwp_types.specs.Exits.{exit_case, exit_outcome, run_exit}
-use Rattle.lwp_types.specs.Messages.{received_from, replied, with_holding, without_letter}
-use Rattle.lwp_types.specs.Monitors.{depth_in, exited, is_owner, with_depth}
+use Rattle.lwp_types.specs.Messages.{after_reply, received_from, with_holding, without_letter}
+use Rattle.lwp_types.specs.Monitors.{after_exit, depth_in, is_owner, with_depth}
 use Rattle.lwp_types.specs.MonitorRelease.{grant, lock_of, next_owner, release, requests_of, without_lock, without_request}
-use Rattle.lwp_types.specs.State.{Outcome, State, ThreadRow, is_agent, is_blocked_in, is_id, is_not_blocked, is_number, is_suspended_in, is_thread, marked, marks_in, marks_set, member, passes, priority_in, still, with_block, with_marks, with_suspension}
-use Rattle.lwp_types.specs.Threads.{resumed}
-use Rattle.lwp_types.specs.Unblock.{unblock, unblocked, zero_answer}
-use Rattle.lwp_types.specs.Conditions.{condition_of, is_no_condition, is_not_last, waits_on, woken, woken_all}
+use Rattle.lwp_types.specs.State.{Outcome, State, ThreadRow, is_agent, is_blocked_in, is_id, is_not_blocked, is_number, is_suspended_in, is_thread, marks_in, marks_set, member, passes, priority_in, still, with_block, with_marks, with_marks_of, with_suspension}
+use Rattle.lwp_types.specs.Threads.{after_resume}
+use Rattle.lwp_types.specs.Unblock.{after_unblock, unblock, zero_answer}
+use Rattle.lwp_types.specs.Conditions.{after_wake, after_wake_all, condition_of, is_no_condition, is_not_last, waits_on}
 use Rattle.lwp_types.specs.Choice.{best_by}
 use Rattle.lwp_types.specs.declared.call.Answer.{Answer}
 use Rattle.lwp_types.specs.declared.call.Answer.TheVariants as answer
@@ -35,7 +35,7 @@ funext f g h = λ i. λ x. h x i
 module _ (t : ℕ) (ms : List Mark) where
   -- the state, the outcome and the case in which t has other marks
   abbrev pub remarked : State → State
-  remarked s = marked s t ms
+  remarked s = with_marks_of s t ms
 
   abbrev pub remarked_out : Outcome → Outcome
   remarked_out out = record { after = remarked out.after; effects = out.effects }
@@ -100,7 +100,7 @@ module _ (t : ℕ) (ms : List Mark) where
       by_test false rest = ap (λ rs. row ∷ rs) rest
 
   -- other marks once more
-  pub marked_again : (s : State) (ks : List Mark) → marked (marked s t ks) t ms ≡ marked s t ms
+  pub marked_again : (s : State) (ks : List Mark) → with_marks_of (with_marks_of s t ks) t ms ≡ with_marks_of s t ms
   marked_again s ks = ap (λ rows. record s { threads = rows }) (again s.threads ks)
 
   -- a thread that is there has them
@@ -113,7 +113,7 @@ module _ (t : ℕ) (ms : List Mark) where
 
   -- the changes of a state
 
-  unblocked_so : (u : ℕ) (s : State) → unblocked (remarked s) u ≡ remarked (unblocked s u)
+  unblocked_so : (u : ℕ) (s : State) → after_unblock (remarked s) u ≡ remarked (after_unblock s u)
   unblocked_so u s = rw (blocks u block.Not s.threads, suspended s u) refl
 
   unblock_so : (a : Answer) (u : ℕ) (s : State) → unblock a u (remarked s) ≡ remarked_out (unblock a u s)
@@ -130,7 +130,7 @@ module _ (t : ℕ) (ms : List Mark) where
   release_so m s = ap (λ f. grant (best_by (λ (r : Request). f r.tid) (requests_of s.requests m)) (record (remarked s) { locks = without_lock m s.locks })) (priorities s)
       ∙ grant_so (next_owner s m) (record s { locks = without_lock m s.locks })
 
-  exited_so : (m : ℕ) (s : State) → exited m (remarked s) ≡ remarked_out (exited m s)
+  exited_so : (m : ℕ) (s : State) → after_exit m (remarked s) ≡ remarked_out (after_exit m s)
   exited_so m s = by_depth (nat_le (depth_in s.locks m) 1)
     where
       by_depth : (b : Bool) → cond b (release m (remarked s)) (still (record (remarked s) { locks = with_depth m (depth_in s.locks m - 1) s.locks }))
@@ -138,7 +138,7 @@ module _ (t : ℕ) (ms : List Mark) where
       by_depth true = release_so m s
       by_depth false = refl
 
-  replied_so : (u : ℕ) (text : List ℕ) (s : State) → replied u text (remarked s) ≡ remarked_out (replied u text s)
+  replied_so : (u : ℕ) (text : List ℕ) (s : State) → after_reply u text (remarked s) ≡ remarked_out (after_reply u text s)
   replied_so u text s = by_agent (is_agent s u)
     where
       by_agent : (b : Bool) → cond b (still (record (remarked s) { letters = without_letter u s.letters; agents = with_holding u false s.agents })) (unblock (answer.Reply text) u (record (remarked s) { letters = without_letter u s.letters }))
@@ -146,14 +146,14 @@ module _ (t : ℕ) (ms : List Mark) where
       by_agent true = refl
       by_agent false = unblock_so (answer.Reply text) u (record s { letters = without_letter u s.letters })
 
-  woken_so : (m : ℕ) (w : WaitRow) (s : State) → woken m w (remarked s) ≡ remarked (woken m w s)
+  woken_so : (m : ℕ) (w : WaitRow) (s : State) → after_wake m w (remarked s) ≡ remarked (after_wake m w s)
   woken_so m w s = rw (blocks w.tid (block.Entering m) s.threads) refl
 
-  woken_list : (m : ℕ) (ws : List WaitRow) (s : State) → fold (λ now w. woken m w now) (remarked s) ws ≡ remarked (fold (λ now w. woken m w now) s ws)
+  woken_list : (m : ℕ) (ws : List WaitRow) (s : State) → fold (λ now w. after_wake m w now) (remarked s) ws ≡ remarked (fold (λ now w. after_wake m w now) s ws)
   woken_list m [] s = refl
-  woken_list m (w ∷ ws) s = ap (λ now. fold (λ now w. woken m w now) now ws) (woken_so m w s) ∙ woken_list m ws (woken m w s)
+  woken_list m (w ∷ ws) s = ap (λ now. fold (λ now w. after_wake m w now) now ws) (woken_so m w s) ∙ woken_list m ws (after_wake m w s)
 
-  woken_all_so : (o : Option CondRow) (ws : List WaitRow) (s : State) → woken_all o ws (remarked s) ≡ remarked (woken_all o ws s)
+  woken_all_so : (o : Option CondRow) (ws : List WaitRow) (s : State) → after_wake_all o ws (remarked s) ≡ remarked (after_wake_all o ws s)
   woken_all_so None ws s = refl
   woken_all_so (Some row) ws s = woken_list row.mon ws s
 
@@ -163,31 +163,31 @@ module _ (t : ℕ) (ms : List Mark) where
   unless_so s (check ∷ checks) otherwise = by_test check.0 (unless_so s checks otherwise)
     where
       by_test : (b : Bool) → unless (remarked s) checks (remarked_case otherwise) ≡ remarked_case (unless s checks otherwise)
-          → cond b (refused (remarked s) check.1) (unless (remarked s) checks (remarked_case otherwise)) ≡ remarked_case (cond b (refused s check.1) (unless s checks otherwise))
+          → cond b (refusal_case (remarked s) check.1) (unless (remarked s) checks (remarked_case otherwise)) ≡ remarked_case (cond b (refusal_case s check.1) (unless s checks otherwise))
       by_test true rest = refl
       by_test false rest = rest
 
   -- what an exit procedure does
 
-  waking_so : (s : State) (u c : ℕ) (ws : List WaitRow) → unless (remarked s) (is_no_condition s c ∷ is_not_last s u c ∷ []) (valued (woken_all (condition_of s.conditions c) ws (remarked s)) 0)
-      ≡ remarked_case (unless s (is_no_condition s c ∷ is_not_last s u c ∷ []) (valued (woken_all (condition_of s.conditions c) ws s) 0))
-  waking_so s u c ws = ap (λ now. unless (remarked s) (is_no_condition s c ∷ is_not_last s u c ∷ []) (valued now 0)) (woken_all_so (condition_of s.conditions c) ws s) ∙ unless_so s _ _
+  waking_so : (s : State) (u c : ℕ) (ws : List WaitRow) → unless (remarked s) (is_no_condition s c ∷ is_not_last s u c ∷ []) (value_case (after_wake_all (condition_of s.conditions c) ws (remarked s)) 0)
+      ≡ remarked_case (unless s (is_no_condition s c ∷ is_not_last s u c ∷ []) (value_case (after_wake_all (condition_of s.conditions c) ws s) 0))
+  waking_so s u c ws = ap (λ now. unless (remarked s) (is_no_condition s c ∷ is_not_last s u c ∷ []) (value_case now 0)) (woken_all_so (condition_of s.conditions c) ws s) ∙ unless_so s _ _
 
   exit_case_so : (s : State) (u : ℕ) (call : ExitCall) → exit_case (remarked s) u call ≡ remarked_case (exit_case s u call)
   exit_case_so s u (exit.MonExit m) = ap (λ (o : Outcome). unless (remarked s) ((not (member m s.monitors), error.NonExist) ∷ (not (is_owner s.locks u m), error.InvalidArg) ∷ []) (with_zero o)) (exited_so m s) ∙ unless_so s _ _
   exit_case_so s u (exit.MonBreak m) = ap (λ (o : Outcome). unless (remarked s) ((not (member m s.monitors), error.NonExist) ∷ (is_none (lock_of s.locks m), error.NotOwned) ∷ []) (with_zero o)) (release_so m s) ∙ unless_so s _ _
-  exit_case_so s u (exit.Notify c) = ap (λ f. unless (remarked s) (is_no_condition s c ∷ is_not_last s u c ∷ []) (valued (woken_all (condition_of s.conditions c) (option_to_list (best_by (λ (w : WaitRow). f w.tid) (waits_on s.waits c))) (remarked s)) 0)) (priorities s)
+  exit_case_so s u (exit.Notify c) = ap (λ f. unless (remarked s) (is_no_condition s c ∷ is_not_last s u c ∷ []) (value_case (after_wake_all (condition_of s.conditions c) (option_to_list (best_by (λ (w : WaitRow). f w.tid) (waits_on s.waits c))) (remarked s)) 0)) (priorities s)
       ∙ waking_so s u c (option_to_list (best_by (λ (w : WaitRow). priority_in s w.tid) (waits_on s.waits c)))
   exit_case_so s u (exit.Broadcast c) = waking_so s u c (waits_on s.waits c)
-  exit_case_so s u (exit.Reply to text) = ap (λ b. unless (remarked s) ((not (b || is_agent s to), error.NonExist) ∷ (is_none (received_from s.letters u to), error.NoWait) ∷ (passes (λ (letter : Letter). nat_lt letter.room (length text)) (received_from s.letters u to), error.InvalidArg) ∷ []) (with_zero (replied to text (remarked s)))) (lives s to)
+  exit_case_so s u (exit.Reply to text) = ap (λ b. unless (remarked s) ((not (b || is_agent s to), error.NonExist) ∷ (is_none (received_from s.letters u to), error.NoWait) ∷ (passes (λ (letter : Letter). nat_lt letter.room (length text)) (received_from s.letters u to), error.InvalidArg) ∷ []) (with_zero (after_reply to text (remarked s)))) (lives s to)
       ∙ ap (λ (o : Outcome). unless (remarked s) ((not (is_id s to), error.NonExist) ∷ (is_none (received_from s.letters u to), error.NoWait) ∷ (passes (λ (letter : Letter). nat_lt letter.room (length text)) (received_from s.letters u to), error.InvalidArg) ∷ []) (with_zero o)) (replied_so to text s)
       ∙ unless_so s _ _
-  exit_case_so s u (exit.Resume v) = ap (λ b. unless (remarked s) ((not b, error.NonExist) ∷ []) (valued (resumed (remarked s) v) 0)) (lives s v)
-      ∙ ap (λ now. unless (remarked s) ((not (is_thread s v), error.NonExist) ∷ []) (valued now 0)) (resumed_so v s) ∙ unless_so s _ _
+  exit_case_so s u (exit.Resume v) = ap (λ b. unless (remarked s) ((not b, error.NonExist) ∷ []) (value_case (after_resume (remarked s) v) 0)) (lives s v)
+      ∙ ap (λ now. unless (remarked s) ((not (is_thread s v), error.NonExist) ∷ []) (value_case now 0)) (resumed_so v s) ∙ unless_so s _ _
     where
-      resumed_so : (v : ℕ) (s : State) → resumed (remarked s) v ≡ remarked (resumed s v)
+      resumed_so : (v : ℕ) (s : State) → after_resume (remarked s) v ≡ remarked (after_resume s v)
       resumed_so v s = rw (suspensions v false s.threads, suspended s v, blocked s v) refl
-  exit_case_so s u (exit.SetExit code) = unless_so s ((nat_lt 99 code, error.InvalidArg) ∷ []) (valued (record s { status = code }) 0)
+  exit_case_so s u (exit.SetExit code) = unless_so s ((nat_lt 99 code, error.InvalidArg) ∷ []) (value_case (record s { status = code }) 0)
   exit_case_so s u (exit.Note text) = refl
 
   -- an exit procedure, and more of them
@@ -216,7 +216,7 @@ module _ (v : ℕ) where
   same_unless s [] otherwise same = same
   same_unless s (check ∷ checks) otherwise same = by_test check.0 (same_unless s checks otherwise same)
     where
-      by_test : (b : Bool) → Same s (unless s checks otherwise).after → Same s (cond b (refused s check.1) (unless s checks otherwise)).after
+      by_test : (b : Bool) → Same s (unless s checks otherwise).after → Same s (cond b (refusal_case s check.1) (unless s checks otherwise)).after
       by_test true rest = refl
       by_test false rest = rest
 
@@ -227,25 +227,25 @@ module _ (v : ℕ) where
       by_next None = refl
       by_next (Some r) = same_block r.tid block.Not s.threads
 
-  same_exited : (m : ℕ) (s : State) → Same s (exited m s).after
+  same_exited : (m : ℕ) (s : State) → Same s (after_exit m s).after
   same_exited m s = by_depth (nat_le (depth_in s.locks m) 1)
     where
       by_depth : (b : Bool) → Same s (cond b (release m s) (still (record s { locks = with_depth m (depth_in s.locks m - 1) s.locks }))).after
       by_depth true = same_release m s
       by_depth false = refl
 
-  same_replied : (u : ℕ) (text : List ℕ) (s : State) → Same s (replied u text s).after
+  same_replied : (u : ℕ) (text : List ℕ) (s : State) → Same s (after_reply u text s).after
   same_replied u text s = by_agent (is_agent s u)
     where
       by_agent : (b : Bool) → Same s (cond b (still (record s { letters = without_letter u s.letters; agents = with_holding u false s.agents })) (unblock (answer.Reply text) u (record s { letters = without_letter u s.letters }))).after
       by_agent true = refl
       by_agent false = same_block u block.Not s.threads
 
-  same_woken : (m : ℕ) (ws : List WaitRow) (s : State) → Same s (fold (λ now w. woken m w now) s ws)
+  same_woken : (m : ℕ) (ws : List WaitRow) (s : State) → Same s (fold (λ now w. after_wake m w now) s ws)
   same_woken m [] s = refl
-  same_woken m (w ∷ ws) s = same_woken m ws (woken m w s) ∙ same_block w.tid (block.Entering m) s.threads
+  same_woken m (w ∷ ws) s = same_woken m ws (after_wake m w s) ∙ same_block w.tid (block.Entering m) s.threads
 
-  same_woken_all : (o : Option CondRow) (ws : List WaitRow) (s : State) → Same s (woken_all o ws s)
+  same_woken_all : (o : Option CondRow) (ws : List WaitRow) (s : State) → Same s (after_wake_all o ws s)
   same_woken_all None ws s = refl
   same_woken_all (Some row) ws s = same_woken row.mon ws s
 

@@ -3,7 +3,7 @@ use Rattle.death_cleanup.proofs.Notes.{noted-stack}
 use Rattle.death_cleanup.proofs.Looks.{row_under, rows-under}
 use Rattle.death_cleanup.proofs.Unmarking.{blocked, lives, marked_again, marks_now, priority, run_exit_so, same_case}
 use Rattle.death_cleanup.specs.Comes.{CameTo, HasRoom}
-use Rattle.death_cleanup.specs.Moves.{kind_marked, kind_marks, stack_of, stack_set, stacked}
+use Rattle.death_cleanup.specs.Moves.{after_set_stack, kind_marked, kind_marks, stack_of, stack_set}
 use Rattle.death_cleanup.specs.Ties.{InStep, LawfulParts}
 use Rattle.death_cleanup.specs.View.{known_of, row_of, row_onto, rows_of, state_of}
 use Rattle.death_cleanup.specs.declared.parts.Parts.{Parts}
@@ -18,7 +18,7 @@ use Rattle.lwp_types.specs.Exceptions.{exits_of, is_exit}
 use Rattle.lwp_types.specs.Lawful.{is_same_option}
 use Rattle.lwp_types.specs.ListLaws.{All-weaker}
 use Rattle.lwp_types.specs.State as machine
-use Rattle.lwp_types.specs.State.{Outcome, State, ThreadRow, and_then, for_each, is_number, is_thread, marked, marks_in, marks_set, thread_of, with_marks}
+use Rattle.lwp_types.specs.State.{Outcome, State, ThreadRow, and_then, for_each, is_number, is_thread, marks_in, marks_set, thread_of, with_marks, with_marks_of}
 use Rattle.lwp_types.specs.Unblock.{zero_answer}
 use Rattle.lwp_types.specs.declared.call.Effect.{Effect}
 use Rattle.lwp_types.specs.declared.call.Effect.TheVariants as effect
@@ -57,18 +57,18 @@ rows-stacked p t ms known (live ∷ living) = by_kind live.0 live.1 (rows-stacke
         by_test false = ap (λ rows. row_of (known_of p known n) n rec ∷ rows) rest
 
 module _ (parts : Parts) (t : ℕ) (ms : List Mark) where
-  pub stacked-is : state_of (stacked parts t ms) ≡ marked (state_of parts) t ms
+  pub stacked-is : state_of (after_set_stack parts t ms) ≡ with_marks_of (state_of parts) t ms
   stacked-is = ap (λ rows. record (state_of parts) { threads = rows }) (rows-stacked parts.last_prio t ms parts.sched.threads parts.ids.live)
 
-  pub InStep-stacked : InStep parts → InStep (stacked parts t ms)
+  pub InStep-stacked : InStep parts → InStep (after_set_stack parts t ms)
   InStep-stacked step = record {
     tied = record {
       known = λ u. step.tied.known u ∙ ap (λ b. b && not (is_same_option parts.dying u)) (sym (ap (λ s. is_thread s u) stacked-is ∙ lives t ms (state_of parts) u));
       waits = λ u. step.tied.waits u ∙ sym (ap (λ s. machine.is_blocked_in s u) stacked-is ∙ blocked t ms (state_of parts) u);
     };
     ranked = record {
-      requests = All-weaker (λ (r : EntryRequest). r.prio ≡ machine.priority_in (state_of parts) r.tid) (λ r. r.prio ≡ machine.priority_in (state_of (stacked parts t ms)) r.tid) (λ r e. e ∙ sym (ap (λ s. machine.priority_in s r.tid) stacked-is ∙ priority t ms (state_of parts) r.tid)) parts.mons.requests step.ranked.requests;
-      waits = All-weaker (λ (w : WaitRec). w.prio ≡ machine.priority_in (state_of parts) w.tid) (λ w. w.prio ≡ machine.priority_in (state_of (stacked parts t ms)) w.tid) (λ w e. e ∙ sym (ap (λ s. machine.priority_in s w.tid) stacked-is ∙ priority t ms (state_of parts) w.tid)) parts.conds.waits step.ranked.waits;
+      requests = All-weaker (λ (r : EntryRequest). r.prio ≡ machine.priority_in (state_of parts) r.tid) (λ r. r.prio ≡ machine.priority_in (state_of (after_set_stack parts t ms)) r.tid) (λ r e. e ∙ sym (ap (λ s. machine.priority_in s r.tid) stacked-is ∙ priority t ms (state_of parts) r.tid)) parts.mons.requests step.ranked.requests;
+      waits = All-weaker (λ (w : WaitRec). w.prio ≡ machine.priority_in (state_of parts) w.tid) (λ w. w.prio ≡ machine.priority_in (state_of (after_set_stack parts t ms)) w.tid) (λ w e. e ∙ sym (ap (λ s. machine.priority_in s w.tid) stacked-is ∙ priority t ms (state_of parts) w.tid)) parts.conds.waits step.ranked.waits;
     };
     roomy = record { letters = omega (arith, few, step.roomy.letters); threads = omega (arith, few, step.roomy.threads); requests = omega (arith, few, step.roomy.requests); waits = omega (arith, few, step.roomy.waits) };
     monitors = step.monitors;
@@ -76,7 +76,7 @@ module _ (parts : Parts) (t : ℕ) (ms : List Mark) where
     noted = noted-stack parts.named t ms parts.ids.live step.noted;
   }
     where
-      few : length (state_of (stacked parts t ms)).threads ≡ length (state_of parts).threads
+      few : length (state_of (after_set_stack parts t ms)).threads ≡ length (state_of parts).threads
       few = ap (λ (s : State). length s.threads) stacked-is ∙ length-map (state_of parts).threads (marks_set t ms)
 
 -- a thread's marks are those in the registry
@@ -91,7 +91,7 @@ marks-are parts t rising = ap (λ o. unwrap_or (option_map (λ (row : ThreadRow)
 module _ (t : ℕ) (todo : List Mark → List ExitMark) (kept : List Mark) where
   -- some marks stay, and the exit procedures that are still to do run
   abbrev pub all : State → Outcome
-  all s = for_each (run_exit t) (todo (marks_in s t)) (marked s t kept)
+  all s = for_each (run_exit t) (todo (marks_in s t)) (with_marks_of s t kept)
 
   pub record Unwinding (Fits : List Mark → Type 0) (start : Parts) (before : List Effect) (parts : Parts) (after : List Effect) : Type 0 where
     pub lawful : LawfulParts parts
@@ -104,7 +104,7 @@ module _ (t : ℕ) (todo : List Mark → List ExitMark) (kept : List Mark) where
 
   module _ (Fits : List Mark → Type 0) (start : Parts) (before : List Effect) (parts : Parts) (after : List Effect) (h : Unwinding Fits start before parts after) (left : List Mark) where
     abbrev pub popped : Parts
-    popped = stacked parts t left
+    popped = after_set_stack parts t left
 
     pub popped_lawful : Fewer left (marks_in (state_of parts) t) → (is_same_option parts.dying t || has_its_marks left) ≡ true → LawfulParts popped
     popped_lawful fewer based =
@@ -119,19 +119,19 @@ module _ (t : ℕ) (todo : List Mark → List ExitMark) (kept : List Mark) where
       other : State
       other = (run_exit t x (state_of parts)).after
 
-      next : (ks : List Mark) → run_exit t x (marked (state_of parts) t ks) ≡ record { after = marked (run_exit t x (state_of parts)).after t ks; effects = (run_exit t x (state_of parts)).effects }
+      next : (ks : List Mark) → run_exit t x (with_marks_of (state_of parts) t ks) ≡ record { after = with_marks_of (run_exit t x (state_of parts)).after t ks; effects = (run_exit t x (state_of parts)).effects }
       next ks = run_exit_so t ks t x (state_of parts)
 
-      turn : all (state_of parts) ≡ record { after = (for_each (run_exit t) (todo left) (marked (run_exit t x (state_of parts)).after t kept)).after; effects = (run_exit t x (state_of parts)).effects ++ (for_each (run_exit t) (todo left) (marked (run_exit t x (state_of parts)).after t kept)).effects }
+      turn : all (state_of parts) ≡ record { after = (for_each (run_exit t) (todo left) (with_marks_of (run_exit t x (state_of parts)).after t kept)).after; effects = (run_exit t x (state_of parts)).effects ++ (for_each (run_exit t) (todo left) (with_marks_of (run_exit t x (state_of parts)).after t kept)).effects }
       unfolding for_each and_then
-      turn = ap (λ xs. for_each (run_exit t) xs (marked (state_of parts) t kept)) first
+      turn = ap (λ xs. for_each (run_exit t) xs (with_marks_of (state_of parts) t kept)) first
           ∙ ap (λ (o : Outcome). record { after = (for_each (run_exit t) (todo left) o.after).after; effects = o.effects ++ (for_each (run_exit t) (todo left) o.after).effects }) (next kept)
 
-      pub exit_room : length after + ((length (run_exit t x (state_of parts)).effects + length (for_each (run_exit t) (todo left) (marked (run_exit t x (state_of parts)).after t kept)).effects) + 1) ≤ 2048
-      exit_room = omega (arith, h.room, ap (λ (o : Outcome). length o.effects) turn, length-append (run_exit t x (state_of parts)).effects (for_each (run_exit t) (todo left) (marked (run_exit t x (state_of parts)).after t kept)).effects)
+      pub exit_room : length after + ((length (run_exit t x (state_of parts)).effects + length (for_each (run_exit t) (todo left) (with_marks_of (run_exit t x (state_of parts)).after t kept)).effects) + 1) ≤ 2048
+      exit_room = omega (arith, h.room, ap (λ (o : Outcome). length o.effects) turn, length-append (run_exit t x (state_of parts)).effects (for_each (run_exit t) (todo left) (with_marks_of (run_exit t x (state_of parts)).after t kept)).effects)
 
       module _ (new : Parts) (now : List Effect) (came : CameTo popped new after now (run_exit t x (state_of popped))) (nine : LawfulParts new) (fit : Fits left) where
-        came_so : (state_of new ≡ marked (run_exit t x (state_of parts)).after t left) × (now ≡ after ++ (run_exit t x (state_of parts)).effects)
+        came_so : (state_of new ≡ with_marks_of (run_exit t x (state_of parts)).after t left) × (now ≡ after ++ (run_exit t x (state_of parts)).effects)
         came_so =
             let e = ap (λ s. run_exit t x s) (stacked-is parts t left) ∙ next left in
             (came.state ∙ ap (λ (o : Outcome). o.after) e, came.effects ∙ ap (λ (o : Outcome). after ++ o.effects) e)
@@ -142,9 +142,9 @@ module _ (t : ℕ) (todo : List Mark → List ExitMark) (kept : List Mark) where
         pub marks_left : marks_in (state_of new) t ≡ left
         marks_left = ap (λ s. marks_in s t) came_so.0 ∙ marks_now t left (run_exit t x (state_of parts)).after there
 
-        rest : all (state_of new) ≡ for_each (run_exit t) (todo left) (marked (run_exit t x (state_of parts)).after t kept)
-        rest = ap (λ ms. for_each (run_exit t) (todo ms) (marked (state_of new) t kept)) marks_left
-            ∙ ap (λ s. for_each (run_exit t) (todo left) (marked s t kept)) came_so.0
+        rest : all (state_of new) ≡ for_each (run_exit t) (todo left) (with_marks_of (run_exit t x (state_of parts)).after t kept)
+        rest = ap (λ ms. for_each (run_exit t) (todo ms) (with_marks_of (state_of new) t kept)) marks_left
+            ∙ ap (λ s. for_each (run_exit t) (todo left) (with_marks_of s t kept)) came_so.0
             ∙ ap (λ s. for_each (run_exit t) (todo left) s) (marked_again t kept (run_exit t x (state_of parts)).after left)
 
         pub unwinds_on : Unwinding Fits start before new now
@@ -163,9 +163,9 @@ module _ (t : ℕ) (todo : List Mark → List ExitMark) (kept : List Mark) where
     pub unwinds_over : todo (marks_in (state_of parts) t) ≡ [] → left ≡ kept → CameTo start popped before after (all (state_of start))
     unfolding for_each
     unwinds_over none last =
-        let done = ap (λ xs. for_each (run_exit t) xs (marked (state_of parts) t kept)) none in
+        let done = ap (λ xs. for_each (run_exit t) xs (with_marks_of (state_of parts) t kept)) none in
         record {
-          state = stacked-is parts t left ∙ ap (marked (state_of parts) t) last ∙ sym (ap (λ (o : Outcome). o.after) done) ∙ h.state;
+          state = stacked-is parts t left ∙ ap (with_marks_of (state_of parts) t) last ∙ sym (ap (λ (o : Outcome). o.after) done) ∙ h.state;
           effects = sym (append-nil after) ∙ ap (λ es. after ++ es) (sym (ap (λ (o : Outcome). o.effects) done)) ∙ h.effects;
           step = InStep-stacked parts t left h.lawful.step;
           dying = h.dying;

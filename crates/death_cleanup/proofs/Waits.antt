@@ -6,13 +6,13 @@ use Rattle.death_cleanup.proofs.Fronts.{Front, waiting_first, waiting_none}
 use Rattle.death_cleanup.specs.Comes.{CameTo}
 use Rattle.death_cleanup.specs.Ties.{HasLawfulThreads}
 use Rattle.death_cleanup.specs.View.{state_of}
-use Rattle.death_cleanup.specs.Waits.{block_waits, dismissed, first_waiting, last_answer, waiting}
+use Rattle.death_cleanup.specs.Waits.{after_dismiss, block_waits, first_waiting, last_answer, waiting}
 use Rattle.death_cleanup.specs.declared.parts.Parts.{Parts}
 use Rattle.death_cleanup.specs.declared.rows.Awaited.{Awaited}
 use Rattle.death_cleanup.specs.declared.rows.Awaited.TheVariants as awaited
 use Rattle.lwp_types.specs.State.{Outcome, State, ThreadRow, is_blocked_in, is_not_blocked, is_number, passes, with_block}
 use Rattle.std.specs.List.{find}
-use Rattle.lwp_types.specs.Unblock.{unblock, unblocked}
+use Rattle.lwp_types.specs.Unblock.{after_unblock, unblock}
 use Rattle.lwp_types.specs.declared.call.Effect.{Effect}
 use Rattle.lwp_types.specs.declared.rows.Block.{Block}
 use Rattle.lwp_types.specs.declared.rows.Block.TheVariants as block
@@ -54,7 +54,7 @@ module _ (what : Awaited) (t : ℕ) where
   pub one_less : (u : ℕ) (us : List ℕ) (s : State) → HasLawfulThreads s → list s ≡ u ∷ us → HasLawfulThreads (change u s).after × (list (change u s).after ≡ us)
   one_less u us s has listed =
       let next = wake_first (block_waits what t) (alone what t) has.lawful has.dying has.nine u us (ap (waiting what t) has.threads ∙ listed) in (
-        record { lawful = unblocked has.lawful u; dying = has.dying; nine = next.0; threads = ap (with_block u block.Not) has.threads },
+        record { lawful = after_unblock has.lawful u; dying = has.dying; nine = next.0; threads = ap (with_block u block.Not) has.threads },
         ap (λ rows. waiting what t (with_block u block.Not rows)) (sym has.threads) ∙ next.1,
       )
 
@@ -85,5 +85,5 @@ module _ (what : Awaited) (t : ℕ) where
         pub turn_on : Draining HasLawfulThreads list change 0 start before new now
         turn_on = goes_on HasLawfulThreads list change one_less 0 start before parts after h u first.rest first.is new now came
 
-    pub over : first_waiting what t parts.ids.live ≡ None → CameTo start parts before after (dismissed what t (state_of start))
+    pub over : first_waiting what t parts.ids.live ≡ None → CameTo start parts before after (after_dismiss what t (state_of start))
     over none = done HasLawfulThreads list change one_less 0 start before parts after h (waiting_none what t parts.last_prio parts.sched.threads parts.ids.live none)

@@ -2,7 +2,7 @@
 use Rattle.death_cleanup.proofs.Notes.{noted-block}
 use Rattle.conditions.specs.ConditionTable as cond_table
 use Rattle.death_cleanup.proofs.Looks.{find-row, row-unblocked, same-some, waits}
-use Rattle.death_cleanup.specs.Moves.{block_set, kind_set, withdrawn}
+use Rattle.death_cleanup.specs.Moves.{after_withdraw, block_set, kind_set}
 use Rattle.death_cleanup.specs.Ties.{InStep, IsTied}
 use Rattle.death_cleanup.specs.View.{known_of, row_of, row_onto, rows_of, state_of}
 use Rattle.death_cleanup.specs.declared.rows.Kind.{Kind}
@@ -157,16 +157,16 @@ module _ (parts : Parts) (t : ℕ) (tied : IsTied parts) (alone : parts.dying �
   rows : rows_of (sched.priority_in parts.sched t) (sched.without_row t parts.sched.threads) (map (block_set t block.Not) parts.ids.live) ≡ with_suspension t false (with_block t block.Not (state_of parts).threads)
   rows = rows-withdrawn parts.last_prio t parts.sched.threads parts.ids.live (λ u is. sym (known-all u) ∙ is)
 
-  pub withdrawn-is : state_of (withdrawn parts t) ≡ (withdraw t (state_of parts)).after
+  pub withdrawn-is : state_of (after_withdraw parts t) ≡ (withdraw t (state_of parts)).after
   withdrawn-is = rw (rows, requests-forgotten t parts.mons.requests, waits-forgotten t parts.conds.waits) refl
 
-  pub IsTied-withdrawn : IsTied (withdrawn parts t)
+  pub IsTied-withdrawn : IsTied (after_withdraw parts t)
   IsTied-withdrawn = record {
     known = λ u. ap is_some (find-without t u parts.sched.threads) ∙ knows u (find (sched.is_of u) parts.sched.threads) ∙ ap (λ b. b && not (eqb t u)) (sym (known-all u) ∙ sym (lives u));
     waits = λ u. ap (passes (λ (row : Known). row.blocked)) (find-without t u parts.sched.threads) ∙ blocked (eqb u t) (find (sched.is_of u) parts.sched.threads) ∙ ap (λ b. not (eqb u t) && b) (tied.waits u) ∙ sym (waiting u);
   }
     where
-      lives : (u : ℕ) → is_thread (state_of (withdrawn parts t)) u ≡ is_thread (state_of parts) u
+      lives : (u : ℕ) → is_thread (state_of (after_withdraw parts t)) u ≡ is_thread (state_of parts) u
       lives u = ap (λ rs. is_some (find (is_number u) rs)) rows ∙ ap is_some (find-suspension t u false (with_block t block.Not (state_of parts).threads)) ∙ same-some (suspension_set t false) (find (is_number u) (with_block t block.Not (state_of parts).threads))
           ∙ ap is_some (find-row t u block.Not (state_of parts).threads) ∙ same-some _ (find (is_number u) (state_of parts).threads)
 
@@ -192,13 +192,13 @@ module _ (parts : Parts) (t : ℕ) (tied : IsTied parts) (alone : parts.dying �
       same None = refl
       same (Some row) = refl
 
-      waiting : (u : ℕ) → passes waits (find (is_number u) (state_of (withdrawn parts t)).threads) ≡ (not (eqb u t) && passes waits (find (is_number u) (state_of parts).threads))
+      waiting : (u : ℕ) → passes waits (find (is_number u) (state_of (after_withdraw parts t)).threads) ≡ (not (eqb u t) && passes waits (find (is_number u) (state_of parts).threads))
       waiting u = ap (λ rs. passes waits (find (is_number u) rs)) rows ∙ ap (passes waits) (find-suspension t u false (with_block t block.Not (state_of parts).threads)) ∙ same (find (is_number u) (with_block t block.Not (state_of parts).threads)) ∙ row-unblocked t u (state_of parts).threads
 
   abbrev priority : Option ThreadRow → ℕ
   priority o = unwrap_or (option_map (λ (row : ThreadRow). row.priority) o) 0
 
-  priority-same : (u : ℕ) → machine.priority_in (state_of (withdrawn parts t)) u ≡ machine.priority_in (state_of parts) u
+  priority-same : (u : ℕ) → machine.priority_in (state_of (after_withdraw parts t)) u ≡ machine.priority_in (state_of parts) u
   priority-same u = ap (λ rs. priority (find (is_number u) rs)) rows ∙ ap priority (find-suspension t u false (with_block t block.Not (state_of parts).threads)) ∙ suspended (find (is_number u) (with_block t block.Not (state_of parts).threads))
       ∙ ap priority (find-row t u block.Not (state_of parts).threads) ∙ unblocked (find (is_number u) (state_of parts).threads)
     where
@@ -210,15 +210,15 @@ module _ (parts : Parts) (t : ℕ) (tied : IsTied parts) (alone : parts.dying �
       unblocked None = refl
       unblocked (Some row) = refl
 
-  length-same : length (state_of (withdrawn parts t)).threads ≡ length (state_of parts).threads
+  length-same : length (state_of (after_withdraw parts t)).threads ≡ length (state_of parts).threads
   length-same = ap length rows ∙ length-map (with_block t block.Not (state_of parts).threads) (suspension_set t false) ∙ length-map (state_of parts).threads (machine.block_set t block.Not)
 
-  pub InStep-withdrawn : InStep parts → InStep (withdrawn parts t)
+  pub InStep-withdrawn : InStep parts → InStep (after_withdraw parts t)
   InStep-withdrawn step = record {
     tied = IsTied-withdrawn;
     ranked = record {
-      requests = kept_all (λ (r : EntryRequest). r.prio ≡ machine.priority_in (state_of parts) r.tid) (λ r. r.prio ≡ machine.priority_in (state_of (withdrawn parts t)) r.tid) (λ r. not (mon_table.is_request_of t r)) (λ r e. e ∙ sym (priority-same r.tid)) parts.mons.requests step.ranked.requests;
-      waits = kept_all (λ (w : WaitRec). w.prio ≡ machine.priority_in (state_of parts) w.tid) (λ w. w.prio ≡ machine.priority_in (state_of (withdrawn parts t)) w.tid) (λ w. not (cond_table.is_wait_of t w)) (λ w e. e ∙ sym (priority-same w.tid)) parts.conds.waits step.ranked.waits;
+      requests = kept_all (λ (r : EntryRequest). r.prio ≡ machine.priority_in (state_of parts) r.tid) (λ r. r.prio ≡ machine.priority_in (state_of (after_withdraw parts t)) r.tid) (λ r. not (mon_table.is_request_of t r)) (λ r e. e ∙ sym (priority-same r.tid)) parts.mons.requests step.ranked.requests;
+      waits = kept_all (λ (w : WaitRec). w.prio ≡ machine.priority_in (state_of parts) w.tid) (λ w. w.prio ≡ machine.priority_in (state_of (after_withdraw parts t)) w.tid) (λ w. not (cond_table.is_wait_of t w)) (λ w e. e ∙ sym (priority-same w.tid)) parts.conds.waits step.ranked.waits;
     };
     roomy = record { letters = omega (arith, length-same, step.roomy.letters); threads = omega (arith, length-same, step.roomy.threads); requests = omega (arith, length-same, step.roomy.requests); waits = omega (arith, length-same, step.roomy.waits) };
     monitors = step.monitors;

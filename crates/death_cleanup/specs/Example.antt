@@ -65,12 +65,12 @@ calls = call.Create 0 5 plain
     ∷ []
 
 -- the state after calls
-abbrev pub called : State → List Call → State
-called s cs = fold (λ now c. (step now c).after) s cs
+abbrev pub after_calls : State → List Call → State
+after_calls s cs = fold (λ now c. (step now c).after) s cs
 
 -- the state before the death: all wait, and an event was delivered
 abbrev pub waiting : State
-waiting = (deliver (called (opening (record { maxpri = 9; births = 100; procs = 1 })) calls) 3 []).after
+waiting = (deliver (after_calls (opening (record { maxpri = 9; births = 100; procs = 1 })) calls) 3 []).after
 
 -- the marks of the first thread
 abbrev pub stack : List Mark
@@ -99,11 +99,11 @@ ids = record {
   places = 9;
 }
 
-abbrev pub known : ℕ → ℕ → Known
-known t p = record { tid = t; prio = p; suspended = false; blocked = true }
+abbrev pub known_thread : ℕ → ℕ → Known
+known_thread t p = record { tid = t; prio = p; suspended = false; blocked = true }
 
 abbrev pub sched : Schedule
-sched = record { threads = known 0 1 ∷ known 1 5 ∷ known 2 5 ∷ known 3 5 ∷ known 4 5 ∷ known 5 5 ∷ known 6 5 ∷ known 7 5 ∷ []; order = []; timers = []; now = 0; maxpri = 9; places = 8 }
+sched = record { threads = known_thread 0 1 ∷ known_thread 1 5 ∷ known_thread 2 5 ∷ known_thread 3 5 ∷ known_thread 4 5 ∷ known_thread 5 5 ∷ known_thread 6 5 ∷ known_thread 7 5 ∷ []; order = []; timers = []; now = 0; maxpri = 9; places = 8 }
 
 abbrev pub messages : MessageTable
 messages = record {
@@ -130,8 +130,8 @@ conds = record { conditions = record { number = 0; mon = 2 } ∷ []; births = 1;
 abbrev pub agents : Roster
 agents = record { agents = record { number = 8; event = 3; owner = 0; holding = true } ∷ []; places = 1 }
 
-abbrev pub named : NameNote
-named = record { waits = record { what = awaited.Death; of = 0; tid = 4 } ∷ record { what = awaited.Death; of = 0; tid = 5 } ∷ record { what = awaited.Letter; of = 0; tid = 3 } ∷ []; places = 16 }
+abbrev pub name_note : NameNote
+name_note = record { waits = record { what = awaited.Death; of = 0; tid = 4 } ∷ record { what = awaited.Death; of = 0; tid = 5 } ∷ record { what = awaited.Letter; of = 0; tid = 3 } ∷ []; places = 16 }
 
 abbrev pub parts : Parts
 parts = record {
@@ -148,5 +148,5 @@ parts = record {
   pattern = 1073741824;
   dying = None;
   last_prio = 0;
-  named = named;
+  named = name_note;
 }

@@ -15,7 +15,7 @@ use Rattle.monitors.specs.MonitorTable as mon
 use Rattle.monitors.specs.MonitorTable.{MonitorTable}
 use Rattle.pod_sched.specs.Schedule as sched
 use Rattle.messages.specs.MessageTable as messages
-use Rattle.stale_ids.specs.Register.{removed}
+use Rattle.stale_ids.specs.Register.{after_remove}
 use Rattle.stale_ids.specs.Register.{value_of}
 use Rattle.std.specs.Prelude.{IsTrue, List, None, Option, Some, [], false, if◌then◌else◌, length, map, ℕ, ◌<◌, ◌==◌, ◌≡◌, ◌≤◌}
 
@@ -29,27 +29,27 @@ abbrev pub block_set : ℕ → Block → ℕ × Kind → ℕ × Kind
 block_set t b live = (live.0, if live.0 == t then kind_set b live.1 else live.1)
 
 -- the parts once thread t goes on
-abbrev pub waked : Parts → ℕ → Parts
-waked parts t = record parts {
+abbrev pub after_wake : Parts → ℕ → Parts
+after_wake parts t = record parts {
   ids = record parts.ids { live = map (block_set t block.Not) parts.ids.live };
-  sched = sched.unblocked parts.sched t;
+  sched = sched.after_unblock parts.sched t;
 }
 
 -- the parts once thread t begins to die
-abbrev pub withdrawn : Parts → ℕ → Parts
-withdrawn parts t = record parts {
+abbrev pub after_withdraw : Parts → ℕ → Parts
+after_withdraw parts t = record parts {
   ids = record parts.ids { live = map (block_set t block.Not) parts.ids.live };
-  sched = sched.left parts.sched t;
-  conds = cond.forgotten parts.conds t;
-  mons = mon.forgotten parts.mons t;
-  messages = messages.forgotten parts.messages t;
+  sched = sched.after_leave parts.sched t;
+  conds = cond.after_forget parts.conds t;
+  mons = mon.after_forget parts.mons t;
+  messages = messages.after_forget parts.messages t;
   dying = Some t;
   last_prio = sched.priority_in parts.sched t;
 }
 
 -- the parts once the dying thread t is gone
-abbrev pub buried : Parts → ℕ → Parts
-buried parts t = record parts { ids = removed parts.ids t; dying = None }
+abbrev pub after_bury : Parts → ℕ → Parts
+after_bury parts t = record parts { ids = after_remove parts.ids t; dying = None }
 
 -- an agent that is listed no more ends: whoever waits for it by name goes on, and its letter goes
 abbrev pub agent_over : ℕ → State → Outcome
@@ -74,19 +74,19 @@ abbrev pub stack_set : ℕ → List Mark → ℕ × Kind → ℕ × Kind
 stack_set t ms live = (live.0, if live.0 == t then kind_marked ms live.1 else live.1)
 
 -- the parts in which t has other marks
-abbrev pub stacked : Parts → ℕ → List Mark → Parts
-stacked parts t ms = record parts { ids = record parts.ids { live = map (stack_set t ms) parts.ids.live } }
+abbrev pub after_set_stack : Parts → ℕ → List Mark → Parts
+after_set_stack parts t ms = record parts { ids = record parts.ids { live = map (stack_set t ms) parts.ids.live } }
 
 -- the parts once this thread, which waited on a condition of monitor m, waits to enter m
-abbrev pub asked : Parts → ℕ → WaitRec → Parts
-asked parts m w = record parts {
+abbrev pub after_ask : Parts → ℕ → WaitRec → Parts
+after_ask parts m w = record parts {
   ids = record parts.ids { live = map (block_set w.tid (block.Entering m)) parts.ids.live };
-  mons = mon.requested parts.mons (record { mon = m; tid = w.tid; prio = w.prio; depth = w.depth });
+  mons = mon.after_request parts.mons (record { mon = m; tid = w.tid; prio = w.prio; depth = w.depth });
 }
 
 -- the parts once this thread is woken by a signal of its condition, which is one of monitor m
-abbrev pub signalled : Parts → ℕ → WaitRec → Parts
-signalled parts m w = asked (record parts { conds = cond.woken parts.conds (Some w) }) m w
+abbrev pub after_signal : Parts → ℕ → WaitRec → Parts
+after_signal parts m w = after_ask (record parts { conds = cond.after_wake parts.conds (Some w) }) m w
 
 -- the thread that waited so can wait to enter m: another holds m, it has no request yet, and there is a place for one
 pub record MayAsk (t : MonitorTable) (m : ℕ) (w : WaitRec) : Type 0 where

@@ -49,8 +49,8 @@ abbrev pub no_names : NameNote
 no_names = record { waits = []; places = 16 }
 
 -- with room for two waits of each of so many threads, or for as many as before
-abbrev pub reserved : NameNote → ℕ → NameNote
-reserved note threads = record note { places = max note.places (2 * threads) }
+abbrev pub after_reserve : NameNote → ℕ → NameNote
+after_reserve note threads = record note { places = max note.places (2 * threads) }
 
 -- ---- in what order the waits stand
 
@@ -60,11 +60,11 @@ rank awaited.Letter = 0
 rank awaited.Death = 1
 
 -- the waits for this of x are one run; the runs have rising numbers
-abbrev pub run : Awaited → ℕ → ℕ
-run what x = 2 * x + rank what
+abbrev pub run_number : Awaited → ℕ → ℕ
+run_number what x = 2 * x + rank what
 
 abbrev pub run_of : NamedWait → ℕ
-run_of wait = run wait.what wait.of
+run_of wait = run_number wait.what wait.of
 
 -- it is the wait of thread n, in this run
 abbrev pub is_wait : ℕ → ℕ → NamedWait → Bool
@@ -89,7 +89,7 @@ AreOrdered (wait ∷ waits) = AllByRecursion (IsBefore wait) waits × AreOrdered
 -- the wait of thread n for this of that one is noted
 abbrev pub covers : List NamedWait → ℕ → Option (Awaited × ℕ) → Bool
 covers waits n None = true
-covers waits n (Some name) = list_any (is_wait (run name.0 name.1) n) waits
+covers waits n (Some name) = list_any (is_wait (run_number name.0 name.1) n) waits
 
 -- whoever waits by name is noted; who no longer waits may be noted too
 abbrev pub all_noted : List NamedWait → List (ℕ × Kind) → Bool

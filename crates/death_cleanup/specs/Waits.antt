@@ -36,5 +36,5 @@ last_answer awaited.Death = zero_answer
 last_answer awaited.Letter = nonexist
 
 -- all of them go on
-abbrev pub dismissed : Awaited → ℕ → State → Outcome
-dismissed what t s = for_each (unblock (last_answer what)) (waiting what t s.threads) s
+abbrev pub after_dismiss : Awaited → ℕ → State → Outcome
+after_dismiss what t s = for_each (unblock (last_answer what)) (waiting what t s.threads) s

@@ -5,7 +5,7 @@ ghost use Rattle.lwp_types.specs.MonitorRelease.{last_lock};
 ghost use Rattle.lwp_types.specs.State.{passes};
 ghost use Rattle.lwp_types.specs.Conditions.{broadcast, cond_send, notify};
 ghost use Rattle.death_cleanup.specs.Comes.{Answers};
-ghost use Rattle.death_cleanup.specs.Moves.{MayAsk, asked};
+ghost use Rattle.death_cleanup.specs.Moves.{MayAsk, after_ask};
 ghost use Rattle.death_cleanup.specs.Ties.{LawfulParts};
 ghost use Rattle.death_cleanup.specs.View.{state_of};
 
@@ -27,7 +27,7 @@ pub fn is_last(mons: &Monitors, tid: Tid, mon: Mid) -> bool
 /// Whoever waited on a condition of the monitor waits to enter it again, behind all others.
 pub fn ask_again(parts: &mut Parts, mon: Mid, wait: WaitRec)
     requires { MayAsk parts.old.mons mon wait }
-    ensures { parts.new ≡ asked parts.old mon wait }
+    ensures { parts.new ≡ after_ask parts.old mon wait }
 {
     parts.mons.request(mon, wait.tid, wait.prio, wait.depth);
     set_block(&mut parts.ids, wait.tid, Block::Entering(mon));

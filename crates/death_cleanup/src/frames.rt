@@ -6,7 +6,7 @@ ghost use Rattle.lwp_types.specs.Exits.{unwind};
 ghost use Rattle.lwp_types.specs.Exceptions.{first_frames, frames, later_frames};
 ghost use Rattle.lwp_types.specs.State.{marks_in};
 ghost use Rattle.death_cleanup.specs.Comes.{CameTo, HasRoom};
-ghost use Rattle.death_cleanup.specs.Moves.{stack_of, stack_set, stacked};
+ghost use Rattle.death_cleanup.specs.Moves.{after_set_stack, stack_of, stack_set};
 ghost use Rattle.death_cleanup.specs.Ties.{LawfulParts};
 ghost use Rattle.death_cleanup.specs.View.{state_of};
 ghost use Rattle.stale_ids.specs.Register.{AreRising};
@@ -37,7 +37,7 @@ fn next_exit_above<'s>(parts: &mut Parts<'s>, tid: Tid, depth: u32) -> Option<Ex
     requires least { 1 ≤ depth }
     requires most { depth ≤ frames (marks_in (state_of parts.old) tid) }
     ensures left { parts.new
-        ≡ stacked parts.old tid (unwound_to depth (marks_in (state_of parts.old) tid)).left }
+        ≡ after_set_stack parts.old tid (unwound_to depth (marks_in (state_of parts.old) tid)).left }
     ensures next { UnwindsTo depth (marks_in (state_of parts.old) tid)
         (unwound_to depth (marks_in (state_of parts.old) tid)).left result }
 {

@@ -2,7 +2,7 @@
 ghost use Rattle.std.specs.Prelude.{◌≡◌, ◌==◌, ◌<◌, ◌≤◌, ◌*◌, ◌+◌, ◌-◌, false, map, length, nat_lt, vec_capacity, IfNone, IfOk, IfSome, IsFalse, IsOk, IsTrue, OnErr, OnOk, Option, ℕ};
 ghost use Rattle.death_cleanup.specs.Moves.{block_set};
 ghost use Rattle.std.specs.List.{list_any, remove, slice_index_or};
-ghost use Rattle.death_cleanup.specs.Named.{AreOrdered, HasNoWaiter, HasWaiter, IsBeforeLast, IsGap, IsNoteOf, all_noted, is_before, is_on, is_wait, no_names, reserved, run, run_of};
+ghost use Rattle.death_cleanup.specs.Named.{AreOrdered, HasNoWaiter, HasWaiter, IsBeforeLast, IsGap, IsNoteOf, after_reserve, all_noted, is_before, is_on, is_wait, no_names, run_number, run_of};
 ghost use Rattle.death_cleanup.specs.Waits.{first_waiting};
 ghost use Rattle.death_cleanup.specs.declared.rows.Awaited.TheVariants as awaited;
 
@@ -161,12 +161,12 @@ fn first_in(
 ) -> Option<Tid>
     requires ordered { AreOrdered waits.old.items }
     requires noted { IsTrue (all_noted waits.old.items ids.now.live) }
-    requires start { IsGap (run what tid) 0 waits.old.items at }
+    requires start { IsGap (run_number what tid) 0 waits.old.items at }
     ensures value { result ≡ first_waiting what tid ids.now.live }
     ensures ordered { AreOrdered waits.new.items }
     ensures noted { IsTrue (all_noted waits.new.items ids.now.live) }
-    ensures start { IsGap (run what tid) 0 waits.new.items at }
-    ensures next { IfNone result (IsGap (run what tid + 1) 0 waits.new.items at) }
+    ensures start { IsGap (run_number what tid) 0 waits.new.items at }
+    ensures next { IfNone result (IsGap (run_number what tid + 1) 0 waits.new.items at) }
     ensures capacity { vec_capacity waits.new ≡ vec_capacity waits.old }
 {
     // The check learns here that the living stand in birth order.
@@ -231,7 +231,7 @@ impl Named {
 
     /// Makes room for the waits of so many threads, and for as many that go on no longer.
     pub fn reserve(&mut self, threads: usize) -> Result<(), NoMemory>
-        ensures ok { OnOk result (self.new ≡ reserved self.old threads) }
+        ensures ok { OnOk result (self.new ≡ after_reserve self.old threads) }
         ensures err { OnErr result (self.new ≡ self.old) }
         ensures has_room { 2 * threads ≤ self.old.places → IsOk result }
     {
@@ -262,7 +262,7 @@ impl Named {
     /// Where the waits for a letter of the thread or agent begin, behind which those for its death stand.
     #[inline(always)]
     pub fn start_of(&self, tid: Tid) -> usize
-        ensures { IsGap (run awaited.Letter tid) 0 self.now.waits result }
+        ensures { IsGap (run_number awaited.Letter tid) 0 self.now.waits result }
     {
         let first = NamedWait {
             what: Awaited::Letter,
@@ -283,11 +283,11 @@ impl Named {
         at: usize,
     ) -> Option<Tid>
         requires noted { IsNoteOf self.old ids.now.live }
-        requires start { IsGap (run what tid) 0 self.old.waits at }
+        requires start { IsGap (run_number what tid) 0 self.old.waits at }
         ensures value { result ≡ first_waiting what tid ids.now.live }
         ensures noted { IsNoteOf self.new ids.now.live }
-        ensures start { IsGap (run what tid) 0 self.new.waits at }
-        ensures next { IfNone result (IsGap (run what tid + 1) 0 self.new.waits at) }
+        ensures start { IsGap (run_number what tid) 0 self.new.waits at }
+        ensures next { IfNone result (IsGap (run_number what tid + 1) 0 self.new.waits at) }
     {
         first_in(&mut self.waits, ids, what, tid, at)
     }

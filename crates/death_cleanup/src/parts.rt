@@ -8,7 +8,7 @@ ghost use Rattle.lwp_types.specs.Unblock.{unblock};
 ghost use Rattle.lwp_types.specs.declared.call.Answer.TheVariants as answer;
 ghost use Rattle.pod_sched.specs.Schedule as sched;
 ghost use Rattle.death_cleanup.specs.Comes.{CameTo};
-ghost use Rattle.death_cleanup.specs.Moves.{block_set, waked};
+ghost use Rattle.death_cleanup.specs.Moves.{after_wake, block_set};
 ghost use Rattle.death_cleanup.specs.Ties.{InStep};
 ghost use Rattle.death_cleanup.specs.View.{rows_of, state_of};
 
@@ -111,7 +111,7 @@ pub fn set_block(ids: &mut Registry<Kind>, tid: Tid, block: Block)
 // A thread waits no more, and may run again. Whoever calls this tells its answer.
 fn unblock(parts: &mut Parts, tid: Tid)
     requires { IsTrue (sched.is_blocked_in parts.old.sched tid) }
-    ensures { parts.new ≡ waked parts.old tid }
+    ensures { parts.new ≡ after_wake parts.old tid }
 {
     parts.sched.unblock(tid);
     set_block(&mut parts.ids, tid, Block::Not);

@@ -6,10 +6,10 @@ ghost use Rattle.lwp_types.specs.Death.{end_agents, refuse_senders, release_all}
 ghost use Rattle.lwp_types.specs.State.{is_agent, is_thread};
 ghost use Rattle.death_cleanup.specs.Comes.{CameTo, HasRoom};
 ghost use Rattle.death_cleanup.specs.Moves.{agent_over};
-ghost use Rattle.death_cleanup.specs.Named.{IsGap, run};
+ghost use Rattle.death_cleanup.specs.Named.{IsGap, run_number};
 ghost use Rattle.death_cleanup.specs.Ties.{HasLawfulThreads, InStep, LawfulParts};
 ghost use Rattle.death_cleanup.specs.View.{state_of};
-ghost use Rattle.death_cleanup.specs.Waits.{dismissed};
+ghost use Rattle.death_cleanup.specs.Waits.{after_dismiss};
 ghost use Rattle.pod_laws.proofs.DeathLoops.{Lonely, Unowning};
 
 use crate::monitor_releases::release;
@@ -40,11 +40,11 @@ pub fn dismiss<'s>(
 )
     requires threads { HasLawfulThreads (state_of parts.old) }
     requires step { InStep parts.old }
-    requires start { IsGap (run what tid) 0 parts.old.named.waits at }
-    requires room { HasRoom effects.old (dismissed what tid (state_of parts.old)) 0 }
+    requires start { IsGap (run_number what tid) 0 parts.old.named.waits at }
+    requires room { HasRoom effects.old (after_dismiss what tid (state_of parts.old)) 0 }
     ensures came { CameTo parts.old parts.new effects.old effects.new
-        (dismissed what tid (state_of parts.old)) }
-    ensures next { IsGap (run what tid + 1) 0 parts.new.named.waits at }
+        (after_dismiss what tid (state_of parts.old)) }
+    ensures next { IsGap (run_number what tid + 1) 0 parts.new.named.waits at }
 {
     while let Some(other) = parts.named.first_from(&parts.ids, what, tid, at) {
         wake_done(parts, other, what.answer(), effects);

@@ -7,7 +7,7 @@ use lib.ListN.{get_elem?}
 use Rattle.atomic_table.proofs.Lists.{at_last, at_longer, at_set, set_else}
 use Rattle.lwp_types.specs.declared.call.Line.{Line}
 use Rattle.event_gate.specs.declared.book.Book.{Book}
-use Rattle.event_gate.specs.Book.{AreBooked, AreSent, FitsPoster, FitsTaker, IsRun, IsSent, Learns, aimed, below, blank, enrolled, held, hit, hits, lines_alone, posters_book, takers_book, with_lines, with_note, with_told, without_last, without_lines}
+use Rattle.event_gate.specs.Book.{AreBooked, AreSent, FitsPoster, FitsTaker, IsRun, IsSent, Learns, below, blank, hit, hits, lines_alone, posters_book, takers_book, tickets_in, with_lines, with_next, with_next_noted, with_note, with_told, without_last, without_lines}
 use Rattle.event_gate.specs.Clients.{is_noted, is_told, of, told_of}
 use Rattle.event_gate.proofs.Lines.{at_new, bool_cases, cond_other, cond_same, noted_more, noted_still, or_other, same_or}
 
@@ -51,16 +51,16 @@ hits_append : (c i : ℕ) (xs ys : List Line) → hits c i (xs ++ ys) ≡ hits c
 hits_append c i [] ys = let e : hits c i ys ≡ 0 + hits c i ys = omega arith in e
 hits_append c i (x ∷ xs) ys = let r = hits_append c i xs ys in omega (arith, r)
 
-held_set : (c i : ℕ) (books : List Book) (k : ℕ) (b w : Book) → get_elem? books k ≡ some b → held c i (set books k w) + hits c i b.lines ≡ held c i books + hits c i w.lines
+held_set : (c i : ℕ) (books : List Book) (k : ℕ) (b w : Book) → get_elem? books k ≡ some b → tickets_in c i (set books k w) + hits c i b.lines ≡ tickets_in c i books + hits c i w.lines
 held_set c i [] k b w e = absurd (some-ne-none b (sym e))
 held_set c i (x ∷ xs) zero b w e = let same : hits c i x.lines ≡ hits c i b.lines = ap (λ (y : Book). hits c i y.lines) (some-injective x b e) in omega (arith, same)
 held_set c i (x ∷ xs) (suc k) b w e = let r = held_set c i xs k b w e in omega (arith, r)
 
-held_more : (c i : ℕ) (books : List Book) (w : Book) → held c i (books ++ w ∷ []) ≡ held c i books + hits c i w.lines
+held_more : (c i : ℕ) (books : List Book) (w : Book) → tickets_in c i (books ++ w ∷ []) ≡ tickets_in c i books + hits c i w.lines
 held_more c i [] w = omega arith
 held_more c i (b ∷ bs) w = let r = held_more c i bs w in omega (arith, r)
 
-hits_part : (c i : ℕ) (books : List Book) (k : ℕ) (b : Book) → get_elem? books k ≡ some b → hits c i b.lines ≤ held c i books
+hits_part : (c i : ℕ) (books : List Book) (k : ℕ) (b : Book) → get_elem? books k ≡ some b → hits c i b.lines ≤ tickets_in c i books
 hits_part c i [] k b e = absurd (some-ne-none b (sym e))
 hits_part c i (x ∷ xs) zero b e = let same : hits c i x.lines ≡ hits c i b.lines = ap (λ (y : Book). hits c i y.lines) (some-injective x b e) in omega (arith, same)
 hits_part c i (x ∷ xs) (suc k) b e = let r = hits_part c i xs k b e in omega (arith, r)
@@ -198,7 +198,7 @@ books_withdraw books pass b before l at h may is tickets =
     let here : (c : ℕ) → c ≡ b.client → sent c ≡ before = λ c e. cond_same c b.client before (h.sent c) e in
     let else : (c : ℕ) → c ≢ b.client → sent c ≡ h.sent c = λ c n. cond_other c b.client before (h.sent c) n in
     let one : (c i : ℕ) → hits c i b.lines ≡ hit c i l + 0 = λ c i. ap (hits c i) tickets in
-    let once : (c i : ℕ) → held c i (set books pass w) ≡ below i (sent c) = λ c i.
+    let once : (c i : ℕ) → tickets_in c i (set books pass w) ≡ below i (sent c) = λ c i.
     let change = held_set c i books pass b w at in
     let gone = one c i in
     let was = h.once c i in
@@ -264,8 +264,8 @@ books_like books pass b w at same keep h = record {
 pub books_kept : (books : List Book) (pass : ℕ) (b : Book) → get_elem? books pass ≡ some b → AreBooked books → AreBooked (set books pass b)
 books_kept books pass b at h = books_like books pass b b at refl (λ taker seat sent f. f) h
 
-pub books_aim : (books : List Book) (pass : ℕ) (b : Book) (c : ℕ) → get_elem? books pass ≡ some b → AreBooked books → AreBooked (set books pass (aimed b c))
-books_aim books pass b c at h = books_like books pass b (aimed b c) at refl (λ taker seat sent f. f) h
+pub books_aim : (books : List Book) (pass : ℕ) (b : Book) (c : ℕ) → get_elem? books pass ≡ some b → AreBooked books → AreBooked (set books pass (with_next b c))
+books_aim books pass b c at h = books_like books pass b (with_next b c) at refl (λ taker seat sent f. f) h
 
 -- one seat more, which has these tickets and nothing else
 books_more : (books : List Book) (lines : List Line) → (h : AreBooked books) → lines ≡ [] → AreBooked (books ++ (record blank { lines = lines }) ∷ [])
@@ -326,9 +326,9 @@ books_gather books pass b other u at two at' h =
     }
 
 -- a poster is made
-pub books_enroll : (books : List Book) (pass : ℕ) (b : Book) → get_elem? books pass ≡ some b → AreBooked books → b.takes ≡ true → is_noted b.next b.noted ≡ false → AreBooked (set books pass (enrolled b) ++ posters_book b.next [] ∷ [])
+pub books_enroll : (books : List Book) (pass : ℕ) (b : Book) → get_elem? books pass ≡ some b → AreBooked books → b.takes ≡ true → is_noted b.next b.noted ≡ false → AreBooked (set books pass (with_next_noted b) ++ posters_book b.next [] ∷ [])
 books_enroll books pass b at h may new =
-    let w : Book = enrolled b in
+    let w : Book = with_next_noted b in
     let p : Book = posters_book b.next [] in
     let vs : List Book = set books pass w in
     let fit = h.fits pass b at in

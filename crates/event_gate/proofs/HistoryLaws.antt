@@ -3,7 +3,7 @@ use Rattle.std.proofs.Common.{◌≡◌, ◌≢◌, ℕ, Bool, List, [], ◌∷�
 use Rattle.std.proofs.lemmas.List.FromFn.{get_or-map-range_with_len}
 use Rattle.lwp_types.specs.declared.call.Line.{Line}
 use Rattle.event_gate.specs.Port.{of}
-use Rattle.event_gate.specs.Shelves.{Shelf, Shelves, bare, event_of, full, lines_for, moved, shelf_of, stocked, taken_from}
+use Rattle.event_gate.specs.Shelves.{Shelf, Shelves, after_next, after_take_from, bare, event_of, full, full_shelves, lines_for, shelf_of}
 use Rattle.event_gate.specs.History.{ClientsKeepHistory, GatesKeepHistory, IsGateHistory}
 use Rattle.event_gate.proofs.Lines.{cond_other, cond_same, of-append, same_or}
 
@@ -11,17 +11,17 @@ abbrev all_of : Shelf Line → List Line
 all_of s = s.taken ++ s.left
 
 -- a take moves a line from those left to those taken
-whole_still : (s : Shelf Line) → all_of (moved s) ≡ all_of s
+whole_still : (s : Shelf Line) → all_of (after_next s) ≡ all_of s
 whole_still s = append_assoc s.taken (take 1 s.left) (drop 1 s.left) ∙ ap (λ l. s.taken ++ l) (take-append-drop 1 s.left)
 
-begins : (events : List ℕ) (posts : List Line) → IsGateHistory events posts (stocked events posts)
+begins : (events : List ℕ) (posts : List Line) → IsGateHistory events posts (full_shelves events posts)
 begins events posts e low = ap all_of (get_or-map-range_with_len (full events posts) 0 256 e e bare low (omega arith))
 
-keeps : (events : List ℕ) (posts : List Line) (shelves : Shelves) (e : ℕ) → length shelves ≡ 256 → IsGateHistory events posts shelves → IsGateHistory events posts (taken_from shelves e)
+keeps : (events : List ℕ) (posts : List Line) (shelves : Shelves) (e : ℕ) → length shelves ≡ 256 → IsGateHistory events posts shelves → IsGateHistory events posts (after_take_from shelves e)
 keeps events posts shelves e long h d low = ⊎_elim
     (λ (same : e ≡ d).
-    ap (λ k. all_of (shelf_of (taken_from shelves e) k)) (sym same) ∙ ap all_of (get_or-set_same shelves e (moved (shelf_of shelves e)) bare (omega (arith, long, same, low))) ∙ whole_still (shelf_of shelves e) ∙ ap (λ k. all_of (shelf_of shelves k)) same ∙ h d low)
-    (λ (other : e ≢ d). ap all_of (get_or-set_other shelves e d (moved (shelf_of shelves e)) bare (λ s. other (sym s))) ∙ h d low)
+    ap (λ k. all_of (shelf_of (after_take_from shelves e) k)) (sym same) ∙ ap all_of (get_or-set_same shelves e (after_next (shelf_of shelves e)) bare (omega (arith, long, same, low))) ∙ whole_still (shelf_of shelves e) ∙ ap (λ k. all_of (shelf_of shelves k)) same ∙ h d low)
+    (λ (other : e ≢ d). ap all_of (get_or-set_other shelves e d (after_next (shelf_of shelves e)) bare (λ s. other (sym s))) ∙ h d low)
     (same_or e d)
 
 pub gates_keep_history : GatesKeepHistory

@@ -10,7 +10,7 @@ use Rattle.lwp_types.specs.CountLaws.{one, count-cons, count-push}
 use Rattle.event_marks.specs.Marks.{is_marked}
 use Rattle.std.specs.Slice.Scan.{HoldsNowhere, IsFirstPlace}
 use Rattle.std.specs.Prelude.{Err, IfNone, IfSome, Ok, OnErr, Option, Result}
-use Rattle.event_gate.specs.Shelves.{Shelf, Shelves, bare, bare_rack, first_left, has_left, moved, with_one_more, shelf_of, taken_from, added_to, left_of_client, left_in_all, event_of, lines_for, full, stocked}
+use Rattle.event_gate.specs.Shelves.{Shelf, Shelves, bare, bare_rack, first_left, has_left, after_next, with_one_more, shelf_of, after_take_from, after_add_to, left_of_client, left_in_all, event_of, lines_for, full, full_shelves}
 use Rattle.event_gate.proofs.Lines.{same_or, cond_same, cond_other}
 
 abbrev is_of : ℕ → Line → Bool
@@ -24,17 +24,17 @@ first_rest [] x e = absurd (cc e)
 first_rest (y ∷ ys) x e = cc e
 
 -- how many of c's lines are left of a shelf from which x is taken
-count_first : (c : ℕ) (s : Shelf Line) (x : Line) → slice_get s.left 0 ≡ Some x → count_of c s ≡ one (eqb x.client c) + count_of c (moved s)
+count_first : (c : ℕ) (s : Shelf Line) (x : Line) → slice_get s.left 0 ≡ Some x → count_of c s ≡ one (eqb x.client c) + count_of c (after_next s)
 count_first c s x e = ap (count_by (is_of c)) (first_rest s.left x e) ∙ count-cons (is_of c) x (drop 1 s.left)
 
 -- how many of c's lines are left in all where x is taken
-one_less : (c : ℕ) (shelves : Shelves) (e : ℕ) (x : Line) → e < length shelves → slice_get (shelf_of shelves e).left 0 ≡ Some x → left_of_client c (taken_from shelves e) + one (eqb x.client c) ≡ left_of_client c shelves
+one_less : (c : ℕ) (shelves : Shelves) (e : ℕ) (x : Line) → e < length shelves → slice_get (shelf_of shelves e).left 0 ≡ Some x → left_of_client c (after_take_from shelves e) + one (eqb x.client c) ≡ left_of_client c shelves
 one_less c shelves e x there first =
-    let s = sum_by-set (count_of c) shelves e (moved (shelf_of shelves e)) bare there in
+    let s = sum_by-set (count_of c) shelves e (after_next (shelf_of shelves e)) bare there in
     let n = count_first c (shelf_of shelves e) x first in
     omega (arith, s, n)
 
-one_more : (c : ℕ) (shelves : Shelves) (e : ℕ) (x : Line) → e < length shelves → left_of_client c (added_to shelves e x) ≡ left_of_client c shelves + one (eqb x.client c)
+one_more : (c : ℕ) (shelves : Shelves) (e : ℕ) (x : Line) → e < length shelves → left_of_client c (after_add_to shelves e x) ≡ left_of_client c shelves + one (eqb x.client c)
 one_more c shelves e x there =
     let s = sum_by-set (count_of c) shelves e (with_one_more (shelf_of shelves e) x) bare there in
     let n = count-push (is_of c) (shelf_of shelves e).left x in
@@ -56,15 +56,15 @@ recounted left was now i n h there mine others c = ⊎_elim
     (λ (other : i ≢ c). get_or-set_other left i c n 0 (λ s. other (sym s)) ∙ h c ∙ sym (others c other))
     (same_or i c)
 
-pub counts_taken : (left : List ℕ) (shelves : Shelves) (e : ℕ) (x : Line) → Counts left shelves → e < length shelves → x.client < length left → slice_get (shelf_of shelves e).left 0 ≡ Some x → Counts (set left x.client (slice_index left x.client - 1)) (taken_from shelves e)
+pub counts_taken : (left : List ℕ) (shelves : Shelves) (e : ℕ) (x : Line) → Counts left shelves → e < length shelves → x.client < length left → slice_get (shelf_of shelves e).left 0 ≡ Some x → Counts (set left x.client (slice_index left x.client - 1)) (after_take_from shelves e)
 counts_taken left shelves e x h there known first =
-    recounted left shelves (taken_from shelves e) x.client (slice_index left x.client - 1) h known
+    recounted left shelves (after_take_from shelves e) x.client (slice_index left x.client - 1) h known
     (let s = one_less x.client shelves e x there first in let n : one (eqb x.client x.client) ≡ 1 = ap one (eq-eqb x.client x.client refl) in let m = h x.client in omega (arith, s, n, m))
     (λ c other. let s = one_less c shelves e x there first in let n : one (eqb x.client c) ≡ 0 = ap one (ne_eqb x.client c other) in omega (arith, s, n))
 
-pub counts_added : (left : List ℕ) (shelves : Shelves) (e : ℕ) (x : Line) → Counts left shelves → e < length shelves → x.client < length left → Counts (set left x.client (slice_index left x.client + 1)) (added_to shelves e x)
+pub counts_added : (left : List ℕ) (shelves : Shelves) (e : ℕ) (x : Line) → Counts left shelves → e < length shelves → x.client < length left → Counts (set left x.client (slice_index left x.client + 1)) (after_add_to shelves e x)
 counts_added left shelves e x h there known =
-    recounted left shelves (added_to shelves e x) x.client (slice_index left x.client + 1) h known
+    recounted left shelves (after_add_to shelves e x) x.client (slice_index left x.client + 1) h known
     (let s = one_more x.client shelves e x there in let n : one (eqb x.client x.client) ≡ 1 = ap one (eq-eqb x.client x.client refl) in let m = h x.client in omega (arith, s, n, m))
     (λ c other. let s = one_more c shelves e x there in let n : one (eqb x.client c) ≡ 0 = ap one (ne_eqb x.client c other) in omega (arith, s, n))
 
@@ -89,26 +89,26 @@ range_same events ps x a (suc n) low =
     let head : full events ps a ≡ full events (ps ++ x ∷ []) a = ap full_of (sym (lines_same events ps x a (λ e. absurd (omega arith)))) in
     ap (λ s. s ∷ of_range events ps (a + 1) n) head ∙ ap (λ l. full events (ps ++ x ∷ []) a ∷ l) (range_same events ps x (a + 1) n (omega arith))
 
-range_more : (events : List ℕ) (ps : List Line) (x : Line) (a n i : ℕ) → i < n → event_of events x.client ≡ a + i → added_to (of_range events ps a n) i x ≡ of_range events (ps ++ x ∷ []) a n
+range_more : (events : List ℕ) (ps : List Line) (x : Line) (a n i : ℕ) → i < n → event_of events x.client ≡ a + i → after_add_to (of_range events ps a n) i x ≡ of_range events (ps ++ x ∷ []) a n
 range_more events ps x a zero i low e = absurd (omega arith)
 range_more events ps x a (suc n) zero low e =
     let head : with_one_more (full events ps a) x ≡ full events (ps ++ x ∷ []) a = ap full_of (sym (lines_more events ps x a (omega (arith, e)))) in
     ap (λ s. s ∷ of_range events ps (a + 1) n) head ∙ ap (λ l. full events (ps ++ x ∷ []) a ∷ l) (range_same events ps x (a + 1) n (omega (arith, e)))
 range_more events ps x a (suc n) (suc i) low e =
     let head : full events ps a ≡ full events (ps ++ x ∷ []) a = ap full_of (sym (lines_same events ps x a (λ f. absurd (omega (arith, e, f))))) in
-    ap (λ s. s ∷ added_to (of_range events ps (a + 1) n) i x) head ∙ ap (λ l. full events (ps ++ x ∷ []) a ∷ l) (range_more events ps x (a + 1) n i (omega arith) (omega (arith, e)))
+    ap (λ s. s ∷ after_add_to (of_range events ps (a + 1) n) i x) head ∙ ap (λ l. full events (ps ++ x ∷ []) a ∷ l) (range_more events ps x (a + 1) n i (omega arith) (omega (arith, e)))
 
-pub stocked_more : (events : List ℕ) (ps : List Line) (x : Line) → event_of events x.client < 256 → added_to (stocked events ps) (event_of events x.client) x ≡ stocked events (ps ++ x ∷ [])
+pub stocked_more : (events : List ℕ) (ps : List Line) (x : Line) → event_of events x.client < 256 → after_add_to (full_shelves events ps) (event_of events x.client) x ≡ full_shelves events (ps ++ x ∷ [])
 stocked_more events ps x low = range_more events ps x 0 256 (event_of events x.client) low (omega arith)
 
 range_none : (events : List ℕ) (a n : ℕ) → of_range events [] a n ≡ replicate n bare
 range_none events a zero = refl
 range_none events a (suc n) = ap (λ l. bare ∷ l) (range_none events (a + 1) n)
 
-pub stocked_none : (events : List ℕ) → stocked events [] ≡ replicate 256 bare
+pub stocked_none : (events : List ℕ) → full_shelves events [] ≡ replicate 256 bare
 stocked_none events = range_none events 0 256
 
-pub all_more : (shelves : Shelves) (e : ℕ) (x : Line) → e < length shelves → left_in_all (added_to shelves e x) ≡ left_in_all shelves + 1
+pub all_more : (shelves : Shelves) (e : ℕ) (x : Line) → e < length shelves → left_in_all (after_add_to shelves e x) ≡ left_in_all shelves + 1
 all_more shelves e x there =
     let s = sum_by-set (λ (s : Shelf Line). length s.left) shelves e (with_one_more (shelf_of shelves e) x) bare there in
     let n = length-append (shelf_of shelves e).left (x ∷ []) in
@@ -127,44 +127,44 @@ no_counts c = all_zero 256 c ∙ sym (none_left 256 c)
     none_left (suc n) c = none_left n c
 
 pub take_of : (left : List ℕ) (shelves : Shelves) (e i n : ℕ) (x : Line) → Counts left shelves → e < length shelves → i < length left → first_left shelves e ≡ Some x → i ≡ x.client → n ≡ get_or left i n
-    → (1 ≤ n) × Counts (set left i (n - 1)) (taken_from shelves e)
+    → (1 ≤ n) × Counts (set left i (n - 1)) (after_take_from shelves e)
 take_of left shelves e i n x h there known first i_is n_is =
     let count : n ≡ slice_index left x.client = n_is ∙ get_or_default left i n 0 known ∙ ap (λ k. get_or left k 0) i_is in (
       let a = one_left shelves e x there first in let b = h x.client in omega (arith, a, b, count),
-      subst (λ (y : ℕ × ℕ). Counts (set left y.0 (y.1 - 1)) (taken_from shelves e)) (λ k. (sym i_is k, sym count k)) (counts_taken left shelves e x h there (let b = i_is in omega (arith, b)) first),
+      subst (λ (y : ℕ × ℕ). Counts (set left y.0 (y.1 - 1)) (after_take_from shelves e)) (λ k. (sym i_is k, sym count k)) (counts_taken left shelves e x h there (let b = i_is in omega (arith, b)) first),
     )
 
 pub add_of : (left : List ℕ) (shelves : Shelves) (e i n : ℕ) (x : Line) → Counts left shelves → e < length shelves → i < length left → i ≡ x.client → n ≡ get_or left i n
-    → (n ≤ left_in_all shelves) × Counts (set left i (n + 1)) (added_to shelves e x)
+    → (n ≤ left_in_all shelves) × Counts (set left i (n + 1)) (after_add_to shelves e x)
 add_of left shelves e i n x h there known i_is n_is =
     let count : n ≡ slice_index left x.client = n_is ∙ get_or_default left i n 0 known ∙ ap (λ k. get_or left k 0) i_is in (
       let a = within_all x.client shelves in let b = h x.client in omega (arith, a, b, count),
-      subst (λ (y : ℕ × ℕ). Counts (set left y.0 (y.1 + 1)) (added_to shelves e x)) (λ k. (sym i_is k, sym count k)) (counts_added left shelves e x h there (let b = i_is in omega (arith, b))),
+      subst (λ (y : ℕ × ℕ). Counts (set left y.0 (y.1 + 1)) (after_add_to shelves e x)) (λ k. (sym i_is k, sym count k)) (counts_added left shelves e x h there (let b = i_is in omega (arith, b))),
     )
 
 -- where no item is left, none is taken
-pub taken_none : {X : Type 0} (shelves : List (Shelf X)) (e : ℕ) → first_left shelves e ≡ None → taken_from shelves e ≡ shelves
+pub taken_none : {X : Type 0} (shelves : List (Shelf X)) (e : ℕ) → first_left shelves e ≡ None → after_take_from shelves e ≡ shelves
 taken_none [] e h = refl
 taken_none (s ∷ shelves) zero h = ap (λ t. t ∷ shelves) (moved_none s h)
   where
-    moved_none : {X : Type 0} (s : Shelf X) → slice_get s.left 0 ≡ None → moved s ≡ s
+    moved_none : {X : Type 0} (s : Shelf X) → slice_get s.left 0 ≡ None → after_next s ≡ s
     moved_none {X} s h = by_left s.left h
       where
-        by_left : (left : List X) → slice_get left 0 ≡ None → moved (record { taken = s.taken; left = left }) ≡ record { taken = s.taken; left = left }
+        by_left : (left : List X) → slice_get left 0 ≡ None → after_next (record { taken = s.taken; left = left }) ≡ record { taken = s.taken; left = left }
         by_left [] h = ap (λ (t : List X). record { taken = t; left = [] }) (append-nil s.taken)
         by_left (y ∷ ys) h = absurd (cc h)
 taken_none (s ∷ shelves) (suc e) h = ap (λ t. s ∷ t) (taken_none shelves e h)
 
-pub add_next : (events : List ℕ) (posts : List Line) (i e : ℕ) (x : Line) (gate w : Shelves) → i < length posts → x ≡ get_or posts i x → gate ≡ stocked events (take i posts) → left_in_all gate ≡ i → e ≡ slice_index events x.client → e < 256 → w ≡ added_to gate e x
-    → (w ≡ stocked events (take (i + 1) posts)) × (left_in_all w ≡ i + 1)
+pub add_next : (events : List ℕ) (posts : List Line) (i e : ℕ) (x : Line) (gate w : Shelves) → i < length posts → x ≡ get_or posts i x → gate ≡ full_shelves events (take i posts) → left_in_all gate ≡ i → e ≡ slice_index events x.client → e < 256 → w ≡ after_add_to gate e x
+    → (w ≡ full_shelves events (take (i + 1) posts)) × (left_in_all w ≡ i + 1)
 add_next events posts i e x gate w lt x_is gate_is all e_is low w_is =
     let long : length gate ≡ 256 = ap length gate_is ∙ length-map-range_with_len (full events (take i posts)) 0 256 in
     let next : take i posts ++ x ∷ [] ≡ take (i + 1) posts = ap (λ y. take i posts ++ y ∷ []) x_is ∙ sym (take_more posts i x lt) in (
-      w_is ∙ (λ k. added_to (gate_is k) (e_is k) x) ∙ stocked_more events (take i posts) x (omega (arith, low, e_is)) ∙ ap (stocked events) next,
+      w_is ∙ (λ k. after_add_to (gate_is k) (e_is k) x) ∙ stocked_more events (take i posts) x (omega (arith, low, e_is)) ∙ ap (full_shelves events) next,
       ap left_in_all w_is ∙ all_more gate e x (omega (arith, low, long)) ∙ ap (λ k. k + 1) all,
     )
 
-pub begins : (events : List ℕ) (gate : Shelves) → gate ≡ replicate 256 bare → (gate ≡ stocked events []) × (left_in_all gate ≡ 0)
+pub begins : (events : List ℕ) (gate : Shelves) → gate ≡ replicate 256 bare → (gate ≡ full_shelves events []) × (left_in_all gate ≡ 0)
 begins events gate is = (is ∙ sym (stocked_none events), ap left_in_all is ∙ none_in 256)
   where
     none_in : (n : ℕ) → left_in_all (replicate n bare) ≡ 0
@@ -176,7 +176,7 @@ abbrev pub parted : {X : Type 0} → ℕ → List X → Shelf X
 parted n xs = record { taken = take n xs; left = drop n xs }
 
 -- parted one place further on, the first item left is taken
-pub moved_on : {X : Type 0} (n : ℕ) (xs : List X) → parted (suc n) xs ≡ moved (parted n xs)
+pub moved_on : {X : Type 0} (n : ℕ) (xs : List X) → parted (suc n) xs ≡ after_next (parted n xs)
 moved_on zero [] = refl
 moved_on (suc n) [] = refl
 moved_on zero (x ∷ xs) = refl

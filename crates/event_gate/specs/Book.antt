@@ -40,12 +40,12 @@ abbrev pub with_lines : Book → Book → Book
 with_lines b other = record b { lines = b.lines ++ other.lines }
 
 -- the next poster will be of client c
-abbrev pub aimed : Book → ℕ → Book
-aimed b c = record b { next = c }
+abbrev pub with_next : Book → ℕ → Book
+with_next b c = record b { next = c }
 
 -- the client of the next poster is noted
-abbrev pub enrolled : Book → Book
-enrolled b = record b { noted = b.noted ++ b.next ∷ [] }
+abbrev pub with_next_noted : Book → Book
+with_next_noted b = record b { noted = b.noted ++ b.next ∷ [] }
 
 -- what a poster's book tells
 abbrev pub told_by_book : Book → Told
@@ -65,9 +65,9 @@ hits c i [] = 0
 hits c i (l ∷ ls) = hit c i l + hits c i ls
 
 -- how many tickets of client c's line i there are
-abbrev pub held : ℕ → ℕ → List Book → ℕ
-held c i [] = 0
-held c i (b ∷ bs) = hits c i b.lines + held c i bs
+abbrev pub tickets_in : ℕ → ℕ → List Book → ℕ
+tickets_in c i [] = 0
+tickets_in c i (b ∷ bs) = hits c i b.lines + tickets_in c i bs
 
 -- 1 where there is a line i
 abbrev pub below : ℕ → List Line → ℕ
@@ -105,7 +105,7 @@ pub record AreBooked (books : List Book) : Type 0 where
   pub seat : ℕ → Option ℕ
   pub sent : ℕ → List Line
   pub runs : (c : ℕ) → IsRun c 0 (sent c)
-  pub once : (c i : ℕ) → held c i books ≡ below i (sent c)
+  pub once : (c i : ℕ) → tickets_in c i books ≡ below i (sent c)
   pub right : (pass : ℕ) (b : Book) → get_elem? books pass ≡ some b → AreSent sent b.lines
   pub fits : (pass : ℕ) (b : Book) → get_elem? books pass ≡ some b → FitsPoster seat sent pass b × FitsTaker taker seat sent pass b
 

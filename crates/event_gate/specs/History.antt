@@ -1,7 +1,7 @@
 -- What was taken and what is left of the lines that clients post.
 use Rattle.lwp_types.specs.declared.call.Line.{Line}
 use Rattle.event_gate.specs.Port.{IsNumbered, of}
-use Rattle.event_gate.specs.Shelves.{Shelves, event_of, lines_for, shelf_of, stocked, taken_from}
+use Rattle.event_gate.specs.Shelves.{Shelves, after_take_from, event_of, full_shelves, lines_for, shelf_of}
 use Rattle.std.specs.Prelude.{All, ℕ, List, ◌++◌, ◌<◌, ◌≡◌, length, map}
 
 -- the lines of these takes, each of which is an event and a line
@@ -20,8 +20,8 @@ IsGateHistory events posts shelves = (e : ℕ) → e < 256 → (shelf_of shelves
 
 -- a gate with all lines in place has this history, and a take of any event keeps it
 pub record GatesKeepHistory : Type 0 where
-  pub begins : (events : List ℕ) (posts : List Line) → IsGateHistory events posts (stocked events posts)
-  pub keeps : (events : List ℕ) (posts : List Line) (shelves : Shelves) (e : ℕ) → length shelves ≡ 256 → IsGateHistory events posts shelves → IsGateHistory events posts (taken_from shelves e)
+  pub begins : (events : List ℕ) (posts : List Line) → IsGateHistory events posts (full_shelves events posts)
+  pub keeps : (events : List ℕ) (posts : List Line) (shelves : Shelves) (e : ℕ) → length shelves ≡ 256 → IsGateHistory events posts shelves → IsGateHistory events posts (after_take_from shelves e)
 
 -- so of each client, the lines taken of its event and then those left are what it posts, in order
 abbrev pub ClientsKeepHistory : Type 0

@@ -1,7 +1,7 @@
 // The outside of a pod, as whoever runs the pod sees it.
 ghost use Rattle.std.specs.Prelude.{◌≡◌, ◌<◌, IfNone, IfSome};
 ghost use Rattle.std.specs.Slice.Scan.{HoldsNowhere, IsFirstPlace};
-ghost use Rattle.event_gate.specs.Shelves.{Shelves, first_left, has_left, left_of_client, taken_from};
+ghost use Rattle.event_gate.specs.Shelves.{Shelves, after_take_from, first_left, has_left, left_of_client};
 
 use lwp_types::Line;
 
@@ -12,7 +12,7 @@ pub trait Gate<'s> {
     /// The first line left of the event, which is then taken.
     fn take(&mut self, event: u8) -> Option<Line<'s>>
         ensures line { result ≡ first_left (stock self.old) event }
-        ensures after { stock self.new ≡ taken_from (stock self.old) event };
+        ensures after { stock self.new ≡ after_take_from (stock self.old) event };
 
     /// The first event from `from` on of which a line is left, if there is one below 32.
     fn next_left(&self, from: u8) -> Option<u8>

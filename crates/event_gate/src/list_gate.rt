@@ -1,6 +1,6 @@
 // All lines of the outside in place before a pod runs.
 ghost use Rattle.std.specs.Prelude.{◌≡◌, ◌<◌, All, IfOk, OnOk, length};
-ghost use Rattle.event_gate.specs.Shelves.{added_to, bare_rack, first_left, left_in_all, left_of_client, stocked, taken_from};
+ghost use Rattle.event_gate.specs.Shelves.{after_add_to, after_take_from, bare_rack, first_left, full_shelves, left_in_all, left_of_client};
 
 use crate::gate::Gate;
 use crate::rack::Rack;
@@ -43,7 +43,7 @@ impl<'s> ListGate<'s> {
     // One line more, at the end of its event's.
     fn with_line(self, event: u8, line: Line<'s>) -> Result<ListGate<'s>, NoMemory>
         requires { left_in_all self < 4294967295 }
-        ensures { IfOk result (λ g. g ≡ added_to self.entry event line.entry) }
+        ensures { IfOk result (λ g. g ≡ after_add_to self.entry event line.entry) }
     {
         let ListGate { mut rack, mut left } = self;
         let client = usize::from(client_of(&line));
@@ -56,7 +56,7 @@ impl<'s> ListGate<'s> {
     pub fn new(alloc: Global, events: &[u8], posts: &[Line<'s>]) -> Result<ListGate<'s>, NoMemory>
         requires clients { All (λ l. l.client < length events.now) posts.now }
         requires few { length posts.now < 4294967296 }
-        ensures { IfOk result (λ g. g ≡ stocked events.now posts.now) }
+        ensures { IfOk result (λ g. g ≡ full_shelves events.now posts.now) }
     {
         let mut gate = ListGate::empty(alloc)?;
         for line in posts {

@@ -2,7 +2,7 @@
 ghost use Rattle.std.specs.Prelude.{◌≡◌, ◌≢◌, false, true, [], ◌∷◌, ◌++◌, map, AllPairs, IfOk, OnOk};
 ghost use Rattle.std.specs.Arc.{arc_value};
 ghost use Rattle.crossbeam_queue.specs.SegTies.{IsSegPassOf};
-ghost use Rattle.event_gate.specs.Port.{is_noted, starting, unnamed, with_next};
+ghost use Rattle.event_gate.specs.Port.{is_noted, starting, unnamed_view, with_next};
 ghost use Rattle.event_gate.specs.Gauge.{IsAtGauge};
 ghost use Rattle.event_gate.specs.Ends.{IsOpen, IsOpenGauge, opened_port, port_id, posting};
 
@@ -39,7 +39,7 @@ fn name_port<'s, R: Wait>(
 ) -> Result<(), NoMemory>
     requires gauge { IsAtGauge port.now.gauge.shared.table_id seat.old.table_id }
     requires queue { IsSegPassOf port.now.queue pass.old }
-    requires view { pass.old.me.view.client ≡ unnamed }
+    requires view { pass.old.me.view.client ≡ unnamed_view }
     ensures gauge { (seat.new.table_id ≡ seat.old.table_id) × (seat.new.me.0 ≡ seat.old.me.0) }
     ensures queue { IsSegPassOf port.now.queue pass.new }
     ensures view { OnOk result (pass.new.me.view.client ≡ starting seat.old.table_id) }

@@ -1,7 +1,7 @@
 // The items of all events.
 ghost use Rattle.std.specs.Prelude.{◌≡◌, ◌<◌, IfNone, IfOk, IfSome, OnErr, OnOk};
 ghost use Rattle.std.specs.Slice.Scan.{HoldsNowhere, IsFirstPlace};
-ghost use Rattle.event_gate.specs.Shelves.{added_to, bare_rack, first_left, has_left, taken_from};
+ghost use Rattle.event_gate.specs.Shelves.{after_add_to, after_take_from, bare_rack, first_left, has_left};
 
 use crate::again::Again;
 use crate::shelf::Shelf;
@@ -55,7 +55,7 @@ impl<T> Rack<T> {
     pub fn add(&mut self, event: u8, item: T) -> Result<(), NoMemory>
     where
         T: Drop,
-        ensures ok { OnOk result (self.new ≡ added_to self.old event item) }
+        ensures ok { OnOk result (self.new ≡ after_add_to self.old event item) }
         ensures err { OnErr result (self.new ≡ self.old) }
     {
         self.shelves[usize::from(event)].add(item)?;
@@ -68,7 +68,7 @@ impl<T> Rack<T> {
     where
         T: Again,
         ensures item { result ≡ first_left self.old event }
-        ensures after { self.new ≡ taken_from self.old event }
+        ensures after { self.new ≡ after_take_from self.old event }
     {
         let Rack { shelves, marks } = self;
         let shelf = &mut shelves[usize::from(event)];

@@ -7,11 +7,11 @@ use crossbeam_queue::protocol::{Join, Lesson, Outcome, Protocol, Split};
 pub struct InPort;
 
 impl<'s> Protocol<Sent<'s>, View<'s>> for InPort {
-    ghost use Rattle.event_gate.specs.Port.{IsRuled, unnamed};
+    ghost use Rattle.event_gate.specs.Port.{IsRuled, unnamed_view};
 
     ghost holds = { IsRuled };
 
-    ghost first = { unnamed };
+    ghost first = { unnamed_view };
 }
 
 /// A push of a seat, which says which gauge the port has.
@@ -19,9 +19,9 @@ pub struct Name;
 
 impl<'s> Outcome<Sent<'s>, View<'s>> for Name {
     ghost use Rattle.std.specs.Prelude.{◌≡◌};
-    ghost use Rattle.event_gate.specs.Port.{named};
+    ghost use Rattle.event_gate.specs.Port.{named_view};
 
-    ghost then = { λ v x w. w ≡ named x.ticket.table_id };
+    ghost then = { λ v x w. w ≡ named_view x.ticket.table_id };
 }
 
 /// The pop of that seat. Then the port is open.

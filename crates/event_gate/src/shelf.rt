@@ -1,7 +1,7 @@
 // The items of one event.
 ghost use Rattle.std.specs.Prelude.{◌≡◌, OnErr, OnOk, is_some};
 ghost use Rattle.std.specs.List.{slice_get};
-ghost use Rattle.event_gate.specs.Shelves.{bare, moved, with_one_more};
+ghost use Rattle.event_gate.specs.Shelves.{after_next, bare, with_one_more};
 
 use crate::again::Again;
 use lwp_types::NoMemory;
@@ -61,7 +61,7 @@ impl<T> Shelf<T> {
     where
         T: Again,
         ensures item { result ≡ slice_get self.old.left 0 }
-        ensures after { self.new ≡ moved self.old }
+        ensures after { self.new ≡ after_next self.old }
     {
         let item = self.items.get(self.taken)?.again();
         self.taken += 1;

@@ -3,7 +3,7 @@ use Rattle.exceptions.proofs.Frames.{first-append, frames-cons, frames-first-zer
 use Rattle.exceptions.proofs.Handlers.{handlers-frame, handlers-more, handlers-push, some_frame}
 use Rattle.exceptions.specs.Stack.{IsInReach, IsTopmostMatch, begins_with_frame, catches, handlers_on_top}
 use Rattle.lwp_types.specs.CountLaws.{count-append}
-use Rattle.lwp_types.specs.Exceptions.{Search, first_frames, found_in, frames, is_frame, look, matches}
+use Rattle.lwp_types.specs.Exceptions.{Search, first_frames, frames, handler_in, is_frame, look, matches}
 use Rattle.lwp_types.specs.declared.rows.Found.{Found}
 use Rattle.lwp_types.specs.declared.rows.Mark.{Mark}
 use Rattle.std.proofs.Common.{Bool, IfSome, List, MatchOption, None, Option, Some, [], ap, append_assoc, arith, cond, false, refl, sym, true, ℕ, ◌++◌, ◌<◌, ◌∙◌, ◌∷◌, ◌≡◌}
@@ -74,7 +74,7 @@ Knows-all : (p : ℕ) (passed ms : List Mark) (search : Search) → Knows p pass
 Knows-all p passed [] search was = rw (append-nil passed) was
 Knows-all p passed (m ∷ ms) search was = rw (← append_assoc passed (m ∷ []) ms) (Knows-all p (passed ++ m ∷ []) ms (look p search m) (Knows-push p passed search m was))
 
-pub found_in-topmost : (p : ℕ) (ms : List Mark) → begins_with_frame ms ≡ true → FindsIn p ms (found_in p ms)
+pub found_in-topmost : (p : ℕ) (ms : List Mark) → begins_with_frame ms ≡ true → FindsIn p ms (handler_in p ms)
 found_in-topmost p [] e = refl
 found_in-topmost p (mark.Frame ∷ ms) e = (Knows-all p (mark.Frame ∷ []) ms (record { frames = 1; handlers = 0; found = None }) start).finds
   where
@@ -99,8 +99,8 @@ IsInReach-match p ms f e found =
     some_below [] b = absurd (cc)
     some_below (m ∷ below) b = some_frame (m ∷ below) b (omega arith)
 
-pub found_in-in_reach : (p : ℕ) (ms : List Mark) → begins_with_frame ms ≡ true → IfSome (found_in p ms) (IsInReach ms)
-found_in-in_reach p ms e = by_found (found_in p ms) (found_in-topmost p ms e)
+pub found_in-in_reach : (p : ℕ) (ms : List Mark) → begins_with_frame ms ≡ true → IfSome (handler_in p ms) (IsInReach ms)
+found_in-in_reach p ms e = by_found (handler_in p ms) (found_in-topmost p ms e)
   where
     by_found : (o : Option Found) → FindsIn p ms o → IfSome o (IsInReach ms)
     by_found None none = tt

@@ -1,5 +1,5 @@
 -- A thread's stack as the list of its marks, from the bottom to the top, and what each call makes of it.
-use Rattle.lwp_types.specs.Exceptions.{exit_of, exits_of, first_frames, frames, is_exit, is_frame, last_mark, later_frames, matches, settled, without_last}
+use Rattle.lwp_types.specs.Exceptions.{exit_of, exits_of, first_frames, frames, is_exit, is_frame, last_mark, later_frames, marks_left, matches, without_last}
 use Rattle.lwp_types.specs.State.{passes}
 use Rattle.lwp_types.specs.declared.call.LwpErr.{LwpErr}
 use Rattle.lwp_types.specs.declared.call.Pattern.{Pattern}
@@ -41,8 +41,8 @@ refusal_on ms =
     else None
 
 -- the topmost mark is taken back, if it is a handler
-abbrev pub unhandled : List Mark → List Mark
-unhandled ms = if is_some (refusal_on ms) then ms else without_last ms
+abbrev pub after_unhandle : List Mark → List Mark
+after_unhandle ms = if is_some (refusal_on ms) then ms else without_last ms
 
 -- the mark is a handler
 abbrev pub is_handler : Mark → Bool
@@ -80,7 +80,7 @@ unwound_all ms = record { left = below_last_exit ms; exit = last_exit ms }
 
 -- in the topmost frame, the handlers from number k on are gone
 abbrev pub settled_at : ℕ → List Mark → List Mark
-settled_at k ms = settled (frames ms) k ms
+settled_at k ms = marks_left (frames ms) k ms
 
 -- laws
 

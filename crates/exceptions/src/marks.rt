@@ -1,6 +1,6 @@
 // Searches in the marks of a stack, and the ways in which marks go.
 ghost use Rattle.std.specs.Prelude.{◌≡◌, ◌++◌, ◌≤◌, ◌<◌, length, take, drop};
-ghost use Rattle.lwp_types.specs.Exceptions.{exit_of, first_frames, first_handlers, found_in, frames, is_frame, matches};
+ghost use Rattle.lwp_types.specs.Exceptions.{exit_of, first_frames, first_handlers, frames, handler_in, is_frame, matches};
 ghost use Rattle.exceptions.specs.Stack.{TakesTop, below_last_exit, is_handler, last_exit};
 
 use lwp_types::{ExitMark, Found, Mark, Pattern};
@@ -65,7 +65,7 @@ pub fn marks_below(marks: &[Mark], depth: u32) -> usize
 // The topmost handler that catches the exception.
 pub fn found_in(marks: &[Mark], exception: u32) -> Option<Found>
     requires { length marks.now ≤ 256 }
-    ensures { result ≡ found_in exception marks.now }
+    ensures { result ≡ handler_in exception marks.now }
 {
     let mut frames = 0;
     let mut handlers = 0;

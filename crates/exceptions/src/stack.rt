@@ -2,8 +2,8 @@
 ghost use Rattle.std.specs.Prelude.{◌≡◌, ◌<◌, ◌≤◌, [], false, length, not, IfOk, IfSome, IsOk, IsTrue, MatchOption, OnErr, OnOk};
 ghost use Rattle.std.specs.List.{list_any};
 ghost use Rattle.std.specs.Result.{result_err};
-ghost use Rattle.lwp_types.specs.Exceptions.{exits_of, first_frames, found_in, frames, is_frame, later_frames};
-ghost use Rattle.exceptions.specs.Stack.{GivesInTurn, IsInReach, IsStack, IsTopmostMatch, UnwindsAll, UnwindsTo, catches, handlers_on_top, has_all_frames, is_full, one_frame, refusal_on, settled_at, unhandled, unwound_all, unwound_to, with_frame, with_mark};
+ghost use Rattle.lwp_types.specs.Exceptions.{exits_of, first_frames, frames, handler_in, is_frame, later_frames};
+ghost use Rattle.exceptions.specs.Stack.{GivesInTurn, IsInReach, IsStack, IsTopmostMatch, UnwindsAll, UnwindsTo, after_unhandle, catches, handlers_on_top, has_all_frames, is_full, one_frame, refusal_on, settled_at, unwound_all, unwound_to, with_frame, with_mark};
 
 use crate::marks::{found_in, frames, marks_below, settle, unwind};
 use lwp_types::{ExitCall, ExitMark, Found, Func, LwpErr, Mark, NoMemory, Pattern};
@@ -100,7 +100,7 @@ impl<'s> ExceptionStack<'s> {
     /// The handler that catches an exception of this number.
     pub fn find(&self, pattern: u32) -> Option<Found>
         requires { 0 < length self.now }
-        ensures value { result ≡ found_in pattern self.now }
+        ensures value { result ≡ handler_in pattern self.now }
         ensures topmost { MatchOption result (list_any (catches pattern) self.now ≡ false)
             (IsTopmostMatch pattern self.now) }
         ensures in_reach { IfSome result (IsInReach self.now) }
@@ -112,7 +112,7 @@ impl<'s> ExceptionStack<'s> {
     pub fn unhandle(&mut self) -> Result<(), LwpErr>
         requires { 0 < length self.old }
         ensures refusal { result_err result ≡ refusal_on self.old }
-        ensures after { self.new ≡ unhandled self.old }
+        ensures after { self.new ≡ after_unhandle self.old }
     {
         match self.marks.last() {
             Some(Mark::Frame) => return Err(LwpErr::NonExist),

@@ -1,6 +1,6 @@
 -- The value of a command is part of its text; a table that was written through is one that was put anew.
 use Rattle.line_server.specs.Commands.{Command, Del, Get, Put, alone, asked_by, command_of, is_key_length, key_len, put_of}
-use Rattle.line_server.specs.Read.{read}
+use Rattle.line_server.specs.Read.{read_command}
 use Rattle.line_server.specs.Stores.{Tables, tables_after}
 use Rattle.line_server.specs.Tables.{Table, told_text}
 use Rattle.line_server.specs.declared.command.Asked.{Asked}
@@ -88,10 +88,10 @@ put-fits : (text key value : List ℕ) → IsTrue (is_text text) → command_of 
 put-fits text key value h e = subst (λ c. IsValue (value_of c)) e (command-value text h)
 
 -- the value of a put that was read is short and printable
-pub read-fits : (text bytes : List ℕ) (r : Option Asked) (a : Asked) (key value : Bor (List ℕ)) → IsTrue (is_text text) → bytes ≡ text → option_map read r ≡ command_of bytes
+pub read-fits : (text bytes : List ℕ) (r : Option Asked) (a : Asked) (key value : Bor (List ℕ)) → IsTrue (is_text text) → bytes ≡ text → option_map read_command r ≡ command_of bytes
     → r ≡ Some a → a ≡ asked.Put key value → IsValue value.now
 read-fits text bytes r a key value h same e is put =
-    put-fits text key.now value.now h (ap command_of (sym same) ∙ sym e ∙ ap (option_map read) is ∙ ap (λ x. Some (read x)) put)
+    put-fits text key.now value.now h (ap command_of (sym same) ∙ sym e ∙ ap (option_map read_command) is ∙ ap (λ x. Some (read_command x)) put)
 
 -- ---- tables
 

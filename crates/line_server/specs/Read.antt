@@ -4,7 +4,7 @@ use Rattle.line_server.specs.declared.command.Asked.{Asked}
 use Rattle.line_server.specs.declared.command.Asked.TheVariants as asked
 
 -- the command that was read
-abbrev pub read : Asked → Command
-read (asked.Put key value) = Put key.now value.now
-read (asked.Get key) = Get key.now
-read (asked.Del key) = Del key.now
+abbrev pub read_command : Asked → Command
+read_command (asked.Put key value) = Put key.now value.now
+read_command (asked.Get key) = Get key.now
+read_command (asked.Del key) = Del key.now

@@ -23,8 +23,8 @@ abbrev pub at_key : List ℕ → Table → Option (List ℕ)
 at_key key table = lookup (is_at (key_cmp key)) table
 
 -- what a get is told of a value
-abbrev pub shown : List ℕ → List ℕ
-shown value = codes "is" ++ (if is_empty value then [] else 32 ∷ value)
+abbrev pub value_reply : List ℕ → List ℕ
+value_reply value = codes "is" ++ (if is_empty value then [] else 32 ∷ value)
 
 -- what a command is replied to, and the table then
 pub record Told : Type 0 where
@@ -40,7 +40,7 @@ told_value (Some text) = text
 abbrev pub told_put : List ℕ → List ℕ → Table → Told
 told_put key value table = if nat_le 100 (length table) && is_none (at_key key table)
     then record { reply = codes "full"; table = table }
-    else record { reply = codes "ok"; table = insert_entry key_cmp table key (shown value) }
+    else record { reply = codes "ok"; table = insert_entry key_cmp table key (value_reply value) }
 
 -- a del takes the key out, and tells whether it was there
 abbrev pub told_del : List ℕ → Table → Told

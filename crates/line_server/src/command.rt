@@ -1,6 +1,6 @@
 // What a client's text asks for.
 ghost use Rattle.line_server.specs.Commands.{Command, Put, Get, Del, is_key_byte, key_len, put_of, alone, asked_by, asked_of, command_of};
-ghost use Rattle.line_server.specs.Read.{read};
+ghost use Rattle.line_server.specs.Read.{read_command};
 ghost use Rattle.std.specs.Option.{option_map};
 ghost use Rattle.lwp_types.specs.TextFields.{is_text};
 ghost use Rattle.std.specs.Prelude.{◌≡◌, ◌≤◌, IsTrue, length};
@@ -34,7 +34,7 @@ fn key_len(text: &[u8]) -> usize
 }
 
 fn put_of<'t>(key: &'t [u8], behind: &'t [u8]) -> Option<Asked<'t>>
-    ensures { option_map read result ≡ put_of key.now behind.now }
+    ensures { option_map read_command result ≡ put_of key.now behind.now }
 {
     match behind {
         [] => Some(Asked::Put { key, value: behind }),
@@ -45,7 +45,7 @@ fn put_of<'t>(key: &'t [u8], behind: &'t [u8]) -> Option<Asked<'t>>
 
 // What a word asks for, by its key and what stands behind that.
 fn asked_by<'t>(word: &[u8], key: &'t [u8], behind: &'t [u8]) -> Option<Asked<'t>>
-    ensures { option_map read result ≡ asked_by word.now key.now behind.now }
+    ensures { option_map read_command result ≡ asked_by word.now key.now behind.now }
 {
     match word {
         [b'p', b'u', b't', b' '] => put_of(key, behind),
@@ -58,7 +58,7 @@ fn asked_by<'t>(word: &[u8], key: &'t [u8], behind: &'t [u8]) -> Option<Asked<'t
 // What bytes ask for, if they are a command.
 #[inline(always)]
 fn command_in(text: &[u8]) -> Option<Asked<'_>>
-    ensures { option_map read result ≡ command_of text.now }
+    ensures { option_map read_command result ≡ command_of text.now }
 {
     if text.len() < 4 {
         return None;
@@ -75,7 +75,7 @@ fn command_in(text: &[u8]) -> Option<Asked<'_>>
 /// What a text asks for, if it is a command. One that lies in parts is none.
 #[inline(always)]
 pub fn command_of<'t>(text: &Text<'t>) -> Option<Asked<'t>>
-    ensures value { option_map read result ≡ command_of text.now }
+    ensures value { option_map read_command result ≡ command_of text.now }
     ensures is_text { IsTrue (is_text text.now) }
 {
     match text.plain() {

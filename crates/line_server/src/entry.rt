@@ -1,5 +1,5 @@
 // A key of a table, and what the table keeps for it.
-ghost use Rattle.line_server.specs.Tables.{key_cmp, shown};
+ghost use Rattle.line_server.specs.Tables.{key_cmp, value_reply};
 ghost use Rattle.lwp_types.specs.TextFields.{is_printable};
 ghost use Rattle.std.specs.Prelude.{◌≡◌, ◌≤◌, length, IsTrue};
 
@@ -28,7 +28,7 @@ impl<'s> Entry<'s> {
     pub fn new(key: &'s [u8], value: &'s [u8]) -> Entry<'s>
         requires short { length value.now ≤ 237 }
         requires printable { IsTrue (is_printable value.now) }
-        ensures { result ≡ (key.now, shown value.now) }
+        ensures { result ≡ (key.now, value_reply value.now) }
     {
         Entry {
             key,

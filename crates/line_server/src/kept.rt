@@ -1,5 +1,5 @@
 // What a table keeps for a key.
-ghost use Rattle.line_server.specs.Tables.{shown};
+ghost use Rattle.line_server.specs.Tables.{value_reply};
 ghost use Rattle.lwp_types.specs.TextFields.{is_printable};
 ghost use Rattle.std.specs.Prelude.{◌≡◌, ◌≤◌, length, IsTrue};
 
@@ -14,14 +14,14 @@ pub struct Kept<'s> {
 
 impl<'s> Model for Kept<'s> {
     ghost use Rattle.std.specs.Prelude.{ℕ, List, IsTrue};
-    ghost use Rattle.line_server.specs.Tables.{shown};
+    ghost use Rattle.line_server.specs.Tables.{value_reply};
     ghost use Rattle.lwp_types.specs.TextFields.{is_text};
 
     ghost Value = { List ℕ };
 
-    ghost view = { λ k. shown k.value.now };
+    ghost view = { λ k. value_reply k.value.now };
 
-    ghost invariant = { λ k. IsTrue (is_text (shown k.value.now)) };
+    ghost invariant = { λ k. IsTrue (is_text (value_reply k.value.now)) };
 }
 
 impl<'s> Kept<'s> {
@@ -29,7 +29,7 @@ impl<'s> Kept<'s> {
     pub fn new(value: &'s [u8]) -> Kept<'s>
         requires short { length value.now ≤ 237 }
         requires printable { IsTrue (is_printable value.now) }
-        ensures { result ≡ shown value.now }
+        ensures { result ≡ value_reply value.now }
     {
         Kept { value }
     }

@@ -10,32 +10,32 @@ use Rattle.agents.specs.Roster as roster
 use Rattle.death_cleanup.proofs.Looks.{waits}
 use Rattle.lwp_calls.proofs.ThreadAndAgentBirths.{rows-agent}
 use Rattle.lwp_calls.specs.Asks.{HasAgentPlaces}
-use Rattle.lwp_types.specs.Agents.{agent_born, new_agent}
+use Rattle.lwp_types.specs.Agents.{after_agent_birth, new_agent}
 use Rattle.lwp_types.specs.Lawful.{is_same_option}
 use Rattle.lwp_types.specs.declared.rows.AgentRow.{AgentRow}
 use Rattle.lwp_types.specs.ListLaws.{All-weaker}
 use Rattle.lwp_types.specs.State.{ThreadRow, is_number, passes, priority_in, still}
 use Rattle.monitors.specs.declared.requests.EntryRequest.{EntryRequest}
-use Rattle.stale_ids.specs.Register.{inserted}
+use Rattle.stale_ids.specs.Register.{after_insert}
 use Rattle.std.proofs.Common.{Bool, None, Option, Some, [], ap, arith, length, length-append, not, refl, sym, ℕ, ◌&&◌, ◌∙◌, ◌∷◌, ◌≡◌}
 use Rattle.std.specs.List.{find}
 use Rattle.std.specs.Prelude.{is_some, option_map, unwrap_or}
 
 -- the parts with one agent more
 abbrev pub with_agent : Parts → ℕ → ℕ → Parts
-with_agent parts e t = record parts { ids = inserted parts.ids kind.Agent; agents = roster.created parts.agents parts.ids.births e t }
+with_agent parts e t = record parts { ids = after_insert parts.ids kind.Agent; agents = roster.after_create parts.agents parts.ids.births e t }
 
 module _ (parts : Parts) (e t : ℕ) where
   same : (state_of (with_agent parts e t)).threads ≡ (state_of parts).threads
   same = rows-agent parts.last_prio parts.ids.births parts.sched.threads parts.ids.live
 
-  pub agent-is : state_of (with_agent parts e t) ≡ agent_born (state_of parts) t e
+  pub agent-is : state_of (with_agent parts e t) ≡ after_agent_birth (state_of parts) t e
   agent-is = rw same refl
 
   ranks : (u : ℕ) → priority_in (state_of (with_agent parts e t)) u ≡ priority_in (state_of parts) u
   ranks u = ap (λ rows. unwrap_or (option_map (λ (row : ThreadRow). row.priority) (find (is_number u) rows)) 0) same
 
-  pub came_agent : InStep parts → HasAgentPlaces parts → CameTo parts (with_agent parts e t) [] [] (still (agent_born (state_of parts) t e))
+  pub came_agent : InStep parts → HasAgentPlaces parts → CameTo parts (with_agent parts e t) [] [] (still (after_agent_birth (state_of parts) t e))
   came_agent step places =
       let as_many : length (state_of (with_agent parts e t)).threads ≡ length (state_of parts).threads = ap length same in
       record {

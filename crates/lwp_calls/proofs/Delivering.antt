@@ -75,10 +75,10 @@ module _ (parts : Parts) (e a : ℕ) (text : List ℕ) (waits : waits_for e part
   unowned r is missing = absurd (let same : Some who.row.owner ≡ None = sym (ap (option_map (λ (row : AgentRow). row.owner)) who.known) ∙ sym is ∙ missing in cc)
 
   abbrev holding : Parts
-  holding = record parts { agents = roster.held parts.agents a }
+  holding = record parts { agents = roster.after_hold parts.agents a }
 
   pub holding_step : InStep parts → InStep holding
-  holding_step step = InStep-agents parts step (roster.held parts.agents a) (omega (arith, length-map parts.agents.agents (λ (row : AgentRow). record row { holding = cond (is_agent_row a row) true row.holding })))
+  holding_step step = InStep-agents parts step (roster.after_hold parts.agents a) (omega (arith, length-map parts.agents.agents (λ (row : AgentRow). record row { holding = cond (is_agent_row a row) true row.holding })))
 
   -- the letter is posted where the agent holds the message
   pub came_found : (new : Parts) (before told after : List Effect) (o : ℕ) → who.row.owner ≡ o → told ≡ before ++ effect.Delivered a e ∷ []

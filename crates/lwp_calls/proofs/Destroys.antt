@@ -1,6 +1,6 @@
 -- Who is destroyed: an agent, or a thread.
 use Rattle.lwp_types.specs.Agents.{end_agent}
-use Rattle.lwp_types.specs.Case.{refused, unanswered, unless, with_zero}
+use Rattle.lwp_types.specs.Case.{refusal_case, silent_case, unless, with_zero}
 use Rattle.lwp_types.specs.Death.{death, destroy}
 use Rattle.lwp_types.specs.Lawful.{NineParts}
 use Rattle.lwp_types.specs.Messages.{awaits, receivers_of}
@@ -21,11 +21,11 @@ module _ (s : State) (t u : ℕ) where
   unfolding unless
   destroy-agent agent = rw (agent, or_true (is_thread s u)) refl
 
-  pub destroy-nobody : is_agent s u ≡ false → is_thread s u ≡ false → destroy s t u ≡ refused s error.NonExist
+  pub destroy-nobody : is_agent s u ≡ false → is_thread s u ≡ false → destroy s t u ≡ refusal_case s error.NonExist
   unfolding unless
   destroy-nobody agent thread = rw (agent, thread) refl
 
-  pub destroy-self : is_agent s u ≡ false → is_thread s u ≡ true → eqb t u ≡ true → destroy s t u ≡ unanswered (death u s)
+  pub destroy-self : is_agent s u ≡ false → is_thread s u ≡ true → eqb t u ≡ true → destroy s t u ≡ silent_case (death u s)
   unfolding unless
   destroy-self agent thread same = rw (agent, thread, same) refl
 

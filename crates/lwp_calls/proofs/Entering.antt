@@ -4,11 +4,11 @@ use Rattle.death_cleanup.proofs.Crowds.{Stand, a_place, none_there, nowhere}
 use Rattle.death_cleanup.specs.Ties.{LawfulParts}
 use Rattle.death_cleanup.specs.View.{state_of}
 use Rattle.death_cleanup.specs.declared.parts.Parts.{Parts}
-use Rattle.lwp_types.specs.Case.{refused, unanswered, unless, valued}
+use Rattle.lwp_types.specs.Case.{refusal_case, silent_case, unless, value_case}
 use Rattle.lwp_types.specs.Choice.{is_eligible, is_eligible_in}
 use Rattle.lwp_types.specs.CountLaws.{count-cons}
 use Rattle.lwp_types.specs.Counts.{is_depth}
-use Rattle.lwp_types.specs.Monitors.{cond_enter, depth_in, enter, entered, has_waits, is_deepest, is_owned_by_other, monitor_destroy, monitor_destroyed, requested}
+use Rattle.lwp_types.specs.Monitors.{after_monitor_destroy, after_request, cond_enter, depth_in, enter, enter_case, has_waits, is_deepest, is_owned_by_other, monitor_destroy}
 use Rattle.lwp_types.specs.MonitorRelease.{is_owned_by, lock_of}
 use Rattle.lwp_types.specs.State.{State, ThreadRow, is_not_blocked, member, passes, still, thread_of}
 use Rattle.lwp_types.specs.declared.call.LwpErr.TheVariants as error
@@ -120,51 +120,51 @@ deepest-other s t m other = by_lock (lock_of s.locks m) other
 -- the calls, by what they ask first
 
 module _ (s : State) (t m : ℕ) where
-  pub enter-absent : member m s.monitors ≡ false → enter s t m ≡ refused s error.NonExist
+  pub enter-absent : member m s.monitors ≡ false → enter s t m ≡ refusal_case s error.NonExist
   unfolding unless
   enter-absent none = rw none refl
 
-  pub enter-own : member m s.monitors ≡ true → is_owned_by_other s.locks t m ≡ false → enter s t m ≡ unless s (is_deepest s t m ∷ []) (entered s t m)
+  pub enter-own : member m s.monitors ≡ true → is_owned_by_other s.locks t m ≡ false → enter s t m ≡ unless s (is_deepest s t m ∷ []) (enter_case s t m)
   unfolding unless
   enter-own live own = rw (live, own) refl
 
-  pub enter-other : member m s.monitors ≡ true → is_owned_by_other s.locks t m ≡ true → enter s t m ≡ unanswered (still (requested s t m))
+  pub enter-other : member m s.monitors ≡ true → is_owned_by_other s.locks t m ≡ true → enter s t m ≡ silent_case (still (after_request s t m))
   unfolding unless
   enter-other live other = rw (live, deepest-other s t m other, other) refl
 
-  pub cond-absent : member m s.monitors ≡ false → cond_enter s t m ≡ refused s error.NonExist
+  pub cond-absent : member m s.monitors ≡ false → cond_enter s t m ≡ refusal_case s error.NonExist
   unfolding unless
   cond-absent none = rw none refl
 
-  pub cond-other : member m s.monitors ≡ true → is_owned_by_other s.locks t m ≡ true → cond_enter s t m ≡ refused s error.InUse
+  pub cond-other : member m s.monitors ≡ true → is_owned_by_other s.locks t m ≡ true → cond_enter s t m ≡ refusal_case s error.InUse
   unfolding unless
   cond-other live other = rw (live, other) refl
 
-  pub cond-own : member m s.monitors ≡ true → is_owned_by_other s.locks t m ≡ false → cond_enter s t m ≡ unless s (is_deepest s t m ∷ []) (entered s t m)
+  pub cond-own : member m s.monitors ≡ true → is_owned_by_other s.locks t m ≡ false → cond_enter s t m ≡ unless s (is_deepest s t m ∷ []) (enter_case s t m)
   unfolding unless
   cond-own live own = rw (live, own) refl
 
-  pub in-deep : (is_deepest s t m).0 ≡ true → unless s (is_deepest s t m ∷ []) (entered s t m) ≡ refused s error.NoRoom
+  pub in-deep : (is_deepest s t m).0 ≡ true → unless s (is_deepest s t m ∷ []) (enter_case s t m) ≡ refusal_case s error.NoRoom
   unfolding unless
   in-deep deep = rw deep refl
 
-  pub in-once : (is_deepest s t m).0 ≡ false → unless s (is_deepest s t m ∷ []) (entered s t m) ≡ entered s t m
+  pub in-once : (is_deepest s t m).0 ≡ false → unless s (is_deepest s t m ∷ []) (enter_case s t m) ≡ enter_case s t m
   unfolding unless
   in-once fits = rw fits refl
 
 module _ (s : State) (m : ℕ) where
-  pub destroy-absent : member m s.monitors ≡ false → monitor_destroy s m ≡ refused s error.NonExist
+  pub destroy-absent : member m s.monitors ≡ false → monitor_destroy s m ≡ refusal_case s error.NonExist
   unfolding unless
   destroy-absent none = rw none refl
 
-  pub destroy-held : member m s.monitors ≡ true → is_some (lock_of s.locks m) ≡ true → monitor_destroy s m ≡ refused s error.InUse
+  pub destroy-held : member m s.monitors ≡ true → is_some (lock_of s.locks m) ≡ true → monitor_destroy s m ≡ refusal_case s error.InUse
   unfolding unless
   destroy-held live held = rw (live, held) refl
 
-  pub destroy-waited : member m s.monitors ≡ true → is_some (lock_of s.locks m) ≡ false → has_waits s m ≡ true → monitor_destroy s m ≡ refused s error.InUse
+  pub destroy-waited : member m s.monitors ≡ true → is_some (lock_of s.locks m) ≡ false → has_waits s m ≡ true → monitor_destroy s m ≡ refusal_case s error.InUse
   unfolding unless
   destroy-waited live free waits = rw (live, free, waits) refl
 
-  pub destroy-idle : member m s.monitors ≡ true → is_some (lock_of s.locks m) ≡ false → has_waits s m ≡ false → monitor_destroy s m ≡ valued (monitor_destroyed s m) 0
+  pub destroy-idle : member m s.monitors ≡ true → is_some (lock_of s.locks m) ≡ false → has_waits s m ≡ false → monitor_destroy s m ≡ value_case (after_monitor_destroy s m) 0
   unfolding unless
   destroy-idle live free none = rw (live, free, none) refl

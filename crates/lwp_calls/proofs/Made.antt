@@ -5,7 +5,7 @@ use Rattle.death_cleanup.specs.Ties.{InStep, LawfulParts}
 use Rattle.death_cleanup.specs.View.{state_of}
 use Rattle.death_cleanup.specs.declared.parts.Parts.{Parts}
 use Rattle.lwp_calls.specs.Comes.{ComesTo, IsAsBefore, Told}
-use Rattle.lwp_types.specs.Case.{Case, answer_by, answered}
+use Rattle.lwp_types.specs.Case.{Case, answer_by, answer_case}
 use Rattle.lwp_types.specs.Exits.{exit_case}
 use Rattle.lwp_types.specs.State.{Outcome, State}
 use Rattle.lwp_types.specs.Lawful.{NineParts}
@@ -27,7 +27,7 @@ module _ {old new : Parts} {made : Case} where
     own = ap (λ (m : Case). m.own) is;
   }
 
-  pub Answers-is : {a : Answer} → made ≡ answered (state_of new) a → InStep new → new.dying ≡ old.dying → Answers old new [] [] made a
+  pub Answers-is : {a : Answer} → made ≡ answer_case (state_of new) a → InStep new → new.dying ≡ old.dying → Answers old new [] [] made a
   Answers-is is step dying = record {
     came = record { state = sym (ap (λ (m : Case). m.after) is); effects = sym (ap (λ (m : Case). m.others) is); step = step; dying = dying };
     own = ap (λ (m : Case). m.own) is;

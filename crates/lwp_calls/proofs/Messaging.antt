@@ -8,14 +8,14 @@ use Rattle.death_cleanup.specs.declared.rows.Kind.{Kind}
 use Rattle.lwp_calls.proofs.Counts.{as_long, length-keys, times-keys}
 use Rattle.lwp_calls.specs.Asks.{first_refusal}
 use Rattle.lwp_calls.specs.Comes.{ComesTo}
-use Rattle.lwp_types.specs.Case.{Case, Check, refused, unanswered, unless}
+use Rattle.lwp_types.specs.Case.{Case, Check, refusal_case, silent_case, unless}
 use Rattle.lwp_types.specs.Choice.{is_eligible}
 use Rattle.lwp_types.specs.CountLaws.{count-append, count-filter, count_agree, count_and-le, count_found_and, count_not_found, one}
 use Rattle.lwp_types.specs.Counts.{is_sending, sendings_of}
 use Rattle.lwp_types.specs.Lawful.{NineParts}
-use Rattle.lwp_types.specs.Messages.{as_answer, as_received, is_letter_of, marked_received, post, receive_by, send, takes_from, unreceived}
+use Rattle.lwp_types.specs.Messages.{as_answer, as_received, is_letter_of, marked_received, next_letter, post, receive_by, send, takes_from}
 use Rattle.lwp_types.specs.State.{State, ThreadRow, agent_numbers, block_set, is_agent_row, is_not_blocked, is_number, is_thread, numbers, passes, still, thread_of, times_in, with_block}
-use Rattle.lwp_types.specs.Unblock.{blocked, blocked_for, unblock}
+use Rattle.lwp_types.specs.Unblock.{after_block, after_block_for, unblock}
 use Rattle.lwp_types.specs.declared.call.LwpErr.{LwpErr}
 use Rattle.lwp_types.specs.declared.call.LwpErr.TheVariants as error
 use Rattle.lwp_types.specs.declared.call.Mode.{Mode}
@@ -26,7 +26,7 @@ use Rattle.lwp_types.specs.declared.rows.Letter.{Letter}
 use Rattle.pod_laws.proofs.Numbers.{once_rising}
 use Rattle.lwp_types.specs.declared.call.Answer.TheVariants as answer
 use Rattle.lwp_types.specs.declared.call.Mode.TheVariants as mode
-use Rattle.messages.specs.MessageTable.{MessageTable, has_letter_of, taken, with_found_received}
+use Rattle.messages.specs.MessageTable.{MessageTable, after_take, has_letter_of, with_found_received}
 use Rattle.stale_ids.specs.Register.{AreRising, value_of}
 use Rattle.std.proofs.Common.{Bool, List, None, Option, Some, [], ap, arith, cond, eqb, false, length, length-append, map, not, refl, subst, sym, true, ℕ, ◌&&◌, ◌+◌, ◌++◌, ◌<◌, ◌==◌, ◌∙◌, ◌∷◌, ◌≡◌, ◌≤◌}
 use Rattle.std.proofs.lemmas.Bool.{eq-eqb, eqb-true, ne_eqb}
@@ -34,13 +34,13 @@ use Rattle.std.specs.List.{filter, find}
 use Rattle.std.specs.Prelude.{is_some, option_map}
 
 -- a call that is refused by the first of its checks that strikes, or isn't refused
-pub unless_struck : (s : State) (checks : List Check) (otherwise : Case) (e : LwpErr) → first_refusal checks ≡ Some e → unless s checks otherwise ≡ refused s e
+pub unless_struck : (s : State) (checks : List Check) (otherwise : Case) (e : LwpErr) → first_refusal checks ≡ Some e → unless s checks otherwise ≡ refusal_case s e
 unfolding unless
 unless_struck s [] otherwise e struck = absurd (cc)
 unless_struck s (check ∷ checks) otherwise e struck = by_check check.0 struck (unless_struck s checks otherwise e)
   where
-    by_check : (b : Bool) → cond b (Some check.1) (first_refusal checks) ≡ Some e → (first_refusal checks ≡ Some e → unless s checks otherwise ≡ refused s e) → cond b (refused s check.1) (unless s checks otherwise) ≡ refused s e
-    by_check true h rest = let same : check.1 ≡ e = cc in ap (refused s) same
+    by_check : (b : Bool) → cond b (Some check.1) (first_refusal checks) ≡ Some e → (first_refusal checks ≡ Some e → unless s checks otherwise ≡ refusal_case s e) → cond b (refusal_case s check.1) (unless s checks otherwise) ≡ refusal_case s e
+    by_check true h rest = let same : check.1 ≡ e = cc in ap (refusal_case s) same
     by_check false h rest = rest h
 
 pub unless_passed : (s : State) (checks : List Check) (otherwise : Case) → first_refusal checks ≡ None → unless s checks otherwise ≡ otherwise
@@ -48,7 +48,7 @@ unfolding unless
 unless_passed s [] otherwise passed = refl
 unless_passed s (check ∷ checks) otherwise passed = by_check check.0 passed (unless_passed s checks otherwise)
   where
-    by_check : (b : Bool) → cond b (Some check.1) (first_refusal checks) ≡ None → (first_refusal checks ≡ None → unless s checks otherwise ≡ otherwise) → cond b (refused s check.1) (unless s checks otherwise) ≡ otherwise
+    by_check : (b : Bool) → cond b (Some check.1) (first_refusal checks) ≡ None → (first_refusal checks ≡ None → unless s checks otherwise ≡ otherwise) → cond b (refusal_case s check.1) (unless s checks otherwise) ≡ otherwise
     by_check true h rest = absurd (cc)
     by_check false h rest = rest h
 
@@ -89,7 +89,7 @@ row_kept t u away b (row ∷ rows) = by_test (is_number u row) refl (row_kept t 
     by_test false e rest = rest
 
 -- what another thread takes is what it took before the caller waited
-pub taken-still : (s : State) (t u : ℕ) → eqb t u ≡ false → (b : Block) → passes (λ (row : ThreadRow). takes_from t row.block) (thread_of (blocked s t b) u) ≡ passes (λ (row : ThreadRow). takes_from t row.block) (thread_of s u)
+pub taken-still : (s : State) (t u : ℕ) → eqb t u ≡ false → (b : Block) → passes (λ (row : ThreadRow). takes_from t row.block) (thread_of (after_block s t b) u) ≡ passes (λ (row : ThreadRow). takes_from t row.block) (thread_of s u)
 taken-still s t u away b = ap (passes (λ (row : ThreadRow). takes_from t row.block)) (row_kept t u away b s.threads)
 
 -- who takes a letter waits
@@ -109,15 +109,15 @@ taker-waits sender (Some row) takes = by_block row.block takes
 -- Send
 
 module _ (s : State) (t to room : ℕ) (text : List ℕ) where
-  pub send-absent : is_thread s to ≡ false → send s t to room text ≡ refused s error.NonExist
+  pub send-absent : is_thread s to ≡ false → send s t to room text ≡ refusal_case s error.NonExist
   unfolding unless
   send-absent absent = rw absent refl
 
-  pub send-self : is_thread s to ≡ true → eqb t to ≡ true → send s t to room text ≡ refused s error.InvalidArg
+  pub send-self : is_thread s to ≡ true → eqb t to ≡ true → send s t to room text ≡ refusal_case s error.InvalidArg
   unfolding unless
   send-self there same = rw (there, same) refl
 
-  pub send-made : is_thread s to ≡ true → eqb t to ≡ false → send s t to room text ≡ unanswered (post (record { from = t; to = to; text = text; room = room; received = false }) (blocked s t block.Sending))
+  pub send-made : is_thread s to ≡ true → eqb t to ≡ false → send s t to room text ≡ silent_case (post (record { from = t; to = to; text = text; room = room; received = false }) (after_block s t block.Sending))
   unfolding unless
   send-made there other = rw (there, other) refl
 
@@ -265,13 +265,13 @@ module _ (parts : Parts) (t : ℕ) (from : Option ℕ) where
   s = state_of parts
 
   abbrev after : Parts
-  after = record parts { messages = taken parts.messages t from }
+  after = record parts { messages = after_take parts.messages t from }
 
-  pub received-is : (how : Mode) (letter : Letter) → option_map as_received (unreceived s.letters t from) ≡ Some letter
-      → receive_by s t from how (unreceived s.letters t from) ≡ record { after = state_of after; others = []; own = Some (answer.Letter letter.from letter.text letter.room) }
-  received-is how letter given = by_found (unreceived s.letters t from) refl given
+  pub received-is : (how : Mode) (letter : Letter) → option_map as_received (next_letter s.letters t from) ≡ Some letter
+      → receive_by s t from how (next_letter s.letters t from) ≡ record { after = state_of after; others = []; own = Some (answer.Letter letter.from letter.text letter.room) }
+  received-is how letter given = by_found (next_letter s.letters t from) refl given
     where
-      by_found : (o : Option Letter) → unreceived s.letters t from ≡ o → option_map as_received o ≡ Some letter
+      by_found : (o : Option Letter) → next_letter s.letters t from ≡ o → option_map as_received o ≡ Some letter
           → receive_by s t from how o ≡ record { after = state_of after; others = []; own = Some (answer.Letter letter.from letter.text letter.room) }
       by_found None e h = absurd (cc)
       by_found (Some l) e h =
@@ -279,32 +279,32 @@ module _ (parts : Parts) (t : ℕ) (from : Option ℕ) where
           ap (λ (x : Letter). record { after = record s { letters = marked_received l.from s.letters }; others = []; own = Some (answer.Letter x.from x.text x.room) }) same
           ∙ ap (λ o. record { after = record s { letters = with_found_received o s.letters }; others = []; own = Some (answer.Letter letter.from letter.text letter.room) }) (sym e)
 
-  nothing : option_map as_received (unreceived s.letters t from) ≡ None → unreceived s.letters t from ≡ None
-  nothing given = by_found (unreceived s.letters t from) given
+  nothing : option_map as_received (next_letter s.letters t from) ≡ None → next_letter s.letters t from ≡ None
+  nothing given = by_found (next_letter s.letters t from) given
     where
       by_found : (o : Option Letter) → option_map as_received o ≡ None → o ≡ None
       by_found None h = refl
       by_found (Some l) h = absurd (cc)
 
   -- the messages are as they were
-  pub untouched : option_map as_received (unreceived s.letters t from) ≡ None → taken parts.messages t from ≡ parts.messages
+  pub untouched : option_map as_received (next_letter s.letters t from) ≡ None → after_take parts.messages t from ≡ parts.messages
   untouched given = ap (λ o. record parts.messages { letters = with_found_received o parts.messages.letters }) (nothing given)
 
-  pub polled-is : option_map as_received (unreceived s.letters t from) ≡ None → receive_by s t from mode.Poll (unreceived s.letters t from) ≡ refused s error.Timeout
+  pub polled-is : option_map as_received (next_letter s.letters t from) ≡ None → receive_by s t from mode.Poll (next_letter s.letters t from) ≡ refusal_case s error.Timeout
   polled-is given = ap (receive_by s t from mode.Poll) (nothing given)
 
-  pub awaited-is : option_map as_received (unreceived s.letters t from) ≡ None → receive_by s t from mode.Block (unreceived s.letters t from) ≡ unanswered (still (blocked s t (block.Receiving from)))
+  pub awaited-is : option_map as_received (next_letter s.letters t from) ≡ None → receive_by s t from mode.Block (next_letter s.letters t from) ≡ silent_case (still (after_block s t (block.Receiving from)))
   awaited-is given = ap (receive_by s t from mode.Block) (nothing given)
 
-  timed-is : (ticks : ℕ) (b : Bool) → (ticks == 0) ≡ b → option_map as_received (unreceived s.letters t from) ≡ None
-      → receive_by s t from (mode.Until ticks) (unreceived s.letters t from) ≡ cond b (refused s error.Timeout) (unanswered (still (blocked_for s t (block.Receiving from) ticks)))
-  timed-is ticks b test given = ap (receive_by s t from (mode.Until ticks)) (nothing given) ∙ ap (λ (x : Bool). cond x (refused s error.Timeout) (unanswered (still (blocked_for s t (block.Receiving from) ticks)))) test
+  timed-is : (ticks : ℕ) (b : Bool) → (ticks == 0) ≡ b → option_map as_received (next_letter s.letters t from) ≡ None
+      → receive_by s t from (mode.Until ticks) (next_letter s.letters t from) ≡ cond b (refusal_case s error.Timeout) (silent_case (still (after_block_for s t (block.Receiving from) ticks)))
+  timed-is ticks b test given = ap (receive_by s t from (mode.Until ticks)) (nothing given) ∙ ap (λ (x : Bool). cond x (refusal_case s error.Timeout) (silent_case (still (after_block_for s t (block.Receiving from) ticks)))) test
 
-  pub timed_out-is : (ticks : ℕ) → ticks ≡ 0 → option_map as_received (unreceived s.letters t from) ≡ None → receive_by s t from (mode.Until ticks) (unreceived s.letters t from) ≡ refused s error.Timeout
+  pub timed_out-is : (ticks : ℕ) → ticks ≡ 0 → option_map as_received (next_letter s.letters t from) ≡ None → receive_by s t from (mode.Until ticks) (next_letter s.letters t from) ≡ refusal_case s error.Timeout
   timed_out-is ticks none given = timed-is ticks true (eq-eqb ticks 0 none) given
 
-  pub timed_await-is : (ticks : ℕ) → (ticks ≡ 0 → ⊥) → option_map as_received (unreceived s.letters t from) ≡ None
-      → receive_by s t from (mode.Until ticks) (unreceived s.letters t from) ≡ unanswered (still (blocked_for s t (block.Receiving from) ticks))
+  pub timed_await-is : (ticks : ℕ) → (ticks ≡ 0 → ⊥) → option_map as_received (next_letter s.letters t from) ≡ None
+      → receive_by s t from (mode.Until ticks) (next_letter s.letters t from) ≡ silent_case (still (after_block_for s t (block.Receiving from) ticks))
   timed_await-is ticks some given = timed-is ticks false (by_test (ticks == 0) refl) given
     where
       by_test : (b : Bool) → (ticks == 0) ≡ b → (ticks == 0) ≡ false
@@ -313,18 +313,18 @@ module _ (parts : Parts) (t : ℕ) (from : Option ℕ) where
 
 -- the caller waits for a letter
 pub awaited_comes : (parts new : Parts) (t : ℕ) (from : Option ℕ) (messages : MessageTable) (made : Case) → messages ≡ parts.messages
-    → CameTo (record parts { messages = messages }) new [] [] (still (blocked (state_of (record parts { messages = messages })) t (block.Receiving from)))
-    → made ≡ unanswered (still (blocked (state_of parts) t (block.Receiving from))) → ComesTo parts new [] [] made None
+    → CameTo (record parts { messages = messages }) new [] [] (still (after_block (state_of (record parts { messages = messages })) t (block.Receiving from)))
+    → made ≡ silent_case (still (after_block (state_of parts) t (block.Receiving from))) → ComesTo parts new [] [] made None
 awaited_comes parts new t from messages made same came is =
-    let there : CameTo parts new [] [] (still (blocked (state_of parts) t (block.Receiving from))) =
-    subst (λ (m : MessageTable). CameTo (record parts { messages = m }) new [] [] (still (blocked (state_of (record parts { messages = m })) t (block.Receiving from)))) same came in
+    let there : CameTo parts new [] [] (still (after_block (state_of parts) t (block.Receiving from))) =
+    subst (λ (m : MessageTable). CameTo (record parts { messages = m }) new [] [] (still (after_block (state_of (record parts { messages = m })) t (block.Receiving from)))) same came in
     rw is (record { came = there; own = refl })
 
 -- and for no more than so many ticks
 pub timed_comes : (parts new : Parts) (t : ℕ) (from : Option ℕ) (ticks : ℕ) (messages : MessageTable) (made : Case) → messages ≡ parts.messages
-    → CameTo (record parts { messages = messages }) new [] [] (still (blocked_for (state_of (record parts { messages = messages })) t (block.Receiving from) ticks))
-    → made ≡ unanswered (still (blocked_for (state_of parts) t (block.Receiving from) ticks)) → ComesTo parts new [] [] made None
+    → CameTo (record parts { messages = messages }) new [] [] (still (after_block_for (state_of (record parts { messages = messages })) t (block.Receiving from) ticks))
+    → made ≡ silent_case (still (after_block_for (state_of parts) t (block.Receiving from) ticks)) → ComesTo parts new [] [] made None
 timed_comes parts new t from ticks messages made same came is =
-    let there : CameTo parts new [] [] (still (blocked_for (state_of parts) t (block.Receiving from) ticks)) =
-    subst (λ (m : MessageTable). CameTo (record parts { messages = m }) new [] [] (still (blocked_for (state_of (record parts { messages = m })) t (block.Receiving from) ticks))) same came in
+    let there : CameTo parts new [] [] (still (after_block_for (state_of parts) t (block.Receiving from) ticks)) =
+    subst (λ (m : MessageTable). CameTo (record parts { messages = m }) new [] [] (still (after_block_for (state_of (record parts { messages = m })) t (block.Receiving from) ticks))) same came in
     rw is (record { came = there; own = refl })

@@ -2,11 +2,11 @@
 use Rattle.death_cleanup.specs.View.{state_of}
 use Rattle.death_cleanup.specs.declared.parts.Parts.{Parts}
 use Rattle.lwp_calls.specs.Pod.{ForgetsTheDead, RunsExitsOnce, called_by, current_of, is_refusal, refuses}
-use Rattle.lwp_types.specs.Agents.{armed, deliver, deliver_to, event_agents, is_armed}
+use Rattle.lwp_types.specs.Agents.{deliver, deliver_to, event_agents, is_armed, is_event_armed}
 use Rattle.lwp_types.specs.Choice.{choice, is_eligible_in}
 use Rattle.lwp_types.specs.Lawful.{Lawful, NineParts}
 use Rattle.lwp_types.specs.State.{Outcome, State, for_each, passes}
-use Rattle.lwp_types.specs.Step.{case_of, end_effects, ends, finished, own_effects, step, step_by}
+use Rattle.lwp_types.specs.Step.{case_of, end_effects, ends, own_effects, step, step_by, step_outcome}
 use Rattle.lwp_types.specs.Time.{may_tick, tick}
 use Rattle.lwp_types.specs.declared.call.Answer.{Answer}
 use Rattle.lwp_types.specs.declared.call.Answer.TheVariants as answer
@@ -38,7 +38,7 @@ first-waits f g true a b free unblocked = free ∙ sym unblocked
 first-waits f g false a b free unblocked = refl
 
 -- a call by the thread that was chosen
-pub step-chosen : (s : State) (t : ℕ) (c : Call) → current_of s ≡ Some t → step s c ≡ finished t c (case_of s t c)
+pub step-chosen : (s : State) (t : ℕ) (c : Call) → current_of s ≡ Some t → step s c ≡ step_outcome t c (case_of s t c)
 unfolding step step_by
 step-chosen s t c turn = rw (chosen_of s.ended turn) refl
   where
@@ -132,15 +132,15 @@ module _ (s : State) (e : ℕ) (text : List ℕ) where
 
 -- in a pod that goes on, an event can be delivered where the clock can tick, or its agents are armed
 module _ (s : State) (goes_on : s.ended ≡ false) where
-  agents-armed : (k : ℕ) → 1 ≤ k → armed s k ≡ is_armed s.agents k
+  agents-armed : (k : ℕ) → 1 ≤ k → is_event_armed s k ≡ is_armed s.agents k
   agents-armed k least = rw (goes_on, ne_eqb k 0 (λ zero. omega (arith, least, zero))) refl
 
   module _ (from : ℕ) (least : 1 ≤ from) where
-    pub nowhere-armed : (o : Option ℕ) → IfNone o (HoldsNowhere (is_armed s.agents) from 32) → IfNone o (HoldsNowhere (armed s) from 32)
+    pub nowhere-armed : (o : Option ℕ) → IfNone o (HoldsNowhere (is_armed s.agents) from 32) → IfNone o (HoldsNowhere (is_event_armed s) from 32)
     nowhere-armed None h = λ k low high. agents-armed k (omega (arith, least, low)) ∙ h k low high
     nowhere-armed (Some e) h = h
 
-    pub first-armed : (o : Option ℕ) → IfSome o (λ e. IsFirstPlace (is_armed s.agents) from 32 e) → IfSome o (λ e. IsFirstPlace (armed s) from 32 e)
+    pub first-armed : (o : Option ℕ) → IfSome o (λ e. IsFirstPlace (is_armed s.agents) from 32 e) → IfSome o (λ e. IsFirstPlace (is_event_armed s) from 32 e)
     first-armed None h = h
     first-armed (Some e) h = record {
       low = h.low;
@@ -150,21 +150,21 @@ module _ (s : State) (goes_on : s.ended ≡ false) where
     }
 
   -- the clock is looked at first
-  pub clock-armed : may_tick s ≡ true → IsFirstPlace (armed s) 0 32 0
+  pub clock-armed : may_tick s ≡ true → IsFirstPlace (is_event_armed s) 0 32 0
   clock-armed ticks = record { low = omega arith; high = omega arith; before = λ k low under. absurd (omega (arith, under)); hit = λ within. rw goes_on ticks }
 
   module _ (over : may_tick s ≡ false) where
-    unarmed : (k : ℕ) → k < 1 → armed s k ≡ false
+    unarmed : (k : ℕ) → k < 1 → is_event_armed s k ≡ false
     unarmed k under = rw (goes_on, eq-eqb k 0 (omega (arith, under))) over
 
-    pub nowhere-zero : (o : Option ℕ) → IfNone o (HoldsNowhere (armed s) 1 32) → IfNone o (HoldsNowhere (armed s) 0 32)
+    pub nowhere-zero : (o : Option ℕ) → IfNone o (HoldsNowhere (is_event_armed s) 1 32) → IfNone o (HoldsNowhere (is_event_armed s) 0 32)
     nowhere-zero None h = λ k low high. elim (cases_lt k 1) [
       | inl under ↦ unarmed k under
       | inr above ↦ h k (omega (arith, above)) high
     ]
     nowhere-zero (Some e) h = h
 
-    pub first-zero : (o : Option ℕ) → IfSome o (λ e. IsFirstPlace (armed s) 1 32 e) → IfSome o (λ e. IsFirstPlace (armed s) 0 32 e)
+    pub first-zero : (o : Option ℕ) → IfSome o (λ e. IsFirstPlace (is_event_armed s) 1 32 e) → IfSome o (λ e. IsFirstPlace (is_event_armed s) 0 32 e)
     first-zero None h = h
     first-zero (Some e) h = record {
       low = omega arith;

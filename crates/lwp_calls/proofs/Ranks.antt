@@ -25,13 +25,13 @@ abbrev row_suspended : Bool → ThreadRow → ThreadRow
 row_suspended c row = record row { suspended = cond c true row.suspended }
 
 module _ (parts : Parts) (t : ℕ) where
-  rows-suspended : sched.knows parts.sched t ≡ true → (state_of (record parts { sched = sched.suspended parts.sched t })).threads ≡ machine.with_suspension t true (state_of parts).threads
+  rows-suspended : sched.knows parts.sched t ≡ true → (state_of (record parts { sched = sched.after_suspend parts.sched t })).threads ≡ machine.with_suspension t true (state_of parts).threads
   rows-suspended known = rows-changed parts.last_prio t known_suspended row_suspended (λ c k. refl) (λ k. refl) (λ c k n rec. refl) parts.sched.threads known parts.ids.live
 
-  pub suspended-is : sched.knows parts.sched t ≡ true → threads.suspended (state_of parts) t ≡ state_of (record parts { sched = sched.suspended parts.sched t })
+  pub suspended-is : sched.knows parts.sched t ≡ true → threads.after_suspend (state_of parts) t ≡ state_of (record parts { sched = sched.after_suspend parts.sched t })
   suspended-is known = rw (rows-suspended known) refl
 
-  pub InStep-suspended : InStep parts → sched.knows parts.sched t ≡ true → InStep (record parts { sched = sched.suspended parts.sched t })
+  pub InStep-suspended : InStep parts → sched.knows parts.sched t ≡ true → InStep (record parts { sched = sched.after_suspend parts.sched t })
   InStep-suspended step known = InStep-moved parts t known_suspended row_suspended (λ c k. refl) (λ c row. refl) step (machine.without t parts.sched.order) (rows-suspended known) (λ c k. refl) (λ c row. refl) (λ c row. refl)
 
 module _ (t p : ℕ) where
@@ -62,13 +62,13 @@ module _ (t p : ℕ) where
   module _ (parts : Parts) where
     -- the parts once t has priority p
     abbrev pub prioritized : Parts
-    prioritized = record parts { sched = sched.prioritized parts.sched t p; mons = mon.requeued parts.mons t p; conds = cv.requeued parts.conds t p }
+    prioritized = record parts { sched = sched.after_set_priority parts.sched t p; mons = mon.after_requeue parts.mons t p; conds = cv.after_requeue parts.conds t p }
 
     rows-ranked : sched.knows parts.sched t ≡ true → (state_of prioritized).threads ≡ machine.with_priority t p (state_of parts).threads
     rows-ranked known = rows-changed parts.last_prio t known_ranked row_ranked (λ c k. refl) (λ k. refl) (λ c k n rec. refl) parts.sched.threads known parts.ids.live
 
     module _ (step : InStep parts) (alone : parts.dying ≡ None) (known : sched.knows parts.sched t ≡ true) where
-      pub prioritized-is : threads.prioritized (state_of parts) t p ≡ state_of prioritized
+      pub prioritized-is : threads.after_set_priority (state_of parts) t p ≡ state_of prioritized
       prioritized-is = rw (rows-ranked known, requests-shown parts.mons.requests, waits-shown parts.conds.waits, eligible-same parts step.tied alone t, priority-same parts step.tied alone t) refl
 
       ranks : (u : ℕ) → machine.priority_in (state_of prioritized) u ≡ cond (eqb u t) p (machine.priority_in (state_of parts) u)
@@ -85,7 +85,7 @@ module _ (t p : ℕ) where
 
       pub InStep-prioritized : InStep prioritized
       InStep-prioritized =
-          let order : List ℕ = (sched.prioritized parts.sched t p).order in
+          let order : List ℕ = (sched.after_set_priority parts.sched t p).order in
           let tied = IsTied-moved parts t known_ranked row_ranked (λ c k. refl) (λ c row. refl) step order (rows-ranked known) (λ c k. refl) (λ c row. refl) in
           let roomy = IsRoomy-moved parts t known_ranked row_ranked (λ c k. refl) (λ c row. refl) step order (rows-ranked known) (λ c k. refl) (λ c row. refl) in
           record {

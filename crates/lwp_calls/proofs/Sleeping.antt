@@ -8,7 +8,7 @@ use Rattle.lwp_types.specs.CountLaws.{count_any, count_found_and, one}
 use Rattle.lwp_types.specs.Counts.{is_timed}
 use Rattle.lwp_types.specs.Lawful.{NineParts}
 use Rattle.lwp_types.specs.State.{State, ThreadRow, block_set, is_blocked_in, is_not_blocked, is_number, passes, still, thread_of}
-use Rattle.lwp_types.specs.Unblock.{blocked, blocked_for, is_timer_of}
+use Rattle.lwp_types.specs.Unblock.{after_block, after_block_for, is_timer_of}
 use Rattle.lwp_types.specs.declared.rows.Block.{Block}
 use Rattle.pod_laws.proofs.Rowed.{once_threads}
 use Rattle.pod_laws.proofs.Rows.{number_known}
@@ -20,7 +20,7 @@ use Rattle.std.specs.List.{list_any}
 use Rattle.std.specs.Prelude.{option_map}
 
 -- a timer changes nothing that the parts agree on
-InStep-timed : (parts : Parts) (t due : ℕ) → InStep parts → InStep (record parts { sched = sched.timed parts.sched t due })
+InStep-timed : (parts : Parts) (t due : ℕ) → InStep parts → InStep (record parts { sched = sched.after_set_timer parts.sched t due })
 InStep-timed parts t due step = record {
   tied = record { known = step.tied.known; waits = step.tied.waits };
   ranked = record { requests = step.ranked.requests; waits = step.ranked.waits };
@@ -32,7 +32,7 @@ InStep-timed parts t due step = record {
 
 module _ (s : State) (t : ℕ) (row : ThreadRow) (known : thread_of s t ≡ Some row) where
   -- who has just begun to wait waits
-  pub blocked_now : (why : Block) → is_not_blocked why ≡ false → is_blocked_in (blocked s t why) t ≡ true
+  pub blocked_now : (why : Block) → is_not_blocked why ≡ false → is_blocked_in (after_block s t why) t ≡ true
   blocked_now why waits =
       ap (passes (λ (r : ThreadRow). not (is_not_blocked r.block))) (find-row t t why s.threads ∙ ap (option_map (block_set t why)) known)
       ∙ here (is_number t row) (eq-eqb row.number t (number_known s.threads t row known))
@@ -57,10 +57,10 @@ module _ (s : State) (t : ℕ) (row : ThreadRow) (known : thread_of s t ≡ Some
 
 -- the timer is set, and the thread waits for no more than so many ticks
 module _ (old mid new : Parts) (t : ℕ) (why : Block) (ticks due : ℕ) (came : CameTo old mid [] [] (still (blocked (state_of old) t why))) where
-  pub came_timed : new ≡ record mid { sched = sched.timed mid.sched t due } → due ≡ (state_of old).now + ticks → CameTo old new [] [] (still (blocked_for (state_of old) t why ticks))
+  pub came_timed : new ≡ record mid { sched = sched.after_set_timer mid.sched t due } → due ≡ (state_of old).now + ticks → CameTo old new [] [] (still (after_block_for (state_of old) t why ticks))
   came_timed is later = rw is (record {
     state = ap (λ (s : State). record s { timers = s.timers ++ record { tid = t; due = due } ∷ [] }) came.state
-        ∙ ap (λ n. record (blocked (state_of old) t why) { timers = (state_of old).timers ++ record { tid = t; due = n } ∷ [] }) later;
+        ∙ ap (λ n. record (after_block (state_of old) t why) { timers = (state_of old).timers ++ record { tid = t; due = n } ∷ [] }) later;
     effects = refl;
     step = InStep-timed mid t due came.step;
     dying = came.dying;

@@ -17,7 +17,7 @@ use Rattle.lwp_calls.specs.Asks.{HasPlaces}
 use Rattle.lwp_types.specs.CountLaws.{count-cons, one}
 use Rattle.lwp_types.specs.Lawful.{is_same_option}
 use Rattle.lwp_types.specs.State.{ThreadRow, is_id, is_number, is_thread, passes, priority_in, still}
-use Rattle.lwp_types.specs.Threads.{born, created}
+use Rattle.lwp_types.specs.Threads.{after_create, new_thread}
 use Rattle.lwp_types.specs.declared.call.Flags.{Flags}
 use Rattle.lwp_types.specs.declared.rows.Block.TheVariants as block
 use Rattle.monitors.specs.MonitorTable as mon
@@ -28,7 +28,7 @@ use Rattle.pod_laws.proofs.Gone.{unnamed}
 use Rattle.pod_sched.specs.Schedule as sched
 use Rattle.pod_sched.specs.Schedule.{newcomer}
 use Rattle.pod_sched.specs.declared.rows.Known.{Known}
-use Rattle.stale_ids.specs.Register.{AreBorn, inserted}
+use Rattle.stale_ids.specs.Register.{AreBorn, after_insert}
 use Rattle.std.proofs.Common.{Bool, List, None, Option, Some, [], ap, arith, cond, count_by, eqb, false, length, length-append, map, not, refl, sym, true, ℕ, ◌&&◌, ◌+◌, ◌++◌, ◌<◌, ◌∙◌, ◌∷◌, ◌≡◌, ◌≢◌, ◌||◌}
 use Rattle.std.proofs.lemmas.Bool.{eq-eqb, ne_eqb}
 use Rattle.std.specs.List.{AllByRecursion, find}
@@ -133,24 +133,24 @@ module _ (parts : Parts) (lawful : LawfulParts parts) (alone : parts.dying ≡ N
 
     -- the parts once a thread has begun
     abbrev pub begun : Parts
-    begun = record parts { ids = inserted parts.ids (kind.Thread rec); sched = sched.admitted parts.sched n prio flags.suspended }
+    begun = record parts { ids = after_insert parts.ids (kind.Thread rec); sched = sched.after_admit parts.sched n prio flags.suspended }
 
     module _ (below : AreBorn n parts.ids.live) where
-      same : (state_of begun).threads ≡ rows ++ born n prio flags ∷ []
+      same : (state_of begun).threads ≡ rows ++ new_thread n prio flags ∷ []
       same = rows-born parts.last_prio parts.sched.threads n prio flags.suspended unknown-row rec parts.ids.live below
 
-      pub begun-is : state_of begun ≡ created (state_of parts) prio flags
+      pub begun-is : state_of begun ≡ after_create (state_of parts) prio flags
       begun-is = rw same refl
 
       knows-born : (u : ℕ) → sched.knows begun.sched u ≡ (sched.knows parts.sched u || eqb n u)
       knows-born u = some_push (sched.is_of u) parts.sched.threads (newcomer n prio flags.suspended)
 
       thread-born : (u : ℕ) → is_thread (state_of begun) u ≡ (is_thread (state_of parts) u || eqb n u)
-      thread-born u = ap (λ rs. is_some (find (is_number u) rs)) same ∙ some_push (is_number u) rows (born n prio flags)
+      thread-born u = ap (λ rs. is_some (find (is_number u) rs)) same ∙ some_push (is_number u) rows (new_thread n prio flags)
 
       priority-other : (u : ℕ) → n ≢ u → priority_in (state_of begun) u ≡ priority_in (state_of parts) u
       priority-other u away = ap (λ rs. unwrap_or (option_map (λ (row : ThreadRow). row.priority) (find (is_number u) rs)) 0) same
-          ∙ ap (λ o. unwrap_or (option_map (λ (row : ThreadRow). row.priority) o) 0) (find_push_other (is_number u) rows (born n prio flags) (ne_eqb n u away))
+          ∙ ap (λ o. unwrap_or (option_map (λ (row : ThreadRow). row.priority) o) 0) (find_push_other (is_number u) rows (new_thread n prio flags) (ne_eqb n u away))
 
       no_dying : (b : Bool) (u : ℕ) → b ≡ (b && not (is_same_option parts.dying u))
       no_dying b u = rw alone (by_test b)
@@ -161,14 +161,14 @@ module _ (parts : Parts) (lawful : LawfulParts parts) (alone : parts.dying ≡ N
 
       module _ (places : HasPlaces parts) where
         longer : length (state_of begun).threads ≡ length rows + 1
-        longer = omega (arith, ap length same, length-append rows (born n prio flags ∷ []))
+        longer = omega (arith, ap length same, length-append rows (new_thread n prio flags ∷ []))
 
         pub InStep-begun : InStep begun
         InStep-begun = record {
           tied = record {
             known = λ u. knows-born u ∙ ap (λ b. b || eqb n u) (known-same parts lawful.step.tied alone u) ∙ sym (thread-born u) ∙ no_dying (is_thread (state_of begun) u) u;
             waits = λ u. passes_push (λ (k : Known). k.blocked) (sched.is_of u) parts.sched.threads (newcomer n prio flags.suspended) refl ∙ lawful.step.tied.waits u
-                ∙ sym (ap (λ rs. passes waits (find (is_number u) rs)) same ∙ passes_push waits (is_number u) rows (born n prio flags) refl);
+                ∙ sym (ap (λ rs. passes waits (find (is_number u) rs)) same ∙ passes_push waits (is_number u) rows (new_thread n prio flags) refl);
           };
           ranked = record {
             requests = requests-other n (priority_in (state_of parts)) (priority_in (state_of begun)) priority-other parts.mons.requests (unnamed (state_of parts) (nine parts lawful alone) n nobody).requests lawful.step.ranked.requests;
@@ -180,5 +180,5 @@ module _ (parts : Parts) (lawful : LawfulParts parts) (alone : parts.dying ≡ N
           noted = noted-born parts.named n (kind.Thread rec) refl parts.ids.live lawful.step.noted (omega (arith, places.names, threads-rows parts.last_prio parts.sched.threads parts.ids.live));
         }
 
-        pub came_begun : CameTo parts begun [] [] (still (created (state_of parts) prio flags))
+        pub came_begun : CameTo parts begun [] [] (still (after_create (state_of parts) prio flags))
         came_begun = record { state = begun-is; effects = refl; step = InStep-begun; dying = refl }

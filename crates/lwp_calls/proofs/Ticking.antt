@@ -12,8 +12,8 @@ use Rattle.lwp_types.specs.CountLaws.{count-cons, one}
 use Rattle.lwp_types.specs.Counts.{is_timed, timers_of}
 use Rattle.lwp_types.specs.Lawful.{NineParts}
 use Rattle.lwp_types.specs.State.{State, ThreadRow, for_each, is_blocked_in, is_not_blocked, passes, times_in}
-use Rattle.lwp_types.specs.Time.{due_threads, is_asleep_in, is_due, is_sleeping, tick, ticked, time_out}
-use Rattle.lwp_types.specs.Unblock.{is_timer_of, timed_out, unblocked, without_timer, zero_answer}
+use Rattle.lwp_types.specs.Time.{after_tick, due_threads, is_asleep_in, is_due, is_sleeping, tick, time_out}
+use Rattle.lwp_types.specs.Unblock.{after_unblock, is_timer_of, timed_out, without_timer, zero_answer}
 use Rattle.lwp_types.specs.declared.call.Effect.{Effect}
 use Rattle.lwp_types.specs.declared.call.Effect.TheVariants as effect
 use Rattle.lwp_types.specs.declared.rows.Block.{Block}
@@ -99,7 +99,7 @@ InStep-clock parts timers now step = record {
 module _ (start : Parts) (before : List Effect) where
   -- the parts once the clock has ticked, and what is told of that
   abbrev begun : Parts
-  begun = record start { sched = sched.ticked start.sched }
+  begun = record start { sched = sched.after_tick start.sched }
 
   abbrev tells : List Effect
   tells = before ++ effect.Ticked (start.sched.now + 1) ∷ []
@@ -115,10 +115,10 @@ module _ (start : Parts) (before : List Effect) where
   module _ (parts : Parts) (after : List Effect) (h : Ticking parts after) where
     -- the parts without the timer that was found
     abbrev pub lighter : Parts
-    lighter = record parts { sched = sched.popped parts.sched }
+    lighter = record parts { sched = sched.after_pop parts.sched }
 
     pub lighter_step : InStep lighter
-    lighter_step = InStep-clock parts (sched.popped parts.sched).timers parts.sched.now h.step
+    lighter_step = InStep-clock parts (sched.after_pop parts.sched).timers parts.sched.now h.step
 
     module _ (x : ℕ) (found : first parts.sched.timers parts.sched.now ≡ Some x) where
       front : Front (due_threads (state_of parts)) x
@@ -136,8 +136,8 @@ module _ (start : Parts) (before : List Effect) where
         came : CameTo parts new after now (time_out x (state_of parts))
         came = record {
           state = woken.state
-              ∙ ap (λ rows. record (unblocked (state_of parts) x) { timers = without_timer x rows }) (popped-some parts.sched.timers parts.sched.now x found)
-              ∙ ap (λ rows. record (unblocked (state_of parts) x) { timers = rows }) (twice_out x parts.sched.timers);
+              ∙ ap (λ rows. record (after_unblock (state_of parts) x) { timers = without_timer x rows }) (popped-some parts.sched.timers parts.sched.now x found)
+              ∙ ap (λ rows. record (after_unblock (state_of parts) x) { timers = rows }) (twice_out x parts.sched.timers);
           effects = woken.effects;
           step = woken.step;
           dying = woken.dying;
@@ -152,7 +152,7 @@ module _ (start : Parts) (before : List Effect) where
     pub due_over : InStep start → first parts.sched.timers parts.sched.now ≡ None → CameTo start lighter before after (tick (state_of start))
     due_over step none =
         let all = done (Before start.sched.now) due_threads time_out (time_out_first start.sched.now) 0 begun tells parts after h (found_none (λ (row : TimerRow). row.tid) (is_due parts.sched.now) parts.sched.timers none) in
-        let whole = came_then start begun parts before tells after (record { after = ticked (state_of start); effects = effect.Ticked (start.sched.now + 1) ∷ [] }) (λ now. for_each time_out (due_threads now) now)
+        let whole = came_then start begun parts before tells after (record { after = after_tick (state_of start); effects = effect.Ticked (start.sched.now + 1) ∷ [] }) (λ now. for_each time_out (due_threads now) now)
         (record { state = refl; effects = refl; step = InStep-clock start start.sched.timers (start.sched.now + 1) step; dying = refl }) all in
         record {
           state = ap (λ rows. record (state_of parts) { timers = rows }) (popped-none parts.sched.timers parts.sched.now none) ∙ whole.state;

@@ -5,7 +5,7 @@ use Rattle.death_cleanup.proofs.Unmarking.{marked_again, marks_now, remarked_out
 use Rattle.death_cleanup.proofs.Unwinding.{InStep-stacked, marks-are, stacked-is}
 use Rattle.death_cleanup.proofs.Living.{written-changed}
 use Rattle.death_cleanup.specs.Comes.{Answers, CameTo}
-use Rattle.death_cleanup.specs.Moves.{kind_marked, kind_marks, stacked}
+use Rattle.death_cleanup.specs.Moves.{after_set_stack, kind_marked, kind_marks}
 use Rattle.death_cleanup.specs.Ties.{LawfulParts}
 use Rattle.death_cleanup.specs.View.{state_of}
 use Rattle.death_cleanup.specs.declared.parts.Parts.{Parts}
@@ -15,9 +15,9 @@ use Rattle.lwp_calls.proofs.Stacks.{stack-fine}
 use Rattle.lwp_types.specs.Case.{Case}
 use Rattle.lwp_types.specs.Choice.{is_eligible_in}
 use Rattle.lwp_types.specs.CountLaws.{count-cons}
-use Rattle.lwp_types.specs.Exits.{caught, exit_case, run_exit, unwind}
-use Rattle.lwp_types.specs.Exceptions.{caught_marks, exit_of, exits_of, first_frames, frames, is_frame, later_frames, settled}
-use Rattle.lwp_types.specs.State.{Outcome, State, and_then, for_each, is_thread, marked, marks_in}
+use Rattle.lwp_types.specs.Exits.{catch_case, exit_case, run_exit, unwind}
+use Rattle.lwp_types.specs.Exceptions.{caught_marks, exit_of, exits_of, first_frames, frames, is_frame, later_frames, marks_left}
+use Rattle.lwp_types.specs.State.{Outcome, State, and_then, for_each, is_thread, marks_in, with_marks_of}
 use Rattle.lwp_types.specs.Unblock.{zero_answer}
 use Rattle.lwp_types.specs.declared.call.Answer.TheVariants as answer
 use Rattle.lwp_types.specs.declared.call.Effect.{Effect}
@@ -53,7 +53,7 @@ pub unwind_few : (t depth : ℕ) (kept ms : List Mark) (s : State) → length ms
 unwind_few t depth kept ms s few = omega (
   arith,
   few,
-  each_few t (exits_of (later_frames depth ms)) (marked s t kept),
+  each_few t (exits_of (later_frames depth ms)) (with_marks_of s t kept),
   filter_few (reverse (later_frames depth ms)),
   length-reverse (later_frames depth ms),
   ap length (frames_split depth ms),
@@ -89,7 +89,7 @@ module _ (t : ℕ) where
   abbrev told : List Effect → Outcome → Outcome
   told es out = record { after = out.after; effects = es ++ out.effects }
 
-  each_so : (ms : List Mark) (xs : List ExitMark) (s : State) → for_each (run_exit t) xs (marked s t ms) ≡ remarked_out t ms (for_each (run_exit t) xs s)
+  each_so : (ms : List Mark) (xs : List ExitMark) (s : State) → for_each (run_exit t) xs (with_marks_of s t ms) ≡ remarked_out t ms (for_each (run_exit t) xs s)
   unfolding for_each and_then
   each_so ms [] s = refl
   each_so ms (x ∷ xs) s = ap (λ (o : Outcome). told o.effects (for_each (run_exit t) xs o.after)) (run_exit_so t ms t x s) ∙ ap (told (run_exit t x s).effects) (each_so ms xs (run_exit t x s).after)
@@ -108,7 +108,7 @@ module _ (parts mid : Parts) (before now : List Effect) (t : ℕ) (f : Found) (l
   abbrev ran : Outcome
   ran = for_each (run_exit t) (exits_of (later_frames f.depth (marks_in (state_of parts) t))) (state_of parts)
 
-  mid-is : state_of mid ≡ marked ran.after t kept
+  mid-is : state_of mid ≡ with_marks_of ran.after t kept
   mid-is = came.state ∙ ap (λ (o : Outcome). o.after) (each_so t kept (exits_of (later_frames f.depth (marks_in (state_of parts) t))) (state_of parts))
 
   marks-mid : marks_in (state_of mid) t ≡ kept
@@ -128,16 +128,16 @@ module _ (parts mid : Parts) (before now : List Effect) (t : ℕ) (f : Found) (l
     handler-there = omega (arith, reach.number, ap handlers_on_top here)
 
     left-is : settled_at f.mark (kind_marks (Some k)) ≡ caught_marks f (marks_in (state_of parts) t)
-    left-is = ap (settled_at f.mark) here ∙ ap (λ n. settled n f.mark kept) as_deep
+    left-is = ap (settled_at f.mark) here ∙ ap (λ n. marks_left n f.mark kept) as_deep
 
     caught_by : ℕ → Outcome → Case
     caught_by p out = record { after = out.after; others = out.effects; own = Some (answer.Caught f.depth f.mark p) }
 
     pub caught-comes : (p : ℕ) (v : Kind) → v ≡ kind_marked (settled_at f.mark (kind_marks (Some k))) k
-        → Answers parts (record mid { ids = record mid.ids { live = with_value t v mid.ids.live } }) before now (caught (state_of parts) t p f) (answer.Caught f.depth f.mark p)
-    caught-comes p v e = subst (λ (new : Parts). Answers parts new before now (caught (state_of parts) t p f) (answer.Caught f.depth f.mark p)) (sym put) (record {
+        → Answers parts (record mid { ids = record mid.ids { live = with_value t v mid.ids.live } }) before now (catch_case (state_of parts) t p f) (answer.Caught f.depth f.mark p)
+    caught-comes p v e = subst (λ (new : Parts). Answers parts new before now (catch_case (state_of parts) t p f) (answer.Caught f.depth f.mark p)) (sym put) (record {
       came = record {
-        state = stacked-is mid t left ∙ ap (λ (s : State). marked s t left) mid-is ∙ marked_again t left ran.after kept ∙ sym (ap (λ (o : Outcome). o.after) out);
+        state = stacked-is mid t left ∙ ap (λ (s : State). with_marks_of s t left) mid-is ∙ marked_again t left ran.after kept ∙ sym (ap (λ (o : Outcome). o.after) out);
         effects = came.effects ∙ ap (λ (o : Outcome). before ++ o.effects) (each_so t kept gone (state_of parts)) ∙ sym (ap (λ (o : Outcome). before ++ o.effects) out);
         step = InStep-stacked mid t left came.step;
         dying = came.dying;
@@ -154,6 +154,6 @@ module _ (parts mid : Parts) (before now : List Effect) (t : ℕ) (f : Found) (l
         out : unwind t left (later_frames f.depth (marks_in (state_of parts) t)) (state_of parts) ≡ remarked_out t left (for_each (run_exit t) gone (state_of parts))
         out = each_so t left gone (state_of parts)
 
-        put : record mid { ids = record mid.ids { live = with_value t v mid.ids.live } } ≡ stacked mid t left
+        put : record mid { ids = record mid.ids { live = with_value t v mid.ids.live } } ≡ after_set_stack mid t left
         put = ap (λ w. record mid { ids = record mid.ids { live = with_value t w mid.ids.live } }) (e ∙ ap (λ ms. kind_marked ms k) left-is)
             ∙ ap (λ ps. record mid { ids = record mid.ids { live = ps } }) (written-changed t (kind_marked left) k mid.ids.live rising is)

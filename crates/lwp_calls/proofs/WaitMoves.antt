@@ -10,7 +10,7 @@ use Rattle.death_cleanup.specs.declared.parts.Parts.{Parts}
 use Rattle.lwp_calls.proofs.Entering.{free_row}
 use Rattle.lwp_calls.proofs.Tables.{InStep-conditions}
 use Rattle.lwp_calls.specs.Comes.{ComesTo}
-use Rattle.lwp_types.specs.Case.{unanswered, unless}
+use Rattle.lwp_types.specs.Case.{silent_case, unless}
 use Rattle.lwp_types.specs.Choice.{is_eligible, is_eligible_in}
 use Rattle.lwp_types.specs.CountLaws.{count-cons, count-reverse, count_and-le, count_found_and, count_found_by, count_not_found, one}
 use Rattle.lwp_types.specs.Counts.{is_waiting, requests_by}
@@ -18,8 +18,8 @@ use Rattle.lwp_types.specs.Lawful.{NineParts}
 use Rattle.lwp_types.specs.Monitors.{depth_in}
 use Rattle.lwp_types.specs.MonitorRelease.{grant, is_lock, is_owned_by, last_lock, lock_of, locks_on, next_owner, release, without_lock}
 use Rattle.lwp_types.specs.State.{Outcome, State, ThreadRow, block_set, is_not_blocked, is_number, member, passes, priority_in, still, thread_of, with_block}
-use Rattle.lwp_types.specs.Unblock.{blocked, zero_answer}
-use Rattle.lwp_types.specs.Conditions.{condition_of, is_condition, wait, waited}
+use Rattle.lwp_types.specs.Unblock.{after_block, zero_answer}
+use Rattle.lwp_types.specs.Conditions.{after_wait, condition_of, is_condition, wait}
 use Rattle.lwp_types.specs.declared.call.Effect.{Effect}
 use Rattle.lwp_types.specs.declared.call.Effect.TheVariants as effect
 use Rattle.lwp_types.specs.declared.rows.Block.{Block}
@@ -207,10 +207,10 @@ module _ (parts mid : Parts) (before told : List Effect) (lawful : LawfulParts p
 
   module _ (c prio depth : ℕ) where
     abbrev pub then_waits : Parts
-    then_waits = record mid { conds = table.waited mid.conds (record { cond = c; tid = t; prio = prio; depth = depth }) }
+    then_waits = record mid { conds = table.after_wait mid.conds (record { cond = c; tid = t; prio = prio; depth = depth }) }
 
     pub InStep-then : prio ≡ priority_in (state_of parts) t → InStep then_waits
-    InStep-then ranked = InStep-conditions mid came.step (table.waited mid.conds (record { cond = c; tid = t; prio = prio; depth = depth }))
+    InStep-then ranked = InStep-conditions mid came.step (table.after_wait mid.conds (record { cond = c; tid = t; prio = prio; depth = depth }))
         (ranked_waited (priority_in (state_of mid)) mid.conds came.step.ranked.waits (record { cond = c; tid = t; prio = prio; depth = depth }) (ranked ∙ sym (ap (λ (s : State). priority_in s t) came.state ∙ priority-kept (state_of parts) m t)))
         refl refl
 
@@ -218,29 +218,29 @@ module _ (parts mid : Parts) (before told : List Effect) (lawful : LawfulParts p
     may-then = ap (λ (s : State). is_eligible_in s t) came.state ∙ may-kept (state_of parts) m t may
 
     module _ (found : condition_of parts.conds.conditions c ≡ Some (record { number = c; mon = m })) (last : passes (λ lock. eqb m lock.mon) (last_lock parts.mons.locks t) ≡ true) (deep : depth ≡ depth_in parts.mons.locks m) where
-      made : wait (state_of parts) t c ≡ unanswered (waited t c (last_lock parts.mons.locks t) (state_of parts))
+      made : wait (state_of parts) t c ≡ silent_case (after_wait t c (last_lock parts.mons.locks t) (state_of parts))
       unfolding unless
       made = rw (found, last) refl
 
       abbrev its : WaitRow
       its = record { cond = c; tid = t; depth = depth }
 
-      made-is : wait (state_of parts) t c ≡ unanswered (released_waits m its (state_of parts))
+      made-is : wait (state_of parts) t c ≡ silent_case (released_waits m its (state_of parts))
       made-is =
           let h = held (last_lock parts.mons.locks t) m last in
           made
-          ∙ ap (λ o. unanswered (waited t c o (state_of parts))) h.is
-          ∙ ap (λ k. unanswered (release k (waits_now c (record { cond = c; tid = t; depth = h.lock.depth }) (state_of parts)))) h.here
-          ∙ ap (λ d. unanswered (release m (waits_now c (record { cond = c; tid = t; depth = d }) (state_of parts)))) (sym (deep ∙ depth-last parts.mons.locks t m h.lock (lawful.nine.locks.0 m) h.is h.here))
-          ∙ ap unanswered (later its (state_of parts) m differs)
+          ∙ ap (λ o. silent_case (after_wait t c o (state_of parts))) h.is
+          ∙ ap (λ k. silent_case (release k (waits_now c (record { cond = c; tid = t; depth = h.lock.depth }) (state_of parts)))) h.here
+          ∙ ap (λ d. silent_case (release m (waits_now c (record { cond = c; tid = t; depth = d }) (state_of parts)))) (sym (deep ∙ depth-last parts.mons.locks t m h.lock (lawful.nine.locks.0 m) h.is h.here))
+          ∙ ap silent_case (later its (state_of parts) m differs)
 
       state-then : state_of then_waits ≡ record (release m (state_of parts)).after { waits = (release m (state_of parts)).after.waits ++ its ∷ [] }
       state-then =
           ap (λ ws. record (state_of mid) { waits = ws }) (map-append table.machine_row mid.conds.waits (record { cond = c; tid = t; prio = prio; depth = depth } ∷ []))
           ∙ ap (λ (s : State). record s { waits = s.waits ++ its ∷ [] }) came.state
 
-      pub wait-comes : (new : Parts) → CameTo then_waits new [] [] (still (blocked (state_of then_waits) t (block.Waiting c))) → ComesTo parts new before told (wait (state_of parts) t c) None
+      pub wait-comes : (new : Parts) → CameTo then_waits new [] [] (still (after_block (state_of then_waits) t (block.Waiting c))) → ComesTo parts new before told (wait (state_of parts) t c) None
       wait-comes new comes = rw made-is (record {
-        came = record { state = comes.state ∙ ap (λ (s : State). blocked s t (block.Waiting c)) state-then; effects = came.effects; step = comes.step; dying = comes.dying ∙ came.dying };
+        came = record { state = comes.state ∙ ap (λ (s : State). after_block s t (block.Waiting c)) state-then; effects = came.effects; step = comes.step; dying = comes.dying ∙ came.dying };
         own = refl;
       })

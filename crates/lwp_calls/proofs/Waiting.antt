@@ -51,7 +51,7 @@ as_many t why (row ∷ rs) = omega (arith, as_many t why rs)
 abbrev pub waiting : Parts → ℕ → Block → Parts
 waiting parts t why = record parts {
   ids = record parts.ids { live = map (block_set t why) parts.ids.live };
-  sched = sched.blocked parts.sched t;
+  sched = sched.after_block parts.sched t;
 }
 
 module _ (parts : Parts) (t : ℕ) (why : Block) where
@@ -61,7 +61,7 @@ module _ (parts : Parts) (t : ℕ) (why : Block) where
   same : (state_of (waiting parts t why)).threads ≡ machine.with_block t why rows
   same = rows-block parts.last_prio t why true parts.sched.threads parts.ids.live
 
-  pub waiting-is : state_of (waiting parts t why) ≡ machine_unblock.blocked (state_of parts) t why
+  pub waiting-is : state_of (waiting parts t why) ≡ machine_unblock.after_block (state_of parts) t why
   waiting-is = rw same refl
 
   abbrev f : Bool → Known → Known

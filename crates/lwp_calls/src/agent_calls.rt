@@ -3,8 +3,8 @@ ghost use Rattle.std.specs.Prelude.{◌≡◌, ◌<◌, ◌≤◌, Some, None, I
 ghost use Rattle.death_cleanup.specs.Comes.{Answers, CameTo};
 ghost use Rattle.death_cleanup.specs.Ties.{InStep, LawfulParts};
 ghost use Rattle.death_cleanup.specs.View.{state_of};
-ghost use Rattle.lwp_types.specs.Agents.{agent_born, make_agent};
-ghost use Rattle.lwp_types.specs.Case.{listed, refused};
+ghost use Rattle.lwp_types.specs.Agents.{after_agent_birth, make_agent};
+ghost use Rattle.lwp_types.specs.Case.{list_case, refusal_case};
 ghost use Rattle.lwp_types.specs.Effects.{most_of_a_call};
 ghost use Rattle.lwp_types.specs.Families.{agent_call};
 ghost use Rattle.lwp_types.specs.State.{agent_numbers, still};
@@ -93,7 +93,7 @@ fn begin(parts: &mut Parts, caller: Tid, event: u8) -> Tid
     requires most { event ≤ 32 }
     ensures number { result ≡ parts.old.ids.births }
     ensures came { CameTo parts.old parts.new [] []
-        (still (agent_born (state_of parts.old) caller event)) }
+        (still (after_agent_birth (state_of parts.old) caller event)) }
 {
     let number = parts.ids.births();
     let tid = Tid { number };
@@ -126,7 +126,7 @@ fn refuse_trap<'s>(parts: &Parts<'s>, tid: Tid, effects: &mut Effects<'s>)
     requires step { InStep parts.now }
     requires room { effects.old ≡ [] }
     ensures told { Told parts.now parts.now effects.old effects.new tid
-        (refused (state_of parts.now) error.InvalidArg) }
+        (refusal_case (state_of parts.now) error.InvalidArg) }
     ensures most { length effects.new ≤ 1 }
 {
     effects.done(tid, Err(LwpErr::InvalidArg));
@@ -138,7 +138,7 @@ fn list<'s>(parts: &Parts<'s>, tid: Tid, effects: &mut Effects<'s>) -> Result<()
     requires room { effects.old ≡ [] }
     ensures ok { OnOk result
         (Told parts.now parts.now effects.old effects.new tid
-        (listed (state_of parts.now) kind.Thread (agent_numbers (state_of parts.now).agents))) }
+        (list_case (state_of parts.now) kind.Thread (agent_numbers (state_of parts.now).agents))) }
     ensures most { length effects.new ≤ 1 }
 {
     let list = parts.agents.list()?;

@@ -8,7 +8,7 @@ ghost use Rattle.lwp_types.specs.Choice.{is_eligible_in};
 ghost use Rattle.lwp_types.specs.Effects.{effect_places};
 ghost use Rattle.lwp_types.specs.Messages.{receivers_of};
 ghost use Rattle.lwp_types.specs.State.{is_not_blocked, is_thread, numbers, priority_in, still};
-ghost use Rattle.lwp_types.specs.Unblock.{blocked, blocked_for};
+ghost use Rattle.lwp_types.specs.Unblock.{after_block, after_block_for};
 ghost use Rattle.lwp_types.specs.declared.call.Answer.TheVariants as answer;
 ghost use Rattle.lwp_types.specs.declared.call.Effect.TheVariants as effect;
 ghost use Rattle.lwp_calls.specs.Asks.{serves};
@@ -54,7 +54,7 @@ pub fn block(parts: &mut Parts, tid: Tid, why: Block)
     requires alone { parts.old.dying ≡ None }
     requires may_run { IsTrue (is_eligible_in (state_of parts.old) tid) }
     requires waits { is_not_blocked why ≡ false }
-    ensures { CameTo parts.old parts.new [] [] (still (blocked (state_of parts.old) tid why)) }
+    ensures { CameTo parts.old parts.new [] [] (still (after_block (state_of parts.old) tid why)) }
 {
     note(&mut parts.named, &parts.ids, tid, &why);
     parts.sched.block(tid);
@@ -69,7 +69,7 @@ pub fn block_for(parts: &mut Parts, tid: Tid, why: Block, ticks: u32)
     requires waits { is_not_blocked why ≡ false }
     requires some { 1 ≤ ticks }
     ensures { CameTo parts.old parts.new [] []
-        (still (blocked_for (state_of parts.old) tid why ticks)) }
+        (still (after_block_for (state_of parts.old) tid why ticks)) }
 {
     block(parts, tid, why);
     let due = parts.sched.now() + u64::from(ticks);

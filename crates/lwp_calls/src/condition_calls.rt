@@ -3,7 +3,7 @@ ghost use Rattle.std.specs.Prelude.{◌≡◌, ◌≤◌, Some, None, IfOk, IsEr
 ghost use Rattle.death_cleanup.specs.Comes.{Answers};
 ghost use Rattle.death_cleanup.specs.Ties.{InStep, LawfulParts};
 ghost use Rattle.death_cleanup.specs.View.{state_of};
-ghost use Rattle.lwp_types.specs.Case.{answer_by, listed};
+ghost use Rattle.lwp_types.specs.Case.{answer_by, list_case};
 ghost use Rattle.lwp_types.specs.Choice.{is_eligible_in};
 ghost use Rattle.lwp_types.specs.Effects.{most_of_a_call};
 ghost use Rattle.lwp_types.specs.Families.{condition_call};
@@ -136,7 +136,7 @@ fn list<'s>(parts: &Parts<'s>, tid: Tid, effects: &mut Effects<'s>) -> Result<()
     requires room { effects.old ≡ [] }
     ensures ok { OnOk result
         (Told parts.now parts.now effects.old effects.new tid
-        (listed (state_of parts.now) kind.Condition
+        (list_case (state_of parts.now) kind.Condition
         (condition_numbers (state_of parts.now).conditions))) }
     ensures most { length effects.new ≤ 1 }
 {

@@ -5,14 +5,14 @@ ghost use Rattle.death_cleanup.specs.Comes.{Answers};
 ghost use Rattle.death_cleanup.specs.Moves.{kind_marked, kind_marks};
 ghost use Rattle.death_cleanup.specs.Ties.{InStep, LawfulParts};
 ghost use Rattle.death_cleanup.specs.View.{state_of};
-ghost use Rattle.exceptions.specs.Stack.{IsInReach, handlers_on_top, has_all_frames, is_full, refusal_on, settled_at, unhandled, with_frame, with_mark};
+ghost use Rattle.exceptions.specs.Stack.{IsInReach, after_unhandle, handlers_on_top, has_all_frames, is_full, refusal_on, settled_at, with_frame, with_mark};
 ghost use Rattle.lwp_types.specs.Case.{answer_by};
 ghost use Rattle.lwp_types.specs.Choice.{is_eligible_in};
 ghost use Rattle.lwp_types.specs.Death.{return_from};
 ghost use Rattle.lwp_types.specs.Effects.{most_of_a_call, most_of_a_death};
-ghost use Rattle.lwp_types.specs.Exits.{caught, exc_notify, raise};
+ghost use Rattle.lwp_types.specs.Exits.{catch_case, exc_notify, raise};
 ghost use Rattle.lwp_types.specs.Families.{exception_call};
-ghost use Rattle.lwp_types.specs.Exceptions.{bound, call_procedure, check_pattern, found, found_in, frames, handle, is_no_pattern, on_exit, unhandle, unique_pattern};
+ghost use Rattle.lwp_types.specs.Exceptions.{bound, call_procedure, check_pattern, frames, handle, handler_in, handler_of, is_no_pattern, on_exit, unhandle, unique_pattern};
 ghost use Rattle.lwp_types.specs.State.{marks_in};
 ghost use Rattle.lwp_types.specs.Step.{case_of};
 ghost use Rattle.lwp_types.specs.declared.call.Effect.TheVariants as effect;
@@ -144,7 +144,7 @@ fn set_exit<'s>(kind: &mut Kind<'s>, reg: u64, exit: &ExitCall<'s>) -> Result<bo
 fn take_handler(kind: &mut Kind) -> Result<(), LwpErr>
     requires { 0 < length (kind_marks (Some kind.old)) }
     ensures refusal { result_err result ≡ refusal_on (kind_marks (Some kind.old)) }
-    ensures after { kind.new ≡ kind_marked (unhandled (kind_marks (Some kind.old))) kind.old }
+    ensures after { kind.new ≡ kind_marked (after_unhandle (kind_marks (Some kind.old))) kind.old }
 {
     match kind {
         Kind::Thread(rec) => rec.stack.unhandle(),
@@ -155,7 +155,7 @@ fn take_handler(kind: &mut Kind) -> Result<(), LwpErr>
 // The handler of a stack that catches an exception of this number.
 fn found_on(kind: &Kind, pattern: u32) -> Option<Found>
     requires { 0 < length (kind_marks (Some kind.now)) }
-    ensures value { result ≡ found_in pattern (kind_marks (Some kind.now)) }
+    ensures value { result ≡ handler_in pattern (kind_marks (Some kind.now)) }
     ensures in_reach { IfSome result (IsInReach (kind_marks (Some kind.now))) }
 {
     match kind {
@@ -292,7 +292,7 @@ fn found(parts: &Parts, tid: Tid, pattern: u32) -> Option<Found>
     requires lawful { LawfulParts parts.now }
     requires alone { parts.now.dying ≡ None }
     requires may_run { IsTrue (is_eligible_in (state_of parts.now) tid) }
-    ensures value { result ≡ found (state_of parts.now) tid pattern }
+    ensures value { result ≡ handler_of (state_of parts.now) tid pattern }
     ensures in_reach { IfSome result (IsInReach (marks_in (state_of parts.now) tid)) }
 {
     let Some(kind) = parts.ids.get(tid.number) else {
@@ -413,7 +413,7 @@ fn catch<'s>(
     requires reach { IsInReach (marks_in (state_of parts.old) tid) handler }
     requires room { effects.old ≡ [] }
     ensures told { Told parts.old parts.new effects.old effects.new tid
-        (caught (state_of parts.old) tid pattern handler) }
+        (catch_case (state_of parts.old) tid pattern handler) }
     ensures most { length effects.new ≤ most_of_a_call }
 {
     leave_frames(parts, tid, handler.depth, effects);

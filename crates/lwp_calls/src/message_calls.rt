@@ -3,7 +3,7 @@ ghost use Rattle.std.specs.Prelude.{◌≡◌, ◌<◌, ◌≤◌, ◌==◌, ◌
 ghost use Rattle.death_cleanup.specs.Comes.{Answers, CameTo};
 ghost use Rattle.death_cleanup.specs.Ties.{InStep, LawfulParts};
 ghost use Rattle.death_cleanup.specs.View.{state_of};
-ghost use Rattle.lwp_types.specs.Case.{answer_by, listed};
+ghost use Rattle.lwp_types.specs.Case.{answer_by, list_case};
 ghost use Rattle.lwp_types.specs.Choice.{is_eligible_in};
 ghost use Rattle.lwp_types.specs.Effects.{effect_places, most_of_a_call};
 ghost use Rattle.lwp_types.specs.Families.{message_call};
@@ -236,7 +236,7 @@ fn list_senders<'s>(
     requires room { effects.old ≡ [] }
     ensures ok { OnOk result
         (Told parts.now parts.now effects.old effects.new caller
-        (listed (state_of parts.now) kind.Thread
+        (list_case (state_of parts.now) kind.Thread
         (senders_to (state_of parts.now).letters caller))) }
     ensures most { length effects.new ≤ 1 }
 {
@@ -256,7 +256,7 @@ fn list_receivers<'s>(
     requires room { effects.old ≡ [] }
     ensures ok { OnOk result
         (Told parts.now parts.now effects.old effects.new caller
-        (listed (state_of parts.now) kind.Thread (receivers_of (state_of parts.now) caller))) }
+        (list_case (state_of parts.now) kind.Thread (receivers_of (state_of parts.now) caller))) }
     ensures most { length effects.new ≤ 1 }
 {
     let list = receivers(parts, alloc, caller)?;

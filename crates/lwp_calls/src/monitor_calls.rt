@@ -3,11 +3,11 @@ ghost use Rattle.std.specs.Prelude.{◌≡◌, ◌≤◌, [], ◌∷◌, false, 
 ghost use Rattle.death_cleanup.specs.Comes.{Answers};
 ghost use Rattle.death_cleanup.specs.Ties.{InStep, LawfulParts};
 ghost use Rattle.death_cleanup.specs.View.{state_of};
-ghost use Rattle.lwp_types.specs.Case.{answer_by, listed, unless};
+ghost use Rattle.lwp_types.specs.Case.{answer_by, list_case, unless};
 ghost use Rattle.lwp_types.specs.Choice.{is_eligible_in};
 ghost use Rattle.lwp_types.specs.Effects.{most_of_a_call};
 ghost use Rattle.lwp_types.specs.Families.{monitor_call};
-ghost use Rattle.lwp_types.specs.Monitors.{cond_enter, enter, entered, is_deepest, is_owned_by_other, monitor_create, monitor_destroy, monitor_waiters};
+ghost use Rattle.lwp_types.specs.Monitors.{cond_enter, enter, enter_case, is_deepest, is_owned_by_other, monitor_create, monitor_destroy, monitor_waiters};
 ghost use Rattle.lwp_types.specs.State.{member};
 ghost use Rattle.lwp_types.specs.Step.{case_of};
 ghost use Rattle.lwp_types.specs.declared.call.IdKind.TheVariants as kind;
@@ -112,7 +112,7 @@ fn go_in(parts: &mut Parts, tid: Tid, mon: Mid) -> Result<i64, LwpErr>
     requires open { is_owned_by_other (state_of parts.old).locks tid mon ≡ false }
     ensures { Answers parts.old parts.new [] []
         (unless (state_of parts.old) (is_deepest (state_of parts.old) tid mon ∷ [])
-        (entered (state_of parts.old) tid mon))
+        (enter_case (state_of parts.old) tid mon))
         (answer_by result) }
 {
     if parts.mons.depth(mon) >= MOST_DEPTH {
@@ -163,7 +163,7 @@ fn list<'s>(parts: &Parts<'s>, tid: Tid, effects: &mut Effects<'s>) -> Result<()
     requires room { effects.old ≡ [] }
     ensures ok { OnOk result
         (Told parts.now parts.now effects.old effects.new tid
-        (listed (state_of parts.now) kind.Monitor (state_of parts.now).monitors)) }
+        (list_case (state_of parts.now) kind.Monitor (state_of parts.now).monitors)) }
     ensures most { length effects.new ≤ 1 }
 {
     let list = parts.mons.list()?;

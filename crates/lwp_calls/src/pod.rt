@@ -5,7 +5,7 @@ ghost use Rattle.death_cleanup.specs.Comes.{CameTo};
 ghost use Rattle.exceptions.specs.Stack.{one_frame};
 ghost use Rattle.death_cleanup.specs.Ties.{InStep, LawfulParts};
 ghost use Rattle.death_cleanup.specs.View.{state_of};
-ghost use Rattle.lwp_types.specs.Agents.{armed, deliver};
+ghost use Rattle.lwp_types.specs.Agents.{deliver, is_event_armed};
 ghost use Rattle.lwp_types.specs.Choice.{is_eligible_in};
 ghost use Rattle.pod_sched.specs.Schedule.{choice, prio_in};
 ghost use Rattle.lwp_types.specs.Effects.{effect_places, most_of_a_call, most_of_a_delivery, most_of_a_step};
@@ -213,7 +213,7 @@ impl<'s> Pod<'s> {
     /// Whether an event can be delivered: the clock can tick, or the event has an agent and none of its agents holds a message; and
     /// the pod goes on.
     pub fn armed(&self, event: u8) -> bool
-        ensures { result ≡ armed self.now event }
+        ensures { result ≡ is_event_armed self.now event }
     {
         if self.parts.ended {
             return false;
@@ -248,9 +248,10 @@ impl<'s> Pod<'s> {
 
     /// The first event from `from` on that can be delivered, if there is one below 32.
     pub fn next_armed(&self, from: u8) -> Option<u8>
-        ensures none { IfNone result (HoldsNowhere (armed self.now) from 32) }
+        ensures none { IfNone result (HoldsNowhere (is_event_armed self.now) from 32) }
         ensures below { IfSome result (λ event. event < 32) }
-        ensures first { IfSome result (λ event. IsFirstPlace (armed self.now) from 32 event) }
+        ensures first { IfSome result
+            (λ event. IsFirstPlace (is_event_armed self.now) from 32 event) }
     {
         if self.parts.ended {
             return None;
@@ -298,7 +299,7 @@ impl<'s> Pod<'s> {
     /// An event's text becomes a letter of each of its agents to the agent's owner; the clock ticks, and tells nobody the text.
     /// `effects` is emptied first, and then has what that did, in order.
     pub fn deliver(&mut self, event: u8, text: Text<'s>, effects: &mut Effects<'s>)
-        requires { IsTrue (armed self.old event) }
+        requires { IsTrue (is_event_armed self.old event) }
         ensures after { self.new ≡ (deliver self.old event text.entry).after }
         ensures effects { effects.new ≡ (deliver self.old event text.entry).effects }
         ensures few { 1 ≤ event → length effects.new ≤ most_of_a_delivery }
@@ -314,7 +315,7 @@ impl<'s> Pod<'s> {
 fn deliver<'s>(parts: &mut Parts<'s>, event: u8, text: Text<'s>, effects: &mut Effects<'s>)
     requires lawful { LawfulParts parts.old }
     requires alone { parts.old.dying ≡ None }
-    requires armed { IsTrue (armed (state_of parts.old) event) }
+    requires armed { IsTrue (is_event_armed (state_of parts.old) event) }
     requires room { effects.old ≡ [] }
     ensures { CameTo parts.old parts.new effects.old effects.new
         (deliver (state_of parts.old) event text.entry) }

@@ -3,14 +3,14 @@ ghost use Rattle.std.specs.Prelude.{◌≡◌, ◌<◌, ◌≤◌, ◌+◌, ◌�
 ghost use Rattle.death_cleanup.specs.Comes.{Answers, CameTo};
 ghost use Rattle.death_cleanup.specs.Ties.{InStep, LawfulParts};
 ghost use Rattle.death_cleanup.specs.View.{state_of};
-ghost use Rattle.lwp_types.specs.Case.{answer_by, is_at_limit, is_full, is_no_priority, listed};
+ghost use Rattle.lwp_types.specs.Case.{answer_by, is_at_limit, is_full, is_no_priority, list_case};
 ghost use Rattle.lwp_types.specs.Choice.{is_eligible_in};
 ghost use Rattle.lwp_types.specs.Death.{destroy};
 ghost use Rattle.lwp_types.specs.Effects.{most_of_a_call, most_of_a_death};
 ghost use Rattle.lwp_types.specs.Families.{thread_call};
 ghost use Rattle.lwp_types.specs.State.{numbers, still};
 ghost use Rattle.lwp_types.specs.Step.{case_of};
-ghost use Rattle.lwp_types.specs.Threads.{create, created, join, ping, sleep};
+ghost use Rattle.lwp_types.specs.Threads.{after_create, create, join, ping, sleep};
 ghost use Rattle.lwp_types.specs.declared.call.IdKind.TheVariants as kind;
 ghost use Rattle.exceptions.specs.Stack.{one_frame};
 ghost use Rattle.lwp_calls.specs.Asks.{HasPlaces, asks_memory, first_refusal};
@@ -147,7 +147,7 @@ fn begin<'s>(parts: &mut Parts<'s>, prio: u32, flags: Flags, stack: ExceptionSta
     requires frame { stack ≡ one_frame }
     ensures number { result ≡ parts.old.ids.births }
     ensures came { CameTo parts.old parts.new [] []
-        (still (created (state_of parts.old) prio flags)) }
+        (still (after_create (state_of parts.old) prio flags)) }
 {
     let number = parts.ids.births();
     let tid = Tid { number };
@@ -241,7 +241,7 @@ fn list<'s>(
     requires room { effects.old ≡ [] }
     ensures ok { OnOk result
         (Told parts.now parts.now effects.old effects.new tid
-        (listed (state_of parts.now) kind.Thread (numbers (state_of parts.now).threads))) }
+        (list_case (state_of parts.now) kind.Thread (numbers (state_of parts.now).threads))) }
     ensures most { length effects.new ≤ 1 }
 {
     let list = threads(parts, alloc)?;

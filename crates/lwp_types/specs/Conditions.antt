@@ -1,10 +1,10 @@
 -- Calls on conditions, each of one monitor.
-use Rattle.lwp_types.specs.Case.{Case, Check, answered, is_at_limit, is_full, is_no_monitor, is_no_thread, listed, unanswered, unless, valued}
+use Rattle.lwp_types.specs.Case.{Case, Check, answer_case, is_at_limit, is_full, is_no_monitor, is_no_thread, list_case, silent_case, unless, value_case}
 use Rattle.lwp_types.specs.Choice.{best_by}
 use Rattle.lwp_types.specs.MonitorRelease.{last_lock, release}
 use Rattle.lwp_types.specs.Monitors.{is_waited_in}
 use Rattle.lwp_types.specs.State.{Outcome, State, is_empty, passes, priority_in, still, with_block}
-use Rattle.lwp_types.specs.Unblock.{blocked}
+use Rattle.lwp_types.specs.Unblock.{after_block}
 use Rattle.lwp_types.specs.declared.rows.CondRow.{CondRow}
 use Rattle.lwp_types.specs.declared.rows.Lock.{Lock}
 use Rattle.lwp_types.specs.declared.rows.WaitRow.{WaitRow}
@@ -46,7 +46,7 @@ is_not_last s t c = (not (passes (λ lock. is_lock_of lock (condition_of s.condi
 -- CvCreate: a condition of a monitor
 abbrev pub condition_create : State → ℕ → Case
 condition_create s m = unless s (is_no_monitor s m ∷ is_full 256 s.conditions ∷ is_at_limit s.condition_births s ∷ [])
-    (answered (record s {
+    (answer_case (record s {
       conditions = s.conditions ++ record { number = s.condition_births; mon = m } ∷ [];
       condition_births = s.condition_births + 1;
     }) (answer.Condition s.condition_births))
@@ -54,7 +54,7 @@ condition_create s m = unless s (is_no_monitor s m ∷ is_full 256 s.conditions 
 -- CvDestroy: of a condition that nobody waits on
 abbrev pub condition_destroy : State → ℕ → Case
 condition_destroy s c = unless s (is_no_condition s c ∷ (is_waited_in s.waits c, error.InUse) ∷ [])
-    (valued (record s { conditions = without_condition c s.conditions }) 0)
+    (value_case (record s { conditions = without_condition c s.conditions }) 0)
 
 -- who waits on a condition, first come first
 abbrev pub waits_on : List WaitRow → ℕ → List WaitRow
@@ -65,30 +65,30 @@ abbrev pub without_wait : ℕ → List WaitRow → List WaitRow
 without_wait t ws = filter (λ w. not (w.tid == t)) ws
 
 -- the caller waits, and leaves the monitor altogether: the depth is kept for its return
-abbrev pub waited : ℕ → ℕ → Option Lock → State → Outcome
-waited t c None s = still s
-waited t c (Some lock) s = release lock.mon (blocked (record s { waits = s.waits ++ record { cond = c; tid = t; depth = lock.depth } ∷ [] }) t (block.Waiting c))
+abbrev pub after_wait : ℕ → ℕ → Option Lock → State → Outcome
+after_wait t c None s = still s
+after_wait t c (Some lock) s = release lock.mon (after_block (record s { waits = s.waits ++ record { cond = c; tid = t; depth = lock.depth } ∷ [] }) t (block.Waiting c))
 
 -- Wait: until somebody wakes the caller
 abbrev pub wait : State → ℕ → ℕ → Case
-wait s t c = unless s (is_no_condition s c ∷ is_not_last s t c ∷ []) (unanswered (waited t c (last_lock s.locks t) s))
+wait s t c = unless s (is_no_condition s c ∷ is_not_last s t c ∷ []) (silent_case (after_wait t c (last_lock s.locks t) s))
 
 -- a woken thread waits to enter its monitor again, at the depth that it left, behind those who wait for that already
-abbrev pub woken : ℕ → WaitRow → State → State
-woken m w s = record s {
+abbrev pub after_wake : ℕ → WaitRow → State → State
+after_wake m w s = record s {
   waits = without_wait w.tid s.waits;
   requests = s.requests ++ record { mon = m; tid = w.tid; depth = w.depth } ∷ [];
   threads = with_block w.tid (block.Entering m) s.threads;
 }
 
 -- all of these are woken, in order
-abbrev pub woken_all : Option CondRow → List WaitRow → State → State
-woken_all None ws s = s
-woken_all (Some row) ws s = fold (λ now w. woken row.mon w now) s ws
+abbrev pub after_wake_all : Option CondRow → List WaitRow → State → State
+after_wake_all None ws s = s
+after_wake_all (Some row) ws s = fold (λ now w. after_wake row.mon w now) s ws
 
 -- what the three calls that wake have in common
 abbrev pub waking : State → ℕ → ℕ → List Check → List WaitRow → Case
-waking s t c more ws = unless s (is_no_condition s c ∷ is_not_last s t c ∷ more) (valued (woken_all (condition_of s.conditions c) ws s) 0)
+waking s t c more ws = unless s (is_no_condition s c ∷ is_not_last s t c ∷ more) (value_case (after_wake_all (condition_of s.conditions c) ws s) 0)
 
 -- Notify: by the priorities of this moment, the first of the greatest is woken, if anybody waits
 abbrev pub notify : State → ℕ → ℕ → Case
@@ -108,4 +108,4 @@ cond_send s t c to = waking s t c (is_no_thread s to ∷ (is_empty (wait_of s.wa
 
 -- CvWaiters: who waits on the condition
 abbrev pub condition_waiters : State → ℕ → Case
-condition_waiters s c = unless s (is_no_condition s c ∷ []) (listed s kind.Thread (map (λ w. w.tid) (waits_on s.waits c)))
+condition_waiters s c = unless s (is_no_condition s c ∷ []) (list_case s kind.Thread (map (λ w. w.tid) (waits_on s.waits c)))

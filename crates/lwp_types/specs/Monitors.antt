@@ -1,8 +1,8 @@
 -- Calls on monitors, which their owners may enter again.
-use Rattle.lwp_types.specs.Case.{Case, Check, answered, is_at_limit, is_full, is_no_monitor, listed, unanswered, unless, valued, with_zero}
+use Rattle.lwp_types.specs.Case.{Case, Check, answer_case, is_at_limit, is_full, is_no_monitor, list_case, silent_case, unless, value_case, with_zero}
 use Rattle.lwp_types.specs.MonitorRelease.{is_lock, is_owned_by, lock_of, release, requests_of}
 use Rattle.lwp_types.specs.State.{Outcome, State, passes, still, without}
-use Rattle.lwp_types.specs.Unblock.{blocked}
+use Rattle.lwp_types.specs.Unblock.{after_block}
 use Rattle.lwp_types.specs.declared.rows.CondRow.{CondRow}
 use Rattle.lwp_types.specs.declared.rows.Lock.{Lock}
 use Rattle.lwp_types.specs.declared.rows.WaitRow.{WaitRow}
@@ -16,7 +16,7 @@ use Rattle.lwp_types.specs.declared.rows.Block.TheVariants as block
 -- MonCreate: a monitor that nobody holds
 abbrev pub monitor_create : State → Case
 monitor_create s = unless s (is_full 256 s.monitors ∷ is_at_limit s.monitor_births s ∷ [])
-    (answered (record s { monitors = s.monitors ++ s.monitor_births ∷ []; monitor_births = s.monitor_births + 1 }) (answer.Monitor s.monitor_births))
+    (answer_case (record s { monitors = s.monitors ++ s.monitor_births ∷ []; monitor_births = s.monitor_births + 1 }) (answer.Monitor s.monitor_births))
 
 -- the condition is one of monitor m
 abbrev pub is_of_monitor : ℕ → CondRow → Bool
@@ -35,14 +35,14 @@ abbrev pub has_waits : State → ℕ → Bool
 has_waits s m = list_any (λ row. is_of_monitor m row && is_waited_in s.waits row.number) s.conditions
 
 -- the monitor is gone, and its conditions with it
-abbrev pub monitor_destroyed : State → ℕ → State
-monitor_destroyed s m = record s { monitors = without m s.monitors; conditions = without_conditions_of m s.conditions }
+abbrev pub after_monitor_destroy : State → ℕ → State
+after_monitor_destroy s m = record s { monitors = without m s.monitors; conditions = without_conditions_of m s.conditions }
 
 -- MonDestroy: of a monitor that is in nobody's use
 abbrev pub monitor_destroy : State → ℕ → Case
 monitor_destroy s m = unless s
     (is_no_monitor s m ∷ (is_some (lock_of s.locks m), error.InUse) ∷ (has_waits s m, error.InUse) ∷ [])
-    (valued (monitor_destroyed s m) 0)
+    (value_case (after_monitor_destroy s m) 0)
 
 -- t has entered the monitor as often as is allowed
 abbrev pub is_deepest : State → ℕ → ℕ → Check
@@ -74,16 +74,16 @@ with_entry t m None locks = locks ++ record { mon = m; owner = t; depth = 1 } �
 with_entry t m (Some lock) locks = with_depth m (lock.depth + 1) locks
 
 -- t enters a free monitor, or its own once more; the answer is how often it had entered it before
-abbrev pub entered : State → ℕ → ℕ → Case
-entered s t m = valued (record s { locks = with_entry t m (lock_of s.locks m) s.locks }) (depth_in s.locks m)
+abbrev pub enter_case : State → ℕ → ℕ → Case
+enter_case s t m = value_case (record s { locks = with_entry t m (lock_of s.locks m) s.locks }) (depth_in s.locks m)
 
 -- the caller waits to enter
-abbrev pub requested : State → ℕ → ℕ → State
-requested s t m = blocked (record s { requests = s.requests ++ record { mon = m; tid = t; depth = 1 } ∷ [] }) t (block.Entering m)
+abbrev pub after_request : State → ℕ → ℕ → State
+after_request s t m = after_block (record s { requests = s.requests ++ record { mon = m; tid = t; depth = 1 } ∷ [] }) t (block.Entering m)
 
 -- a monitor that another holds has to be waited for
 abbrev pub entering : State → ℕ → ℕ → Case
-entering s t m = if is_owned_by_other s.locks t m then unanswered (still (requested s t m)) else entered s t m
+entering s t m = if is_owned_by_other s.locks t m then silent_case (still (after_request s t m)) else enter_case s t m
 
 -- Enter: waits where it must
 abbrev pub enter : State → ℕ → ℕ → Case
@@ -92,15 +92,15 @@ enter s t m = unless s (is_no_monitor s m ∷ is_deepest s t m ∷ []) (entering
 -- CondEnter: is refused where Enter would wait
 abbrev pub cond_enter : State → ℕ → ℕ → Case
 cond_enter s t m = unless s (is_no_monitor s m ∷ (is_owned_by_other s.locks t m, error.InUse) ∷ is_deepest s t m ∷ [])
-    (entered s t m)
+    (enter_case s t m)
 
 -- the owner leaves once; the last time the monitor becomes free
-abbrev pub exited : ℕ → State → Outcome
-exited m s = if nat_le (depth_in s.locks m) 1 then release m s else still (record s { locks = with_depth m (depth_in s.locks m - 1) s.locks })
+abbrev pub after_exit : ℕ → State → Outcome
+after_exit m s = if nat_le (depth_in s.locks m) 1 then release m s else still (record s { locks = with_depth m (depth_in s.locks m - 1) s.locks })
 
 -- MonExit: the owner leaves once
 abbrev pub monitor_exit : State → ℕ → ℕ → Case
-monitor_exit s t m = unless s (is_no_monitor s m ∷ (not (is_owner s.locks t m), error.InvalidArg) ∷ []) (with_zero (exited m s))
+monitor_exit s t m = unless s (is_no_monitor s m ∷ (not (is_owner s.locks t m), error.InvalidArg) ∷ []) (with_zero (after_exit m s))
 
 -- MonBreak: its owner, whoever that is and however deep, loses it
 abbrev pub monitor_break : State → ℕ → Case
@@ -108,4 +108,4 @@ monitor_break s m = unless s (is_no_monitor s m ∷ (is_none (lock_of s.locks m)
 
 -- MonWaiters: who waits to enter
 abbrev pub monitor_waiters : State → ℕ → Case
-monitor_waiters s m = unless s (is_no_monitor s m ∷ []) (listed s kind.Thread (map (λ r. r.tid) (requests_of s.requests m)))
+monitor_waiters s m = unless s (is_no_monitor s m ∷ []) (list_case s kind.Thread (map (λ r. r.tid) (requests_of s.requests m)))

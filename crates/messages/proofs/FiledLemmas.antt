@@ -1,6 +1,6 @@
 -- Each change of the directory leaves the letters filed, and the directory sound.
 use Rattle.chains.proofs.Pushes.{items_pushed_other, items_pushed_same, length-pushed}
-use Rattle.chains.specs.Lists.{Lists, cleared, empty_lists, items, moved_to_back, removed, without}
+use Rattle.chains.specs.Lists.{Lists, after_clear, after_move_to_back, after_remove, empty_lists, items, without}
 use Rattle.lwp_types.specs.CountLaws.{count-cons, count-failed, count-filter-le, count-map, count-push, length-failed, one}
 use Rattle.lwp_types.specs.Messages.{as_received, is_letter_of, is_to, letters_of, reception_set}
 use Rattle.lwp_types.specs.State.{passes}
@@ -24,30 +24,30 @@ items_removed key [] b = refl
 items_removed key (ks ∷ lists) zero = refl
 items_removed key (ks ∷ lists) (suc b) = items_removed key lists b
 
-pub keys_removed : (key : ℕ) (s : Lists) (o : Option ℕ) → keys_of (removed s key) o ≡ without key (keys_of s o)
+pub keys_removed : (key : ℕ) (s : Lists) (o : Option ℕ) → keys_of (after_remove s key) o ≡ without key (keys_of s o)
 keys_removed key s None = refl
 keys_removed key s (Some b) = items_removed key s.lists b
 
-items_moved_same : (s : Lists) (b key : ℕ) → b < length s.lists → items (moved_to_back s b key) b ≡ without key (items s b) ++ key ∷ []
+items_moved_same : (s : Lists) (b key : ℕ) → b < length s.lists → items (after_move_to_back s b key) b ≡ without key (items s b) ++ key ∷ []
 items_moved_same s b key inside =
     items_pushed_same b key (map (without key) s.lists) (omega (arith, inside, length-map s.lists (without key)))
     ∙ ap (λ ks. ks ++ key ∷ []) (items_removed key s.lists b)
 
-items_moved_other : (s : Lists) (b key i : ℕ) → i ≢ b → items (moved_to_back s b key) i ≡ without key (items s i)
+items_moved_other : (s : Lists) (b key i : ℕ) → i ≢ b → items (after_move_to_back s b key) i ≡ without key (items s i)
 items_moved_other s b key i away = items_pushed_other b key i (map (without key) s.lists) away ∙ items_removed key s.lists i
 
-pub length-moved : (s : Lists) (b key : ℕ) → length (moved_to_back s b key).lists ≡ length s.lists
+pub length-moved : (s : Lists) (b key : ℕ) → length (after_move_to_back s b key).lists ≡ length s.lists
 length-moved s b key = length-pushed b key (map (without key) s.lists) ∙ length-map s.lists (without key)
 
-pub items_cleared : (s : Lists) (b : ℕ) → items (cleared s) b ≡ []
+pub items_cleared : (s : Lists) (b : ℕ) → items (after_clear s) b ≡ []
 items_cleared s b = go s.lists b
   where
-    go : (lists : List (List ℕ)) (b : ℕ) → items (cleared (record { lists = lists; limit = 0 })) b ≡ []
+    go : (lists : List (List ℕ)) (b : ℕ) → items (after_clear (record { lists = lists; limit = 0 })) b ≡ []
     go [] b = refl
     go (ks ∷ lists) zero = refl
     go (ks ∷ lists) (suc b) = go lists b
 
-pub length_cleared : (s : Lists) → length (cleared s).lists ≡ length s.lists
+pub length_cleared : (s : Lists) → length (after_clear s).lists ≡ length s.lists
 length_cleared s = length-map s.lists _
 
 pub items_empty : (n b : ℕ) → items (empty_lists n) b ≡ []
@@ -213,18 +213,18 @@ module _ (d : Directory) (sound : IsSound d) (list key : ℕ) (to : ℕ) (its : 
   list_in : list < length s.lists
   list_in = omega (arith, is_below (place_of d.boxes to) list d.used its (sound.low to), sound.used_fit, lists)
 
-  pub spare_moved : ((b : ℕ) → d.used ≤ b → items s b ≡ []) → (b : ℕ) → d.used ≤ b → items (moved_to_back s list key) b ≡ []
+  pub spare_moved : ((b : ℕ) → d.used ≤ b → items s b ≡ []) → (b : ℕ) → d.used ≤ b → items (after_move_to_back s list key) b ≡ []
   spare_moved spare b past =
       items_moved_other s list key b (λ same. absurd (omega (arith, same, past, is_below (place_of d.boxes to) list d.used its (sound.low to))))
       ∙ ap (without key) (spare b past)
 
-  keys_moved_here : keys_of (moved_to_back s list key) (place_of d.boxes to) ≡ without key (keys_of s (place_of d.boxes to)) ++ key ∷ []
+  keys_moved_here : keys_of (after_move_to_back s list key) (place_of d.boxes to) ≡ without key (keys_of s (place_of d.boxes to)) ++ key ∷ []
   keys_moved_here = rw its (items_moved_same s list key list_in)
 
-  keys_moved_past : (t : ℕ) → t ≢ to → keys_of (moved_to_back s list key) (place_of d.boxes t) ≡ without key (keys_of s (place_of d.boxes t))
+  keys_moved_past : (t : ℕ) → t ≢ to → keys_of (after_move_to_back s list key) (place_of d.boxes t) ≡ without key (keys_of s (place_of d.boxes t))
   keys_moved_past t away = by_place (place_of d.boxes t) refl
     where
-      by_place : (o : Option ℕ) → place_of d.boxes t ≡ o → keys_of (moved_to_back s list key) o ≡ without key (keys_of s o)
+      by_place : (o : Option ℕ) → place_of d.boxes t ≡ o → keys_of (after_move_to_back s list key) o ≡ without key (keys_of s o)
       by_place None is = refl
       by_place (Some b) is = items_moved_other s list key b (λ same. away (sound.apart t to b is (its ∙ ap Some (sym same))))
 
@@ -240,7 +240,7 @@ module _ (d : Directory) (sound : IsSound d) (list key : ℕ) (to : ℕ) (its : 
     ]
 
     -- it is the last of these
-    pub keys_moved : p to letter ≡ true → (t : ℕ) → keys_of (moved_to_back s list key) (place_of d.boxes t) ≡ keys_from d.width (p t) (slots ++ Some letter ∷ [])
+    pub keys_moved : p to letter ≡ true → (t : ℕ) → keys_of (after_move_to_back s list key) (place_of d.boxes t) ≡ keys_from d.width (p t) (slots ++ Some letter ∷ [])
     keys_moved in_it t = elim (cases_eq t to) [
       | inl same ↦ rw same (
           keys_moved_here
@@ -256,9 +256,9 @@ module _ (d : Directory) (sound : IsSound d) (list key : ℕ) (to : ℕ) (its : 
 
 module _ (d : Directory) (sound : IsSound d) (slot list : ℕ) (letter : Letter) (its : place_of d.boxes letter.to ≡ Some list) (senders' : Found) (puts : Puts (place_of d.senders) (place_of senders') letter.from (Some slot)) (count : count_of senders' ≡ count_of d.senders + 1) (unread' : Lists) where
   after_added : Directory
-  after_added = record d { senders = senders'; held = moved_to_back d.held list (d.width + slot); unread = unread' }
+  after_added = record d { senders = senders'; held = after_move_to_back d.held list (d.width + slot); unread = unread' }
 
-  pub IsSound-added : width_of senders' ≡ width_of d.senders → senders'.room ≡ d.senders.room → ((b : ℕ) → d.used ≤ b → items unread' b ≡ []) → length unread'.lists ≡ d.width → unread'.limit ≡ d.unread.limit → IsSound (record d { senders = senders'; held = moved_to_back d.held list (d.width + slot); unread = unread' })
+  pub IsSound-added : width_of senders' ≡ width_of d.senders → senders'.room ≡ d.senders.room → ((b : ℕ) → d.used ≤ b → items unread' b ≡ []) → length unread'.lists ≡ d.width → unread'.limit ≡ d.unread.limit → IsSound (record d { senders = senders'; held = after_move_to_back d.held list (d.width + slot); unread = unread' })
   IsSound-added cells room spare lists limit = record {
     low = sound.low;
     apart = sound.apart;
@@ -294,7 +294,7 @@ module _ (d : Directory) (sound : IsSound d) (slot list : ℕ) (letter : Letter)
             let inside = slot_within slots i one_there.letter one_there.is in
             ap (passes (is_letter_of x)) (slot_at-past slots (Some letter) i (λ same. absurd (omega (arith, same, inside)))) ∙ at
 
-    pub IsFiled-added : ((t : ℕ) → keys_of unread' (place_of d.boxes t) ≡ keys_from d.width (is_unread_by t) (slots ++ Some letter ∷ [])) → IsFiled (slots ++ Some letter ∷ []) (record d { senders = senders'; held = moved_to_back d.held list (d.width + slot); unread = unread' })
+    pub IsFiled-added : ((t : ℕ) → keys_of unread' (place_of d.boxes t) ≡ keys_from d.width (is_unread_by t) (slots ++ Some letter ∷ [])) → IsFiled (slots ++ Some letter ∷ []) (record d { senders = senders'; held = after_move_to_back d.held list (d.width + slot); unread = unread' })
     IsFiled-added unread = record {
       found = found_added;
       counted = omega (arith, count, was.counted, ap length (living-push slots (Some letter)), length_push (living slots) letter);
@@ -316,7 +316,7 @@ others_unread letter t away = rw (ne_eqb letter.to t (λ same. away (sym same)))
 -- ---- a letter is received
 
 module _ (d : Directory) (sound : IsSound d) (key : ℕ) where
-  pub IsSound-received : IsSound (record d { unread = removed d.unread key })
+  pub IsSound-received : IsSound (record d { unread = after_remove d.unread key })
   IsSound-received = record {
     low = sound.low;
     apart = sound.apart;
@@ -352,7 +352,7 @@ module _ (d : Directory) (sound : IsSound d) (key : ℕ) where
       | inr away ↦ rw (get_or-set_other slots slot i (Some (as_received letter)) None away) at
     ]
 
-    pub IsFiled-received : IsFiled slots d → IsFiled (set slots slot (Some (as_received letter))) (record d { unread = removed d.unread key })
+    pub IsFiled-received : IsFiled slots d → IsFiled (set slots slot (Some (as_received letter))) (record d { unread = after_remove d.unread key })
     IsFiled-received was = record {
       found = λ x. found_received x (place_of d.senders x) (was.found x);
       counted = omega (arith, was.counted, ap length living_received, length-map (living slots) (reception_set letter.from));
@@ -370,7 +370,7 @@ living_gone slots slot from once its =
     r.emptied ∙ removed_there (living slots) r.rank there.letter once r.here r.within ∙ ap (λ x. filter (λ l. not (is_letter_of x l)) (living slots)) same
 
 module _ (d : Directory) (sound : IsSound d) (key from : ℕ) (senders' : Found) where
-  pub IsSound-taken : width_of senders' ≡ width_of d.senders → senders'.room ≡ d.senders.room → IsSound (record d { senders = senders'; held = removed d.held key; unread = removed d.unread key })
+  pub IsSound-taken : width_of senders' ≡ width_of d.senders → senders'.room ≡ d.senders.room → IsSound (record d { senders = senders'; held = after_remove d.held key; unread = after_remove d.unread key })
   IsSound-taken cells room = record {
     low = sound.low;
     apart = sound.apart;
@@ -407,7 +407,7 @@ module _ (d : Directory) (sound : IsSound d) (key from : ℕ) (senders' : Found)
             let one_letter : there.letter ≡ here.letter = cc in
             away (sym (eqb-true here.letter.from x here.passed) ∙ ap (λ (l : Letter). l.from) (sym one_letter) ∙ eqb-true there.letter.from from there.passed)
 
-    pub IsFiled-taken : IsFiled slots d → IsFiled (set slots slot None) (record d { senders = senders'; held = removed d.held key; unread = removed d.unread key })
+    pub IsFiled-taken : IsFiled slots d → IsFiled (set slots slot None) (record d { senders = senders'; held = after_remove d.held key; unread = after_remove d.unread key })
     IsFiled-taken was = record {
       found = λ x. elim (cases_eq x from) [
         | inl same ↦ rw (same, puts.here) (ap (λ ls. letters_of ls from) living_taken ∙ count-failed (is_letter_of from) (living slots))

@@ -1,7 +1,7 @@
 -- Each call keeps what a `Messages` keeps of its fields, and what it makes of the letters.
 use Rattle.lwp_types.specs.CountLaws.{length-failed}
 use Rattle.lwp_types.specs.FirstLaws.{find-filter}
-use Rattle.lwp_types.specs.Messages.{is_letter_of, is_open, is_to, letters_of, reception_set, unreceived, without_letter}
+use Rattle.lwp_types.specs.Messages.{is_letter_of, is_open, is_to, letters_of, next_letter, reception_set, without_letter}
 use Rattle.lwp_types.specs.OnlyLaws.{filter_none}
 use Rattle.lwp_types.specs.declared.rows.Letter.{Letter}
 use Rattle.messages.specs.Kept.{IsKept, IsTied}
@@ -41,5 +41,5 @@ pub without_none : (x : ℕ) (letters : List Letter) → letters_of letters x �
 without_none x letters none = sym (filter_none (is_letter_of x) letters none)
 
 -- the letter that a receive takes, as the first of those that may be
-pub unreceived_is : (t : ℕ) (from : Option ℕ) (letters : List Letter) (o : Option Letter) → find (λ l. is_to t l && is_open from l) letters ≡ o → unreceived letters t from ≡ o
+pub unreceived_is : (t : ℕ) (from : Option ℕ) (letters : List Letter) (o : Option Letter) → find (λ l. is_to t l && is_open from l) letters ≡ o → next_letter letters t from ≡ o
 unreceived_is t from letters o is = find-filter (is_open from) (is_to t) letters ∙ is

@@ -1,5 +1,5 @@
 -- Messages as a plain list of letters, and what each of its calls makes of it.
-use Rattle.lwp_types.specs.Messages.{is_letter_of, is_to, letters_of, marked_received, unreceived, without_letter}
+use Rattle.lwp_types.specs.Messages.{is_letter_of, is_to, letters_of, marked_received, next_letter, without_letter}
 use Rattle.lwp_types.specs.declared.call.LwpErr.{LwpErr}
 use Rattle.lwp_types.specs.declared.rows.Letter.{Letter}
 use Rattle.std.specs.List.{find, list_any}
@@ -30,12 +30,12 @@ abbrev pub no_messages : MessageTable
 no_messages = record { letters = []; places = 0 }
 
 -- places for n letters at least
-abbrev pub reserved : MessageTable → ℕ → MessageTable
-reserved m n = record m { places = max m.places n }
+abbrev pub after_reserve : MessageTable → ℕ → MessageTable
+after_reserve m n = record m { places = max m.places n }
 
 -- one letter more, the last
-abbrev pub posted : MessageTable → Letter → MessageTable
-posted m letter = record m { letters = m.letters ++ letter ∷ [] }
+abbrev pub after_post : MessageTable → Letter → MessageTable
+after_post m letter = record m { letters = m.letters ++ letter ∷ [] }
 
 -- the letter that was found counts as received
 abbrev pub with_found_received : Option Letter → List Letter → List Letter
@@ -43,12 +43,12 @@ with_found_received None letters = letters
 with_found_received (Some letter) letters = marked_received letter.from letters
 
 -- t receives the next letter, of this sender or of any
-abbrev pub taken : MessageTable → ℕ → Option ℕ → MessageTable
-taken m t from = record m { letters = with_found_received (unreceived m.letters t from) m.letters }
+abbrev pub after_take : MessageTable → ℕ → Option ℕ → MessageTable
+after_take m t from = record m { letters = with_found_received (next_letter m.letters t from) m.letters }
 
 -- the letter of x is done with
-abbrev pub forgotten : MessageTable → ℕ → MessageTable
-forgotten m x = record m { letters = without_letter x m.letters }
+abbrev pub after_forget : MessageTable → ℕ → MessageTable
+after_forget m x = record m { letters = without_letter x m.letters }
 
 -- why a reply of so many bytes is refused: there is nothing to reply to, or the reply is too long for it
 abbrev pub refusal : Option Letter → ℕ → Option LwpErr
@@ -61,8 +61,8 @@ without_found None letters = letters
 without_found (Some letter) letters = without_letter letter.from letters
 
 -- the first letter for t is taken out
-abbrev pub popped : MessageTable → ℕ → MessageTable
-popped m t = record m { letters = without_found (first_to m.letters t) m.letters }
+abbrev pub after_pop : MessageTable → ℕ → MessageTable
+after_pop m t = record m { letters = without_found (first_to m.letters t) m.letters }
 
 -- laws
 

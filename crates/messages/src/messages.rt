@@ -2,8 +2,8 @@
 ghost use Rattle.std.specs.Prelude.{◌≡◌, ◌<◌, ◌≤◌, ◌&&◌, false, length, option_map, IsOk, IfOk, OnOk, OnErr};
 ghost use Rattle.std.specs.Result.{result_err};
 ghost use Rattle.lwp_types.specs.First.{FindsFirst};
-ghost use Rattle.lwp_types.specs.Messages.{as_received, is_open, is_to, received_from, senders_to, unreceived};
-ghost use Rattle.messages.specs.MessageTable.{IsOnePerSender, first_to, forgotten, has_letter_of, no_messages, popped, posted, refusal, reserved, taken};
+ghost use Rattle.lwp_types.specs.Messages.{as_received, is_open, is_to, next_letter, received_from, senders_to};
+ghost use Rattle.messages.specs.MessageTable.{IsOnePerSender, after_forget, after_pop, after_post, after_reserve, after_take, first_to, has_letter_of, no_messages, refusal};
 
 use crate::directory::Directory;
 use crate::letters::{next_unread, post, receive, remove, senders_to, widen};
@@ -61,7 +61,7 @@ impl<'s> Messages<'s> {
 
     /// Makes places for `n` letters in all; so many can then be posted with no more memory.
     pub fn reserve(&mut self, n: usize) -> Result<(), NoMemory>
-        ensures ok { OnOk result (self.new ≡ reserved self.old n) }
+        ensures ok { OnOk result (self.new ≡ after_reserve self.old n) }
         ensures err { OnErr result (self.new ≡ self.old) }
         ensures has_room { n ≤ self.old.places → IsOk result }
     {
@@ -85,7 +85,7 @@ impl<'s> Messages<'s> {
     pub fn post_letter(&mut self, letter: Letter<'s>)
         requires new { has_letter_of self.old.letters letter.from ≡ false }
         requires room { length self.old.letters < self.old.places }
-        ensures { self.new ≡ posted self.old letter.entry }
+        ensures { self.new ≡ after_post self.old letter.entry }
     {
         post(&mut self.slots, &mut self.directory, letter);
     }
@@ -93,10 +93,10 @@ impl<'s> Messages<'s> {
     /// The thread receives the first letter that it hasn't received yet, of the named sender or of any. The letter stays,
     /// and waits for its reply.
     pub fn take_letter(&mut self, to: Tid, from: Option<Tid>) -> Option<Letter<'s>>
-        ensures value { result ≡ option_map as_received (unreceived self.old.letters to from) }
-        ensures after { self.new ≡ taken self.old to from }
+        ensures value { result ≡ option_map as_received (next_letter self.old.letters to from) }
+        ensures after { self.new ≡ after_take self.old to from }
         ensures first { FindsFirst (λ letter. is_to to letter && is_open from letter)
-            self.old.letters (unreceived self.old.letters to from) }
+            self.old.letters (next_letter self.old.letters to from) }
     {
         let slot = next_unread(&self.slots, &self.directory, to, from)?;
         receive(&mut self.slots, &mut self.directory, slot)
@@ -107,7 +107,7 @@ impl<'s> Messages<'s> {
     #[inline(always)]
     pub fn reply(&mut self, to: Tid, from: Tid, len: usize) -> Result<(), LwpErr>
         ensures cause { result_err result ≡ refusal (received_from self.old.letters to from) len }
-        ensures ok { OnOk result (self.new ≡ forgotten self.old from) }
+        ensures ok { OnOk result (self.new ≡ after_forget self.old from) }
         ensures err { OnErr result (self.new ≡ self.old) }
     {
         let Some(slot) = self.directory.slot_of(from) else {
@@ -122,7 +122,7 @@ impl<'s> Messages<'s> {
 
     /// The sender's letter goes, received or not. Where there is none, nothing happens.
     pub fn forget(&mut self, from: Tid)
-        ensures { self.new ≡ forgotten self.old from }
+        ensures { self.new ≡ after_forget self.old from }
     {
         if let Some(slot) = self.directory.slot_of(from) {
             remove(&mut self.slots, &mut self.directory, slot, from);
@@ -132,7 +132,7 @@ impl<'s> Messages<'s> {
     /// The first letter to the thread goes, received or not; the answer is who sent it.
     pub fn pop_to(&mut self, to: Tid) -> Option<Tid>
         ensures value { result ≡ option_map (λ letter. letter.from) (first_to self.old.letters to) }
-        ensures after { self.new ≡ popped self.old to }
+        ensures after { self.new ≡ after_pop self.old to }
         ensures first { FindsFirst (is_to to) self.old.letters (first_to self.old.letters to) }
     {
         let slot = self.directory.first_to(to)?;

@@ -7,7 +7,7 @@ use Rattle.monitors.proofs.KeptLemmas.{held_free}
 use Rattle.monitors.proofs.LockLaws.{as_many, at_most_once, lock_deep, lock_push, lock_without, no_lock_of, ordered_deep, ordered_without}
 use Rattle.monitors.proofs.Room.{length-locks-le, length-locks-lt}
 use Rattle.monitors.specs.Held.{AreOrdered, IsHeld, IsSound}
-use Rattle.monitors.specs.MonitorTable.{MonitorTable, destroyed, is_free, is_live}
+use Rattle.monitors.specs.MonitorTable.{MonitorTable, after_destroy, is_free, is_live}
 use Rattle.std.proofs.Common.{List, None, Some, [], ap, arith, cond, eqb, length, sym, true, ℕ, ◌++◌, ◌+◌, ◌<◌, ◌∙◌, ◌∷◌, ◌≡◌, ◌≤◌}
 use Rattle.std.proofs.lemmas.List.{length_push}
 use Rattle.std.specs.Prelude.{option_map}
@@ -53,5 +53,5 @@ module _ {s : MonitorTable} {held : List Lock} {counts : List ℕ} {lock_room he
   pub IsHeld-created : (births room : ℕ) → length s.monitors + 1 ≤ room → IsHeld (record s { monitors = s.monitors ++ s.births ∷ []; births = births }) held room
   IsHeld-created births room more = record { ordered = was.by_monitor.ordered; same = was.by_monitor.same; fits = omega (arith, more, length_push s.monitors s.births) }
 
-  pub IsHeld-destroyed : (m : ℕ) → IsHeld (destroyed s m) held held_room
+  pub IsHeld-destroyed : (m : ℕ) → IsHeld (after_destroy s m) held held_room
   IsHeld-destroyed m = record { ordered = was.by_monitor.ordered; same = was.by_monitor.same; fits = omega (arith, was.by_monitor.fits, length-failed (λ k. eqb k m) s.monitors) }

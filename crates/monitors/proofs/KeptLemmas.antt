@@ -8,7 +8,7 @@ use Rattle.lwp_types.specs.declared.rows.Lock.{Lock}
 use Rattle.monitors.proofs.LiveLaws.{All-without, AreRising-push, AreRising-without, born-push}
 use Rattle.monitors.proofs.Room.{length-locks-le, length-locks-lt}
 use Rattle.monitors.specs.Kept.{IsKept}
-use Rattle.monitors.specs.MonitorTable.{MonitorTable, destroyed, freed, is_free, is_live, next_request, with_grant}
+use Rattle.monitors.specs.MonitorTable.{MonitorTable, after_destroy, after_give_up, is_free, is_live, next_request, with_grant}
 use Rattle.monitors.specs.declared.requests.EntryRequest.{EntryRequest}
 use Rattle.std.proofs.Common.{List, None, Option, Some, [], ap, arith, eqb, false, inl, inr, is_none, length, refl, reverse, sym, true, ℕ, ◌++◌, ◌+◌, ◌<◌, ◌∙◌, ◌∷◌, ◌≡◌, ◌≤◌}
 use Rattle.std.proofs.lemmas.Bool.{cases_eq, eq-eqb, eqb-true, ne_eqb}
@@ -65,7 +65,7 @@ module _ {s : MonitorTable} {lock_room : ℕ} (was : IsKept s lock_room) where
   pub IsKept-roomier : (room : ℕ) → length s.monitors ≤ room → IsKept s room
   IsKept-roomier room more = record { held_once = was.held_once; held_live = was.held_live; locks_fit = more; rising = was.rising; born = was.born }
 
-  pub IsKept-destroyed : (m : ℕ) → is_free s m ≡ true → IsKept (destroyed s m) lock_room
+  pub IsKept-destroyed : (m : ℕ) → is_free s m ≡ true → IsKept (after_destroy s m) lock_room
   IsKept-destroyed m free = record {
     held_once = was.held_once;
     held_live = λ k. elim (cases_eq k m) [
@@ -77,14 +77,14 @@ module _ {s : MonitorTable} {lock_room : ℕ} (was : IsKept s lock_room) where
     born = All-without (λ k. k < s.births) m s.monitors was.born;
   }
 
-  pub IsKept-freed : (m : ℕ) → IsKept (freed s m) lock_room
+  pub IsKept-freed : (m : ℕ) → IsKept (after_give_up s m) lock_room
   IsKept-freed m = kept_locks (without_lock m s.locks) (λ k. omega (arith, was.held_once k, fewer k)) (λ k. omega (arith, was.held_live k, fewer k))
     where
       fewer : (k : ℕ) → locks_on (without_lock m s.locks) k ≤ locks_on s.locks k
       fewer k = count-filter-le (is_lock k) _ s.locks
 
   -- after it is freed nobody holds it
-  pub is_free-freed : (m : ℕ) → is_free (freed s m) m ≡ true
+  pub is_free-freed : (m : ℕ) → is_free (after_give_up s m) m ≡ true
   is_free-freed m = ap is_none (find_none (is_lock m) (without_lock m s.locks) (count-failed (is_lock m) s.locks))
 
   -- the monitor of the lock that a thread acquired last is held

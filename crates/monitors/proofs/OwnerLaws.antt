@@ -4,7 +4,7 @@ use Rattle.lwp_types.specs.Monitors.{depth_set, with_depth}
 use Rattle.lwp_types.specs.OnlyLaws.{count_at}
 use Rattle.lwp_types.specs.MonitorRelease.{is_owned_by, last_lock}
 use Rattle.lwp_types.specs.declared.rows.Lock.{Lock}
-use Rattle.monitors.specs.MonitorTable.{MonitorTable, destroyed, is_live}
+use Rattle.monitors.specs.MonitorTable.{MonitorTable, after_destroy, is_live}
 use Rattle.monitors.proofs.KeptLemmas.{length-kept_locks}
 use Rattle.monitors.specs.Kept.{IsKept}
 use Rattle.monitors.specs.Owners.{IsByOwner, IsCounted, is_in}
@@ -92,7 +92,7 @@ module _ {s : MonitorTable} {counts : List ℕ} (was : IsByOwner s counts) where
     few = omega (arith, few, length_push s.monitors s.births);
   }
 
-  pub IsByOwner-destroyed : (m : ℕ) → IsByOwner (destroyed s m) counts
+  pub IsByOwner-destroyed : (m : ℕ) → IsByOwner (after_destroy s m) counts
   IsByOwner-destroyed m = record {
     counted = was.counted;
     whole = was.whole;

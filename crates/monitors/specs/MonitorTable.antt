@@ -95,32 +95,32 @@ abbrev pub empty_table : ℕ → MonitorTable
 empty_table limit = record { monitors = []; births = 0; limit = limit; locks = []; requests = []; places = 0 }
 
 -- places for n requests at least
-abbrev pub reserved : MonitorTable → ℕ → MonitorTable
-reserved s n = record s { places = max s.places n }
+abbrev pub after_reserve : MonitorTable → ℕ → MonitorTable
+after_reserve s n = record s { places = max s.places n }
 
 -- the number of a monitor that is born now
 abbrev pub newborn : MonitorTable → Option ℕ
 newborn s = if is_full s then None else Some s.births
 
 -- one monitor more, if one may be born
-abbrev pub created : MonitorTable → MonitorTable
-created s = if is_full s then s else record s { monitors = s.monitors ++ s.births ∷ []; births = s.births + 1 }
+abbrev pub after_create : MonitorTable → MonitorTable
+after_create s = if is_full s then s else record s { monitors = s.monitors ++ s.births ∷ []; births = s.births + 1 }
 
 -- the monitor is gone
-abbrev pub destroyed : MonitorTable → ℕ → MonitorTable
-destroyed s m = record s { monitors = without m s.monitors }
+abbrev pub after_destroy : MonitorTable → ℕ → MonitorTable
+after_destroy s m = record s { monitors = without m s.monitors }
 
 -- t enters
-abbrev pub entered : MonitorTable → ℕ → ℕ → MonitorTable
-entered s t m = record s { locks = with_entry t m (lock_of s.locks m) s.locks }
+abbrev pub after_enter : MonitorTable → ℕ → ℕ → MonitorTable
+after_enter s t m = record s { locks = with_entry t m (lock_of s.locks m) s.locks }
 
 -- one more waits to enter, behind all others
-abbrev pub requested : MonitorTable → EntryRequest → MonitorTable
-requested s r = record s { requests = s.requests ++ r ∷ [] }
+abbrev pub after_request : MonitorTable → EntryRequest → MonitorTable
+after_request s r = record s { requests = s.requests ++ r ∷ [] }
 
 -- nobody holds the monitor
-abbrev pub freed : MonitorTable → ℕ → MonitorTable
-freed s m = record s { locks = without_lock m s.locks }
+abbrev pub after_give_up : MonitorTable → ℕ → MonitorTable
+after_give_up s m = record s { locks = without_lock m s.locks }
 
 -- a request is met: its thread holds the monitor at the depth that it asked for
 abbrev pub with_grant : MonitorTable → Option EntryRequest → MonitorTable
@@ -131,20 +131,20 @@ with_grant s (Some r) = record s {
 }
 
 -- whoever enters next holds the monitor
-abbrev pub granted : MonitorTable → ℕ → MonitorTable
-granted s m = with_grant s (next_request s m)
+abbrev pub after_grant : MonitorTable → ℕ → MonitorTable
+after_grant s m = with_grant s (next_request s m)
 
 -- whoever held the monitor doesn't, and then whoever enters next
-abbrev pub released : MonitorTable → ℕ → MonitorTable
-released s m = granted (freed s m) m
+abbrev pub after_release : MonitorTable → ℕ → MonitorTable
+after_release s m = after_grant (after_give_up s m) m
 
 -- leaving once leaves the monitor altogether
 abbrev pub is_outermost : MonitorTable → ℕ → Bool
 is_outermost s m = nat_le (depth_in s.locks m) 1
 
 -- the owner leaves once; the last time the monitor is released
-abbrev pub exited : MonitorTable → ℕ → MonitorTable
-exited s m = if is_outermost s m then released s m else record s { locks = with_depth m (depth_in s.locks m - 1) s.locks }
+abbrev pub after_exit : MonitorTable → ℕ → MonitorTable
+after_exit s m = if is_outermost s m then after_release s m else record s { locks = with_depth m (depth_in s.locks m - 1) s.locks }
 
 -- who holds the monitor because its owner has left once
 abbrev pub owner_after : MonitorTable → ℕ → Option ℕ
@@ -153,20 +153,20 @@ owner_after s m = if is_outermost s m then next_owner s m else None
 -- the monitor of this lock is released
 abbrev pub without_hold : MonitorTable → Option Lock → MonitorTable
 without_hold s None = s
-without_hold s (Some lock) = released s lock.mon
+without_hold s (Some lock) = after_release s lock.mon
 
 -- the monitor that t acquired last is released
-abbrev pub last_released : MonitorTable → ℕ → MonitorTable
-last_released s t = without_hold s (last_lock s.locks t)
+abbrev pub after_release_last : MonitorTable → ℕ → MonitorTable
+after_release_last s t = without_hold s (last_lock s.locks t)
 
 -- that monitor, and who holds it then
 abbrev pub last_release : MonitorTable → ℕ → Option (ℕ × Option ℕ)
 last_release s t = option_map (λ lock. (lock.mon, next_owner s lock.mon)) (last_lock s.locks t)
 
 -- the priority of t is another from now on
-abbrev pub requeued : MonitorTable → ℕ → ℕ → MonitorTable
-requeued s t p = record s { requests = with_priority t p s.requests }
+abbrev pub after_requeue : MonitorTable → ℕ → ℕ → MonitorTable
+after_requeue s t p = record s { requests = with_priority t p s.requests }
 
 -- t waits no more
-abbrev pub forgotten : MonitorTable → ℕ → MonitorTable
-forgotten s t = record s { requests = without_request t s.requests }
+abbrev pub after_forget : MonitorTable → ℕ → MonitorTable
+after_forget s t = record s { requests = without_request t s.requests }

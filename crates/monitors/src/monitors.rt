@@ -3,7 +3,7 @@ ghost use Rattle.std.specs.Prelude.{◌≡◌, ◌<◌, ◌≤◌, false, length
 ghost use Rattle.lwp_types.specs.First.{FindsBest};
 ghost use Rattle.lwp_types.specs.Monitors.{depth_in, is_owned_by_other, is_owner};
 ghost use Rattle.lwp_types.specs.MonitorRelease.{last_lock, lock_of, locks_on};
-ghost use Rattle.monitors.specs.MonitorTable.{created, destroyed, empty_table, entered, exited, forgotten, freed, granted, has_request, is_free, is_live, is_unwanted, last_release, last_released, may_enter, newborn, next_owner, next_request, owner_after, owner_of, released, requested, requests_of, requeued, reserved};
+ghost use Rattle.monitors.specs.MonitorTable.{after_create, after_destroy, after_enter, after_exit, after_forget, after_give_up, after_grant, after_release, after_release_last, after_request, after_requeue, after_reserve, empty_table, has_request, is_free, is_live, is_unwanted, last_release, may_enter, newborn, next_owner, next_request, owner_after, owner_of, requests_of};
 
 use crate::live::{has, list, take_out};
 use crate::locks::{acquire, depth_of, free, last_lock, lock_of, set_depth};
@@ -79,7 +79,7 @@ impl Monitors {
 
     /// Makes places for `n` requests in all; so many may then wait with no more memory.
     pub fn reserve(&mut self, n: usize) -> Result<(), NoMemory>
-        ensures ok { OnOk result (self.new ≡ reserved self.old n) }
+        ensures ok { OnOk result (self.new ≡ after_reserve self.old n) }
         ensures err { OnErr result (self.new ≡ self.old) }
         ensures has_room { n ≤ self.old.places → IsOk result }
     {
@@ -89,7 +89,7 @@ impl Monitors {
     /// A monitor that nobody holds, or None where none may be born. What is done to it later takes no memory.
     pub fn create(&mut self) -> Result<Option<Mid>, NoMemory>
         ensures value { IfOk result (λ made. made ≡ newborn self.old) }
-        ensures ok { OnOk result (self.new ≡ created self.old) }
+        ensures ok { OnOk result (self.new ≡ after_create self.old) }
         ensures err { OnErr result (self.new ≡ self.old) }
     {
         let births = self.births;
@@ -117,7 +117,7 @@ impl Monitors {
         requires live { IsTrue (is_live self.old mon) }
         requires free { IsTrue (is_free self.old mon) }
         requires unwanted { IsTrue (is_unwanted self.old mon) }
-        ensures { self.new ≡ destroyed self.old mon }
+        ensures { self.new ≡ after_destroy self.old mon }
     {
         take_out(&mut self.live, mon);
     }
@@ -143,7 +143,7 @@ impl Monitors {
         requires live { IsTrue (is_live self.old mon) }
         requires may_enter { IsTrue (may_enter tid (lock_of self.old.locks mon)) }
         ensures value { result ≡ depth_in self.old.locks mon }
-        ensures after { self.new ≡ entered self.old tid mon }
+        ensures after { self.new ≡ after_enter self.old tid mon }
     {
         match lock_of(&self.held, mon) {
             None => {
@@ -170,7 +170,7 @@ impl Monitors {
         requires most { depth ≤ 65535 }
         requires room { length self.old.requests < self.old.places }
         ensures { self.new
-            ≡ requested self.old (record { mon = mon; tid = tid; prio = prio; depth = depth }) }
+            ≡ after_request self.old (record { mon = mon; tid = tid; prio = prio; depth = depth }) }
     {
         self.requests.join(Waiting {
             what: mon.number,
@@ -184,7 +184,7 @@ impl Monitors {
     pub fn exit(&mut self, mon: Mid, _owner: Tid) -> Option<Tid>
         requires { IsTrue (is_owner self.old.locks _owner mon) }
         ensures value { result ≡ owner_after self.old mon }
-        ensures after { self.new ≡ exited self.old mon }
+        ensures after { self.new ≡ after_exit self.old mon }
     {
         let depth = depth_of(&self.held, mon);
         if depth <= 1 {
@@ -198,7 +198,7 @@ impl Monitors {
     pub fn break_lock(&mut self, mon: Mid) -> Option<Tid>
         requires { is_free self.old mon ≡ false }
         ensures value { result ≡ next_owner self.old mon }
-        ensures after { self.new ≡ released self.old mon }
+        ensures after { self.new ≡ after_release self.old mon }
     {
         free(&mut self.locks, &mut self.held, &mut self.owners, mon);
         self.grant(mon)
@@ -208,7 +208,7 @@ impl Monitors {
     pub fn give_up(&mut self, mon: Mid, _owner: Tid) -> u32
         requires { IsTrue (is_owner self.old.locks _owner mon) }
         ensures value { result ≡ depth_in self.old.locks mon }
-        ensures after { self.new ≡ freed self.old mon }
+        ensures after { self.new ≡ after_give_up self.old mon }
     {
         let before = depth_of(&self.held, mon);
         free(&mut self.locks, &mut self.held, &mut self.owners, mon);
@@ -220,7 +220,7 @@ impl Monitors {
         requires live { IsTrue (is_live self.old mon) }
         requires free { IsTrue (is_free self.old mon) }
         ensures value { result ≡ next_owner self.old mon }
-        ensures after { self.new ≡ granted self.old mon }
+        ensures after { self.new ≡ after_grant self.old mon }
         ensures first_best { FindsBest (λ r. r.prio) (requests_of self.old mon)
             (next_request self.old mon) }
     {
@@ -245,14 +245,14 @@ impl Monitors {
 
     /// Gives the thread's request, if it has one, a priority. The request keeps its place.
     pub fn requeue(&mut self, tid: Tid, prio: u32)
-        ensures { self.new ≡ requeued self.old tid prio }
+        ensures { self.new ≡ after_requeue self.old tid prio }
     {
         self.requests.set_prio(tid, prio);
     }
 
     /// Forgets the thread's request, if it has one.
     pub fn forget(&mut self, tid: Tid)
-        ensures { self.new ≡ forgotten self.old tid }
+        ensures { self.new ≡ after_forget self.old tid }
     {
         self.requests.leave(tid);
     }
@@ -260,7 +260,7 @@ impl Monitors {
     /// Takes from the thread the monitor that it acquired last. The answer is that monitor, and who holds it then.
     pub fn release_last(&mut self, tid: Tid) -> Option<(Mid, Option<Tid>)>
         ensures value { result ≡ last_release self.old tid }
-        ensures after { self.new ≡ last_released self.old tid }
+        ensures after { self.new ≡ after_release_last self.old tid }
     {
         let lock = last_lock(&self.locks, &self.owners, tid)?;
         let next = self.break_lock(lock.mon);

@@ -1,5 +1,5 @@
 -- A call, with its trap and its report, is made of the machine's own moves.
-use Rattle.lwp_types.specs.Agents.{armed, deliver}
+use Rattle.lwp_types.specs.Agents.{deliver, is_event_armed}
 use Rattle.lwp_types.specs.Choice.{choice}
 use Rattle.lwp_types.specs.CountLaws.{count-append, count-cons, one}
 use Rattle.lwp_types.specs.State.{State, passes}
@@ -13,9 +13,9 @@ use Rattle.lwp_types.specs.declared.call.Effect.TheVariants as effect
 use Rattle.lwp_types.specs.declared.call.LwpErr.TheVariants as error
 use Rattle.pod_events.specs.Events.{is_trapped, rites_event}
 use Rattle.pod_events.specs.Laws.{AsksForFates, CallsAreTheMachines, IsOfMoves, MachineMove, ToDeliver, ToStep, machine_after, machine_effects, machine_move}
-use Rattle.pod_events.specs.Rites.{as_rites, first_reported, report_text, reports_after, rites_said}
+use Rattle.pod_events.specs.Rites.{after_first_report, as_rites, report_text, reports_after, rites_said}
 use Rattle.pod_events.specs.Step.{event_step, event_step_by, event_step_if}
-use Rattle.pod_events.specs.Traps.{agent_event_of, but_call, called, is_catch, is_given, made, made_as, notice, refused_by, stepped, trap_made, trap_of, trap_refusal}
+use Rattle.pod_events.specs.Traps.{after_call, after_call_as, after_machine_step, after_trap, after_trap_and_call, agent_event_of, but_call, is_catch, is_given, notice, refused_by, trap_of, trap_refusal}
 use Rattle.std.proofs.Common.{Bool, List, None, Option, Some, [], ap, arith, cond, count_by, drop, false, map, refl, sym, true, ℕ, ◌++◌, ◌+◌, ◌∙◌, ◌∷◌, ◌≡◌}
 
 -- a state and effects are those of these moves, from a state
@@ -59,18 +59,18 @@ module _ (p : Effect → Bool) (asks : AsksForFates p) where
       same (effect.Trapped t f) = refl
       same (effect.Rites a d) = refl
 
-made-goes : (s : State) (trapped : List Bool) (t : ℕ) (c : Call) → Goes s (made s trapped t c).state (made s trapped t c).effects
+made-goes : (s : State) (trapped : List Bool) (t : ℕ) (c : Call) → Goes s (after_call s trapped t c).state (after_call s trapped t c).effects
 made-goes s trapped t c = by_trap (trap_of c)
   where
-    by_refusal : (e : ℕ) (o : Option LwpErr) → Goes s (trap_made s trapped t c e o).state (trap_made s trapped t c e o).effects
+    by_refusal : (e : ℕ) (o : Option LwpErr) → Goes s (after_trap s trapped t c e o).state (after_trap s trapped t c e o).effects
     by_refusal e None = still-goes s _ (λ p asks. refusal-none p asks t c _)
     by_refusal e (Some why) = still-goes s _ (λ p asks. refusal-none p asks t c _)
 
-    by_agent : (b : Bool) → Goes s (cond b (refused_by s trapped t c error.InUse) (stepped trapped (step s c))).state (cond b (refused_by s trapped t c error.InUse) (stepped trapped (step s c))).effects
+    by_agent : (b : Bool) → Goes s (cond b (refused_by s trapped t c error.InUse) (after_machine_step trapped (step s c))).state (cond b (refused_by s trapped t c error.InUse) (after_machine_step trapped (step s c))).effects
     by_agent true = still-goes s _ (λ p asks. refusal-none p asks t c _)
     by_agent false = one-goes s c (step s c).effects (λ p asks. refl)
 
-    by_trap : (o : Option ℕ) → Goes s (made_as s trapped t c o).state (made_as s trapped t c o).effects
+    by_trap : (o : Option ℕ) → Goes s (after_call_as s trapped t c o).state (after_call_as s trapped t c o).effects
     by_trap None = by_agent (passes (is_trapped trapped) (agent_event_of c))
     by_trap (Some e) = by_refusal e (trap_refusal s trapped e)
 
@@ -82,13 +82,13 @@ trapped-goes s after es t e goes = record {
   fates = λ p asks. omega (arith, count-cons p (effect.Trapped t e) es, ap one (asks.no_trap t e), goes.fates p asks);
 }
 
-called-goes : (s : State) (trapped : List Bool) (t : ℕ) (c : Call) (pending : Option ℕ) → Goes s (called s trapped t c pending).state (called s trapped t c pending).effects
+called-goes : (s : State) (trapped : List Bool) (t : ℕ) (c : Call) (pending : Option ℕ) → Goes s (after_trap_and_call s trapped t c pending).state (after_trap_and_call s trapped t c pending).effects
 called-goes s trapped t c None = made-goes s trapped t c
 called-goes s trapped t c (Some e) = by_given (passes is_given (notice s t e)) (passes is_catch (notice s t e))
   where
     by_given : (b d : Bool) → Goes s
-        (cond b (made s trapped t c) (cond d (stepped trapped (but_call (step s (call.ExcNotify e)))) (stepped trapped (but_call (step s (call.Destroy t)))))).state
-        (effect.Trapped t e ∷ (cond b (made s trapped t c) (cond d (stepped trapped (but_call (step s (call.ExcNotify e)))) (stepped trapped (but_call (step s (call.Destroy t)))))).effects)
+        (cond b (after_call s trapped t c) (cond d (after_machine_step trapped (but_call (step s (call.ExcNotify e)))) (after_machine_step trapped (but_call (step s (call.Destroy t)))))).state
+        (effect.Trapped t e ∷ (cond b (after_call s trapped t c) (cond d (after_machine_step trapped (but_call (step s (call.ExcNotify e)))) (after_machine_step trapped (but_call (step s (call.Destroy t)))))).effects)
     by_given true d = trapped-goes s _ _ t e (made-goes s trapped t c)
     by_given false true = trapped-goes s _ _ t e (one-goes s (call.ExcNotify e) _ (λ p asks. but_call-same p asks s (call.ExcNotify e)))
     by_given false false = trapped-goes s _ _ t e (one-goes s (call.Destroy t) _ (λ p asks. but_call-same p asks s (call.Destroy t)))
@@ -108,9 +108,9 @@ effects-push p (first ∷ moves) move s = omega (
 )
 
 said-goes : (from s : State) (es : List Effect) (reports : List ℕ) → Goes from s es → Goes from (rites_said s es reports).state (rites_said s es reports).effects
-said-goes from s es reports goes = by_armed (armed s rites_event) reports
+said-goes from s es reports goes = by_armed (is_event_armed s rites_event) reports
   where
-    by_armed : (b : Bool) (rs : List ℕ) → Goes from (cond b (first_reported s es rs) (record { state = s; reports = rs; effects = es })).state (cond b (first_reported s es rs) (record { state = s; reports = rs; effects = es })).effects
+    by_armed : (b : Bool) (rs : List ℕ) → Goes from (cond b (after_first_report s es rs) (record { state = s; reports = rs; effects = es })).state (cond b (after_first_report s es rs) (record { state = s; reports = rs; effects = es })).effects
     by_armed true [] = goes
     by_armed true (dead ∷ later) = record {
       moves = goes.moves ++ ToDeliver rites_event (report_text dead) ∷ [];
@@ -133,6 +133,6 @@ calls_are_the_machines es c = by_choice (choice es.state)
     by_choice : (o : Option ℕ) → IsOfMoves es (event_step_if es c o)
     by_choice None = record { moves = []; state = refl; fates = λ p asks. refl }
     by_choice (Some t) =
-        let out = called es.state es.trapped t c es.pending in
+        let out = after_trap_and_call es.state es.trapped t c es.pending in
         let goes = said-goes es.state out.state out.effects (reports_after es.state out.state es.reports out.effects) (called-goes es.state es.trapped t c es.pending) in
         record { moves = goes.moves; state = goes.state; fates = goes.fates }

@@ -1,18 +1,18 @@
 -- What every change of the machine does, but for the birth of a thread and the last step of a death: nobody comes or goes, and what it
 -- tells is an answer, an exit procedure or a delivery.
 use Rattle.lwp_types.specs.Agents.{agent_gone, agents_of, deliver, deliver_to, end_agent, event_agents, is_for, message, without_agent}
-use Rattle.lwp_types.specs.Case.{Case, Check, refused, unless}
+use Rattle.lwp_types.specs.Case.{Case, Check, refusal_case, unless}
 use Rattle.lwp_types.specs.Choice.{best_by}
 use Rattle.lwp_types.specs.Death.{answer_joiners, end_agents, refuse_receivers, refuse_sender, refuse_senders, release_all, run_all_exits, withdraw}
 use Rattle.lwp_types.specs.Exits.{exit_case, run_exit, unwind}
-use Rattle.lwp_types.specs.Messages.{as_answer, as_received, post, receivers_of, replied, senders_to, takes_from, with_holding, without_letter}
-use Rattle.lwp_types.specs.Monitors.{depth_in, exited, with_depth}
+use Rattle.lwp_types.specs.Messages.{after_reply, as_answer, as_received, post, receivers_of, senders_to, takes_from, with_holding, without_letter}
+use Rattle.lwp_types.specs.Monitors.{after_exit, depth_in, with_depth}
 use Rattle.lwp_types.specs.Exceptions.{exits_of}
 use Rattle.lwp_types.specs.MonitorRelease.{grant, next_owner, release, without_lock}
-use Rattle.lwp_types.specs.State.{Outcome, State, ThreadRow, and_then, for_each, is_agent, is_agent_row, marked, marks_in, numbers, passes, priority_in, still, thread_of, with_block, with_marks, with_priority, with_suspension}
-use Rattle.lwp_types.specs.Time.{due_threads, is_asleep_in, tick, ticked, time_out}
-use Rattle.lwp_types.specs.Unblock.{blocked, nonexist, timed_out, unblock, zero_answer}
-use Rattle.lwp_types.specs.Conditions.{condition_of, waited, waits_on, waking, woken, woken_all}
+use Rattle.lwp_types.specs.State.{Outcome, State, ThreadRow, and_then, for_each, is_agent, is_agent_row, marks_in, numbers, passes, priority_in, still, thread_of, with_block, with_marks, with_marks_of, with_priority, with_suspension}
+use Rattle.lwp_types.specs.Time.{after_tick, due_threads, is_asleep_in, tick, time_out}
+use Rattle.lwp_types.specs.Unblock.{after_block, nonexist, timed_out, unblock, zero_answer}
+use Rattle.lwp_types.specs.Conditions.{after_wait, after_wake, after_wake_all, condition_of, waits_on, waking}
 use Rattle.lwp_types.specs.declared.call.Answer.{Answer}
 use Rattle.lwp_types.specs.declared.call.Effect.{Effect}
 use Rattle.lwp_types.specs.declared.call.ExitCall.{ExitCall}
@@ -125,7 +125,7 @@ mild_release m s =
     let granted = mild_grant (next_owner s m) (record s { locks = without_lock m s.locks }) in
     record { tells = granted.tells; lives = granted.lives; heard = granted.heard }
 
-pub mild_exited : (m : ℕ) (s : State) → Mild s (exited m s).after (exited m s).effects
+pub mild_exited : (m : ℕ) (s : State) → Mild s (after_exit m s).after (after_exit m s).effects
 mild_exited m s = by_depth (nat_le (depth_in s.locks m) 1)
   where
     by_depth : (b : Bool) → Mild s (cond b (release m s) (still (record s { locks = with_depth m (depth_in s.locks m - 1) s.locks }))).after (cond b (release m s) (still (record s { locks = with_depth m (depth_in s.locks m - 1) s.locks }))).effects
@@ -140,7 +140,7 @@ mild_post letter s = by_test (passes (λ (row : ThreadRow). takes_from letter.fr
     by_test true = record { tells = refl; lives = block_numbers letter.to block.Not s.threads; heard = λ e none. none }
     by_test false = mild_quiet s _ refl refl
 
-pub mild_replied : (u : ℕ) (text : List ℕ) (s : State) → Mild s (replied u text s).after (replied u text s).effects
+pub mild_replied : (u : ℕ) (text : List ℕ) (s : State) → Mild s (after_reply u text s).after (after_reply u text s).effects
 mild_replied u text s = by_agent (is_agent s u)
   where
     by_agent : (b : Bool) → Mild s (cond b (still (record s { letters = without_letter u s.letters; agents = with_holding u false s.agents })) (unblock (answer.Reply text) u (record s { letters = without_letter u s.letters }))).after
@@ -148,29 +148,29 @@ mild_replied u text s = by_agent (is_agent s u)
     by_agent true = record { tells = refl; lives = refl; heard = λ e none. holding_heard e u false s.agents ∙ none }
     by_agent false = record { tells = refl; lives = block_numbers u block.Not s.threads; heard = λ e none. none }
 
-pub mild_waited : (t c : ℕ) (o : Option Lock) (s : State) → Mild s (waited t c o s).after (waited t c o s).effects
+pub mild_waited : (t c : ℕ) (o : Option Lock) (s : State) → Mild s (after_wait t c o s).after (after_wait t c o s).effects
 mild_waited t c None s = mild_quiet s s refl refl
 mild_waited t c (Some lock) s =
-    let freed = mild_release lock.mon (blocked (record s { waits = s.waits ++ record { cond = c; tid = t; depth = lock.depth } ∷ [] }) t (block.Waiting c)) in
+    let freed = mild_release lock.mon (after_block (record s { waits = s.waits ++ record { cond = c; tid = t; depth = lock.depth } ∷ [] }) t (block.Waiting c)) in
     record { tells = freed.tells; lives = freed.lives ∙ block_numbers t (block.Waiting c) s.threads; heard = freed.heard }
 
 pub mild_end_agent : (a : ℕ) (s : State) → Mild s (end_agent a s).after (end_agent a s).effects
 mild_end_agent a s = mild_then s (for_each (unblock nonexist) (receivers_of s a) s) (λ now. still (agent_gone a now)) (mild_each (unblock nonexist) (mild_unblock nonexist) (receivers_of s a) s)
     (record { tells = refl; lives = refl; heard = λ e none. gone_heard e a _ none })
 
-woken_numbers : (m : ℕ) (ws : List WaitRow) (s : State) → numbers (fold (λ now w. woken m w now) s ws).threads ≡ numbers s.threads
+woken_numbers : (m : ℕ) (ws : List WaitRow) (s : State) → numbers (fold (λ now w. after_wake m w now) s ws).threads ≡ numbers s.threads
 woken_numbers m [] s = refl
-woken_numbers m (w ∷ ws) s = woken_numbers m ws (woken m w s) ∙ block_numbers w.tid (block.Entering m) s.threads
+woken_numbers m (w ∷ ws) s = woken_numbers m ws (after_wake m w s) ∙ block_numbers w.tid (block.Entering m) s.threads
 
-pub woken_all_numbers : (o : Option CondRow) (ws : List WaitRow) (s : State) → numbers (woken_all o ws s).threads ≡ numbers s.threads
+pub woken_all_numbers : (o : Option CondRow) (ws : List WaitRow) (s : State) → numbers (after_wake_all o ws s).threads ≡ numbers s.threads
 woken_all_numbers None ws s = refl
 woken_all_numbers (Some row) ws s = woken_numbers row.mon ws s
 
-woken_agents : (m : ℕ) (ws : List WaitRow) (s : State) → (fold (λ now w. woken m w now) s ws).agents ≡ s.agents
+woken_agents : (m : ℕ) (ws : List WaitRow) (s : State) → (fold (λ now w. after_wake m w now) s ws).agents ≡ s.agents
 woken_agents m [] s = refl
-woken_agents m (w ∷ ws) s = woken_agents m ws (woken m w s)
+woken_agents m (w ∷ ws) s = woken_agents m ws (after_wake m w s)
 
-pub woken_all_agents : (o : Option CondRow) (ws : List WaitRow) (s : State) → (woken_all o ws s).agents ≡ s.agents
+pub woken_all_agents : (o : Option CondRow) (ws : List WaitRow) (s : State) → (after_wake_all o ws s).agents ≡ s.agents
 woken_all_agents None ws s = refl
 woken_all_agents (Some row) ws s = woken_agents row.mon ws s
 
@@ -180,7 +180,7 @@ unfolding unless
 unless_mild s [] otherwise fine = fine
 unless_mild s (check ∷ checks) otherwise fine = by_test check.0 (unless_mild s checks otherwise fine)
   where
-    by_test : (b : Bool) → Mild s (unless s checks otherwise).after (unless s checks otherwise).others → Mild s (cond b (refused s check.1) (unless s checks otherwise)).after (cond b (refused s check.1) (unless s checks otherwise)).others
+    by_test : (b : Bool) → Mild s (unless s checks otherwise).after (unless s checks otherwise).others → Mild s (cond b (refusal_case s check.1) (unless s checks otherwise)).after (cond b (refusal_case s check.1) (unless s checks otherwise)).others
     by_test true rest = mild_quiet s s refl refl
     by_test false rest = rest
 
@@ -206,7 +206,7 @@ mild_run t x s =
 
 pub mild_unwind : (t : ℕ) (kept gone : List Mark) (s : State) → Mild s (unwind t kept gone s).after (unwind t kept gone s).effects
 mild_unwind t kept gone s =
-    let run = mild_each (run_exit t) (mild_run t) (exits_of gone) (marked s t kept) in
+    let run = mild_each (run_exit t) (mild_run t) (exits_of gone) (with_marks_of s t kept) in
     record { tells = run.tells; lives = run.lives ∙ mark_numbers t kept s.threads; heard = run.heard }
 
 -- deliveries
@@ -223,10 +223,10 @@ mild_time_out t s = mild_unblock (cond (is_asleep_in s t) zero_answer timed_out)
 
 mild_tick : (s : State) → Mild s (tick s).after (tick s).effects
 mild_tick s = mild_then s
-    (record { after = ticked s; effects = effect.Ticked (s.now + 1) ∷ [] })
+    (record { after = after_tick s; effects = effect.Ticked (s.now + 1) ∷ [] })
     (λ now. for_each time_out (due_threads now) now)
     (record { tells = refl; lives = refl; heard = λ e none. none })
-    (mild_each time_out mild_time_out (due_threads (ticked s)) (ticked s))
+    (mild_each time_out mild_time_out (due_threads (after_tick s)) (after_tick s))
 
 pub mild_deliver : (s : State) (e : ℕ) (text : List ℕ) → Mild s (deliver s e text).after (deliver s e text).effects
 unfolding deliver

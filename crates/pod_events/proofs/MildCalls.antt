@@ -1,17 +1,17 @@
 -- What each call of the machine may come to: at most one thread dies by it, and one is born by a Create alone.
 use Rattle.lwp_types.specs.Agents.{end_agent}
-use Rattle.lwp_types.specs.Case.{Case, Check, answered, is_no_id, refused, unanswered, unless, valued, with_zero}
+use Rattle.lwp_types.specs.Case.{Case, Check, answer_case, is_no_id, refusal_case, silent_case, unless, value_case, with_zero}
 use Rattle.lwp_types.specs.CountLaws.{count-cons, count_found, one, length-failed}
 use Rattle.lwp_types.specs.Death.{answer_joiners, bury, death, destroy, end_agents, refuse_receivers, refuse_senders, release_all, return_from, run_all_exits, withdraw}
-use Rattle.lwp_types.specs.Exits.{caught, leave_frame, notified_by}
-use Rattle.lwp_types.specs.Messages.{post, receive_by, unreceived}
-use Rattle.lwp_types.specs.Monitors.{entered, is_owned_by_other, requested}
-use Rattle.lwp_types.specs.Exceptions.{caught_marks, first_frames, found, frames, later_frames, with_match}
+use Rattle.lwp_types.specs.Exits.{catch_case, leave_frame, notified_by}
+use Rattle.lwp_types.specs.Messages.{next_letter, post, receive_by}
+use Rattle.lwp_types.specs.Monitors.{after_request, enter_case, is_owned_by_other}
+use Rattle.lwp_types.specs.Exceptions.{caught_marks, first_frames, frames, handler_of, later_frames, with_match}
 use Rattle.lwp_types.specs.MonitorRelease.{last_lock}
 use Rattle.lwp_types.specs.State.{Outcome, State, ThreadRow, and_then, in_order, is_agent, is_number, is_thread, marks_in, numbers, still, thread_of}
 use Rattle.lwp_types.specs.Step.{case_of}
-use Rattle.lwp_types.specs.Threads.{born, created}
-use Rattle.lwp_types.specs.Unblock.{blocked, blocked_for}
+use Rattle.lwp_types.specs.Threads.{after_create, new_thread}
+use Rattle.lwp_types.specs.Unblock.{after_block, after_block_for}
 use Rattle.lwp_types.specs.declared.call.Answer.{Answer}
 use Rattle.lwp_types.specs.declared.call.Call.{Call}
 use Rattle.lwp_types.specs.declared.call.Effect.{Effect}
@@ -191,7 +191,7 @@ unfolding unless
 unless_toll t victim births s [] otherwise fine = fine tt
 unless_toll t victim births s (check ∷ checks) otherwise fine = by_test check.0 refl (λ here. unless_toll t victim births s checks otherwise (λ rest. fine (here, rest)))
   where
-    by_test : (b : Bool) → check.0 ≡ b → (check.0 ≡ false → Toll s t victim births None (unless s checks otherwise).after (unless s checks otherwise).others) → Toll s t victim births None (cond b (refused s check.1) (unless s checks otherwise)).after (cond b (refused s check.1) (unless s checks otherwise)).others
+    by_test : (b : Bool) → check.0 ≡ b → (check.0 ≡ false → Toll s t victim births None (unless s checks otherwise).after (unless s checks otherwise).others) → Toll s t victim births None (cond b (refusal_case s check.1) (unless s checks otherwise)).after (cond b (refusal_case s check.1) (unless s checks otherwise)).others
     by_test true e rest = mild_toll t victim births (mild_quiet s s refl refl)
     by_test false e rest = rest e
 
@@ -202,7 +202,7 @@ destroy_toll s t u = unless_toll t (Some u) 0 s (is_no_id s u ∷ []) _ (λ pass
     true_of {b = true} e = refl
     true_of {b = false} e = absurd (cc)
 
-    by_agent : (b : Bool) → (is_thread s u || b) ≡ true → Toll s t (Some u) 0 None (cond b (with_zero (end_agent u s)) (cond (eqb t u) (unanswered (death u s)) (with_zero (death u s)))).after (cond b (with_zero (end_agent u s)) (cond (eqb t u) (unanswered (death u s)) (with_zero (death u s)))).others
+    by_agent : (b : Bool) → (is_thread s u || b) ≡ true → Toll s t (Some u) 0 None (cond b (with_zero (end_agent u s)) (cond (eqb t u) (silent_case (death u s)) (with_zero (death u s)))).after (cond b (with_zero (end_agent u s)) (cond (eqb t u) (silent_case (death u s)) (with_zero (death u s)))).others
     by_agent true h = mild_toll t (Some u) 0 (mild_end_agent u s)
     by_agent false h = by_self (eqb t u) (death_toll s t u (λ lives. either (is_thread s u) h))
       where
@@ -210,22 +210,22 @@ destroy_toll s t u = unless_toll t (Some u) 0 s (is_no_id s u ∷ []) _ (λ pass
         either true e = refl
         either false e = e
 
-        by_self : (b : Bool) → Toll s t (Some u) 0 None (death u s).after (death u s).effects → Toll s t (Some u) 0 None (cond b (unanswered (death u s)) (with_zero (death u s))).after (cond b (unanswered (death u s)) (with_zero (death u s))).others
+        by_self : (b : Bool) → Toll s t (Some u) 0 None (death u s).after (death u s).effects → Toll s t (Some u) 0 None (cond b (silent_case (death u s)) (with_zero (death u s))).after (cond b (silent_case (death u s)) (with_zero (death u s))).others
         by_self true toll = toll
         by_self false toll = toll
 
 return_toll : (s : State) (t : ℕ) → Toll s t (Some t) 0 None (return_from s t).after (return_from s t).others
 return_toll s t = by_frames (nat_le 2 (frames (marks_in s t)))
   where
-    by_frames : (b : Bool) → Toll s t (Some t) 0 None (cond b (leave_frame s t) (unanswered (death t s))).after (cond b (leave_frame s t) (unanswered (death t s))).others
+    by_frames : (b : Bool) → Toll s t (Some t) 0 None (cond b (leave_frame s t) (silent_case (death t s))).after (cond b (leave_frame s t) (silent_case (death t s))).others
     by_frames true = mild_toll t (Some t) 0 (mild_unwind t (first_frames (frames (marks_in s t) - 1) (marks_in s t)) (later_frames (frames (marks_in s t) - 1) (marks_in s t)) s)
     by_frames false = death_toll s t t (λ lives. lives)
 
-create_toll : (s : State) (t number prio : ℕ) (flags : Flags) (checks : List Check) (own : Answer) → Toll s t None 1 None (unless s checks (answered (created s prio flags) own)).after (unless s checks (answered (created s prio flags) own)).others
+create_toll : (s : State) (t number prio : ℕ) (flags : Flags) (checks : List Check) (own : Answer) → Toll s t None 1 None (unless s checks (answer_case (after_create s prio flags) own)).after (unless s checks (answer_case (after_create s prio flags) own)).others
 create_toll s t number prio flags checks own = unless_toll t None 1 s checks _ (λ passed. record {
   dead = inl refl;
-  live = λ lives. omega (arith, length-append s.threads (born s.births prio flags ∷ []));
-  kept = omega (arith, length-append s.threads (born s.births prio flags ∷ []));
+  live = λ lives. omega (arith, length-append s.threads (new_thread s.births prio flags ∷ []));
+  kept = omega (arith, length-append s.threads (new_thread s.births prio flags ∷ []));
   heard = λ none e unheard. unheard;
   tame = refl;
 })
@@ -239,14 +239,14 @@ received_mild s t from mode.Poll None = mild_quiet s s refl refl
 received_mild s t from mode.Poll (Some letter) = mild_quiet s _ refl refl
 received_mild s t from mode.Block None = mild_quiet s _ (block_numbers t (block.Receiving from) s.threads) refl
 received_mild s t from mode.Block (Some letter) = mild_quiet s _ refl refl
-received_mild s t from (mode.Until ticks) None = cond_mild s (eqb ticks 0) (refused s error.Timeout) (unanswered (still (blocked_for s t (block.Receiving from) ticks))) (mild_quiet s s refl refl) (mild_quiet s _ (block_numbers t (block.Receiving from) s.threads) refl)
+received_mild s t from (mode.Until ticks) None = cond_mild s (eqb ticks 0) (refusal_case s error.Timeout) (silent_case (still (after_block_for s t (block.Receiving from) ticks))) (mild_quiet s s refl refl) (mild_quiet s _ (block_numbers t (block.Receiving from) s.threads) refl)
 received_mild s t from (mode.Until ticks) (Some letter) = mild_quiet s _ refl refl
 
 match_mild : (s : State) (on_match : Found → Case) (o : Option Found) → ((f : Found) → Mild s (on_match f).after (on_match f).others) → Mild s (with_match s on_match o).after (with_match s on_match o).others
 match_mild s on_match None mild = mild_quiet s s refl refl
 match_mild s on_match (Some f) mild = mild f
 
-caught_mild : (s : State) (t p : ℕ) (f : Found) → Mild s (caught s t p f).after (caught s t p f).others
+caught_mild : (s : State) (t p : ℕ) (f : Found) → Mild s (catch_case s t p f).after (catch_case s t p f).others
 caught_mild s t p f = mild_unwind t (caught_marks f (marks_in s t)) (later_frames f.depth (marks_in s t)) s
 
 notified_mild : (s : State) (t p : ℕ) (f : Found) (h : Func) → Mild s (notified_by s t p f h).after (notified_by s t p f h).others
@@ -254,9 +254,9 @@ notified_mild s t p f func.Give = mild_quiet s s refl refl
 notified_mild s t p f func.Sum = mild_quiet s s refl refl
 notified_mild s t p f func.Nothing = caught_mild s t p f
 
-send_mild : (s : State) (letter : Letter) (t : ℕ) → Mild s (unanswered (post letter (blocked s t block.Sending))).after (unanswered (post letter (blocked s t block.Sending))).others
+send_mild : (s : State) (letter : Letter) (t : ℕ) → Mild s (silent_case (post letter (after_block s t block.Sending))).after (silent_case (post letter (after_block s t block.Sending))).others
 send_mild s letter t =
-    let posted = mild_post letter (blocked s t block.Sending) in
+    let posted = mild_post letter (after_block s t block.Sending) in
     record { tells = posted.tells; lives = posted.lives ∙ block_numbers t block.Sending s.threads; heard = posted.heard }
 
 checked : {s : State} (t : ℕ) (checks : List Check) (otherwise : Case) → Mild s otherwise.after otherwise.others → Toll s t None 0 None (unless s checks otherwise).after (unless s checks otherwise).others
@@ -277,7 +277,7 @@ agent_toll s t e [] otherwise same tells = record {
 }
 agent_toll s t e (check ∷ checks) otherwise same tells = by_test check.0 (agent_toll s t e checks otherwise same tells)
   where
-    by_test : (b : Bool) → Toll s t None 0 (Some e) (unless s checks otherwise).after (unless s checks otherwise).others → Toll s t None 0 (Some e) (cond b (refused s check.1) (unless s checks otherwise)).after (cond b (refused s check.1) (unless s checks otherwise)).others
+    by_test : (b : Bool) → Toll s t None 0 (Some e) (unless s checks otherwise).after (unless s checks otherwise).others → Toll s t None 0 (Some e) (cond b (refusal_case s check.1) (unless s checks otherwise)).after (cond b (refusal_case s check.1) (unless s checks otherwise)).others
     by_test true rest = let toll = mild_toll t None 0 (mild_quiet s s refl refl) in record { dead = toll.dead; live = toll.live; kept = toll.kept; heard = λ none. absurd (cc); tame = toll.tame }
     by_test false rest = rest
 
@@ -289,16 +289,16 @@ case_toll s t (call.SetPri u p) = checked t _ _ (quiet (priority_numbers u p s.t
 case_toll s t (call.Suspend u) = checked t _ _ (quiet (suspension_numbers u true s.threads) refl)
 case_toll s t (call.Resume u) = checked t _ _ (quiet (suspension_numbers u false s.threads) refl)
 case_toll s t (call.Join u) = checked t _ _ (quiet (block_numbers t (block.Joining u) s.threads) refl)
-case_toll s t (call.Sleep ticks) = mild_toll t None 0 (cond_mild s (eqb ticks 0) (valued s 0) (unanswered (still (blocked_for s t block.Sleeping ticks))) (mild_quiet s s refl refl) (mild_quiet s _ (block_numbers t block.Sleeping s.threads) refl))
+case_toll s t (call.Sleep ticks) = mild_toll t None 0 (cond_mild s (eqb ticks 0) (value_case s 0) (silent_case (still (after_block_for s t block.Sleeping ticks))) (mild_quiet s s refl refl) (mild_quiet s _ (block_numbers t block.Sleeping s.threads) refl))
 case_toll s t call.Me = mild_toll t None 0 (mild_quiet s s refl refl)
 case_toll s t call.GetExit = mild_toll t None 0 (mild_quiet s s refl refl)
 case_toll s t call.Threads = mild_toll t None 0 (mild_quiet s s refl refl)
 case_toll s t (call.Send u room text) = checked t _ _ (send_mild s (record { from = t; to = u; text = text; room = room; received = false }) t)
-case_toll s t (call.Recv from how) = checked t _ _ (received_mild s t from how (unreceived s.letters t from))
+case_toll s t (call.Recv from how) = checked t _ _ (received_mild s t from how (next_letter s.letters t from))
 case_toll s t (call.Reply u text) = checked t _ _ (mild_replied u text s)
 case_toll s t call.Senders = mild_toll t None 0 (mild_quiet s s refl refl)
 case_toll s t call.Receivers = mild_toll t None 0 (mild_quiet s s refl refl)
-case_toll s t (call.Enter m) = checked t _ _ (cond_mild s (is_owned_by_other s.locks t m) (unanswered (still (requested s t m))) (entered s t m) (mild_quiet s _ (block_numbers t (block.Entering m) s.threads) refl) (mild_quiet s _ refl refl))
+case_toll s t (call.Enter m) = checked t _ _ (cond_mild s (is_owned_by_other s.locks t m) (silent_case (still (after_request s t m))) (enter_case s t m) (mild_quiet s _ (block_numbers t (block.Entering m) s.threads) refl) (mild_quiet s _ refl refl))
 case_toll s t (call.MonExit m) = checked t _ _ (mild_exited m s)
 case_toll s t (call.MonBreak m) = checked t _ _ (mild_release m s)
 case_toll s t call.Monitors = mild_toll t None 0 (mild_quiet s s refl refl)
@@ -312,9 +312,9 @@ case_toll s t call.Return = return_toll s t
 case_toll s t (call.Handle pat func arg) = checked t _ _ (quiet (mark_numbers t _ s.threads) refl)
 case_toll s t call.Unhandle = checked t _ _ (quiet (mark_numbers t _ s.threads) refl)
 case_toll s t (call.OnExit x) = checked t _ _ (quiet (mark_numbers t _ s.threads) refl)
-case_toll s t (call.Raise p) = checked t _ _ (match_mild s (caught s t p) (found s t p) (caught_mild s t p))
-case_toll s t (call.ExcNotify p) = checked t _ _ (match_mild s (λ f. notified_by s t p f f.func) (found s t p) (λ f. notified_mild s t p f f.func))
-case_toll s t (call.Bound p) = checked t _ _ (match_mild s _ (found s t p) (λ f. mild_quiet s s refl refl))
+case_toll s t (call.Raise p) = checked t _ _ (match_mild s (catch_case s t p) (handler_of s t p) (caught_mild s t p))
+case_toll s t (call.ExcNotify p) = checked t _ _ (match_mild s (λ f. notified_by s t p f f.func) (handler_of s t p) (λ f. notified_mild s t p f f.func))
+case_toll s t (call.Bound p) = checked t _ _ (match_mild s _ (handler_of s t p) (λ f. mild_quiet s s refl refl))
 case_toll s t (call.Agent e) = agent_toll s t e _ _ refl refl
 case_toll s t call.Agents = mild_toll t None 0 (mild_quiet s s refl refl)
 case_toll s t (call.Trap e) = mild_toll t None 0 (mild_quiet s s refl refl)

@@ -7,12 +7,12 @@ use Rattle.lwp_types.specs.declared.call.LwpErr.TheVariants as error
 use Rattle.pod_events.proofs.Notified.{turn_of}
 use Rattle.pod_events.proofs.QuietPods.{said-none}
 use Rattle.pod_events.proofs.Tolls.{step_deathless, step_heard, step_kept}
-use Rattle.pod_events.specs.Events.{EventOutcome, EventState, has_agent, is_trapped, passed_on, rites_event}
+use Rattle.pod_events.specs.Events.{EventOutcome, EventState, after_pass_on, has_agent, is_trapped, rites_event}
 use Rattle.pod_events.specs.Fates.{asks_no_event, births_by, is_machines, is_plain, victim}
 use Rattle.pod_events.specs.Machine.{called_by, current_of}
-use Rattle.pod_events.specs.Rites.{deaths, mourned, reports_after, rites_said}
-use Rattle.pod_events.specs.Step.{event_step, event_step_by, event_step_if, leads, leads_if, settled_so, with_rites}
-use Rattle.pod_events.specs.Traps.{agent_event_of, called, lead, made_as, refused_by, stepped, trap_of}
+use Rattle.pod_events.specs.Rites.{dead_to_report, deaths, reports_after, rites_said}
+use Rattle.pod_events.specs.Step.{after_settle, event_step, event_step_by, event_step_if, leads, leads_if, with_rites}
+use Rattle.pod_events.specs.Traps.{after_call_as, after_machine_step, after_trap_and_call, agent_event_of, lead, refused_by, trap_of}
 use Rattle.std.proofs.Common.{Bool, Err, List, None, Ok, OnErr, OnOk, Option, Result, Some, [], ap, arith, cond, eqb, false, inl, inr, length, not, refl, sym, true, ℕ, ◌&&◌, ◌++◌, ◌+◌, ◌∙◌, ◌≡◌, ◌≤◌, ◌⊎◌, ◌||◌}
 use Rattle.std.proofs.lemmas.Bool.{and_parts}
 use Rattle.std.specs.Prelude.{is_none, is_some}
@@ -46,11 +46,11 @@ alone_parts s t c alone = by_plain (is_plain t c) refl alone
         record { no_trap = nothing_of (trap_of c) none.0; no_agent = nothing_of (agent_event_of c) none.1; unmourned = inr (unheard (has_agent s rites_event) both.1) }
 
 module _ (es : EventState) (t : ℕ) (c : Call) (turn : current_of es.state ≡ Some t) (alone : Alone es.state t c) (none : es.pending ≡ None) where
-  called_alone : called es.state es.trapped t c es.pending ≡ stepped es.trapped (step es.state c)
+  called_alone : after_trap_and_call es.state es.trapped t c es.pending ≡ after_machine_step es.trapped (step es.state c)
   called_alone =
-      ap (called es.state es.trapped t c) none
-      ∙ ap (made_as es.state es.trapped t c) alone.no_trap
-      ∙ ap (λ o. cond (passes (is_trapped es.trapped) o) (refused_by es.state es.trapped t c error.InUse) (stepped es.trapped (step es.state c))) alone.no_agent
+      ap (after_trap_and_call es.state es.trapped t c) none
+      ∙ ap (after_call_as es.state es.trapped t c) alone.no_trap
+      ∙ ap (λ o. cond (passes (is_trapped es.trapped) o) (refused_by es.state es.trapped t c error.InUse) (after_machine_step es.trapped (step es.state c))) alone.no_agent
 
   -- nobody is there after it who wasn't before, but for the newborn
   pub alone_lives : length (step es.state c).after.threads ≤ length es.state.threads + births_by c
@@ -58,25 +58,25 @@ module _ (es : EventState) (t : ℕ) (c : Call) (turn : current_of es.state ≡ 
 
   module _ (empty : es.reports ≡ []) where
     none_noted : reports_after es.state (step es.state c).after es.reports (step es.state c).effects ≡ []
-    none_noted = ap (λ rs. cond (has_agent (step es.state c).after rites_event) (rs ++ mourned es.state (deaths (step es.state c).effects)) []) empty ∙ by_cause alone.unmourned
+    none_noted = ap (λ rs. cond (has_agent (step es.state c).after rites_event) (rs ++ dead_to_report es.state (deaths (step es.state c).effects)) []) empty ∙ by_cause alone.unmourned
       where
         either : (b : Bool) → ◌≡◌ {A = List ℕ} (cond b [] []) []
         either true = refl
         either false = refl
 
-        by_cause : (victim t c ≡ None) ⊎ (has_agent es.state rites_event ≡ false) → cond (has_agent (step es.state c).after rites_event) (mourned es.state (deaths (step es.state c).effects)) [] ≡ []
+        by_cause : (victim t c ≡ None) ⊎ (has_agent es.state rites_event ≡ false) → cond (has_agent (step es.state c).after rites_event) (dead_to_report es.state (deaths (step es.state c).effects)) [] ≡ []
         by_cause (inl nobody) =
-            ap (λ ds. cond (has_agent (step es.state c).after rites_event) (mourned es.state ds) []) (step_deathless es.state t (turn_of es.state t turn).chosen c nobody)
+            ap (λ ds. cond (has_agent (step es.state c).after rites_event) (dead_to_report es.state ds) []) (step_deathless es.state t (turn_of es.state t turn).chosen c nobody)
             ∙ either (has_agent (step es.state c).after rites_event)
-        by_cause (inr silent) = ap (λ b. cond b (mourned es.state (deaths (step es.state c).effects)) []) (step_heard es.state t (turn_of es.state t turn).chosen c alone.no_agent rites_event silent)
+        by_cause (inr silent) = ap (λ b. cond b (dead_to_report es.state (deaths (step es.state c).effects)) []) (step_heard es.state t (turn_of es.state t turn).chosen c alone.no_agent rites_event silent)
 
-    alone_step : event_step es c ≡ passed_on es (step es.state c)
+    alone_step : event_step es c ≡ after_pass_on es (step es.state c)
     unfolding event_step event_step_by
     alone_step =
         ap (event_step_if es c) (turn_of es.state t turn).chosen
         ∙ ap (with_rites es) called_alone
-        ∙ ap (λ rs. settled_so es.trapped (rites_said (step es.state c).after (step es.state c).effects rs)) none_noted
-        ∙ ap (settled_so es.trapped) (said-none (step es.state c).after (step es.state c).effects)
+        ∙ ap (λ rs. after_settle es.trapped (rites_said (step es.state c).after (step es.state c).effects rs)) none_noted
+        ∙ ap (after_settle es.trapped) (said-none (step es.state c).after (step es.state c).effects)
         ∙ ap (λ (o : Option ℕ). record { after = record { state = (step es.state c).after; trapped = es.trapped; pending = o; reports = [] }; effects = (step es.state c).effects }) (sym none)
         ∙ ap (λ (rs : List ℕ). record { after = record { state = (step es.state c).after; trapped = es.trapped; pending = es.pending; reports = rs }; effects = (step es.state c).effects }) (sym empty)
 

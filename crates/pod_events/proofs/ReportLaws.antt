@@ -1,5 +1,5 @@
 -- Each death that is to be reported is, once and in order, as long as somebody hears.
-use Rattle.lwp_types.specs.Agents.{armed, deliver, deliver_to, event_agents, is_armed, is_for, message}
+use Rattle.lwp_types.specs.Agents.{deliver, deliver_to, event_agents, is_armed, is_event_armed, is_for, message}
 use Rattle.lwp_types.specs.Choice.{choice}
 use Rattle.lwp_types.specs.CountLaws.{count-cons, one}
 use Rattle.lwp_types.specs.Messages.{as_answer, as_received, post, takes_from, with_holding}
@@ -13,12 +13,12 @@ use Rattle.lwp_types.specs.declared.call.Effect.TheVariants as effect
 use Rattle.pod_events.proofs.Mild.{mild_deliver}
 use Rattle.pod_events.proofs.MildCalls.{deaths-append, is_tame, mild_deathless}
 use Rattle.pod_events.proofs.Quiet.{IsAside, called-counts, delivery-none, raised_by}
-use Rattle.pod_events.specs.Events.{EventOutcome, EventState, has_agent, is_trapped, passed_on, rites_event, take_event, trap_taken}
+use Rattle.pod_events.specs.Events.{EventOutcome, EventState, after_pass_on, after_take_trap, has_agent, is_trapped, rites_event, take_event}
 use Rattle.pod_events.specs.Laws.{EveryAgentIsTold, EveryDeathIsReported, NoReportWaits, NobodyHearsNothing, mourned_in, mourned_now, reported_by, reported_in, told_in, told_now}
-use Rattle.pod_events.specs.Moves.{EventMove, ToCall, ToTake, event_move, moved_on}
-use Rattle.pod_events.specs.Rites.{Told, as_rites, deaths, first_reported, mourned, report_text, reports_after, rites_said}
+use Rattle.pod_events.specs.Moves.{EventMove, ToCall, ToTake, after_moves, event_move}
+use Rattle.pod_events.specs.Rites.{Told, after_first_report, as_rites, dead_to_report, deaths, report_text, reports_after, rites_said}
 use Rattle.pod_events.specs.Step.{event_step, event_step_by, event_step_if}
-use Rattle.pod_events.specs.Traps.{called}
+use Rattle.pod_events.specs.Traps.{after_trap_and_call}
 use Rattle.std.proofs.Common.{Bool, List, None, Option, Some, [], ap, arith, cond, count_by, false, map, not, refl, subst, sym, take, true, ℕ, ◌&&◌, ◌++◌, ◌∙◌, ◌∷◌, ◌≡◌, ◌||◌}
 use Rattle.std.proofs.lemmas.Bool.{and_parts, eq-eqb, or_right}
 use Rattle.std.proofs.lemmas.List.{append-nil, append_assoc}
@@ -97,7 +97,7 @@ record Begins (es : List Effect) : Type 0 where
   pub rest : List Effect
   pub splits : es ≡ effect.Delivered agent event ∷ rest
 
-armed-delivers : (s : State) (text : List ℕ) → armed s rites_event ≡ true → Begins (deliver s rites_event text).effects
+armed-delivers : (s : State) (text : List ℕ) → is_event_armed s rites_event ≡ true → Begins (deliver s rites_event text).effects
 unfolding deliver and_then for_each
 armed-delivers s text arms = by_agents (event_agents s.agents rites_event) (and_parts (not s.ended) (is_armed s.agents rites_event) arms).1
   where
@@ -138,9 +138,9 @@ first-told : (dead : ℕ) (es : List Effect) → Begins es → take 1 (reported_
 first-told dead es begins = ap (λ xs. take 1 (reported_in (map (as_rites dead) xs))) begins.splits
 
 said-told : (s : State) (es : List Effect) (reports : List ℕ) → reported_in es ≡ [] → reports ≡ told_now (rites_said s es reports).effects ++ (rites_said s es reports).reports
-said-told s es reports none = by_armed (armed s rites_event) refl reports
+said-told s es reports none = by_armed (is_event_armed s rites_event) refl reports
   where
-    by_armed : (b : Bool) → armed s rites_event ≡ b → (rs : List ℕ) → rs ≡ told_now (cond b (first_reported s es rs) (record { state = s; reports = rs; effects = es })).effects ++ (cond b (first_reported s es rs) (record { state = s; reports = rs; effects = es })).reports
+    by_armed : (b : Bool) → is_event_armed s rites_event ≡ b → (rs : List ℕ) → rs ≡ told_now (cond b (after_first_report s es rs) (record { state = s; reports = rs; effects = es })).effects ++ (cond b (after_first_report s es rs) (record { state = s; reports = rs; effects = es })).reports
     by_armed true arms [] = sym (ap (λ ns. take 1 ns ++ []) none)
     by_armed true arms (dead ∷ later) = sym (
         ap (λ ns. take 1 ns ++ later) (reported-append es (map (as_rites dead) (deliver s rites_event (report_text dead)).effects) ∙ ap (λ ns. ns ++ reported_in (map (as_rites dead) (deliver s rites_event (report_text dead)).effects)) none)
@@ -148,9 +148,9 @@ said-told s es reports none = by_armed (armed s rites_event) refl reports
     by_armed false arms rs = sym (ap (λ ns. take 1 ns ++ rs) none)
 
 said-deaths : (s : State) (es : List Effect) (reports : List ℕ) → deaths (rites_said s es reports).effects ≡ deaths es
-said-deaths s es reports = by_armed (armed s rites_event) reports
+said-deaths s es reports = by_armed (is_event_armed s rites_event) reports
   where
-    by_armed : (b : Bool) (rs : List ℕ) → deaths (cond b (first_reported s es rs) (record { state = s; reports = rs; effects = es })).effects ≡ deaths es
+    by_armed : (b : Bool) (rs : List ℕ) → deaths (cond b (after_first_report s es rs) (record { state = s; reports = rs; effects = es })).effects ≡ deaths es
     by_armed true [] = refl
     by_armed true (dead ∷ later) =
         deaths-append es (map (as_rites dead) (deliver s rites_event (report_text dead)).effects)
@@ -159,23 +159,23 @@ said-deaths s es reports = by_armed (armed s rites_event) reports
     by_armed false rs = refl
 
 said-heard : (s : State) (es : List Effect) (reports : List ℕ) (f : ℕ) → has_agent (rites_said s es reports).state f ≡ has_agent s f
-said-heard s es reports f = by_armed (armed s rites_event) reports
+said-heard s es reports f = by_armed (is_event_armed s rites_event) reports
   where
-    by_armed : (b : Bool) (rs : List ℕ) → has_agent (cond b (first_reported s es rs) (record { state = s; reports = rs; effects = es })).state f ≡ has_agent s f
+    by_armed : (b : Bool) (rs : List ℕ) → has_agent (cond b (after_first_report s es rs) (record { state = s; reports = rs; effects = es })).state f ≡ has_agent s f
     by_armed true [] = refl
     by_armed true (dead ∷ later) = deliver-heard s (report_text dead) f
     by_armed false rs = refl
 
 said-nothing : (s : State) (es : List Effect) → (rites_said s es []).reports ≡ []
-said-nothing s es = by_armed (armed s rites_event)
+said-nothing s es = by_armed (is_event_armed s rites_event)
   where
-    by_armed : (b : Bool) → (cond b (first_reported s es []) (record { state = s; reports = []; effects = es })).reports ≡ []
+    by_armed : (b : Bool) → (cond b (after_first_report s es []) (record { state = s; reports = []; effects = es })).reports ≡ []
     by_armed true = refl
     by_armed false = refl
 
 -- the machine's own part of a call reports nothing
-called-silent : (s : State) (trapped : List Bool) (t : ℕ) (c : Call) (pending : Option ℕ) → reported_in (called s trapped t c pending).effects ≡ []
-called-silent s trapped t c pending = reported-none (called s trapped t c pending).effects (called-counts is_rites aside s trapped t c pending ∙ none pending)
+called-silent : (s : State) (trapped : List Bool) (t : ℕ) (c : Call) (pending : Option ℕ) → reported_in (after_trap_and_call s trapped t c pending).effects ≡ []
+called-silent s trapped t c pending = reported-none (after_trap_and_call s trapped t c pending).effects (called-counts is_rites aside s trapped t c pending ∙ none pending)
   where
     none : (o : Option ℕ) → raised_by is_rites aside t o ≡ 0
     none None = refl
@@ -183,30 +183,30 @@ called-silent s trapped t c pending = reported-none (called s trapped t c pendin
 
 -- one move
 
-step-told : (es : EventState) (c : Call) → has_agent (event_step es c).after.state rites_event ≡ true → es.reports ++ mourned es.state (deaths (event_step es c).effects) ≡ told_now (event_step es c).effects ++ (event_step es c).after.reports
+step-told : (es : EventState) (c : Call) → has_agent (event_step es c).after.state rites_event ≡ true → es.reports ++ dead_to_report es.state (deaths (event_step es c).effects) ≡ told_now (event_step es c).effects ++ (event_step es c).after.reports
 unfolding event_step event_step_by
 step-told es c heard = by_choice (choice es.state) heard
   where
-    by_choice : (o : Option ℕ) → has_agent (event_step_if es c o).after.state rites_event ≡ true → es.reports ++ mourned es.state (deaths (event_step_if es c o).effects) ≡ told_now (event_step_if es c o).effects ++ (event_step_if es c o).after.reports
+    by_choice : (o : Option ℕ) → has_agent (event_step_if es c o).after.state rites_event ≡ true → es.reports ++ dead_to_report es.state (deaths (event_step_if es c o).effects) ≡ told_now (event_step_if es c o).effects ++ (event_step_if es c o).after.reports
     by_choice None heard = append-nil es.reports
-    by_choice (Some t) heard = by_out (called es.state es.trapped t c es.pending).state (called es.state es.trapped t c es.pending).effects heard (called-silent es.state es.trapped t c es.pending)
+    by_choice (Some t) heard = by_out (after_trap_and_call es.state es.trapped t c es.pending).state (after_trap_and_call es.state es.trapped t c es.pending).effects heard (called-silent es.state es.trapped t c es.pending)
       where
         by_out : (s : State) (ef : List Effect) → has_agent (rites_said s ef (reports_after es.state s es.reports ef)).state rites_event ≡ true → reported_in ef ≡ []
-            → es.reports ++ mourned es.state (deaths (rites_said s ef (reports_after es.state s es.reports ef)).effects) ≡ told_now (rites_said s ef (reports_after es.state s es.reports ef)).effects ++ (rites_said s ef (reports_after es.state s es.reports ef)).reports
+            → es.reports ++ dead_to_report es.state (deaths (rites_said s ef (reports_after es.state s es.reports ef)).effects) ≡ told_now (rites_said s ef (reports_after es.state s es.reports ef)).effects ++ (rites_said s ef (reports_after es.state s es.reports ef)).reports
         by_out s ef heard none =
-            ap (λ ds. es.reports ++ mourned es.state ds) (said-deaths s ef (reports_after es.state s es.reports ef))
-            ∙ sym (ap (λ b. cond b (es.reports ++ mourned es.state (deaths ef)) []) (sym (said-heard s ef (reports_after es.state s es.reports ef) rites_event) ∙ heard))
+            ap (λ ds. es.reports ++ dead_to_report es.state ds) (said-deaths s ef (reports_after es.state s es.reports ef))
+            ∙ sym (ap (λ b. cond b (es.reports ++ dead_to_report es.state (deaths ef)) []) (sym (said-heard s ef (reports_after es.state s es.reports ef) rites_event) ∙ heard))
             ∙ said-told s ef (reports_after es.state s es.reports ef) none
 
-take-told : (es : EventState) (e : ℕ) (text : List ℕ) → es.reports ++ mourned es.state (deaths (take_event es e text).effects) ≡ told_now (take_event es e text).effects ++ (take_event es e text).after.reports
+take-told : (es : EventState) (e : ℕ) (text : List ℕ) → es.reports ++ dead_to_report es.state (deaths (take_event es e text).effects) ≡ told_now (take_event es e text).effects ++ (take_event es e text).after.reports
 unfolding take_event
 take-told es e text = by_trapped (is_trapped es.trapped e)
   where
-    by_trapped : (b : Bool) → es.reports ++ mourned es.state (deaths (cond b (trap_taken es e) (passed_on es (deliver es.state e text))).effects)
-        ≡ told_now (cond b (trap_taken es e) (passed_on es (deliver es.state e text))).effects ++ (cond b (trap_taken es e) (passed_on es (deliver es.state e text))).after.reports
+    by_trapped : (b : Bool) → es.reports ++ dead_to_report es.state (deaths (cond b (after_take_trap es e) (after_pass_on es (deliver es.state e text))).effects)
+        ≡ told_now (cond b (after_take_trap es e) (after_pass_on es (deliver es.state e text))).effects ++ (cond b (after_take_trap es e) (after_pass_on es (deliver es.state e text))).after.reports
     by_trapped true = append-nil es.reports
     by_trapped false =
-        ap (λ ds. es.reports ++ mourned es.state ds) (mild_deathless (deliver es.state e text).effects (mild_deliver es.state e text).tells)
+        ap (λ ds. es.reports ++ dead_to_report es.state ds) (mild_deathless (deliver es.state e text).effects (mild_deliver es.state e text).tells)
         ∙ append-nil es.reports
         ∙ sym (ap (λ ns. take 1 ns ++ es.reports) (reported-none (deliver es.state e text).effects (delivery-none is_rites aside es.state e text)))
 
@@ -221,32 +221,32 @@ every_death_is_reported (move ∷ moves) es heard =
     ∙ ap (λ ns. ns ++ mourned_in moves (event_move es move).after) (move-told es move heard.0)
     ∙ append_assoc (told_now (event_move es move).effects) (event_move es move).after.reports (mourned_in moves (event_move es move).after)
     ∙ ap (λ ns. told_now (event_move es move).effects ++ ns) (every_death_is_reported moves (event_move es move).after heard.1)
-    ∙ sym (append_assoc (told_now (event_move es move).effects) (told_in moves (event_move es move).after) (moved_on moves (event_move es move).after).reports)
+    ∙ sym (append_assoc (told_now (event_move es move).effects) (told_in moves (event_move es move).after) (after_moves moves (event_move es move).after).reports)
 
 pub nobody_hears_nothing : NobodyHearsNothing
 unfolding event_step event_step_by
 nobody_hears_nothing es c t chosen silent =
-    let out = called es.state es.trapped t c es.pending in
+    let out = after_trap_and_call es.state es.trapped t c es.pending in
     let whole = ap (event_step_if es c) chosen in
     let none = sym (said-heard out.state out.effects (reports_after es.state out.state es.reports out.effects) rites_event) ∙ sym (ap (λ (o : EventOutcome). has_agent o.after.state rites_event) whole) ∙ silent in
     ap (λ (o : EventOutcome). o.after.reports) whole
-    ∙ ap (λ b. (rites_said out.state out.effects (cond b (es.reports ++ mourned es.state (deaths out.effects)) [])).reports) none
+    ∙ ap (λ b. (rites_said out.state out.effects (cond b (es.reports ++ dead_to_report es.state (deaths out.effects)) [])).reports) none
     ∙ said-nothing out.state out.effects
 
 -- what a report that is said comes to
 record Says (s : State) (es : List Effect) (told : Told) (dead : ℕ) : Type 0 where
-  pub waits : armed s rites_event ≡ true
+  pub waits : is_event_armed s rites_event ≡ true
   pub after : told.state ≡ (deliver s rites_event (report_text dead)).after
   pub effects : told.effects ≡ es ++ map (as_rites dead) (deliver s rites_event (report_text dead)).effects
 
 said-says : (s : State) (es : List Effect) (reports : List ℕ) (dead : ℕ) → reported_in es ≡ [] → told_now (rites_said s es reports).effects ≡ dead ∷ [] → Says s es (rites_said s es reports) dead
-said-says s es reports dead none said = by_armed (armed s rites_event) refl reports said
+said-says s es reports dead none said = by_armed (is_event_armed s rites_event) refl reports said
   where
     nothing : told_now es ≡ dead ∷ [] → ⊥
     nothing h = let empty : told_now es ≡ [] = ap (take 1) none in cc
 
-    by_armed : (b : Bool) → armed s rites_event ≡ b → (rs : List ℕ) → told_now (cond b (first_reported s es rs) (record { state = s; reports = rs; effects = es })).effects ≡ dead ∷ []
-        → Says s es (cond b (first_reported s es rs) (record { state = s; reports = rs; effects = es })) dead
+    by_armed : (b : Bool) → is_event_armed s rites_event ≡ b → (rs : List ℕ) → told_now (cond b (after_first_report s es rs) (record { state = s; reports = rs; effects = es })).effects ≡ dead ∷ []
+        → Says s es (cond b (after_first_report s es rs) (record { state = s; reports = rs; effects = es })) dead
     by_armed true arms [] h = absurd (nothing h)
     by_armed true arms (d ∷ later) h =
         let sent = deliver s rites_event (report_text d) in
@@ -259,7 +259,7 @@ said-says s es reports dead none said = by_armed (armed s rites_event) refl repo
 pub every_agent_is_told : EveryAgentIsTold
 unfolding event_step event_step_by
 every_agent_is_told es c t dead chosen told =
-    let out = called es.state es.trapped t c es.pending in
+    let out = after_trap_and_call es.state es.trapped t c es.pending in
     let whole = ap (event_step_if es c) chosen in
     let says = said-says out.state out.effects (reports_after es.state out.state es.reports out.effects) dead (called-silent es.state es.trapped t c es.pending)
     (sym (ap (λ (o : EventOutcome). told_now o.effects) whole) ∙ told) in
@@ -327,7 +327,7 @@ each-busy text (row ∷ rows) s e busy = each-busy text rows (deliver_to text ro
     (ap (list_any (is_busy e)) (post-agents (message text row) (record s { agents = with_holding row.number true s.agents })) ∙ holding-busy row.number e s.agents busy)
 
 -- an event isn't armed once it was delivered
-delivered-unarmed : (s : State) (text : List ℕ) → armed s rites_event ≡ true → armed (deliver s rites_event text).after rites_event ≡ false
+delivered-unarmed : (s : State) (text : List ℕ) → is_event_armed s rites_event ≡ true → is_event_armed (deliver s rites_event text).after rites_event ≡ false
 unfolding deliver and_then for_each
 delivered-unarmed s text arms =
     ap (λ b. not (deliver s rites_event text).after.ended && b) (busy-unarmed rites_event (deliver s rites_event text).after.agents (by_agents (event_agents s.agents rites_event) refl (and_parts (not s.ended) (is_armed s.agents rites_event) arms).1))
@@ -343,11 +343,11 @@ delivered-unarmed s text arms =
     by_agents (row ∷ rows) found h = each-busy text rows (deliver_to text row s).after rites_event
         (ap (list_any (is_busy rites_event)) (post-agents (message text row) (record s { agents = with_holding row.number true s.agents })) ∙ first-busy rites_event s.agents row rows found)
 
-said-waits : (s : State) (es : List Effect) (reports : List ℕ) → armed (rites_said s es reports).state rites_event ≡ true → (rites_said s es reports).reports ≡ []
-said-waits s es reports arms = by_armed (armed s rites_event) refl reports arms
+said-waits : (s : State) (es : List Effect) (reports : List ℕ) → is_event_armed (rites_said s es reports).state rites_event ≡ true → (rites_said s es reports).reports ≡ []
+said-waits s es reports arms = by_armed (is_event_armed s rites_event) refl reports arms
   where
-    by_armed : (b : Bool) → armed s rites_event ≡ b → (rs : List ℕ) → armed (cond b (first_reported s es rs) (record { state = s; reports = rs; effects = es })).state rites_event ≡ true
-        → (cond b (first_reported s es rs) (record { state = s; reports = rs; effects = es })).reports ≡ []
+    by_armed : (b : Bool) → is_event_armed s rites_event ≡ b → (rs : List ℕ) → is_event_armed (cond b (after_first_report s es rs) (record { state = s; reports = rs; effects = es })).state rites_event ≡ true
+        → (cond b (after_first_report s es rs) (record { state = s; reports = rs; effects = es })).reports ≡ []
     by_armed true was [] h = refl
     by_armed true was (dead ∷ later) h = let never = delivered-unarmed s (report_text dead) was in absurd (cc (h, never))
     by_armed false was rs h = absurd (cc)
@@ -355,7 +355,7 @@ said-waits s es reports arms = by_armed (armed s rites_event) refl reports arms
 pub no_report_waits : NoReportWaits
 unfolding event_step event_step_by
 no_report_waits es c t chosen arms =
-    let out = called es.state es.trapped t c es.pending in
+    let out = after_trap_and_call es.state es.trapped t c es.pending in
     let whole = ap (event_step_if es c) chosen in
     ap (λ (o : EventOutcome). o.after.reports) whole
-    ∙ said-waits out.state out.effects (reports_after es.state out.state es.reports out.effects) (sym (ap (λ (o : EventOutcome). armed o.after.state rites_event) whole) ∙ arms)
+    ∙ said-waits out.state out.effects (reports_after es.state out.state es.reports out.effects) (sym (ap (λ (o : EventOutcome). is_event_armed o.after.state rites_event) whole) ∙ arms)

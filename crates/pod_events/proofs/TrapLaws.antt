@@ -1,5 +1,5 @@
 -- Each trap is raised once, at the next call, in the thread that was chosen.
-use Rattle.lwp_types.specs.Agents.{armed, deliver}
+use Rattle.lwp_types.specs.Agents.{deliver, is_event_armed}
 use Rattle.lwp_types.specs.Choice.{choice}
 use Rattle.lwp_types.specs.CountLaws.{count-append, count-cons, one}
 use Rattle.lwp_types.specs.State.{State, passes}
@@ -8,12 +8,12 @@ use Rattle.lwp_types.specs.declared.call.Effect.{Effect}
 use Rattle.lwp_types.specs.declared.call.Effect.TheVariants as effect
 use Rattle.pod_events.proofs.MildCalls.{is_tame}
 use Rattle.pod_events.proofs.Quiet.{IsAside, called-counts, delivery-none, raised_by}
-use Rattle.pod_events.specs.Events.{EventOutcome, EventState, has_turn, is_takeable, is_trapped, may_trap, passed_on, rites_event, take_event, trap_taken}
+use Rattle.pod_events.specs.Events.{EventOutcome, EventState, after_pass_on, after_take_trap, has_turn, is_takeable, is_trapped, may_trap, rites_event, take_event}
 use Rattle.pod_events.specs.Laws.{CanMove, TrapsAreRaisedNext, TrapsAreRaisedOnce, can_move, is_raised, pends, traps_in, traps_now}
-use Rattle.pod_events.specs.Moves.{EventMove, ToCall, ToTake, effects_of, event_move, moved_on}
-use Rattle.pod_events.specs.Rites.{as_rites, first_reported, report_text, reports_after, rites_said}
+use Rattle.pod_events.specs.Moves.{EventMove, ToCall, ToTake, after_moves, effects_of, event_move}
+use Rattle.pod_events.specs.Rites.{after_first_report, as_rites, report_text, reports_after, rites_said}
 use Rattle.pod_events.specs.Step.{event_step, event_step_by, event_step_if, with_rites}
-use Rattle.pod_events.specs.Traps.{called, notice, sprung_by}
+use Rattle.pod_events.specs.Traps.{after_spring_by, after_trap_and_call, notice}
 use Rattle.std.proofs.Common.{Bool, List, None, Option, Some, [], ap, arith, cond, count_by, eqb, false, map, refl, true, ℕ, ◌&&◌, ◌++◌, ◌+◌, ◌∙◌, ◌∷◌, ◌≡◌}
 use Rattle.std.proofs.lemmas.Bool.{and_parts}
 use Rattle.std.specs.Prelude.{is_none, nat_lt}
@@ -50,9 +50,9 @@ module _ (e : ℕ) where
       same (effect.Rites a d) = refl
 
   said-none : (s : State) (es : List Effect) (reports : List ℕ) → count_by (is_raised e) (rites_said s es reports).effects ≡ count_by (is_raised e) es
-  said-none s es reports = by_armed (armed s rites_event) reports
+  said-none s es reports = by_armed (is_event_armed s rites_event) reports
     where
-      by_armed : (b : Bool) (rs : List ℕ) → count_by (is_raised e) (cond b (first_reported s es rs) (record { state = s; reports = rs; effects = es })).effects ≡ count_by (is_raised e) es
+      by_armed : (b : Bool) (rs : List ℕ) → count_by (is_raised e) (cond b (after_first_report s es rs) (record { state = s; reports = rs; effects = es })).effects ≡ count_by (is_raised e) es
       by_armed true [] = refl
       by_armed true (dead ∷ later) = omega (
         arith,
@@ -74,8 +74,8 @@ module _ (e : ℕ) where
       by_choice None = omega arith
       by_choice (Some t) = omega (
         arith,
-        said-none (called es.state es.trapped t c es.pending).state (called es.state es.trapped t c es.pending).effects
-            (reports_after es.state (called es.state es.trapped t c es.pending).state es.reports (called es.state es.trapped t c es.pending).effects),
+        said-none (after_trap_and_call es.state es.trapped t c es.pending).state (after_trap_and_call es.state es.trapped t c es.pending).effects
+            (reports_after es.state (after_trap_and_call es.state es.trapped t c es.pending).state es.reports (after_trap_and_call es.state es.trapped t c es.pending).effects),
         called-counts (is_raised e) aside es.state es.trapped t c es.pending,
         raised-is t es.pending,
       )
@@ -88,8 +88,8 @@ module _ (e : ℕ) where
       none_pends None h = refl
       none_pends (Some g) h = absurd (cc)
 
-      by_trapped : (b : Bool) → cond b (may_trap es) (nat_lt f rites_event && armed es.state f) ≡ true
-          → count_by (is_raised e) (cond b (trap_taken es f) (passed_on es (deliver es.state f text))).effects + pends e (cond b (trap_taken es f) (passed_on es (deliver es.state f text))).after ≡ one (b && eqb f e) + pends e es
+      by_trapped : (b : Bool) → cond b (may_trap es) (nat_lt f rites_event && is_event_armed es.state f) ≡ true
+          → count_by (is_raised e) (cond b (after_take_trap es f) (after_pass_on es (deliver es.state f text))).effects + pends e (cond b (after_take_trap es f) (after_pass_on es (deliver es.state f text))).after ≡ one (b && eqb f e) + pends e es
       by_trapped true h = omega (arith, none_pends es.pending (and_parts (is_none es.pending) (has_turn es.state) h).0)
       by_trapped false h = omega (arith, delivery-none (is_raised e) aside es.state f text)
 
@@ -97,7 +97,7 @@ module _ (e : ℕ) where
   move-raises es (ToCall c) may = omega (arith, step-raises es c)
   move-raises es (ToTake f text) may = take-raises es f text may
 
-  all-raised : (moves : List EventMove) (es : EventState) → CanMove moves es → count_by (is_raised e) (effects_of moves es) + pends e (moved_on moves es) ≡ traps_in e moves es + pends e es
+  all-raised : (moves : List EventMove) (es : EventState) → CanMove moves es → count_by (is_raised e) (effects_of moves es) + pends e (after_moves moves es) ≡ traps_in e moves es + pends e es
   all-raised [] es may = omega arith
   all-raised (move ∷ moves) es may = omega (
     arith,
@@ -111,23 +111,23 @@ traps_are_raised_once e moves es may = all-raised e moves es may
 
 -- the call's own effects stay in front of the report
 said-front : (s : State) (x : Effect) (xs : List Effect) (reports : List ℕ) → (rest : List Effect) × ((rites_said s (x ∷ xs) reports).effects ≡ x ∷ rest)
-said-front s x xs reports = by_armed (armed s rites_event) reports
+said-front s x xs reports = by_armed (is_event_armed s rites_event) reports
   where
-    by_armed : (b : Bool) (rs : List ℕ) → (rest : List Effect) × ((cond b (first_reported s (x ∷ xs) rs) (record { state = s; reports = rs; effects = x ∷ xs })).effects ≡ x ∷ rest)
+    by_armed : (b : Bool) (rs : List ℕ) → (rest : List Effect) × ((cond b (after_first_report s (x ∷ xs) rs) (record { state = s; reports = rs; effects = x ∷ xs })).effects ≡ x ∷ rest)
     by_armed true [] = (xs, refl)
     by_armed true (dead ∷ later) = (xs ++ map (as_rites dead) (deliver s rites_event (report_text dead)).effects, refl)
     by_armed false rs = (xs, refl)
 
 -- the step of the thread that was chosen, with its trap
-step-is : (es : EventState) (c : Call) (t e : ℕ) → choice es.state ≡ Some t → es.pending ≡ Some e → event_step es c ≡ with_rites es (called es.state es.trapped t c (Some e))
+step-is : (es : EventState) (c : Call) (t e : ℕ) → choice es.state ≡ Some t → es.pending ≡ Some e → event_step es c ≡ with_rites es (after_trap_and_call es.state es.trapped t c (Some e))
 unfolding event_step event_step_by
-step-is es c t e chosen pending = ap (event_step_if es c) chosen ∙ ap (λ o. with_rites es (called es.state es.trapped t c o)) pending
+step-is es c t e chosen pending = ap (event_step_if es c) chosen ∙ ap (λ o. with_rites es (after_trap_and_call es.state es.trapped t c o)) pending
 
 pub traps_are_raised_next : TrapsAreRaisedNext
 traps_are_raised_next es c t e chosen pending =
     let whole = step-is es c t e chosen pending in
-    let out = called es.state es.trapped t c (Some e) in
-    let front = said-front out.state (effect.Trapped t e) (sprung_by es.state es.trapped t c e (notice es.state t e)).effects (reports_after es.state out.state es.reports out.effects) in
+    let out = after_trap_and_call es.state es.trapped t c (Some e) in
+    let front = said-front out.state (effect.Trapped t e) (after_spring_by es.state es.trapped t c e (notice es.state t e)).effects (reports_after es.state out.state es.reports out.effects) in
     record {
       rest = front.0;
       raised = ap (λ (o : EventOutcome). o.effects) whole ∙ front.1;

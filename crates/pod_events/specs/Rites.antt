@@ -1,5 +1,5 @@
 -- Last rites: deaths are reported to the agents of an event that is kept for them.
-use Rattle.lwp_types.specs.Agents.{armed, deliver}
+use Rattle.lwp_types.specs.Agents.{deliver, is_event_armed}
 use Rattle.lwp_types.specs.State.{State, passes, thread_of}
 use Rattle.lwp_types.specs.declared.call.Effect.{Effect}
 use Rattle.lwp_types.specs.declared.call.Effect.TheVariants as effect
@@ -27,12 +27,12 @@ abbrev pub is_reported : State → ℕ → Bool
 is_reported s t = passes (λ flags. not flags.nolastrites) (flags_of s t)
 
 -- the dead that are to be reported, of those that died since this state
-abbrev pub mourned : State → List ℕ → List ℕ
-mourned before dead = filter (is_reported before) dead
+abbrev pub dead_to_report : State → List ℕ → List ℕ
+dead_to_report before dead = filter (is_reported before) dead
 
 -- what is to be reported after a call; nothing, if there is nobody to report it to
 abbrev pub reports_after : State → State → List ℕ → List Effect → List ℕ
-reports_after before now reports es = if has_agent now rites_event then reports ++ mourned before (deaths es) else []
+reports_after before now reports es = if has_agent now rites_event then reports ++ dead_to_report before (deaths es) else []
 
 -- the text of a report: t and the number of the dead
 abbrev pub report_text : ℕ → List ℕ
@@ -62,18 +62,18 @@ pub record Told : Type 0 where
   pub effects : List Effect
 
 -- the death is reported to each agent of the event
-abbrev pub reported : State → List Effect → ℕ → List ℕ → Told
-reported s es dead later = let sent = deliver s rites_event (report_text dead) in record {
+abbrev pub after_report : State → List Effect → ℕ → List ℕ → Told
+after_report s es dead later = let sent = deliver s rites_event (report_text dead) in record {
   state = sent.after;
   reports = later;
   effects = es ++ map (as_rites dead) sent.effects;
 }
 
 -- the first of these is reported, if there is one
-abbrev pub first_reported : State → List Effect → List ℕ → Told
-first_reported s es [] = record { state = s; reports = []; effects = es }
-first_reported s es (dead ∷ later) = reported s es dead later
+abbrev pub after_first_report : State → List Effect → List ℕ → Told
+after_first_report s es [] = record { state = s; reports = []; effects = es }
+after_first_report s es (dead ∷ later) = after_report s es dead later
 
 -- the same, if the agents of the event wait for it
 abbrev pub rites_said : State → List Effect → List ℕ → Told
-rites_said s es reports = if armed s rites_event then first_reported s es reports else record { state = s; reports = reports; effects = es }
+rites_said s es reports = if is_event_armed s rites_event then after_first_report s es reports else record { state = s; reports = reports; effects = es }

@@ -1,7 +1,7 @@
 // A machine of threads that knows no events of its own.
 ghost use Rattle.std.specs.Prelude.{◌≡◌, ◌≤◌, ◌++◌, [], ◌<◌, length, None, IfNone, IfSome, OnOk, OnErr, IsErr, IsSome, IsTrue};
 ghost use Rattle.std.specs.Slice.Scan.{HoldsNowhere, IsFirstPlace};
-ghost use Rattle.lwp_types.specs.Agents.{armed, deliver};
+ghost use Rattle.lwp_types.specs.Agents.{deliver, is_event_armed};
 ghost use Rattle.lwp_types.specs.Choice.{is_eligible_in};
 ghost use Rattle.lwp_types.specs.Effects.{most_of_a_delivery, most_of_a_step};
 ghost use Rattle.lwp_types.specs.Lawful.{Lawful};
@@ -34,13 +34,13 @@ pub trait Machine: Drop {
 
     /// Whether an event can be delivered to its agents.
     fn armed(&self, event: u8) -> bool
-        ensures { result ≡ armed (state self.now) event };
+        ensures { result ≡ is_event_armed (state self.now) event };
 
     /// The first event from `from` on that can be delivered, if there is one below 32.
     fn next_armed(&self, from: u8) -> Option<u8>
-        ensures none { IfNone result (HoldsNowhere (armed (state self.now)) from 32) }
+        ensures none { IfNone result (HoldsNowhere (is_event_armed (state self.now)) from 32) }
         ensures below { IfSome result (λ event. event < 32) }
-        ensures first { IfSome result (λ event. IsFirstPlace (armed (state self.now)) from 32 event) };
+        ensures first { IfSome result (λ event. IsFirstPlace (is_event_armed (state self.now)) from 32 event) };
 
     /// How a live thread was created.
     fn flags(&self, tid: Tid) -> Option<Flags>
@@ -76,7 +76,7 @@ pub trait Driven<'s>: Machine {
 
     /// An event's text becomes a letter of each of its agents; the clock ticks. `effects` is emptied first, and then has what that did.
     fn deliver(&mut self, event: u8, text: Text<'s>, effects: &mut Effects<'s>)
-        requires { IsTrue (armed (Self.state self.old) event) }
+        requires { IsTrue (is_event_armed (Self.state self.old) event) }
         ensures after { Self.state self.new ≡ (deliver (Self.state self.old) event text.entry).after }
         ensures effects { effects.new ≡ (deliver (Self.state self.old) event text.entry).effects }
         ensures most { 1 ≤ event → length effects.new ≤ most_of_a_delivery }

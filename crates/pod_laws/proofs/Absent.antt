@@ -1,6 +1,6 @@
 -- A call that names who isn't there is refused; and a delivery runs no exit procedure, and tells of no death.
 use Rattle.lwp_types.specs.Agents.{deliver, deliver_to, event_agents, message}
-use Rattle.lwp_types.specs.Case.{Case, Check, refused, unless}
+use Rattle.lwp_types.specs.Case.{Case, Check, refusal_case, unless}
 use Rattle.lwp_types.specs.CountLaws.{count-append}
 use Rattle.lwp_types.specs.Messages.{as_answer, as_received, post, takes_from, with_holding}
 use Rattle.lwp_types.specs.State.{Outcome, State, ThreadRow, and_then, for_each, is_agent, is_id, is_thread, passes, still, thread_of}
@@ -17,7 +17,7 @@ use Rattle.lwp_types.specs.declared.rows.Block.TheVariants as block
 use Rattle.pod_laws.proofs.Elements.{not_of}
 use Rattle.pod_laws.proofs.OnceMoves.{block_kept}
 use Rattle.lwp_types.specs.Exits.{exit_case}
-use Rattle.lwp_types.specs.Time.{due_threads, tick, ticked, time_out}
+use Rattle.lwp_types.specs.Time.{after_tick, due_threads, tick, time_out}
 use Rattle.lwp_types.specs.declared.call.Answer.{Answer}
 use Rattle.lwp_types.specs.declared.call.ExitCall.{ExitCall}
 use Rattle.lwp_types.specs.declared.call.ExitCall.TheVariants as exit
@@ -27,7 +27,7 @@ use Rattle.std.proofs.Common.{Bool, List, Some, [], ap, arith, cond, eqb, false,
 use Rattle.std.proofs.lemmas.Bool.{eqb-true, or_parts}
 
 -- the first check strikes
-first_strikes : (s : State) (b : Bool) (e : LwpErr) (checks : List Check) (otherwise : Case) → b ≡ true → unless s ((b, e) ∷ checks) otherwise ≡ refused s e
+first_strikes : (s : State) (b : Bool) (e : LwpErr) (checks : List Check) (otherwise : Case) → b ≡ true → unless s ((b, e) ∷ checks) otherwise ≡ refusal_case s e
 unfolding unless
 first_strikes s true e checks otherwise strikes = refl
 first_strikes s false e checks otherwise strikes = absurd (cc)
@@ -40,7 +40,7 @@ module _ (s : State) (t n : ℕ) (absent : is_id s n ≡ false) where
   no_id u same = not_of _ (ap (is_id s) (eqb-true u n same) ∙ absent)
 
   -- of every call that asks for it: the last line is for those that ask for nobody
-  absent_refused : (c : Call) → asks_for n c ≡ true → case_of s t c ≡ refused s error.NonExist
+  absent_refused : (c : Call) → asks_for n c ≡ true → case_of s t c ≡ refusal_case s error.NonExist
   absent_refused (call.Destroy u) asks = first_strikes s _ _ _ _ (no_id u asks)
   absent_refused (call.Ping u) asks = first_strikes s _ _ _ _ (no_id u asks)
   absent_refused (call.Yield u) asks = first_strikes s _ _ _ _ (no_thread u asks)
@@ -54,7 +54,7 @@ module _ (s : State) (t n : ℕ) (absent : is_id s n ≡ false) where
   absent_refused _ asks = absurd (cc)
 
   -- of every exit procedure that asks for it
-  exit_absent_refused : (x : ExitCall) → exit_asks_for n x ≡ true → exit_case s t x ≡ refused s error.NonExist
+  exit_absent_refused : (x : ExitCall) → exit_asks_for n x ≡ true → exit_case s t x ≡ refusal_case s error.NonExist
   exit_absent_refused (exit.MonExit m) asks = absurd (cc)
   exit_absent_refused (exit.MonBreak m) asks = absurd (cc)
   exit_absent_refused (exit.Notify c) asks = absurd (cc)
@@ -65,7 +65,7 @@ module _ (s : State) (t n : ℕ) (absent : is_id s n ≡ false) where
   exit_absent_refused (exit.Note text) asks = absurd (cc)
 
 -- the third check strikes, where the first two don't
-third_strikes : (s : State) (a b c : Bool) (e f g : LwpErr) (checks : List Check) (otherwise : Case) → a ≡ false → b ≡ false → c ≡ true → unless s ((a, e) ∷ (b, f) ∷ (c, g) ∷ checks) otherwise ≡ refused s g
+third_strikes : (s : State) (a b c : Bool) (e f g : LwpErr) (checks : List Check) (otherwise : Case) → a ≡ false → b ≡ false → c ≡ true → unless s ((a, e) ∷ (b, f) ∷ (c, g) ∷ checks) otherwise ≡ refusal_case s g
 unfolding unless
 third_strikes s false false true e f g checks otherwise first second third = refl
 third_strikes s false false false e f g checks otherwise first second third = absurd (cc)
@@ -115,9 +115,9 @@ delivered_quiet text row s = quiet_then s (record { after = record s { agents = 
     (post_quiet (message text row) (record s { agents = with_holding row.number true s.agents }))
 
 tick_quiet : (s : State) → IsQuiet s (tick s)
-tick_quiet s = quiet_then s (record { after = ticked s; effects = effect.Ticked (s.now + 1) ∷ [] }) (λ now. for_each time_out (due_threads now) now)
+tick_quiet s = quiet_then s (record { after = after_tick s; effects = effect.Ticked (s.now + 1) ∷ [] }) (λ now. for_each time_out (due_threads now) now)
     (record { marks = λ p. refl; exits = λ p. refl; deaths = λ n. refl })
-    (quiet_each time_out (λ t now. unblock_quiet _ t now) (due_threads (ticked s)) (ticked s))
+    (quiet_each time_out (λ t now. unblock_quiet _ t now) (due_threads (after_tick s)) (after_tick s))
 
 pub deliveries_are_quiet : DeliveriesAreQuiet
 unfolding deliver

@@ -1,8 +1,8 @@
 -- A tick answers whoever's timer is due, each once.
 use Rattle.lwp_types.specs.CountLaws.{count-cons, one}
 use Rattle.lwp_types.specs.State.{State, ThreadRow, and_then, block_set, for_each, is_number, passes, times_in, with_block}
-use Rattle.lwp_types.specs.Time.{due_threads, is_asleep_in, is_due, is_sleeping, ticked, time_out}
-use Rattle.lwp_types.specs.Unblock.{timed_out, unblocked, zero_answer}
+use Rattle.lwp_types.specs.Time.{after_tick, due_threads, is_asleep_in, is_due, is_sleeping, time_out}
+use Rattle.lwp_types.specs.Unblock.{after_unblock, timed_out, zero_answer}
 use Rattle.lwp_types.specs.declared.rows.Block.{Block}
 use Rattle.lwp_types.specs.declared.rows.TimerRow.{TimerRow}
 use Rattle.lwp_types.specs.declared.call.Effect.TheVariants as effect
@@ -35,7 +35,7 @@ module _ (start : State) where
       let next = time_out_first start.now t ts s was.before listed in
       (record { before = next.0; waits = λ u some. kept u (omega (arith, some, ap (λ ks. times_in ks u) next.1)) }, next.1)
     where
-      kept : (u : ℕ) → 1 ≤ times_in ts u → is_asleep_in (unblocked s t) u ≡ is_asleep_in start u
+      kept : (u : ℕ) → 1 ≤ times_in ts u → is_asleep_in (after_unblock s t) u ≡ is_asleep_in start u
       kept u some =
           ap (passes (λ (row : ThreadRow). is_sleeping row.block)) (row_kept t u away block.Not s.threads)
           ∙ was.waits u (omega (arith, some, ap (λ ks. times_in ks u) listed, count-cons (λ k. eqb k u) t ts))
@@ -64,7 +64,7 @@ module _ (start : State) where
 pub ticks_answer_the_due : TicksAnswerTheDue
 unfolding and_then
 ticks_answer_the_due s was = record {
-  told = ap (λ es. effect.Ticked (s.now + 1) ∷ es) (all_told s (due_threads (ticked s)) (ticked s) (record { before = record { nine = was.nine }; waits = λ t some. refl }) refl);
+  told = ap (λ es. effect.Ticked (s.now + 1) ∷ es) (all_told s (due_threads (after_tick s)) (after_tick s) (record { before = record { nine = was.nine }; waits = λ t some. refl }) refl);
   once = λ t. omega (arith, keys_times (λ (row : TimerRow). row.tid) (is_due (s.now + 1)) t s.timers, timers_once s None was.nine t);
-  gone = (drains (Before s.now) due_threads time_out (time_out_first s.now) (due_threads (ticked s)) (ticked s) (record { nine = was.nine }) refl).1;
+  gone = (drains (Before s.now) due_threads time_out (time_out_first s.now) (due_threads (after_tick s)) (after_tick s) (record { nine = was.nine }) refl).1;
 }

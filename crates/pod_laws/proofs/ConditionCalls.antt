@@ -8,7 +8,7 @@ use Rattle.lwp_types.specs.FirstLaws.{finds_best}
 use Rattle.lwp_types.specs.Lawful.{NineParts}
 use Rattle.lwp_types.specs.MonitorRelease.{last_lock}
 use Rattle.lwp_types.specs.State.{State, is_empty, member, passes, priority_in}
-use Rattle.lwp_types.specs.Conditions.{broadcast, cond_send, condition_create, condition_destroy, condition_of, condition_waiters, is_condition, is_lock_of, notify, wait_of, waits_on, waking, woken_all}
+use Rattle.lwp_types.specs.Conditions.{after_wake_all, broadcast, cond_send, condition_create, condition_destroy, condition_of, condition_waiters, is_condition, is_lock_of, notify, wait_of, waits_on, waking}
 use Rattle.lwp_types.specs.declared.rows.CondRow.{CondRow}
 use Rattle.lwp_types.specs.declared.rows.WaitRow.{WaitRow}
 use Rattle.lwp_types.specs.declared.call.LwpErr.TheVariants as error
@@ -80,7 +80,7 @@ module _ (s : State) (d : Option ℕ) (was : NineParts s d) where
   waking_keeps : (t c : ℕ) (more : List Check) (ws : List WaitRow) → Among s c ws → NineParts (waking s t c more ws).after d
   waking_keeps t c more ws among = unless_keeps (λ s. NineParts s d) s _ _ was (λ passed. by_row (condition_of s.conditions c) refl (true_of _ passed.1.0))
     where
-      by_row : (o : Option CondRow) → condition_of s.conditions c ≡ o → passes (λ lock. is_lock_of lock o) (last_lock s.locks t) ≡ true → NineParts (woken_all o ws s) d
+      by_row : (o : Option CondRow) → condition_of s.conditions c ≡ o → passes (λ lock. is_lock_of lock o) (last_lock s.locks t) ≡ true → NineParts (after_wake_all o ws s) d
       by_row None e last = was
       by_row (Some row) e last = NineParts-waked_all d t c row ws s (waking_begins t c ws among row e last)
 

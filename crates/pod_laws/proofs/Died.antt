@@ -1,18 +1,18 @@
 -- Whoever died in a step is forgotten after it.
 use Rattle.lwp_types.specs.Agents.{end_agent}
-use Rattle.lwp_types.specs.Case.{Case, Check, refused, unanswered, unless, valued, with_zero}
+use Rattle.lwp_types.specs.Case.{Case, Check, refusal_case, silent_case, unless, value_case, with_zero}
 use Rattle.lwp_types.specs.Choice.{choice}
 use Rattle.lwp_types.specs.CountLaws.{count-append, count-cons, count-push, one}
 use Rattle.lwp_types.specs.Death.{answer_joiners, bury, death, destroy, end_agents, refuse_receivers, refuse_sender, refuse_senders, release_all, return_from, run_all_exits, withdraw}
-use Rattle.lwp_types.specs.Exits.{caught, leave_frame, notified_by}
+use Rattle.lwp_types.specs.Exits.{catch_case, leave_frame, notified_by}
 use Rattle.lwp_types.specs.Lawful.{Lawful, NineParts}
-use Rattle.lwp_types.specs.Messages.{receive_by, unreceived, without_letter}
-use Rattle.lwp_types.specs.Monitors.{entered, is_owned_by_other, requested}
-use Rattle.lwp_types.specs.Exceptions.{caught_marks, first_frames, found, frames, later_frames, with_match}
+use Rattle.lwp_types.specs.Messages.{next_letter, receive_by, without_letter}
+use Rattle.lwp_types.specs.Monitors.{after_request, enter_case, is_owned_by_other}
+use Rattle.lwp_types.specs.Exceptions.{caught_marks, first_frames, frames, handler_of, later_frames, with_match}
 use Rattle.lwp_types.specs.MonitorRelease.{last_lock, release}
 use Rattle.lwp_types.specs.State.{Outcome, State, ThreadRow, all_below, and_then, is_number, numbers, in_order, is_agent, is_id, is_thread, marks_in, still, thread_of}
-use Rattle.lwp_types.specs.Step.{case_of, end_effects, ends, finished, own_effects, step, step_by, step_if}
-use Rattle.lwp_types.specs.Unblock.{blocked, blocked_for, nonexist, unblock, zero_answer}
+use Rattle.lwp_types.specs.Step.{case_of, end_effects, ends, own_effects, step, step_by, step_if, step_outcome}
+use Rattle.lwp_types.specs.Unblock.{after_block, after_block_for, nonexist, unblock, zero_answer}
 use Rattle.lwp_types.specs.declared.call.Answer.{Answer}
 use Rattle.lwp_types.specs.declared.call.Call.{Call}
 use Rattle.lwp_types.specs.declared.call.Func.{Func}
@@ -79,7 +79,7 @@ module _ (n : ℕ) where
   received_deathless s t from mode.Poll (Some letter) = deathless_nil n
   received_deathless s t from mode.Block None = deathless_nil n
   received_deathless s t from mode.Block (Some letter) = deathless_nil n
-  received_deathless s t from (mode.Until ticks) None = cond_deathless (eqb ticks 0) (refused s error.Timeout) (unanswered (still (blocked_for s t (block.Receiving from) ticks))) (deathless_nil n) (deathless_nil n)
+  received_deathless s t from (mode.Until ticks) None = cond_deathless (eqb ticks 0) (refusal_case s error.Timeout) (silent_case (still (after_block_for s t (block.Receiving from) ticks))) (deathless_nil n) (deathless_nil n)
   received_deathless s t from (mode.Until ticks) (Some letter) = deathless_nil n
 
   match_deathless : (s : State) (on_match : Found → Case) (o : Option Found) → ((f : Found) → Deathless n (on_match f).others) → Deathless n (with_match s on_match o).others
@@ -108,7 +108,7 @@ module _ (n : ℕ) where
   return_died : (s : State) → NineParts s None → (t : ℕ) (x : ThreadRow) → thread_of s t ≡ Some x → Buries s (return_from s t)
   return_died s was t x known = by_frames (nat_le 2 (frames (marks_in s t)))
     where
-      by_frames : (b : Bool) → Buries s (cond b (leave_frame s t) (unanswered (death t s)))
+      by_frames : (b : Bool) → Buries s (cond b (leave_frame s t) (silent_case (death t s)))
       by_frames true = absent (deathless_unwind n t (first_frames (frames (marks_in s t) - 1) (marks_in s t)) (later_frames (frames (marks_in s t) - 1) (marks_in s t)) s)
       by_frames false = death_buries s was t x known None
 
@@ -117,14 +117,14 @@ module _ (n : ℕ) where
   unless_buries s [] otherwise fine = fine tt
   unless_buries s (check ∷ checks) otherwise fine = by_test check.0 refl (λ here. unless_buries s checks otherwise (λ rest. fine (here, rest)))
     where
-      by_test : (b : Bool) → check.0 ≡ b → (check.0 ≡ false → Buries s (unless s checks otherwise)) → Buries s (cond b (refused s check.1) (unless s checks otherwise))
+      by_test : (b : Bool) → check.0 ≡ b → (check.0 ≡ false → Buries s (unless s checks otherwise)) → Buries s (cond b (refusal_case s check.1) (unless s checks otherwise))
       by_test true e rest = absent (deathless_nil n)
       by_test false e rest = rest e
 
   destroy_died : (s : State) → NineParts s None → (t u : ℕ) → Buries s (destroy s t u)
   destroy_died s was t u = unless_buries s _ _ (λ passed. by_agent (is_agent s u) (true_of _ passed.0))
     where
-      by_agent : (b : Bool) → (is_thread s u || b) ≡ true → Buries s (cond b (with_zero (end_agent u s)) (cond (eqb t u) (unanswered (death u s)) (with_zero (death u s))))
+      by_agent : (b : Bool) → (is_thread s u || b) ≡ true → Buries s (cond b (with_zero (end_agent u s)) (cond (eqb t u) (silent_case (death u s)) (with_zero (death u s))))
       by_agent true h = absent (deathless_end_agent n u s)
       by_agent false h =
           let who = living s u (either (is_thread s u) h) in
@@ -134,39 +134,39 @@ module _ (n : ℕ) where
           either true e = refl
           either false e = e
 
-          by_self : (b : Bool) → ((own : Option Answer) → Buries s (record { after = (death u s).after; others = (death u s).effects; own = own })) → Buries s (cond b (unanswered (death u s)) (with_zero (death u s)))
+          by_self : (b : Bool) → ((own : Option Answer) → Buries s (record { after = (death u s).after; others = (death u s).effects; own = own })) → Buries s (cond b (silent_case (death u s)) (with_zero (death u s)))
           by_self true buries = buries _
           by_self false buries = buries _
 
   -- of every call: the last line is for each that is refused by its checks or else tells others nothing
   pub case_died : (s : State) → NineParts s None → (t : ℕ) (x : ThreadRow) → thread_of s t ≡ Some x → (c : Call) → Buries s (case_of s t c)
   case_died s was t x known (call.Destroy u) = destroy_died s was t u
-  case_died s was t x known (call.Sleep ticks) = absent (cond_deathless (eqb ticks 0) (valued s 0) (unanswered (still (blocked_for s t block.Sleeping ticks))) (deathless_nil n) (deathless_nil n))
+  case_died s was t x known (call.Sleep ticks) = absent (cond_deathless (eqb ticks 0) (value_case s 0) (silent_case (still (after_block_for s t block.Sleeping ticks))) (deathless_nil n) (deathless_nil n))
   case_died s was t x known call.Me = absent (deathless_nil n)
   case_died s was t x known call.GetExit = absent (deathless_nil n)
   case_died s was t x known call.Threads = absent (deathless_nil n)
-  case_died s was t x known (call.Send u room text) = absent (unless_deathless n s _ _ (deathless_post n (record { from = t; to = u; text = text; room = room; received = false }) (blocked s t block.Sending)))
-  case_died s was t x known (call.Recv from how) = absent (unless_deathless n s _ _ (received_deathless s t from how (unreceived s.letters t from)))
+  case_died s was t x known (call.Send u room text) = absent (unless_deathless n s _ _ (deathless_post n (record { from = t; to = u; text = text; room = room; received = false }) (after_block s t block.Sending)))
+  case_died s was t x known (call.Recv from how) = absent (unless_deathless n s _ _ (received_deathless s t from how (next_letter s.letters t from)))
   case_died s was t x known (call.Reply u text) = absent (unless_deathless n s _ _ (deathless_replied n u text s))
   case_died s was t x known call.Senders = absent (deathless_nil n)
   case_died s was t x known call.Receivers = absent (deathless_nil n)
-  case_died s was t x known (call.Enter m) = absent (unless_deathless n s _ _ (cond_deathless (is_owned_by_other s.locks t m) (unanswered (still (requested s t m))) (entered s t m) (deathless_nil n) (deathless_nil n)))
+  case_died s was t x known (call.Enter m) = absent (unless_deathless n s _ _ (cond_deathless (is_owned_by_other s.locks t m) (silent_case (still (after_request s t m))) (enter_case s t m) (deathless_nil n) (deathless_nil n)))
   case_died s was t x known (call.MonExit m) = absent (unless_deathless n s _ _ (deathless_exited n m s))
   case_died s was t x known (call.MonBreak m) = absent (unless_deathless n s _ _ (deathless_release n m s))
   case_died s was t x known call.Monitors = absent (deathless_nil n)
   case_died s was t x known (call.Wait c) = absent (unless_deathless n s _ _ (deathless_waited n t c (last_lock s.locks t) s))
   case_died s was t x known call.Conditions = absent (deathless_nil n)
   case_died s was t x known call.Return = return_died s was t x known
-  case_died s was t x known (call.Raise q) = absent (unless_deathless n s _ _ (match_deathless s (caught s t q) (found s t q) (λ f. deathless_unwind n t (caught_marks f (marks_in s t)) (later_frames f.depth (marks_in s t)) s)))
-  case_died s was t x known (call.ExcNotify q) = absent (unless_deathless n s _ _ (match_deathless s (λ f. notified_by s t q f f.func) (found s t q) (λ f. notified_deathless s t q f f.func)))
-  case_died s was t x known (call.Bound q) = absent (unless_deathless n s _ _ (match_deathless s _ (found s t q) (λ f. deathless_nil n)))
+  case_died s was t x known (call.Raise q) = absent (unless_deathless n s _ _ (match_deathless s (catch_case s t q) (handler_of s t q) (λ f. deathless_unwind n t (caught_marks f (marks_in s t)) (later_frames f.depth (marks_in s t)) s)))
+  case_died s was t x known (call.ExcNotify q) = absent (unless_deathless n s _ _ (match_deathless s (λ f. notified_by s t q f f.func) (handler_of s t q) (λ f. notified_deathless s t q f f.func)))
+  case_died s was t x known (call.Bound q) = absent (unless_deathless n s _ _ (match_deathless s _ (handler_of s t q) (λ f. deathless_nil n)))
   case_died s was t x known call.Agents = absent (deathless_nil n)
   case_died s was t x known (call.Trap e) = absent (deathless_nil n)
   case_died s was t x known (call.Say text) = absent (deathless_nil n)
   case_died s was t x known _ = absent (unless_deathless n s _ _ (deathless_nil n))
 
   -- neither the call nor its answer nor the end tells of a death
-  pub finished_died : (t : ℕ) (c : Call) (made : Case) → count_by (is_died n) (finished t c made).effects ≡ count_by (is_died n) made.others
+  pub finished_died : (t : ℕ) (c : Call) (made : Case) → count_by (is_died n) (step_outcome t c made).effects ≡ count_by (is_died n) made.others
   finished_died t c made = omega (
     arith,
     count-cons (is_died n) (effect.Called t c) (made.others ++ (own_effects t made.own ++ end_effects made.after)),

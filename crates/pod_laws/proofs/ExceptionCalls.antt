@@ -2,10 +2,10 @@
 use Rattle.lwp_types.specs.Case.{Case}
 use Rattle.lwp_types.specs.CountLaws.{count-append, count-push, one}
 use Rattle.lwp_types.specs.Counts.{has_its_marks}
-use Rattle.lwp_types.specs.Exits.{caught, exc_notify, leave_frame, notified_by, raise}
+use Rattle.lwp_types.specs.Exits.{catch_case, exc_notify, leave_frame, notified_by, raise}
 use Rattle.lwp_types.specs.Lawful.{NineParts, is_same_option}
-use Rattle.lwp_types.specs.Exceptions.{bound, call_procedure, caught_marks, first_frames, found_in, frames, handle, is_frame, last_mark, later_frames, on_exit, searching, unhandle, unique_pattern, with_match, without_last}
-use Rattle.lwp_types.specs.State.{State, ThreadRow, is_number, marked, passes, thread_of}
+use Rattle.lwp_types.specs.Exceptions.{bound, call_procedure, caught_marks, first_frames, frames, handle, handler_in, is_frame, last_mark, later_frames, on_exit, searching, unhandle, unique_pattern, with_match, without_last}
+use Rattle.lwp_types.specs.State.{State, ThreadRow, is_number, passes, thread_of, with_marks_of}
 use Rattle.lwp_types.specs.declared.call.ExitCall.{ExitCall}
 use Rattle.lwp_types.specs.declared.call.Func.{Func}
 use Rattle.lwp_types.specs.declared.call.Pattern.{Pattern}
@@ -27,7 +27,7 @@ module _ (s : State) (was : NineParts s None) (t : ℕ) (x : ThreadRow) (known :
   stack = all_found (is_number t) (λ row. is_same_option None row.number || has_its_marks row.marks) s.threads x was.marks known
 
   -- one mark more, that is no exit procedure
-  pushed : (m : Mark) → ((r : ℕ) → has_number r m ≡ false) → frames x.marks + one (is_frame m) ≤ 64 → length x.marks + 1 ≤ 256 → NineParts (marked s t (x.marks ++ m ∷ [])) None
+  pushed : (m : Mark) → ((r : ℕ) → has_number r m ≡ false) → frames x.marks + one (is_frame m) ≤ 64 → length x.marks + 1 ≤ 256 → NineParts (with_marks_of s t (x.marks ++ m ∷ [])) None
   pushed m plain room more = NineParts-marked s None was t x known (x.marks ++ m ∷ []) (stack_push x.marks m stack room more)
       (λ r. omega (arith, numbers_counted r (x.marks ++ m ∷ []), numbers_counted r x.marks, count-push (has_number r) x.marks m, ap one (plain r)))
 
@@ -77,14 +77,14 @@ module _ (s : State) (was : NineParts s None) (t : ℕ) (x : ThreadRow) (known :
       (stack_fewer x.marks (first_frames (frames x.marks - 1) x.marks) (first_fewer (frames x.marks - 1) x.marks) (first_based (frames x.marks - 1) x.marks (omega arith) (stack_from x.marks stack).based) stack) (first_fewer (frames x.marks - 1) x.marks)))
 
   -- the stack is cut back to a handler that was found
-  caught_keeps : (p : ℕ) (f : Found) → found_in p x.marks ≡ Some f → NineParts (caught s t p f).after None
+  caught_keeps : (p : ℕ) (f : Found) → handler_in p x.marks ≡ Some f → NineParts (catch_case s t p f).after None
   caught_keeps p f e = rw known (unwind_keeps None t (caught_marks f x.marks) (later_frames f.depth x.marks) s (NineParts-fewer s None was t x known (caught_marks f x.marks)
       (stack_fewer x.marks (caught_marks f x.marks) (caught_fewer f x.marks) (caught_based f x.marks (found_deep p x.marks f (stack_from x.marks stack).based e) (stack_from x.marks stack).based) stack) (caught_fewer f x.marks)))
 
-  searched_keeps : (p : ℕ) (on_match : Found → Case) → ((f : Found) → found_in p x.marks ≡ Some f → NineParts (on_match f).after None) → NineParts (searching s t p on_match).after None
-  searched_keeps p on_match keeps = unless_keeps (λ s. NineParts s None) s _ _ was (λ passed. rw known (by_found (found_in p x.marks) refl))
+  searched_keeps : (p : ℕ) (on_match : Found → Case) → ((f : Found) → handler_in p x.marks ≡ Some f → NineParts (on_match f).after None) → NineParts (searching s t p on_match).after None
+  searched_keeps p on_match keeps = unless_keeps (λ s. NineParts s None) s _ _ was (λ passed. rw known (by_found (handler_in p x.marks) refl))
     where
-      by_found : (o : Option Found) → found_in p x.marks ≡ o → NineParts (with_match s on_match o).after None
+      by_found : (o : Option Found) → handler_in p x.marks ≡ o → NineParts (with_match s on_match o).after None
       by_found None e = was
       by_found (Some f) e = keeps f e
 
@@ -97,7 +97,7 @@ module _ (s : State) (was : NineParts s None) (t : ℕ) (x : ThreadRow) (known :
   pub exc_notify_keeps : (p : ℕ) → NineParts (exc_notify s t p).after None
   exc_notify_keeps p = searched_keeps p _ (λ f e. by_func f e f.func)
     where
-      by_func : (f : Found) → found_in p x.marks ≡ Some f → (h : Func) → NineParts (notified_by s t p f h).after None
+      by_func : (f : Found) → handler_in p x.marks ≡ Some f → (h : Func) → NineParts (notified_by s t p f h).after None
       by_func f e func.Give = was
       by_func f e func.Sum = was
       by_func f e func.Nothing = caught_keeps p f e

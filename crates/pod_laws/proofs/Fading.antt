@@ -1,19 +1,19 @@
 -- A number is given once: whoever is gone stays gone, whatever is called or delivered.
-use Rattle.lwp_types.specs.Agents.{agent_born, agent_gone, deliver, deliver_to, end_agent, event_agents, message, new_agent}
-use Rattle.lwp_types.specs.Case.{Case, Check, refused, unanswered, unless, valued, with_zero}
+use Rattle.lwp_types.specs.Agents.{after_agent_birth, agent_gone, deliver, deliver_to, end_agent, event_agents, message, new_agent}
+use Rattle.lwp_types.specs.Case.{Case, Check, refusal_case, silent_case, unless, value_case, with_zero}
 use Rattle.lwp_types.specs.Choice.{choice}
-use Rattle.lwp_types.specs.Death.{answer_joiners, bury, death, destroyed, end_agents, refuse_receivers, refuse_sender, refuse_senders, release_all, run_all_exits, withdraw}
-use Rattle.lwp_types.specs.Exits.{caught, exit_case, leave_frame, notified_by, run_exit, unwind}
-use Rattle.lwp_types.specs.Messages.{as_answer, as_received, holding_set, post, receive_by, receivers_of, replied, takes_from, unreceived, with_holding, without_letter}
-use Rattle.lwp_types.specs.Monitors.{depth_in, entered, exited, is_owned_by_other, requested, with_depth}
-use Rattle.lwp_types.specs.Exceptions.{caught_marks, exits_of, first_frames, found, frames, later_frames, with_match}
+use Rattle.lwp_types.specs.Death.{answer_joiners, bury, death, destroy_case, end_agents, refuse_receivers, refuse_sender, refuse_senders, release_all, run_all_exits, withdraw}
+use Rattle.lwp_types.specs.Exits.{catch_case, exit_case, leave_frame, notified_by, run_exit, unwind}
+use Rattle.lwp_types.specs.Messages.{after_reply, as_answer, as_received, holding_set, next_letter, post, receive_by, receivers_of, takes_from, with_holding, without_letter}
+use Rattle.lwp_types.specs.Monitors.{after_exit, after_request, depth_in, enter_case, is_owned_by_other, with_depth}
+use Rattle.lwp_types.specs.Exceptions.{caught_marks, exits_of, first_frames, frames, handler_of, later_frames, with_match}
 use Rattle.lwp_types.specs.MonitorRelease.{grant, last_lock, next_owner, release, without_lock}
-use Rattle.lwp_types.specs.State.{Outcome, State, ThreadRow, agent_of, and_then, block_set, for_each, in_order, is_agent, is_agent_row, is_number, is_thread, marked, marks_in, marks_set, passes, priority_set, still, suspension_set, thread_of, with_block, with_marks, with_suspension}
+use Rattle.lwp_types.specs.State.{Outcome, State, ThreadRow, agent_of, and_then, block_set, for_each, in_order, is_agent, is_agent_row, is_number, is_thread, marks_in, marks_set, passes, priority_set, still, suspension_set, thread_of, with_block, with_marks, with_marks_of, with_suspension}
 use Rattle.lwp_types.specs.Step.{case_of, step, step_by, step_if}
-use Rattle.lwp_types.specs.Threads.{born, created}
-use Rattle.lwp_types.specs.Time.{due_threads, tick, ticked, time_out}
-use Rattle.lwp_types.specs.Unblock.{blocked, blocked_for, nonexist, unblock, zero_answer}
-use Rattle.lwp_types.specs.Conditions.{condition_of, waited, woken, woken_all}
+use Rattle.lwp_types.specs.Threads.{after_create, new_thread}
+use Rattle.lwp_types.specs.Time.{after_tick, due_threads, tick, time_out}
+use Rattle.lwp_types.specs.Unblock.{after_block, after_block_for, nonexist, unblock, zero_answer}
+use Rattle.lwp_types.specs.Conditions.{after_wait, after_wake, after_wake_all, condition_of}
 use Rattle.lwp_types.specs.declared.call.Answer.{Answer}
 use Rattle.lwp_types.specs.declared.call.Call.{Call}
 use Rattle.lwp_types.specs.declared.call.ExitCall.{ExitCall}
@@ -119,7 +119,7 @@ module _ (n : ℕ) where
   fades_plain : (s after : State) → after.births ≡ s.births → after.threads ≡ s.threads → after.agents ≡ s.agents → Fades n s after
   fades_plain s after births threads agents = fades_of s after births (λ gone. ap (λ rs. is_some (find (is_number n) rs)) threads ∙ gone) (λ gone. ap (λ rs. is_some (agent_of rs n)) agents ∙ gone)
 
-  fades_exited : (m : ℕ) (s : State) → Fades n s (exited m s).after
+  fades_exited : (m : ℕ) (s : State) → Fades n s (after_exit m s).after
   fades_exited m s = by_depth (nat_le (depth_in s.locks m) 1)
     where
       by_depth : (b : Bool) → Fades n s (cond b (release m s) (still (record s { locks = with_depth m (depth_in s.locks m - 1) s.locks }))).after
@@ -139,25 +139,25 @@ module _ (n : ℕ) where
       (λ gone. ap (λ rs. is_some (find (is_number n) rs)) threads ∙ gone)
       (λ gone. ap (λ rs. is_some (find (is_agent_row n) rs)) agents ∙ ap is_some (find_map (is_agent_row n) (is_agent_row n) (holding_set a b) (λ row. refl) s.agents) ∙ is_some_map (holding_set a b) (find (is_agent_row n) s.agents) ∙ gone)
 
-  fades_replied : (u : ℕ) (text : List ℕ) (s : State) → Fades n s (replied u text s).after
+  fades_replied : (u : ℕ) (text : List ℕ) (s : State) → Fades n s (after_reply u text s).after
   fades_replied u text s = by_agent (is_agent s u)
     where
       by_agent : (b : Bool) → Fades n s (cond b (still (record s { letters = without_letter u s.letters; agents = with_holding u false s.agents })) (unblock (answer.Reply text) u (record s { letters = without_letter u s.letters }))).after
       by_agent true = fades_holding s _ u false refl refl refl
       by_agent false = fades_block s _ u block.Not refl refl refl
 
-  fades_woken : (m : ℕ) (ws : List WaitRow) (s : State) → Fades n s (fold (λ now w. woken m w now) s ws)
+  fades_woken : (m : ℕ) (ws : List WaitRow) (s : State) → Fades n s (fold (λ now w. after_wake m w now) s ws)
   fades_woken m [] s = fades_still s
-  fades_woken m (w ∷ ws) s = fades_then s (woken m w s) _ (fades_block s _ w.tid (block.Entering m) refl refl refl) (fades_woken m ws (woken m w s))
+  fades_woken m (w ∷ ws) s = fades_then s (after_wake m w s) _ (fades_block s _ w.tid (block.Entering m) refl refl refl) (fades_woken m ws (after_wake m w s))
 
-  fades_woken_all : (o : Option CondRow) (ws : List WaitRow) (s : State) → Fades n s (woken_all o ws s)
+  fades_woken_all : (o : Option CondRow) (ws : List WaitRow) (s : State) → Fades n s (after_wake_all o ws s)
   fades_woken_all None ws s = fades_still s
   fades_woken_all (Some row) ws s = fades_woken row.mon ws s
 
-  fades_waited : (t c : ℕ) (o : Option Lock) (s : State) → Fades n s (waited t c o s).after
+  fades_waited : (t c : ℕ) (o : Option Lock) (s : State) → Fades n s (after_wait t c o s).after
   fades_waited t c None s = fades_still s
   fades_waited t c (Some lock) s =
-      let waits = blocked (record s { waits = s.waits ++ record { cond = c; tid = t; depth = lock.depth } ∷ [] }) t (block.Waiting c) in
+      let waits = after_block (record s { waits = s.waits ++ record { cond = c; tid = t; depth = lock.depth } ∷ [] }) t (block.Waiting c) in
       fades_then s waits _ (fades_block s waits t (block.Waiting c) refl refl refl) (fades_release lock.mon waits)
 
   fades_each : {A : Type 0} (change : A → State → Outcome) → ((x : A) (s : State) → Fades n s (change x s).after) → (xs : List A) (s : State) → Fades n s (for_each change xs s).after
@@ -188,7 +188,7 @@ module _ (n : ℕ) where
   exit_case_fades s t (exit.Note text) = fades_still s
 
   fades_unwind : (t : ℕ) (kept gone : List Mark) (s : State) → Fades n s (unwind t kept gone s).after
-  fades_unwind t kept gone s = fades_then s (marked s t kept) _ (fades_marks s _ t kept refl refl refl) (fades_each (run_exit t) (λ x s. exit_case_fades s t x.call) (exits_of gone) (marked s t kept))
+  fades_unwind t kept gone s = fades_then s (with_marks_of s t kept) _ (fades_marks s _ t kept refl refl refl) (fades_each (run_exit t) (λ x s. exit_case_fades s t x.call) (exits_of gone) (with_marks_of s t kept))
 
   fades_withdraw : (t : ℕ) (s : State) → Fades n s (withdraw t s).after
   fades_withdraw t s =
@@ -222,14 +222,14 @@ module _ (n : ℕ) where
   cond_fades s false one two first second = second
 
   -- who is born has a number of its own
-  fades_created : (s : State) (prio : ℕ) (flags : Flags) → Fades n s (created s prio flags)
+  fades_created : (s : State) (prio : ℕ) (flags : Flags) → Fades n s (after_create s prio flags)
   fades_created s prio flags = record {
     births = omega arith;
-    threads = λ given gone. push_none (is_number n) s.threads (born s.births prio flags) (ne_eqb s.births n (λ e. omega (arith, e, given))) gone;
+    threads = λ given gone. push_none (is_number n) s.threads (new_thread s.births prio flags) (ne_eqb s.births n (λ e. omega (arith, e, given))) gone;
     agents = λ given gone. gone;
   }
 
-  fades_agent_born : (s : State) (t e : ℕ) → Fades n s (agent_born s t e)
+  fades_agent_born : (s : State) (t e : ℕ) → Fades n s (after_agent_birth s t e)
   fades_agent_born s t e = record {
     births = omega arith;
     threads = λ given gone. gone;
@@ -241,14 +241,14 @@ module _ (n : ℕ) where
   fades_received s t from mode.Poll (Some letter) = fades_plain s _ refl refl refl
   fades_received s t from mode.Block None = fades_block s _ t (block.Receiving from) refl refl refl
   fades_received s t from mode.Block (Some letter) = fades_plain s _ refl refl refl
-  fades_received s t from (mode.Until ticks) None = cond_fades s (eqb ticks 0) (refused s error.Timeout) (unanswered (still (blocked_for s t (block.Receiving from) ticks))) (fades_still s) (fades_block s _ t (block.Receiving from) refl refl refl)
+  fades_received s t from (mode.Until ticks) None = cond_fades s (eqb ticks 0) (refusal_case s error.Timeout) (silent_case (still (after_block_for s t (block.Receiving from) ticks))) (fades_still s) (fades_block s _ t (block.Receiving from) refl refl refl)
   fades_received s t from (mode.Until ticks) (Some letter) = fades_plain s _ refl refl refl
 
   fades_match : (s : State) (on_match : Found → Case) (o : Option Found) → ((f : Found) → Fades n s (on_match f).after) → Fades n s (with_match s on_match o).after
   fades_match s on_match None fine = fades_still s
   fades_match s on_match (Some f) fine = fine f
 
-  fades_caught : (s : State) (t p : ℕ) (f : Found) → Fades n s (caught s t p f).after
+  fades_caught : (s : State) (t p : ℕ) (f : Found) → Fades n s (catch_case s t p f).after
   fades_caught s t p f = fades_unwind t (caught_marks f (marks_in s t)) (later_frames f.depth (marks_in s t)) s
 
   fades_notified : (s : State) (t p : ℕ) (f : Found) (h : Func) → Fades n s (notified_by s t p f h).after
@@ -256,9 +256,9 @@ module _ (n : ℕ) where
   fades_notified s t p f func.Sum = fades_still s
   fades_notified s t p f func.Nothing = fades_caught s t p f
 
-  fades_destroyed : (s : State) (t u : ℕ) → Fades n s (destroyed s t u).after
+  fades_destroyed : (s : State) (t u : ℕ) → Fades n s (destroy_case s t u).after
   fades_destroyed s t u = cond_fades s (is_agent s u) (with_zero (end_agent u s)) _ (fades_end_agent u s)
-      (cond_fades s (eqb t u) (unanswered (death u s)) (with_zero (death u s)) (fades_death u s) (fades_death u s))
+      (cond_fades s (eqb t u) (silent_case (death u s)) (with_zero (death u s)) (fades_death u s) (fades_death u s))
 
   -- of every call: the last line is for each that is refused by its checks or else leaves threads, agents and births as they are
   case_fades : (s : State) (t : ℕ) (c : Call) → Fades n s (case_of s t c).after
@@ -269,16 +269,16 @@ module _ (n : ℕ) where
   case_fades s t (call.Suspend u) = unless_fades s _ _ (fades_suspension s _ u true refl refl refl)
   case_fades s t (call.Resume u) = unless_fades s _ _ (fades_suspension s _ u false refl refl refl)
   case_fades s t (call.Join u) = unless_fades s _ _ (fades_block s _ t (block.Joining u) refl refl refl)
-  case_fades s t (call.Sleep ticks) = cond_fades s (eqb ticks 0) (valued s 0) (unanswered (still (blocked_for s t block.Sleeping ticks))) (fades_still s) (fades_block s _ t block.Sleeping refl refl refl)
+  case_fades s t (call.Sleep ticks) = cond_fades s (eqb ticks 0) (value_case s 0) (silent_case (still (after_block_for s t block.Sleeping ticks))) (fades_still s) (fades_block s _ t block.Sleeping refl refl refl)
   case_fades s t call.Me = fades_still s
   case_fades s t call.GetExit = fades_still s
   case_fades s t call.Threads = fades_still s
-  case_fades s t (call.Send u room text) = unless_fades s _ _ (fades_then s (blocked s t block.Sending) _ (fades_block s _ t block.Sending refl refl refl) (fades_post (record { from = t; to = u; text = text; room = room; received = false }) (blocked s t block.Sending)))
-  case_fades s t (call.Recv from how) = unless_fades s _ _ (fades_received s t from how (unreceived s.letters t from))
+  case_fades s t (call.Send u room text) = unless_fades s _ _ (fades_then s (after_block s t block.Sending) _ (fades_block s _ t block.Sending refl refl refl) (fades_post (record { from = t; to = u; text = text; room = room; received = false }) (after_block s t block.Sending)))
+  case_fades s t (call.Recv from how) = unless_fades s _ _ (fades_received s t from how (next_letter s.letters t from))
   case_fades s t (call.Reply u text) = unless_fades s _ _ (fades_replied u text s)
   case_fades s t call.Senders = fades_still s
   case_fades s t call.Receivers = fades_still s
-  case_fades s t (call.Enter m) = unless_fades s _ _ (cond_fades s (is_owned_by_other s.locks t m) (unanswered (still (requested s t m))) (entered s t m) (fades_block s _ t (block.Entering m) refl refl refl) (fades_plain s _ refl refl refl))
+  case_fades s t (call.Enter m) = unless_fades s _ _ (cond_fades s (is_owned_by_other s.locks t m) (silent_case (still (after_request s t m))) (enter_case s t m) (fades_block s _ t (block.Entering m) refl refl refl) (fades_plain s _ refl refl refl))
   case_fades s t (call.MonExit m) = unless_fades s _ _ (fades_exited m s)
   case_fades s t (call.MonBreak m) = unless_fades s _ _ (fades_release m s)
   case_fades s t call.Monitors = fades_still s
@@ -290,13 +290,13 @@ module _ (n : ℕ) where
   case_fades s t call.Conditions = fades_still s
   case_fades s t (call.CvWaiters c) = unless_fades s _ _ (fades_still s)
   case_fades s t (call.CallProc number) = unless_fades s _ _ (fades_marks s _ t _ refl refl refl)
-  case_fades s t call.Return = cond_fades s (nat_le 2 (frames (marks_in s t))) (leave_frame s t) (unanswered (death t s)) (fades_unwind t (first_frames (frames (marks_in s t) - 1) (marks_in s t)) (later_frames (frames (marks_in s t) - 1) (marks_in s t)) s) (fades_death t s)
+  case_fades s t call.Return = cond_fades s (nat_le 2 (frames (marks_in s t))) (leave_frame s t) (silent_case (death t s)) (fades_unwind t (first_frames (frames (marks_in s t) - 1) (marks_in s t)) (later_frames (frames (marks_in s t) - 1) (marks_in s t)) s) (fades_death t s)
   case_fades s t (call.Handle pat func arg) = unless_fades s _ _ (fades_marks s _ t _ refl refl refl)
   case_fades s t call.Unhandle = unless_fades s _ _ (fades_marks s _ t _ refl refl refl)
   case_fades s t (call.OnExit e) = unless_fades s _ _ (fades_marks s _ t _ refl refl refl)
-  case_fades s t (call.Raise q) = unless_fades s _ _ (fades_match s (caught s t q) (found s t q) (λ f. fades_caught s t q f))
-  case_fades s t (call.ExcNotify q) = unless_fades s _ _ (fades_match s (λ f. notified_by s t q f f.func) (found s t q) (λ f. fades_notified s t q f f.func))
-  case_fades s t (call.Bound q) = unless_fades s _ _ (fades_match s _ (found s t q) (λ f. fades_still s))
+  case_fades s t (call.Raise q) = unless_fades s _ _ (fades_match s (catch_case s t q) (handler_of s t q) (λ f. fades_caught s t q f))
+  case_fades s t (call.ExcNotify q) = unless_fades s _ _ (fades_match s (λ f. notified_by s t q f f.func) (handler_of s t q) (λ f. fades_notified s t q f f.func))
+  case_fades s t (call.Bound q) = unless_fades s _ _ (fades_match s _ (handler_of s t q) (λ f. fades_still s))
   case_fades s t (call.Agent e) = unless_fades s _ _ (fades_agent_born s t e)
   case_fades s t call.Agents = fades_still s
   case_fades s t (call.Trap e) = fades_still s
@@ -313,7 +313,7 @@ module _ (n : ℕ) where
 
   fades_tick : (s : State) → Fades n s (tick s).after
   unfolding and_then
-  fades_tick s = fades_then s (ticked s) _ (fades_plain s _ refl refl refl) (fades_each time_out (λ t s. fades_block s _ t block.Not refl refl refl) (due_threads (ticked s)) (ticked s))
+  fades_tick s = fades_then s (after_tick s) _ (fades_plain s _ refl refl refl) (fades_each time_out (λ t s. fades_block s _ t block.Not refl refl refl) (due_threads (after_tick s)) (after_tick s))
 
   fades_delivered : (text : List ℕ) (row : AgentRow) (s : State) → Fades n s (deliver_to text row s).after
   unfolding and_then

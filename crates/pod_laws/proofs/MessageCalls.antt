@@ -1,13 +1,13 @@
 -- The calls on messages keep the nine parts.
-use Rattle.lwp_types.specs.Case.{refused, unanswered, valued}
+use Rattle.lwp_types.specs.Case.{refusal_case, silent_case, value_case}
 use Rattle.lwp_types.specs.Choice.{is_eligible}
 use Rattle.lwp_types.specs.CountLaws.{count_found_by, one}
 use Rattle.lwp_types.specs.Counts.{has_its_block, is_sending}
 use Rattle.lwp_types.specs.Lawful.{NineParts}
-use Rattle.lwp_types.specs.Messages.{as_answer, as_received, is_from, letters_of, with_holding, is_letter_of, is_to, marked_received, post, receive, receive_by, received_from, replied, reply, send, takes_from, unreceived, without_letter}
+use Rattle.lwp_types.specs.Messages.{as_answer, as_received, is_from, letters_of, with_holding, is_letter_of, is_to, marked_received, post, receive, receive_by, received_from, after_reply, reply, send, takes_from, next_letter, without_letter}
 use Rattle.lwp_types.specs.State.{State, ThreadRow, agent_of, block_set, still, is_agent, is_id, is_not_blocked, is_number, is_thread, passes, thread_of}
 use Rattle.lwp_types.specs.Threads.{join, sleep}
-use Rattle.lwp_types.specs.Unblock.{blocked, blocked_for, unblock, unblocked}
+use Rattle.lwp_types.specs.Unblock.{after_block, after_block_for, after_unblock, unblock}
 use Rattle.lwp_types.specs.declared.call.Mode.{Mode}
 use Rattle.lwp_types.specs.declared.rows.Block.{Block}
 use Rattle.lwp_types.specs.declared.rows.Letter.{Letter}
@@ -67,7 +67,7 @@ post_keeps s d letter taken unread = by_test (passes (λ row. takes_from letter.
         → NineParts (cond b (unblock (as_answer letter) letter.to (record s { letters = s.letters ++ as_received letter ∷ [] })) (still (record s { letters = s.letters ++ letter ∷ [] }))).after d
     by_test true e = by_row (thread_of s letter.to) refl e
       where
-        by_row : (o : Option ThreadRow) → thread_of s letter.to ≡ o → passes (λ row. takes_from letter.from row.block) o ≡ true → NineParts (unblocked (record s { letters = s.letters ++ as_received letter ∷ [] }) letter.to) d
+        by_row : (o : Option ThreadRow) → thread_of s letter.to ≡ o → passes (λ row. takes_from letter.from row.block) o ≡ true → NineParts (after_unblock (record s { letters = s.letters ++ as_received letter ∷ [] }) letter.to) d
         by_row None found h = absurd (cc)
         by_row (Some row) found h = NineParts-woken (record s { letters = s.letters ++ as_received letter ∷ [] }) d taken letter.to row found (takes_alone letter.from row.block h)
     by_test false e = unread e
@@ -106,7 +106,7 @@ module _ (s : State) (was : NineParts s None) (t : ℕ) (x : ThreadRow) (known :
   pub sleep_keeps : (ticks : ℕ) → NineParts (sleep s t ticks).after None
   sleep_keeps ticks = by_ticks (eqb ticks 0) refl
     where
-      by_ticks : (b : Bool) → eqb ticks 0 ≡ b → NineParts (cond b (valued s 0) (unanswered (still (blocked_for s t block.Sleeping ticks)))).after None
+      by_ticks : (b : Bool) → eqb ticks 0 ≡ b → NineParts (cond b (value_case s 0) (silent_case (still (after_block_for s t block.Sleeping ticks)))).after None
       by_ticks true none = was
       by_ticks false some = NineParts-waiting_for s None was t x known (λ e. not_some t e) free block.Sleeping refl refl refl ticks (positive ticks some)
 
@@ -120,13 +120,13 @@ module _ (s : State) (was : NineParts s None) (t : ℕ) (x : ThreadRow) (known :
       letter : Letter
       letter = record { from = t; to = u; text = text; room = room; received = false }
 
-      sent : is_thread s u ≡ true → u ≢ t → NineParts (post letter (blocked s t block.Sending)).after None
-      sent lives differs = post_keeps (blocked s t block.Sending) None letter
+      sent : is_thread s u ≡ true → u ≢ t → NineParts (post letter (after_block s t block.Sending)).after None
+      sent lives differs = post_keeps (after_block s t block.Sending) None letter
           (NineParts-posted s None was t x known (λ e. not_some t e) free (as_received letter) refl lives differs (λ v row from found e. received_untaken (as_received letter) v from refl))
-          (λ refuses. NineParts-posted s None was t x known (λ e. not_some t e) free letter refl lives differs (λ v row from found e. untaken (blocked s t block.Sending) letter refuses v row from (still_there v row from found e) e))
+          (λ refuses. NineParts-posted s None was t x known (λ e. not_some t e) free letter refl lives differs (λ v row from found e. untaken (after_block s t block.Sending) letter refuses v row from (still_there v row from found e) e))
         where
           -- whoever waits for a letter isn't the sender
-          still_there : (v : ℕ) (row : ThreadRow) (from : Option ℕ) → thread_of s v ≡ Some row → row.block ≡ block.Receiving from → thread_of (blocked s t block.Sending) v ≡ Some row
+          still_there : (v : ℕ) (row : ThreadRow) (from : Option ℕ) → thread_of s v ≡ Some row → row.block ≡ block.Receiving from → thread_of (after_block s t block.Sending) v ≡ Some row
           still_there v row from found e = find_rowed (block_set t block.Sending) (λ row. refl) s.threads v ∙ ap (option_map (block_set t block.Sending)) found ∙ ap Some (unchanged (is_number t row) refl)
             where
               unchanged : (b : Bool) → is_number t row ≡ b → block_set t block.Sending row ≡ row
@@ -138,20 +138,20 @@ module _ (s : State) (was : NineParts s None) (t : ℕ) (x : ThreadRow) (known :
                   absurd (cc)
 
   pub receive_keeps : (from : Option ℕ) (how : Mode) → NineParts (receive s t from how).after None
-  receive_keeps from how = unless_keeps (λ s. NineParts s None) s _ _ was (λ passed. by_found how (unreceived s.letters t from) refl passed.0 passed.1.0)
+  receive_keeps from how = unless_keeps (λ s. NineParts s None) s _ _ was (λ passed. by_found how (next_letter s.letters t from) refl passed.0 passed.1.0)
     where
       named : (from : Option ℕ) → passes (λ x. not (is_id s x)) from ≡ false → passes (λ x. eqb x t) from ≡ false → not (passes (λ x. not (is_id s x) || eqb x t) from) ≡ true
       named None lives differs = refl
       named (Some v) lives differs = not_of _ (or_from _ _ lives differs)
 
-      by_found : (how : Mode) (o : Option Letter) → unreceived s.letters t from ≡ o → passes (λ x. not (is_id s x)) from ≡ false → passes (λ x. eqb x t) from ≡ false → NineParts (receive_by s t from how o).after None
+      by_found : (how : Mode) (o : Option Letter) → next_letter s.letters t from ≡ o → passes (λ x. not (is_id s x)) from ≡ false → passes (λ x. eqb x t) from ≡ false → NineParts (receive_by s t from how o).after None
       by_found mode.Poll None e lives differs = was
       by_found mode.Poll (Some letter) e lives differs = NineParts-received s None was letter.from
       by_found mode.Block None e lives differs = NineParts-waiting s None was t x known (λ e. not_some t e) free (block.Receiving from) refl refl (and_from _ _ (named from lives differs) (ap is_none e))
       by_found mode.Block (Some letter) e lives differs = NineParts-received s None was letter.from
       by_found (mode.Until ticks) None e lives differs = by_ticks (eqb ticks 0) refl
         where
-          by_ticks : (b : Bool) → eqb ticks 0 ≡ b → NineParts (cond b (refused s error.Timeout) (unanswered (still (blocked_for s t (block.Receiving from) ticks)))).after None
+          by_ticks : (b : Bool) → eqb ticks 0 ≡ b → NineParts (cond b (refusal_case s error.Timeout) (silent_case (still (after_block_for s t (block.Receiving from) ticks)))).after None
           by_ticks true none = was
           by_ticks false some = NineParts-waiting_for s None was t x known (λ e. not_some t e) free (block.Receiving from) refl refl (and_from _ _ (named from lives differs) (ap is_none e)) ticks (positive ticks some)
       by_found (mode.Until ticks) (Some letter) e lives differs = NineParts-received s None was letter.from
@@ -182,7 +182,7 @@ module _ (s : State) (d : Option ℕ) (was : NineParts s d) where
   pub sender_row : (u : ℕ) (x : ThreadRow) → thread_of s u ≡ Some x → 1 ≤ letters_of s.letters u → x.block ≡ block.Sending
   sender_row u x known some = sending_is x.block (omega (arith, some, letters_counted s d was u x known))
 
-  pub replied_keeps : (u : ℕ) (text : List ℕ) → is_id s u ≡ true → 1 ≤ letters_of s.letters u → NineParts (replied u text s).after d
+  pub replied_keeps : (u : ℕ) (text : List ℕ) → is_id s u ≡ true → 1 ≤ letters_of s.letters u → NineParts (after_reply u text s).after d
   replied_keeps u text lives some = by_test (is_agent s u) refl lives
     where
       by_test : (b : Bool) → is_agent s u ≡ b → (is_thread s u || b) ≡ true → NineParts (cond b (still (record s { letters = without_letter u s.letters; agents = with_holding u false s.agents })) (unblock (answer.Reply text) u (record s { letters = without_letter u s.letters }))).after d

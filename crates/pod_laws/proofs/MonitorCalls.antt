@@ -2,10 +2,10 @@
 use Rattle.lwp_types.specs.Choice.{is_eligible}
 use Rattle.lwp_types.specs.Counts.{is_depth}
 use Rattle.lwp_types.specs.Lawful.{NineParts}
-use Rattle.lwp_types.specs.Monitors.{cond_enter, depth_in, enter, entered, is_owned_by_other, monitor_break, monitor_create, monitor_destroy, monitor_exit, monitor_waiters, requested, with_depth, with_entry}
+use Rattle.lwp_types.specs.Monitors.{after_request, cond_enter, depth_in, enter, enter_case, is_owned_by_other, monitor_break, monitor_create, monitor_destroy, monitor_exit, monitor_waiters, with_depth, with_entry}
 use Rattle.lwp_types.specs.MonitorRelease.{is_lock, is_owned_by, lock_of, release}
 use Rattle.lwp_types.specs.State.{State, ThreadRow, is_not_blocked, is_thread, member, passes, still, thread_of}
-use Rattle.lwp_types.specs.Case.{unanswered}
+use Rattle.lwp_types.specs.Case.{silent_case}
 use Rattle.lwp_types.specs.declared.rows.Lock.{Lock}
 use Rattle.pod_laws.proofs.Checks.{unless_keeps}
 use Rattle.pod_laws.proofs.Elements.{all_found, true_of}
@@ -61,7 +61,7 @@ module _ (s : State) (was : NineParts s None) (t : ℕ) (x : ThreadRow) (known :
   free : is_not_blocked x.block ≡ true
   free = (and_parts (not x.suspended) (is_not_blocked x.block) eligible).1
 
-  entered_keeps : (m : ℕ) → member m s.monitors ≡ true → passes (λ lock. is_owned_by t lock && nat_le 65535 lock.depth) (lock_of s.locks m) ≡ false → is_owned_by_other s.locks t m ≡ false → NineParts (entered s t m).after None
+  entered_keeps : (m : ℕ) → member m s.monitors ≡ true → passes (λ lock. is_owned_by t lock && nat_le 65535 lock.depth) (lock_of s.locks m) ≡ false → is_owned_by_other s.locks t m ≡ false → NineParts (enter_case s t m).after None
   entered_keeps m monitor shallow mine = by_lock (lock_of s.locks m) refl shallow mine
     where
       by_lock : (o : Option Lock) → lock_of s.locks m ≡ o → passes (λ lock. is_owned_by t lock && nat_le 65535 lock.depth) o ≡ false → passes (λ lock. not (is_owned_by t lock)) o ≡ false → NineParts (record s { locks = with_entry t m o s.locks }) None
@@ -73,7 +73,7 @@ module _ (s : State) (was : NineParts s None) (t : ℕ) (x : ThreadRow) (known :
   pub enter_keeps : (m : ℕ) → NineParts (enter s t m).after None
   enter_keeps m = unless_keeps (λ s. NineParts s None) s _ _ was (λ passed. by_owner (is_owned_by_other s.locks t m) refl (true_of _ passed.0) passed.1.0)
     where
-      by_owner : (b : Bool) → is_owned_by_other s.locks t m ≡ b → member m s.monitors ≡ true → passes (λ lock. is_owned_by t lock && nat_le 65535 lock.depth) (lock_of s.locks m) ≡ false → NineParts (cond b (unanswered (still (requested s t m))) (entered s t m)).after None
+      by_owner : (b : Bool) → is_owned_by_other s.locks t m ≡ b → member m s.monitors ≡ true → passes (λ lock. is_owned_by t lock && nat_le 65535 lock.depth) (lock_of s.locks m) ≡ false → NineParts (cond b (silent_case (still (after_request s t m))) (enter_case s t m)).after None
       by_owner true e monitor shallow = NineParts-requested s None was t x known (λ e. not_some t e) free m monitor e
       by_owner false e monitor shallow = entered_keeps m monitor shallow e
 

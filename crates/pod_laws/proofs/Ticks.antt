@@ -3,8 +3,8 @@ use Rattle.lwp_types.specs.CountLaws.{count-cons, count_and-le, count_found_and,
 use Rattle.lwp_types.specs.Counts.{is_ahead, is_timed, timers_of}
 use Rattle.lwp_types.specs.Lawful.{NineParts}
 use Rattle.lwp_types.specs.State.{State, ThreadRow, and_then, is_number, thread_of, times_in}
-use Rattle.lwp_types.specs.Time.{due_threads, is_due, tick, ticked, time_out}
-use Rattle.lwp_types.specs.Unblock.{unblocked}
+use Rattle.lwp_types.specs.Time.{after_tick, due_threads, is_due, tick, time_out}
+use Rattle.lwp_types.specs.Unblock.{after_unblock}
 use Rattle.lwp_types.specs.declared.rows.Block.{Block}
 use Rattle.lwp_types.specs.declared.rows.TimerRow.{TimerRow}
 use Rattle.lwp_types.specs.declared.rows.Block.TheVariants as block
@@ -49,7 +49,7 @@ module _ (s : State) (d : Option ℕ) (was : NineParts s d) where
   timers_once t = omega (arith, was.blocks.4.0 t, count_and-le (is_number t) (λ row. is_timed row.block) s.threads, once_threads s d was t)
 
   -- who has one may go on
-  pub NineParts-timed_out : (t : ℕ) → 1 ≤ timers_of s.timers t → NineParts (unblocked s t) d
+  pub NineParts-timed_out : (t : ℕ) → 1 ≤ timers_of s.timers t → NineParts (after_unblock s t) d
   NineParts-timed_out t some =
       let who = timed_row t some in
       NineParts-woken s d was t who.row who.known (timed_alone who.row.block who.timed)
@@ -90,5 +90,5 @@ NineParts-later n s was none = record {
 pub tick_keeps : (s : State) → NineParts s None → NineParts (tick s).after None
 unfolding and_then
 tick_keeps s was =
-    let all = drains (Before s.now) due_threads time_out (time_out_first s.now) (due_threads (ticked s)) (ticked s) (record { nine = was }) refl in
+    let all = drains (Before s.now) due_threads time_out (time_out_first s.now) (due_threads (after_tick s)) (after_tick s) (record { nine = was }) refl in
     NineParts-later s.now (tick s).after all.0 all.1

@@ -1,21 +1,21 @@
 -- No timer comes but by the call that asks for it.
 use Rattle.lwp_types.specs.Agents.{agent_gone, deliver, deliver_to, end_agent, event_agents, message}
-use Rattle.lwp_types.specs.Case.{Case, Check, refused, unanswered, unless, valued, with_zero}
+use Rattle.lwp_types.specs.Case.{Case, Check, refusal_case, silent_case, unless, value_case, with_zero}
 use Rattle.lwp_types.specs.Choice.{choice, is_eligible, is_eligible_in}
 use Rattle.lwp_types.specs.CountLaws.{count-append, count-filter-le, count_found_and, one}
 use Rattle.lwp_types.specs.Counts.{is_timed, timers_of}
-use Rattle.lwp_types.specs.Death.{answer_joiners, bury, death, destroyed, end_agents, refuse_receivers, refuse_sender, refuse_senders, release_all, run_all_exits, withdraw}
-use Rattle.lwp_types.specs.Exits.{caught, exit_case, leave_frame, notified_by, run_exit, unwind}
+use Rattle.lwp_types.specs.Death.{answer_joiners, bury, death, destroy_case, end_agents, refuse_receivers, refuse_sender, refuse_senders, release_all, run_all_exits, withdraw}
+use Rattle.lwp_types.specs.Exits.{catch_case, exit_case, leave_frame, notified_by, run_exit, unwind}
 use Rattle.lwp_types.specs.Lawful.{Lawful}
-use Rattle.lwp_types.specs.Messages.{as_answer, as_received, post, receive_by, receivers_of, replied, takes_from, unreceived, with_holding, without_letter}
-use Rattle.lwp_types.specs.Monitors.{depth_in, entered, exited, is_owned_by_other, requested, with_depth}
-use Rattle.lwp_types.specs.Exceptions.{caught_marks, exits_of, first_frames, found, frames, later_frames, with_match}
+use Rattle.lwp_types.specs.Messages.{after_reply, as_answer, as_received, next_letter, post, receive_by, receivers_of, takes_from, with_holding, without_letter}
+use Rattle.lwp_types.specs.Monitors.{after_exit, after_request, depth_in, enter_case, is_owned_by_other, with_depth}
+use Rattle.lwp_types.specs.Exceptions.{caught_marks, exits_of, first_frames, frames, handler_of, later_frames, with_match}
 use Rattle.lwp_types.specs.MonitorRelease.{grant, last_lock, next_owner, release, without_lock}
-use Rattle.lwp_types.specs.State.{Outcome, State, ThreadRow, and_then, for_each, in_order, is_agent, is_not_blocked, is_number, marked, marks_in, passes, still, thread_of}
+use Rattle.lwp_types.specs.State.{Outcome, State, ThreadRow, and_then, for_each, in_order, is_agent, is_not_blocked, is_number, marks_in, passes, still, thread_of, with_marks_of}
 use Rattle.lwp_types.specs.Step.{case_of, step, step_by, step_if}
-use Rattle.lwp_types.specs.Time.{due_threads, tick, ticked, time_out}
-use Rattle.lwp_types.specs.Unblock.{blocked, blocked_for, is_timer_of, nonexist, timer_for, unblock, unblocked, zero_answer}
-use Rattle.lwp_types.specs.Conditions.{condition_of, waited, woken, woken_all}
+use Rattle.lwp_types.specs.Time.{after_tick, due_threads, tick, time_out}
+use Rattle.lwp_types.specs.Unblock.{after_block, after_block_for, after_unblock, is_timer_of, nonexist, timer_for, unblock, zero_answer}
+use Rattle.lwp_types.specs.Conditions.{after_wait, after_wake, after_wake_all, condition_of}
 use Rattle.lwp_types.specs.declared.call.Answer.{Answer}
 use Rattle.lwp_types.specs.declared.call.Call.{Call}
 use Rattle.lwp_types.specs.declared.call.ExitCall.{ExitCall}
@@ -77,7 +77,7 @@ module _ (p : TimerRow → Bool) where
   quiet_then timers middle after one two = record { fewer = omega (arith, one.fewer, two.fewer) }
 
   -- who goes on loses its timer
-  quiet_unblocked : (timers : List TimerRow) (t : ℕ) (s : State) → s.timers ≡ timers → Among p timers (unblocked s t)
+  quiet_unblocked : (timers : List TimerRow) (t : ℕ) (s : State) → s.timers ≡ timers → Among p timers (after_unblock s t)
   quiet_unblocked timers t s same = record { fewer = omega (arith, count-filter-le p (λ row. not (is_timer_of t row)) s.timers, ap (count_by p) same) }
 
   quiet_unblock : (a : Answer) (t : ℕ) (s : State) → Among p s.timers (unblock a t s).after
@@ -90,7 +90,7 @@ module _ (p : TimerRow → Bool) where
   quiet_release : (m : ℕ) (s : State) → Among p s.timers (release m s).after
   quiet_release m s = quiet_grant (next_owner s m) (record s { locks = without_lock m s.locks })
 
-  quiet_exited : (m : ℕ) (s : State) → Among p s.timers (exited m s).after
+  quiet_exited : (m : ℕ) (s : State) → Among p s.timers (after_exit m s).after
   quiet_exited m s = by_depth (nat_le (depth_in s.locks m) 1)
     where
       by_depth : (b : Bool) → Among p s.timers (cond b (release m s) (still (record s { locks = with_depth m (depth_in s.locks m - 1) s.locks }))).after
@@ -104,24 +104,24 @@ module _ (p : TimerRow → Bool) where
       by_test true = quiet_unblocked s.timers letter.to _ refl
       by_test false = quiet_same s _ refl
 
-  quiet_replied : (u : ℕ) (text : List ℕ) (s : State) → Among p s.timers (replied u text s).after
+  quiet_replied : (u : ℕ) (text : List ℕ) (s : State) → Among p s.timers (after_reply u text s).after
   quiet_replied u text s = by_agent (is_agent s u)
     where
       by_agent : (b : Bool) → Among p s.timers (cond b (still (record s { letters = without_letter u s.letters; agents = with_holding u false s.agents })) (unblock (answer.Reply text) u (record s { letters = without_letter u s.letters }))).after
       by_agent true = quiet_same s _ refl
       by_agent false = quiet_unblocked s.timers u _ refl
 
-  quiet_woken : (m : ℕ) (ws : List WaitRow) (s : State) → Among p s.timers (fold (λ now w. woken m w now) s ws)
+  quiet_woken : (m : ℕ) (ws : List WaitRow) (s : State) → Among p s.timers (fold (λ now w. after_wake m w now) s ws)
   quiet_woken m [] s = quiet_still s
-  quiet_woken m (w ∷ ws) s = quiet_then s.timers (woken m w s) _ (quiet_same s _ refl) (quiet_woken m ws (woken m w s))
+  quiet_woken m (w ∷ ws) s = quiet_then s.timers (after_wake m w s) _ (quiet_same s _ refl) (quiet_woken m ws (after_wake m w s))
 
-  quiet_woken_all : (o : Option CondRow) (ws : List WaitRow) (s : State) → Among p s.timers (woken_all o ws s)
+  quiet_woken_all : (o : Option CondRow) (ws : List WaitRow) (s : State) → Among p s.timers (after_wake_all o ws s)
   quiet_woken_all None ws s = quiet_still s
   quiet_woken_all (Some row) ws s = quiet_woken row.mon ws s
 
-  quiet_waited : (t c : ℕ) (o : Option Lock) (s : State) → Among p s.timers (waited t c o s).after
+  quiet_waited : (t c : ℕ) (o : Option Lock) (s : State) → Among p s.timers (after_wait t c o s).after
   quiet_waited t c None s = quiet_still s
-  quiet_waited t c (Some lock) s = quiet_release lock.mon (blocked (record s { waits = s.waits ++ record { cond = c; tid = t; depth = lock.depth } ∷ [] }) t (block.Waiting c))
+  quiet_waited t c (Some lock) s = quiet_release lock.mon (after_block (record s { waits = s.waits ++ record { cond = c; tid = t; depth = lock.depth } ∷ [] }) t (block.Waiting c))
 
   quiet_each : {A : Type 0} (change : A → State → Outcome) → ((x : A) (s : State) → Among p s.timers (change x s).after) → (xs : List A) (s : State) → Among p s.timers (for_each change xs s).after
   unfolding for_each and_then
@@ -148,7 +148,7 @@ module _ (p : TimerRow → Bool) where
   exit_case_quiet s t (exit.Note text) = quiet_still s
 
   quiet_unwind : (t : ℕ) (kept gone : List Mark) (s : State) → Among p s.timers (unwind t kept gone s).after
-  quiet_unwind t kept gone s = quiet_each (run_exit t) (λ x s. exit_case_quiet s t x.call) (exits_of gone) (marked s t kept)
+  quiet_unwind t kept gone s = quiet_each (run_exit t) (λ x s. exit_case_quiet s t x.call) (exits_of gone) (with_marks_of s t kept)
 
   quiet_withdraw : (t : ℕ) (s : State) → Among p s.timers (withdraw t s).after
   quiet_withdraw t s = record { fewer = count-filter-le p (λ row. not (is_timer_of t row)) s.timers }
@@ -183,7 +183,7 @@ module _ (p : TimerRow → Bool) where
   quiet_match s on_match None fine = quiet_still s
   quiet_match s on_match (Some f) fine = fine f
 
-  quiet_caught : (s : State) (t q : ℕ) (f : Found) → Among p s.timers (caught s t q f).after
+  quiet_caught : (s : State) (t q : ℕ) (f : Found) → Among p s.timers (catch_case s t q f).after
   quiet_caught s t q f = quiet_unwind t (caught_marks f (marks_in s t)) (later_frames f.depth (marks_in s t)) s
 
   quiet_notified : (s : State) (t q : ℕ) (f : Found) (h : Func) → Among p s.timers (notified_by s t q f h).after
@@ -191,16 +191,16 @@ module _ (p : TimerRow → Bool) where
   quiet_notified s t q f func.Sum = quiet_still s
   quiet_notified s t q f func.Nothing = quiet_caught s t q f
 
-  quiet_destroyed : (s : State) (t u : ℕ) → Among p s.timers (destroyed s t u).after
+  quiet_destroyed : (s : State) (t u : ℕ) → Among p s.timers (destroy_case s t u).after
   quiet_destroyed s t u = cond_quiet s.timers (is_agent s u) (with_zero (end_agent u s)) _ (quiet_end_agent u s)
-      (cond_quiet s.timers (eqb t u) (unanswered (death u s)) (with_zero (death u s)) (quiet_death u s) (quiet_death u s))
+      (cond_quiet s.timers (eqb t u) (silent_case (death u s)) (with_zero (death u s)) (quiet_death u s) (quiet_death u s))
 
   -- more timers are among more
   more_timers : (s : State) (more : List TimerRow) → count_by p s.timers ≤ count_by p (s.timers ++ more)
   more_timers s more = omega (arith, count-append p s.timers more)
 
   -- a wait with a timer
-  quiet_timed : (s : State) (t : ℕ) (b : Block) (ticks : ℕ) → Among p (s.timers ++ timer_for s t ticks ∷ []) (blocked_for s t b ticks)
+  quiet_timed : (s : State) (t : ℕ) (b : Block) (ticks : ℕ) → Among p (s.timers ++ timer_for s t ticks ∷ []) (after_block_for s t b ticks)
   quiet_timed s t b ticks = record { fewer = omega arith }
 
   quiet_received : (s : State) (t : ℕ) (from : Option ℕ) (how : Mode) (o : Option Letter) → Among p (s.timers ++ timers_by s t (ticks_in how)) (receive_by s t from how o).after
@@ -208,7 +208,7 @@ module _ (p : TimerRow → Bool) where
   quiet_received s t from mode.Poll (Some letter) = record { fewer = more_timers s [] }
   quiet_received s t from mode.Block None = record { fewer = more_timers s [] }
   quiet_received s t from mode.Block (Some letter) = record { fewer = more_timers s [] }
-  quiet_received s t from (mode.Until ticks) None = cond_quiet (s.timers ++ timer_for s t ticks ∷ []) (eqb ticks 0) (refused s error.Timeout) (unanswered (still (blocked_for s t (block.Receiving from) ticks)))
+  quiet_received s t from (mode.Until ticks) None = cond_quiet (s.timers ++ timer_for s t ticks ∷ []) (eqb ticks 0) (refusal_case s error.Timeout) (silent_case (still (after_block_for s t (block.Receiving from) ticks)))
       (record { fewer = more_timers s (timer_for s t ticks ∷ []) }) (quiet_timed s t (block.Receiving from) ticks)
   quiet_received s t from (mode.Until ticks) (Some letter) = record { fewer = more_timers s (timer_for s t ticks ∷ []) }
 
@@ -219,17 +219,17 @@ module _ (p : TimerRow → Bool) where
   case_quiet : (s : State) (t : ℕ) (c : Call) → Among p (s.timers ++ timers_by s t (ticks_of c)) (case_of s t c).after
   case_quiet s t (call.Destroy u) = none_asked s _ (unless_quiet s s.timers _ _ (omega arith) (quiet_destroyed s t u))
   case_quiet s t (call.Ping u) = none_asked s _ (unless_quiet s s.timers _ _ (omega arith) (quiet_still s))
-  case_quiet s t (call.Sleep ticks) = cond_quiet (s.timers ++ timer_for s t ticks ∷ []) (eqb ticks 0) (valued s 0) (unanswered (still (blocked_for s t block.Sleeping ticks)))
+  case_quiet s t (call.Sleep ticks) = cond_quiet (s.timers ++ timer_for s t ticks ∷ []) (eqb ticks 0) (value_case s 0) (silent_case (still (after_block_for s t block.Sleeping ticks)))
       (record { fewer = more_timers s (timer_for s t ticks ∷ []) }) (quiet_timed s t block.Sleeping ticks)
   case_quiet s t call.Me = none_asked s _ (quiet_still s)
   case_quiet s t call.GetExit = none_asked s _ (quiet_still s)
   case_quiet s t call.Threads = none_asked s _ (quiet_still s)
-  case_quiet s t (call.Send u room text) = none_asked s _ (unless_quiet s s.timers _ _ (omega arith) (quiet_post (record { from = t; to = u; text = text; room = room; received = false }) (blocked s t block.Sending)))
-  case_quiet s t (call.Recv from how) = unless_quiet s (s.timers ++ timers_by s t (ticks_in how)) _ _ (more_timers s (timers_by s t (ticks_in how))) (quiet_received s t from how (unreceived s.letters t from))
+  case_quiet s t (call.Send u room text) = none_asked s _ (unless_quiet s s.timers _ _ (omega arith) (quiet_post (record { from = t; to = u; text = text; room = room; received = false }) (after_block s t block.Sending)))
+  case_quiet s t (call.Recv from how) = unless_quiet s (s.timers ++ timers_by s t (ticks_in how)) _ _ (more_timers s (timers_by s t (ticks_in how))) (quiet_received s t from how (next_letter s.letters t from))
   case_quiet s t (call.Reply u text) = none_asked s _ (unless_quiet s s.timers _ _ (omega arith) (quiet_replied u text s))
   case_quiet s t call.Senders = none_asked s _ (quiet_still s)
   case_quiet s t call.Receivers = none_asked s _ (quiet_still s)
-  case_quiet s t (call.Enter m) = none_asked s _ (unless_quiet s s.timers _ _ (omega arith) (cond_quiet s.timers (is_owned_by_other s.locks t m) (unanswered (still (requested s t m))) (entered s t m) (quiet_same s _ refl) (quiet_same s _ refl)))
+  case_quiet s t (call.Enter m) = none_asked s _ (unless_quiet s s.timers _ _ (omega arith) (cond_quiet s.timers (is_owned_by_other s.locks t m) (silent_case (still (after_request s t m))) (enter_case s t m) (quiet_same s _ refl) (quiet_same s _ refl)))
   case_quiet s t (call.MonExit m) = none_asked s _ (unless_quiet s s.timers _ _ (omega arith) (quiet_exited m s))
   case_quiet s t (call.MonBreak m) = none_asked s _ (unless_quiet s s.timers _ _ (omega arith) (quiet_release m s))
   case_quiet s t call.Monitors = none_asked s _ (quiet_still s)
@@ -240,10 +240,10 @@ module _ (p : TimerRow → Bool) where
   case_quiet s t (call.CvSend c u) = none_asked s _ (unless_quiet s s.timers _ _ (omega arith) (quiet_woken_all (condition_of s.conditions c) _ s))
   case_quiet s t call.Conditions = none_asked s _ (quiet_still s)
   case_quiet s t (call.CvWaiters c) = none_asked s _ (unless_quiet s s.timers _ _ (omega arith) (quiet_still s))
-  case_quiet s t call.Return = none_asked s _ (cond_quiet s.timers (nat_le 2 (frames (marks_in s t))) (leave_frame s t) (unanswered (death t s)) (quiet_unwind t (first_frames (frames (marks_in s t) - 1) (marks_in s t)) (later_frames (frames (marks_in s t) - 1) (marks_in s t)) s) (quiet_death t s))
-  case_quiet s t (call.Raise q) = none_asked s _ (unless_quiet s s.timers _ _ (omega arith) (quiet_match s (caught s t q) (found s t q) (λ f. quiet_caught s t q f)))
-  case_quiet s t (call.ExcNotify q) = none_asked s _ (unless_quiet s s.timers _ _ (omega arith) (quiet_match s (λ f. notified_by s t q f f.func) (found s t q) (λ f. quiet_notified s t q f f.func)))
-  case_quiet s t (call.Bound q) = none_asked s _ (unless_quiet s s.timers _ _ (omega arith) (quiet_match s _ (found s t q) (λ f. quiet_still s)))
+  case_quiet s t call.Return = none_asked s _ (cond_quiet s.timers (nat_le 2 (frames (marks_in s t))) (leave_frame s t) (silent_case (death t s)) (quiet_unwind t (first_frames (frames (marks_in s t) - 1) (marks_in s t)) (later_frames (frames (marks_in s t) - 1) (marks_in s t)) s) (quiet_death t s))
+  case_quiet s t (call.Raise q) = none_asked s _ (unless_quiet s s.timers _ _ (omega arith) (quiet_match s (catch_case s t q) (handler_of s t q) (λ f. quiet_caught s t q f)))
+  case_quiet s t (call.ExcNotify q) = none_asked s _ (unless_quiet s s.timers _ _ (omega arith) (quiet_match s (λ f. notified_by s t q f f.func) (handler_of s t q) (λ f. quiet_notified s t q f f.func)))
+  case_quiet s t (call.Bound q) = none_asked s _ (unless_quiet s s.timers _ _ (omega arith) (quiet_match s _ (handler_of s t q) (λ f. quiet_still s)))
   case_quiet s t call.Agents = none_asked s _ (quiet_still s)
   case_quiet s t (call.Trap e) = none_asked s _ (quiet_still s)
   case_quiet s t (call.Say text) = none_asked s _ (quiet_still s)
@@ -259,7 +259,7 @@ module _ (p : TimerRow → Bool) where
 
   quiet_tick : (s : State) → Among p s.timers (tick s).after
   unfolding and_then
-  quiet_tick s = quiet_each time_out (λ t now. quiet_unblocked now.timers t now refl) (due_threads (ticked s)) (ticked s)
+  quiet_tick s = quiet_each time_out (λ t now. quiet_unblocked now.timers t now refl) (due_threads (after_tick s)) (after_tick s)
 
   deliver_quiet : (s : State) (e : ℕ) (text : List ℕ) → Among p s.timers (deliver s e text).after
   unfolding deliver and_then

@@ -1,6 +1,6 @@
 -- The dead are forgotten.
 use Rattle.lwp_types.specs.Agents.{deliver}
-use Rattle.lwp_types.specs.Case.{refused}
+use Rattle.lwp_types.specs.Case.{refusal_case}
 use Rattle.lwp_types.specs.Lawful.{Lawful}
 use Rattle.lwp_types.specs.State.{Outcome, State, is_id}
 use Rattle.lwp_types.specs.Exits.{exit_case}
@@ -52,7 +52,7 @@ asks_for n _ = false
 
 -- who isn't there is refused as not there
 abbrev pub TheAbsentAreRefused : Type 0
-TheAbsentAreRefused = (s : State) (t n : ℕ) → is_id s n ≡ false → (c : Call) → IsTrue (asks_for n c) → case_of s t c ≡ refused s error.NonExist
+TheAbsentAreRefused = (s : State) (t n : ℕ) → is_id s n ≡ false → (c : Call) → IsTrue (asks_for n c) → case_of s t c ≡ refusal_case s error.NonExist
 
 -- the exit procedure names a thread or an agent, and asks first whether it is there
 abbrev pub exit_asks_for : ℕ → ExitCall → Bool
@@ -62,11 +62,11 @@ exit_asks_for n _ = false
 
 -- so are exit procedures
 abbrev pub ExitsRefuseTheAbsent : Type 0
-ExitsRefuseTheAbsent = (s : State) (t n : ℕ) → is_id s n ≡ false → (x : ExitCall) → IsTrue (exit_asks_for n x) → exit_case s t x ≡ refused s error.NonExist
+ExitsRefuseTheAbsent = (s : State) (t n : ℕ) → is_id s n ≡ false → (x : ExitCall) → IsTrue (exit_asks_for n x) → exit_case s t x ≡ refusal_case s error.NonExist
 
 -- CvSend asks for the condition and the caller's last lock before; where both are fine, it is refused so too
 abbrev pub CondSendRefusesTheAbsent : Type 0
-CondSendRefusesTheAbsent = (s : State) (t n c : ℕ) → is_id s n ≡ false → (is_no_condition s c).0 ≡ false → (is_not_last s t c).0 ≡ false → case_of s t (call.CvSend c n) ≡ refused s error.NonExist
+CondSendRefusesTheAbsent = (s : State) (t n c : ℕ) → is_id s n ≡ false → (is_no_condition s c).0 ≡ false → (is_not_last s t c).0 ≡ false → case_of s t (call.CvSend c n) ≡ refusal_case s error.NonExist
 
 -- what moves a pod on: a call of whoever has the turn, or an event with its text
 pub data Move : Type 0 where
@@ -74,14 +74,14 @@ pub data Move : Type 0 where
   ToDeliver : ℕ → List ℕ → Move
 
 -- the state after some moves
-abbrev pub moved : List Move → State → State
-moved [] s = s
-moved (ToCall c ∷ moves) s = moved moves (step s c).after
-moved (ToDeliver e text ∷ moves) s = moved moves (deliver s e text).after
+abbrev pub after_moves : List Move → State → State
+after_moves [] s = s
+after_moves (ToCall c ∷ moves) s = after_moves moves (step s c).after
+after_moves (ToDeliver e text ∷ moves) s = after_moves moves (deliver s e text).after
 
 -- a number is given once: whoever is gone stays gone, whatever comes
 abbrev pub TheGoneStayGone : Type 0
-TheGoneStayGone = (s : State) (n : ℕ) → IsGone s n → (moves : List Move) → IsGone (moved moves s) n
+TheGoneStayGone = (s : State) (n : ℕ) → IsGone s n → (moves : List Move) → IsGone (after_moves moves s) n
 
 -- a delivery runs no exit procedure, sets none, and nobody dies in it
 pub record IsQuiet (s : State) (out : Outcome) : Type 0 where

@@ -6,8 +6,8 @@ use Rattle.lwp_types.specs.Death.{withdraw}
 use Rattle.lwp_types.specs.Lawful.{Lawful}
 use Rattle.lwp_types.specs.State.{State, times_in}
 use Rattle.lwp_types.specs.Step.{step}
-use Rattle.lwp_types.specs.Time.{due_threads, is_asleep_in, tick, ticked}
-use Rattle.lwp_types.specs.Unblock.{timed_out, timer_for, unblocked, zero_answer}
+use Rattle.lwp_types.specs.Time.{after_tick, due_threads, is_asleep_in, tick}
+use Rattle.lwp_types.specs.Unblock.{after_unblock, timed_out, timer_for, zero_answer}
 use Rattle.lwp_types.specs.declared.call.Call.{Call}
 use Rattle.lwp_types.specs.declared.call.Effect.{Effect}
 use Rattle.lwp_types.specs.declared.call.Mode.{Mode}
@@ -26,8 +26,8 @@ due_answer s t = effect.Answered t (if is_asleep_in s t then zero_answer else ti
 
 -- it tells that the clock has ticked, and then each thread whose timer is due, once, in the order in which the timers arrived
 pub record TickAnswers (s : State) : Type 0 where
-  pub told : (tick s).effects ≡ effect.Ticked (s.now + 1) ∷ map (due_answer s) (due_threads (ticked s))
-  pub once : (t : ℕ) → times_in (due_threads (ticked s)) t ≤ 1
+  pub told : (tick s).effects ≡ effect.Ticked (s.now + 1) ∷ map (due_answer s) (due_threads (after_tick s))
+  pub once : (t : ℕ) → times_in (due_threads (after_tick s)) t ≤ 1
   pub gone : due_threads (tick s).after ≡ []
 
 abbrev pub TicksAnswerTheDue : Type 0
@@ -37,7 +37,7 @@ TicksAnswerTheDue = (s : State) → Lawful s None → TickAnswers s
 
 -- whoever goes on, or begins to die, has no timer from then on; and who may run has none, so that none is left where it waits again
 pub record EndsTimers (s : State) (t : ℕ) : Type 0 where
-  pub goes_on : timers_of (unblocked s t).timers t ≡ 0
+  pub goes_on : timers_of (after_unblock s t).timers t ≡ 0
   pub dies : timers_of (withdraw t s).after.timers t ≡ 0
   pub runs : Lawful s None → IsTrue (is_eligible_in s t) → timers_of s.timers t ≡ 0
 

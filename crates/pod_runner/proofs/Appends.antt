@@ -3,11 +3,11 @@ use Rattle.std.proofs.Common.{◌≡◌, ℕ, ◌+◌, arith, length-append, Lis
 use Rattle.std.proofs.Math.Seq.{take-append-add}
 use Rattle.pod_runner.specs.Run.{Writes, WritesCut}
 use Rattle.std.specs.Prelude.{Option}
-use Rattle.lwp_types.specs.Streams.{appended}
+use Rattle.lwp_types.specs.Streams.{after_append}
 use Rattle.whole_streams.proofs.WriteLaws.{appended-append}
 use Rattle.whole_streams.specs.Writing.{AppendsPart}
 
-pub writes_on : (old new : Option (List ℕ)) (before out after : List ℕ) → after ≡ before ++ out → new ≡ appended old out → Writes old new before after
+pub writes_on : (old new : Option (List ℕ)) (before out after : List ℕ) → after ≡ before ++ out → new ≡ after_append old out → Writes old new before after
 writes_on old new before out after e h base g = h ∙ rw (g, e) (appended-append base before out)
 
 -- the same behind what stood there before

@@ -2,12 +2,12 @@
 use Rattle.std.proofs.Common.{◌≡◌, ◌≤◌, ℕ, List, [], ◌∷◌, ◌++◌, Bool, true, false, ap, arith, cond, eqb, ◌∙◌, refl, sym}
 use Rattle.std.proofs.lemmas.Bool.{and_from, and_parts, lt-ltb, ltb-true}
 use Rattle.std.specs.Prelude.{is_none, nat_lt, not, ◌&&◌}
-use Rattle.pod_events.specs.Events.{EventState, has_turn, is_takeable, is_trapped, may_trap, passed_on, rites_event, take_event, trap_taken}
+use Rattle.pod_events.specs.Events.{EventState, after_pass_on, after_take_trap, has_turn, is_takeable, is_trapped, may_trap, rites_event, take_event}
 use Rattle.std.specs.List.{list_all}
-use Rattle.lwp_types.specs.Agents.{armed, deliver, deliver_to, event_agents, is_armed, is_for, message}
+use Rattle.lwp_types.specs.Agents.{deliver, deliver_to, event_agents, is_armed, is_event_armed, is_for, message}
 use Rattle.lwp_types.specs.Messages.{as_answer, as_received, holding_set, post, takes_from, with_holding}
 use Rattle.lwp_types.specs.State.{Outcome, State, and_then, for_each, is_agent_row, is_empty, passes, still, thread_of}
-use Rattle.lwp_types.specs.Time.{due_threads, may_tick, tick, ticked, time_out}
+use Rattle.lwp_types.specs.Time.{after_tick, due_threads, may_tick, tick, time_out}
 use Rattle.lwp_types.specs.Unblock.{unblock}
 use Rattle.lwp_types.specs.declared.rows.AgentRow.{AgentRow}
 use Rattle.lwp_types.specs.declared.rows.Letter.{Letter}
@@ -78,10 +78,10 @@ deliver_to-fewer text row s = fewer-then s (record s { agents = with_holding row
 -- whoever goes on leaves the agents alone, and so does the clock
 tick-fewer : (s : State) → Fewer s (tick s).after
 unfolding and_then
-tick-fewer s = fewer-then s (ticked s) _ (record { events = λ e h. h; ended = refl; later = omega arith })
-    (fewer-each time_out (λ t now. record { events = λ e h. h; ended = refl; later = omega arith }) (due_threads (ticked s)) (ticked s))
+tick-fewer s = fewer-then s (after_tick s) _ (record { events = λ e h. h; ended = refl; later = omega arith })
+    (fewer-each time_out (λ t now. record { events = λ e h. h; ended = refl; later = omega arith }) (due_threads (after_tick s)) (after_tick s))
 
-fewer-armed : (s u : State) → Fewer s u → (e : ℕ) → armed u e ≡ true → armed s e ≡ true
+fewer-armed : (s u : State) → Fewer s u → (e : ℕ) → is_event_armed u e ≡ true → is_event_armed s e ≡ true
 fewer-armed s u fewer e h = by_clock (eqb e 0) h
   where
     goes : (a b c d : Bool) → a ≡ b → (c ≡ true → d ≡ true) → (not a && c) ≡ true → (not b && d) ≡ true
@@ -94,11 +94,11 @@ fewer-armed s u fewer e h = by_clock (eqb e 0) h
     by_clock true h = goes u.ended s.ended (may_tick u) (may_tick s) fewer.ended (λ may. lt-ltb s.now 4294967295 (omega (arith, fewer.later, ltb-true u.now 4294967295 may))) h
     by_clock false h = goes u.ended s.ended (is_armed u.agents e) (is_armed s.agents e) fewer.ended (fewer.events e) h
 
-pub deliver-fewer : (s : State) (x : ℕ) (text : List ℕ) (e : ℕ) → armed (deliver s x text).after e ≡ true → armed s e ≡ true
+pub deliver-fewer : (s : State) (x : ℕ) (text : List ℕ) (e : ℕ) → is_event_armed (deliver s x text).after e ≡ true → is_event_armed s e ≡ true
 unfolding deliver
 deliver-fewer s x text e h = by_clock (eqb x 0) h
   where
-    by_clock : (b : Bool) → armed (cond b (tick s) (for_each (deliver_to text) (event_agents s.agents x) s)).after e ≡ true → armed s e ≡ true
+    by_clock : (b : Bool) → is_event_armed (cond b (tick s) (for_each (deliver_to text) (event_agents s.agents x) s)).after e ≡ true → is_event_armed s e ≡ true
     by_clock true h = fewer-armed s _ (tick-fewer s) e h
     by_clock false h = fewer-armed s _ (fewer-each (deliver_to text) (deliver_to-fewer text) (event_agents s.agents x) s) e h
 
@@ -107,14 +107,14 @@ pub take-fewer : (es : EventState) (x : ℕ) (text : List ℕ) (e : ℕ) → has
 unfolding take_event
 take-fewer es x text e runs h = by_taken (is_trapped es.trapped x) h
   where
-    by_event : (c : Bool) → cond c (may_trap (passed_on es (deliver es.state x text)).after) (nat_lt e rites_event && armed (deliver es.state x text).after e) ≡ true → cond c (may_trap es) (nat_lt e rites_event && armed es.state e) ≡ true
+    by_event : (c : Bool) → cond c (may_trap (after_pass_on es (deliver es.state x text)).after) (nat_lt e rites_event && is_event_armed (deliver es.state x text).after e) ≡ true → cond c (may_trap es) (nat_lt e rites_event && is_event_armed es.state e) ≡ true
     by_event true h = and_from _ _ (and_parts (is_none es.pending) (has_turn (deliver es.state x text).after) h).0 runs
-    by_event false h = and_from _ _ (and_parts (nat_lt e rites_event) (armed (deliver es.state x text).after e) h).0 (deliver-fewer es.state x text e (and_parts (nat_lt e rites_event) (armed (deliver es.state x text).after e) h).1)
+    by_event false h = and_from _ _ (and_parts (nat_lt e rites_event) (is_event_armed (deliver es.state x text).after e) h).0 (deliver-fewer es.state x text e (and_parts (nat_lt e rites_event) (is_event_armed (deliver es.state x text).after e) h).1)
 
-    by_trap : (c : Bool) → cond c (may_trap (trap_taken es x).after) (nat_lt e rites_event && armed es.state e) ≡ true → cond c (may_trap es) (nat_lt e rites_event && armed es.state e) ≡ true
+    by_trap : (c : Bool) → cond c (may_trap (after_take_trap es x).after) (nat_lt e rites_event && is_event_armed es.state e) ≡ true → cond c (may_trap es) (nat_lt e rites_event && is_event_armed es.state e) ≡ true
     by_trap true h = absurd (cc)
     by_trap false h = h
 
-    by_taken : (b : Bool) → is_takeable (cond b (trap_taken es x) (passed_on es (deliver es.state x text))).after e ≡ true → is_takeable es e ≡ true
+    by_taken : (b : Bool) → is_takeable (cond b (after_take_trap es x) (after_pass_on es (deliver es.state x text))).after e ≡ true → is_takeable es e ≡ true
     by_taken true h = by_trap (is_trapped es.trapped e) h
     by_taken false h = by_event (is_trapped es.trapped e) h

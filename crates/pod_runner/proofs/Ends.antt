@@ -5,7 +5,7 @@ use Rattle.std.proofs.lemmas.Bool.Decides.{nat_tests}
 use Rattle.event_gate.specs.Shelves.{Shelves}
 use Rattle.lwp_types.specs.Choice.{choice}
 use Rattle.pod_events.specs.Events.{EventState}
-use Rattle.pod_runner.specs.Eager.{Plan, Planned, advanced, boundary, one_call, plan_over, round, pod_of}
+use Rattle.pod_runner.specs.Eager.{Plan, Planned, after_advance, boundary, one_call, plan_over, round, pod_of}
 use Rattle.pod_runner.specs.Over.{halt_if, is_wanted, over}
 use Rattle.pod_runner.specs.Phase.{phase_by, phase_of}
 use Rattle.pod_runner.specs.declared.phase.Phase.TheVariants as phase
@@ -48,7 +48,7 @@ idle-both s turns calls left h = by_end s.state.ended (choice s.state) h
 
 module _ {B : Type 0} (planned : Planned B) (plan : Plan B) where
   abbrev round_by : Option Halt → Plan B
-  round_by o = elim o as (λ _. Plan B) [ None ↦ advanced planned plan | Some halt ↦ plan ]
+  round_by o = elim o as (λ _. Plan B) [ None ↦ after_advance planned plan | Some halt ↦ plan ]
 
   abbrev advanced_by : Bool → Plan B
   advanced_by b = elim b as (λ _. Plan B) [ true ↦ one_call planned (boundary planned plan) | false ↦ boundary planned plan ]
@@ -57,7 +57,7 @@ module _ {B : Type 0} (planned : Planned B) (plan : Plan B) where
   turn-round h = let t = turn-both (pod_of plan) planned.turns plan.calls plan.left h in ap round_by t.0 ∙ ap advanced_by t.1
 
   module _ (idle : phase_of (pod_of plan).state planned.turns plan.calls ≡ phase.Idle) where
-    pub idle-advanced : advanced planned plan ≡ boundary planned plan
+    pub idle-advanced : after_advance planned plan ≡ boundary planned plan
     idle-advanced = ap advanced_by (idle-both (pod_of plan) planned.turns plan.calls plan.left idle).1
 
     idle-over : (b : Bool) → is_wanted (pod_of plan) plan.left ≡ b → plan_over planned plan ≡ cond b None (Some halts.Stuck)

@@ -3,20 +3,20 @@ use Rattle.std.proofs.Common.{◌≡◌, ℕ, List, [], ◌∷◌, ◌++◌, Boo
 use Rattle.std.specs.Prelude.{Option, is_some, nat_le, not, ◌&&◌}
 use Rattle.std.specs.List.{fold}
 use Rattle.event_gate.specs.Shelves.{first_left}
-use Rattle.pod_events.specs.Events.{EventState, has_turn, is_takeable, is_trapped, passed_on, take_event, trap_taken}
+use Rattle.pod_events.specs.Events.{EventState, after_pass_on, after_take_trap, has_turn, is_takeable, is_trapped, take_event}
 use Rattle.lwp_types.specs.Agents.{deliver, deliver_to, event_agents, message}
 use Rattle.lwp_types.specs.Choice.{best_by, better_by, choice}
 use Rattle.lwp_types.specs.Messages.{as_answer, as_received, post, takes_from}
 use Rattle.lwp_types.specs.State.{Outcome, State, and_then, for_each, is_suspended_in, passes, priority_in, still, thread_of}
-use Rattle.lwp_types.specs.Time.{due_threads, tick, ticked, time_out}
+use Rattle.lwp_types.specs.Time.{after_tick, due_threads, tick, time_out}
 use Rattle.lwp_types.specs.Unblock.{unblock}
 use Rattle.lwp_types.specs.declared.call.Line.{Line}
 use Rattle.lwp_types.specs.declared.rows.AgentRow.{AgentRow}
 use Rattle.lwp_types.specs.declared.rows.Letter.{Letter}
-use Rattle.pod_runner.specs.Eager.{Plan, Planned, boundary, offered, offered_by, pod_of, taken_line}
+use Rattle.pod_runner.specs.Eager.{Plan, Planned, after_offer, after_offer_by, after_take, boundary, pod_of}
 use Rattle.pod_runner.specs.Over.{events}
 use Rattle.pod_runner.specs.Phase.{phase_by, phase_of}
-use Rattle.pod_runner.specs.Session.{taken}
+use Rattle.pod_runner.specs.Session.{take_move}
 use Rattle.pod_runner.specs.declared.phase.Phase.TheVariants as phase
 
 -- somebody is chosen exactly where somebody is in the order
@@ -65,7 +65,7 @@ time_out-kept t s = record { ended = refl; chosen = order-kept (priority_in s) _
 
 tick-kept : (s : State) → Kept s (tick s).after
 unfolding and_then
-tick-kept s = kept-then s (ticked s) _ (record { ended = refl; chosen = λ h. h }) (kept-each time_out time_out-kept (due_threads (ticked s)) (ticked s))
+tick-kept s = kept-then s (after_tick s) _ (record { ended = refl; chosen = λ h. h }) (kept-each time_out time_out-kept (due_threads (after_tick s)) (after_tick s))
 
 deliver_to-kept : (text : List ℕ) (row : AgentRow) (s : State) → Kept s (deliver_to text row s).after
 unfolding and_then
@@ -83,7 +83,7 @@ pub take-kept : (es : EventState) (e : ℕ) (text : List ℕ) → Kept es.state 
 unfolding take_event
 take-kept es e text = by_trapped (is_trapped es.trapped e)
   where
-    by_trapped : (b : Bool) → Kept es.state (cond b (trap_taken es e) (passed_on es (deliver es.state e text))).after.state
+    by_trapped : (b : Bool) → Kept es.state (cond b (after_take_trap es e) (after_pass_on es (deliver es.state e text))).after.state
     by_trapped true = record { ended = refl; chosen = λ h. h }
     by_trapped false = deliver-kept es.state e text
 
@@ -109,24 +109,24 @@ phase-runs s turns calls h = by_end s.ended (choice s) h
 
 module _ {B : Type 0} (planned : Planned B) where
   taken-turn : (e : ℕ) (line : Line) (plan : Plan B) → phase_of (pod_of plan).state planned.turns plan.calls ≡ phase.Turn
-      → phase_of (pod_of (taken_line planned e line plan)).state planned.turns (taken_line planned e line plan).calls ≡ phase.Turn
-  unfolding taken
+      → phase_of (pod_of (after_take planned e line plan)).state planned.turns (after_take planned e line plan).calls ≡ phase.Turn
+  unfolding take_move
   taken-turn e line plan h = phase-kept (pod_of plan).state (take_event (pod_of plan) e line.text).after.state planned.turns plan.calls (take-kept (pod_of plan) e line.text) h
 
   abbrev IsTurn : Plan B → Type 0
   IsTurn plan = phase_of (pod_of plan).state planned.turns plan.calls ≡ phase.Turn
 
-  by_line : (e : ℕ) (plan : Plan B) (o : Option Line) → IsTurn plan → IsTurn (offered_by planned e plan o)
+  by_line : (e : ℕ) (plan : Plan B) (o : Option Line) → IsTurn plan → IsTurn (after_offer_by planned e plan o)
   by_line e plan None h = h
   by_line e plan (Some line) h = taken-turn e line plan h
 
-  by_armed : (e : ℕ) (plan : Plan B) (b : Bool) → IsTurn plan → IsTurn (elim b as (λ _. Plan B) [ true ↦ offered_by planned e plan (first_left plan.left e) | false ↦ plan ])
+  by_armed : (e : ℕ) (plan : Plan B) (b : Bool) → IsTurn plan → IsTurn (elim b as (λ _. Plan B) [ true ↦ after_offer_by planned e plan (first_left plan.left e) | false ↦ plan ])
   by_armed e plan true h = by_line e plan (first_left plan.left e) h
   by_armed e plan false h = h
 
-  serves-turn : (es : List ℕ) (plan : Plan B) → IsTurn plan → IsTurn (fold (λ (now : Plan B) e. offered planned e now) plan es)
+  serves-turn : (es : List ℕ) (plan : Plan B) → IsTurn plan → IsTurn (fold (λ (now : Plan B) e. after_offer planned e now) plan es)
   serves-turn [] plan h = h
-  serves-turn (e ∷ es) plan h = serves-turn es (offered planned e plan) (by_armed e plan (is_takeable (pod_of plan) e) h)
+  serves-turn (e ∷ es) plan h = serves-turn es (after_offer planned e plan) (by_armed e plan (is_takeable (pod_of plan) e) h)
 
   pub boundary-turn : (plan : Plan B) → IsTurn plan → IsTurn (boundary planned plan)
   boundary-turn plan h = serves-turn events plan h

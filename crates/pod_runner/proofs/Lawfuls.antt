@@ -12,8 +12,8 @@ use Rattle.pod_laws.proofs.EveryStep.{Lawful-deliver, Lawful-step}
 use Rattle.pod_laws.proofs.Opening.{Lawful-opening}
 use Rattle.pod_runner.specs.Due.{AllDue, IsDefined, TakeDue, is_call_due, is_take_due}
 use Rattle.pod_runner.specs.Laws.{SessionsAreLawful}
-use Rattle.pod_runner.specs.Play.{calls_made, play, played, with_take}
-use Rattle.pod_runner.specs.Session.{Live, Session, Setting, call_step, called, move, move_by, move_row, row_of, take_step, taken}
+use Rattle.pod_runner.specs.Play.{calls_made, play, session_of_takes, with_take}
+use Rattle.pod_runner.specs.Session.{Live, Session, Setting, call_move, call_step, move, move_by, move_row, row_of, take_move, take_step}
 use Rattle.pod_runner.specs.declared.session.Row.{Row}
 use Rattle.pod_runner.specs.declared.session.Took.{Took}
 
@@ -21,8 +21,8 @@ module _ {B : Type 0} (keeps : MachinesKeepLaw) (setting : Setting B) where
   abbrev IsLawful : Session B → Type 0
   IsLawful s = Lawful s.live.pod.state None
 
-  called-lawful : (live : Live B) (t : ℕ) (reply : Polled B) → Lawful live.pod.state None → Lawful (called setting.bodies live t reply).live.pod.state None
-  unfolding called
+  called-lawful : (live : Live B) (t : ℕ) (reply : Polled B) → Lawful live.pod.state None → Lawful (call_move setting.bodies live t reply).live.pod.state None
+  unfolding call_move
   called-lawful live t reply h = step-lawful keeps live.pod reply.0 h
 
   row-lawful : (live : Live B) (t : ℕ) (o : Option (Row B)) → Lawful live.pod.state None → Lawful (move_row setting.next setting.bodies live t o).live.pod.state None
@@ -38,7 +38,7 @@ module _ {B : Type 0} (keeps : MachinesKeepLaw) (setting : Setting B) where
   call-lawful s h = by-lawful s.live (choice s.live.pod.state) h
 
   took-lawful : (took : Took) (s : Session B) → IsTrue (is_take_due took s) → IsLawful s → IsLawful (take_step setting took s)
-  unfolding taken
+  unfolding take_move
   took-lawful took s may h = take-lawful keeps s.live.pod took.event took.line.text may h
 
   calls-lawful : Lawful (opening setting.params) None → (n : ℕ) → IsLawful (calls_made setting n)
@@ -55,9 +55,9 @@ module _ {B : Type 0} (keeps : MachinesKeepLaw) (setting : Setting B) where
       by_turn true rest h = took-lawful took (before (suc n)) h.1 (was (suc n) h.0)
       by_turn false rest h = call-lawful (with_take setting took before n) (rest h.0)
 
-  played-lawful : Lawful (opening setting.params) None → (takes : List Took) (n : ℕ) → AllDue setting takes n → IsLawful (played setting takes n)
+  played-lawful : Lawful (opening setting.params) None → (takes : List Took) (n : ℕ) → AllDue setting takes n → IsLawful (session_of_takes setting takes n)
   played-lawful start [] n h = calls-lawful start n
-  played-lawful start (took ∷ takes) n h = with-lawful took (played setting takes) (AllDue setting takes) (λ m d. played-lawful start takes m d) n h
+  played-lawful start (took ∷ takes) n h = with-lawful took (session_of_takes setting takes) (AllDue setting takes) (λ m d. played-lawful start takes m d) n h
 
 -- the machine's steps and deliveries keep its states lawful
 pub machines_keep_law : MachinesKeepLaw

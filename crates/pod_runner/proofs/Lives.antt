@@ -21,9 +21,9 @@ use Rattle.trace_text.specs.declared.ends.Halt.{Halt}
 use Rattle.trace_text.specs.declared.ends.Halt.TheVariants as halts
 use Rattle.lwp_types.specs.Choice.{choice}
 use Rattle.std.proofs.lemmas.Bool.Decides.{nat_tests}
-use Rattle.pod_runner.specs.Run.{Broke, EndsAt, GoesOn, Played, Tells, Wrote, but_last, session_of, phase_now, setting_of, stepped, took_now, trace_before, trace_of, with_call, with_took}
+use Rattle.pod_runner.specs.Run.{Broke, EndsAt, GoesOn, Played, Tells, Wrote, but_last, session_of, phase_now, setting_of, after_step, took_now, trace_before, trace_of, with_call, with_took}
 use Rattle.whole_streams.specs.Streams.{Stream}
-use Rattle.pod_runner.specs.Session.{Session, call_step, taken, take_step}
+use Rattle.pod_runner.specs.Session.{Session, call_step, take_move, take_step}
 use Rattle.pod_runner.specs.Trace.{lines}
 use Rattle.pod_runner.specs.declared.live.Live.{Live}
 use Rattle.pod_runner.specs.declared.live.Live.TheVariants as live
@@ -293,7 +293,7 @@ module _ {B P : Type 0} (next : Next B) (bodies : P → List B) (procs : P → L
     pub known : All (λ took. HasEvent before took.event) later
 
   lives-step : {T : Type 0} (s : Stream) (old counted new : Played P) (before after : List Intake) (later : List Took) (r : Result T RunErr)
-      → IsStep old counted before after later → new ≡ stepped old counted r
+      → IsStep old counted before after later → new ≡ after_step old counted r
       → Tells s (trace_of next bodies procs old) (trace_of next bodies procs old) (trace_of next bodies procs new) r
       → IsDefined (setting_of next bodies new) new.takes new.calls → new.calls ≤ new.turns
       → Lived s old new before after r
@@ -339,7 +339,7 @@ module _ {B P : Type 0} (next : Next B) (bodies : P → List B) (procs : P → L
 
   -- a call
   pub lives-call : {T : Type 0} (s : Stream) (old new : Played P) (inlets : List Intake) (r : Result T RunErr)
-      → old.failed ≡ false → IsDefined (setting_of next bodies old) old.takes old.calls → new ≡ stepped old (with_call old) r
+      → old.failed ≡ false → IsDefined (setting_of next bodies old) old.takes old.calls → new ≡ after_step old (with_call old) r
       → Tells s (trace_of next bodies procs old) (trace_of next bodies procs old) (trace_of next bodies procs new) r
       → IsDefined (setting_of next bodies new) new.takes new.calls → new.calls ≤ new.turns
       → Lived s old new inlets inlets r
@@ -356,7 +356,7 @@ module _ {B P : Type 0} (next : Next B) (bodies : P → List B) (procs : P → L
   -- a take
   pub lives-take : {T : Type 0} (s : Stream) (i : ℕ) (line : Line) (t u : Intake) (old new : Played P) (before after : List Intake) (r : Result T RunErr)
       → EventsRise before → i < length before → ((d : Intake) → slice_index_or before i d ≡ t) → after ≡ slice_set before i u → InletTakes t u line
-      → old.failed ≡ false → new ≡ stepped old (with_took old t.event line) r
+      → old.failed ≡ false → new ≡ after_step old (with_took old t.event line) r
       → Tells s (trace_of next bodies procs old) (trace_of next bodies procs old) (trace_of next bodies procs new) r
       → IsDefined (setting_of next bodies new) new.takes new.calls → new.calls ≤ new.turns
       → Lived s old new before after r
@@ -416,7 +416,7 @@ module _ {B P : Type 0} (next : Next B) (bodies : P → List B) (procs : P → L
       fewer (inr same) e h = p.fewer (inr (omega (arith, same, p.more, q.more))) e (q.fewer (inr (omega (arith, same, p.more, q.more))) e h)
 
   takes-line : (run : Played P) (e : ℕ) (line : Line) → Takes next bodies run (with_took run e line)
-  unfolding taken
+  unfolding take_move
   takes-line run e line =
       let s = (session_of next bodies run).live.pod in
       let now = ap (λ (u : Session B). u.live.pod) (take-last run e line) in
@@ -468,7 +468,7 @@ module _ {B P : Type 0} (next : Next B) (bodies : P → List B) (procs : P → L
       many = ap looks none.after
 
   pub served-line : {T : Type 0} (i : ℕ) (line : Line) (old new : Played P) (t u : Intake) (before after : List Intake) (r : Result T RunErr) → i < length before → ((d : Intake) → slice_index_or before i d ≡ t) → after ≡ slice_set before i u
-      → InletTakes t u line → new ≡ stepped old (with_took old t.event line) r → OnOk r (ServesAt next bodies i old new before after)
+      → InletTakes t u line → new ≡ after_step old (with_took old t.event line) r → OnOk r (ServesAt next bodies i old new before after)
   served-line i line old new t u before after (Err e) within at set takes is = tt
   served-line i line old new t u before after (Ok x) within at set takes is = serves-at i old new t u before after within at set
       (subst (λ n. Takes next bodies old n) (sym is) (takes-line old t.event line)) (record {

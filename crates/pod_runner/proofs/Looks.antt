@@ -12,8 +12,8 @@ use Rattle.lwp_types.specs.Poll.{Next}
 use Rattle.pod_runner.specs.Due.{AllDue, IsDefined, TakeDue, armed_calls, counted_to, is_armed_at, is_call_due, is_take_due, takes_by}
 use Rattle.pod_runner.specs.Inlets.{Serves, Takes}
 use Rattle.pod_runner.specs.Live.{Draws, Gives, LivesOn, LooksAt, LooksAtAll, armed_count, lines_taken, looks}
-use Rattle.pod_runner.specs.Play.{play, played, with_take}
-use Rattle.pod_runner.specs.Run.{GoesOn, Played, phase_now, session_of, setting_of, stepped, with_call}
+use Rattle.pod_runner.specs.Play.{play, session_of_takes, with_take}
+use Rattle.pod_runner.specs.Run.{GoesOn, Played, after_step, phase_now, session_of, setting_of, with_call}
 use Rattle.whole_streams.specs.Streams.{Stream}
 use Rattle.pod_runner.specs.Session.{Session, Setting}
 use Rattle.pod_runner.specs.declared.phase.RunErr.{RunErr}
@@ -37,7 +37,7 @@ due-parts setting took before Before (suc n) h = by_turn (took.turn == suc n) re
 all-early : {B : Type 0} (setting : Setting B) (takes : List Took) (n m : ℕ) → n ≤ m → AllDue setting takes n → AllByRecursion (λ (took : Took). took.turn ≤ m) takes
 all-early setting [] n m low h = tt
 all-early setting (took ∷ takes) n m low h =
-    let parts = due-parts setting took (played setting takes) (AllDue setting takes) n h in
+    let parts = due-parts setting took (session_of_takes setting takes) (AllDue setting takes) n h in
     (omega (arith, parts.0, low), all-early setting takes took.turn m (omega (arith, parts.0, low)) parts.1)
 
 early-one : (took : Took) (m : ℕ) → took.turn ≤ m → takes_by m (took ∷ []) ≡ took ∷ []
@@ -141,7 +141,7 @@ module _ {B P : Type 0} (next : Next B) (bodies : P → List B) (procs : P → L
   -- a call behind all inlets
   pub looks-call : {T U : Type 0} (s : Stream) (old mid new : Played P) (before after : List Intake) (x : T) (y : U)
       → phase_now next bodies old ≡ phase.Turn
-      → LivesOn next bodies procs s old mid before after (Ok x) → Serves next bodies (length before) old mid before after → new ≡ stepped {T = U} mid (with_call mid) (Ok y)
+      → LivesOn next bodies procs s old mid before after (Ok x) → Serves next bodies (length before) old mid before after → new ≡ after_step {T = U} mid (with_call mid) (Ok y)
       → LooksAtAll next bodies old new before after
   looks-call s old mid new before after x y turn h serves is = (h.draws.given.0, λ k d low. one k d low (is_takeable (session_of next bodies mid).live.pod (slice_index_or before k d).event) refl)
     where

@@ -14,7 +14,7 @@ use Rattle.lwp_types.specs.declared.call.Effect.{Effect}
 use Rattle.pod_runner.specs.RunParts.{Moves}
 use Rattle.trace_text.specs.Lines.{step_lines}
 use Rattle.pod_runner.specs.Polls.{Polls, place_of}
-use Rattle.pod_runner.specs.Session.{Live, called, move, polled, proc_of, row_of, settled, taken, unmoved}
+use Rattle.pod_runner.specs.Session.{Live, after_poll, after_settle, call_move, move, no_move, proc_of, row_of, take_move}
 use Rattle.pod_runner.specs.declared.session.Took.{Took}
 use Rattle.pod_runner.specs.declared.session.Row.{Row}
 use Rattle.pod_runner.proofs.RowLemmas.{row_of-place, with_row-place}
@@ -30,12 +30,12 @@ chosen_from s t h = by_end s.ended h
 pub slice_get_present : {X : Type 0} (xs : List X) (i : ℕ) → i < length xs → (x : X) × (slice_get xs i ≡ Some x)
 slice_get_present xs i there = elim (slice_get_cases xs i).1 [ inl w ↦ (w.0, w.2) | inr w ↦ absurd (omega arith) ]
 
-pub move_no_row : {B : Type 0} (next : Next B) (bodies : List B) (live : Live B) (t : ℕ) → choice live.pod.state ≡ Some t → length live.rows ≤ place_of t live.rows → move next bodies live ≡ unmoved live
+pub move_no_row : {B : Type 0} (next : Next B) (bodies : List B) (live : Live B) (t : ℕ) → choice live.pod.state ≡ Some t → length live.rows ≤ place_of t live.rows → move next bodies live ≡ no_move live
 unfolding move
 move_no_row next bodies live t h past = rw (h, row_of-place t live.rows, slice_get_past live.rows (place_of t live.rows) past) refl
 
 move_some : {B : Type 0} (next : Next B) (bodies : List B) (live : Live B) (t : ℕ) (row : Row B) → choice live.pod.state ≡ Some t → row_of t live.rows ≡ Some row
-    → move next bodies live ≡ called bodies live t (next row.body (polled_as t live.names) row.answer)
+    → move next bodies live ≡ call_move bodies live t (next row.body (polled_as t live.names) row.answer)
 unfolding move
 move_some next bodies live t row h there = rw (h, there) refl
 
@@ -44,13 +44,13 @@ pub moved : {B : Type 0} (next : Next B) (bodies : List B) (live : Live B) (t : 
     → choice live.pod.state ≡ Some t → slice_get live.rows (place_of t live.rows) ≡ Some row
     → Polls next row (polled_as t live.names) call (place_of t live.rows) live.rows mid names
     → after ≡ (event_step live.pod call).after → effects ≡ (event_step live.pod call).effects
-    → rows ≡ settled bodies (proc_of call) effects mid
+    → rows ≡ after_settle bodies (proc_of call) effects mid
     → move next bodies live ≡ record { live = record { pod = after; rows = rows; names = names }; effects = effects }
-unfolding called
+unfolding call_move
 moved next bodies live t row call after effects mid rows names h there polls a e r =
     let found : row_of t live.rows ≡ Some row = row_of-place t live.rows ∙ there in
     let reply = next row.body (polled_as t live.names) row.answer in
-    let left : mid ≡ polled t reply.1 live.rows = polls.leaves ∙ sym (with_row-place t _ live.rows row there) in
+    let left : mid ≡ after_poll t reply.1 live.rows = polls.leaves ∙ sym (with_row-place t _ live.rows row there) in
     move_some next bodies live t row h found ∙ rw (r, e, a, left, polls.names, polls.gives) refl
 
 -- the same, by the place of the row, with its lines
@@ -58,13 +58,13 @@ pub moves_at : {B : Type 0} (next : Next B) (bodies : List B) (procs : List (Lis
     → choice live.pod.state ≡ Some t → i ≡ place_of t live.rows → i < length live.rows → known ≡ polled_as t live.names
     → ((row : Row B) → slice_get live.rows i ≡ Some row → Polls next row known call i live.rows mid names)
     → after ≡ (event_step live.pod call).after → effects ≡ (event_step live.pod call).effects
-    → born ≡ proc_of call → rows ≡ settled bodies born effects mid → out ≡ step_lines procs None effects
+    → born ≡ proc_of call → rows ≡ after_settle bodies born effects mid → out ≡ step_lines procs None effects
     → Moves procs None (move next bodies live) (record { pod = after; rows = rows; names = names }) effects out
 moves_at next bodies procs live t i known call after effects mid rows names out born h at there k polls a e b r o =
     let found = slice_get_present live.rows i there in
     let is : slice_get live.rows (place_of t live.rows) ≡ Some found.0 = ap (slice_get live.rows) (sym at) ∙ found.1 in
     let p : Polls next found.0 (polled_as t live.names) call (place_of t live.rows) live.rows mid names = rw (← at, ← k) (polls found.0 found.1) in
-    let m = moved next bodies live t found.0 call after effects mid rows names h is p a e (r ∙ ap (λ born. settled bodies born effects mid) b) in
+    let m = moved next bodies live t found.0 call after effects mid rows names h is p a e (r ∙ ap (λ born. after_settle bodies born effects mid) b) in
     record { live = rw m refl; effects = rw m refl; lines = o ∙ rw m refl }
 
 -- with no row, nothing happens
@@ -74,11 +74,11 @@ moves_none next bodies procs live t out h past none = let m = move_no_row next b
 -- a line was taken
 pub taken_moves : {B : Type 0} (bodies : List B) (procs : List (List ℕ)) (live : Live B) (took : Took) (after : EventState) (effects : List Effect) (rows : List (Row B)) (out : List ℕ)
     → after ≡ (take_event live.pod took.event took.line.text).after → effects ≡ (take_event live.pod took.event took.line.text).effects
-    → rows ≡ settled bodies None effects live.rows → out ≡ step_lines procs (Some took.line) effects
-    → Moves procs (Some took.line) (taken bodies took live) (record { pod = after; rows = rows; names = live.names }) effects out
-unfolding taken
+    → rows ≡ after_settle bodies None effects live.rows → out ≡ step_lines procs (Some took.line) effects
+    → Moves procs (Some took.line) (take_move bodies took live) (record { pod = after; rows = rows; names = live.names }) effects out
+unfolding take_move
 taken_moves bodies procs live took after effects rows out a e r o = record {
-  live = (λ t. record { pod = a t; rows = (r ∙ ap (λ effects. settled bodies None effects live.rows) e) t; names = live.names });
+  live = (λ t. record { pod = a t; rows = (r ∙ ap (λ effects. after_settle bodies None effects live.rows) e) t; names = live.names });
   effects = e;
   lines = o ∙ ap (step_lines procs (Some took.line)) e;
 }

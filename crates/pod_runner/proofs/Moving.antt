@@ -1,7 +1,7 @@
 -- A session moves its pod by calls and takes alone.
 use Rattle.pod_runner.specs.Due.{AllDue, IsDefined, TakeDue, is_call_due, is_take_due}
-use Rattle.pod_runner.specs.Play.{calls_made, play, played, with_take}
-use Rattle.pod_runner.specs.Session.{Live, Made, Session, Setting, call_step, called, extended, move, move_by, move_row, row_of, take_step, taken}
+use Rattle.pod_runner.specs.Play.{calls_made, play, session_of_takes, with_take}
+use Rattle.pod_runner.specs.Session.{Live, Made, Session, Setting, call_move, call_step, move, move_by, move_row, row_of, take_move, take_step, with_move}
 use Rattle.pod_runner.specs.SessionMoves.{IsMoved, SessionsAreMoves, effects_in}
 use Rattle.pod_runner.specs.declared.session.Row.{Row}
 use Rattle.pod_runner.specs.declared.session.Took.{Took}
@@ -11,7 +11,7 @@ use Rattle.lwp_types.specs.Poll.{Polled}
 use Rattle.lwp_types.specs.State.{opening}
 use Rattle.pod_events.specs.Events.{EventState, quiet_events}
 use Rattle.pod_events.specs.Laws.{CanMove, can_move}
-use Rattle.pod_events.specs.Moves.{EventMove, ToCall, ToTake, effects_of, event_move, moved_on}
+use Rattle.pod_events.specs.Moves.{EventMove, ToCall, ToTake, after_moves, effects_of, event_move}
 use Rattle.std.proofs.Common.{Bool, List, None, Option, Some, [], ap, false, refl, suc, sym, true, zero, ℕ, ◌++◌, ◌∙◌, ◌∷◌, ◌≡◌}
 use Rattle.std.proofs.lemmas.List.{append-nil, append_assoc}
 use Rattle.std.specs.Prelude.{IsTrue, MatchBool, if◌then◌else◌, reverse, ◌==◌}
@@ -20,15 +20,15 @@ effects-push : (steps : List Made) (made : Made) → effects_in (steps ++ made �
 effects-push [] made = append-nil made.effects
 effects-push (first ∷ steps) made = ap (λ es. first.effects ++ es) (effects-push steps made) ∙ sym (append_assoc first.effects (effects_in steps) made.effects)
 
-moved-push : (moves : List EventMove) (move : EventMove) (start : EventState) → moved_on (moves ++ move ∷ []) start ≡ (event_move (moved_on moves start) move).after
+moved-push : (moves : List EventMove) (move : EventMove) (start : EventState) → after_moves (moves ++ move ∷ []) start ≡ (event_move (after_moves moves start) move).after
 moved-push [] move start = refl
 moved-push (first ∷ moves) move start = moved-push moves move (event_move start first).after
 
-told-push : (moves : List EventMove) (move : EventMove) (start : EventState) → effects_of (moves ++ move ∷ []) start ≡ effects_of moves start ++ (event_move (moved_on moves start) move).effects
+told-push : (moves : List EventMove) (move : EventMove) (start : EventState) → effects_of (moves ++ move ∷ []) start ≡ effects_of moves start ++ (event_move (after_moves moves start) move).effects
 told-push [] move start = append-nil (event_move start move).effects
-told-push (first ∷ moves) move start = ap (λ es. (event_move start first).effects ++ es) (told-push moves move (event_move start first).after) ∙ sym (append_assoc (event_move start first).effects (effects_of moves (event_move start first).after) (event_move (moved_on moves (event_move start first).after) move).effects)
+told-push (first ∷ moves) move start = ap (λ es. (event_move start first).effects ++ es) (told-push moves move (event_move start first).after) ∙ sym (append_assoc (event_move start first).effects (effects_of moves (event_move start first).after) (event_move (after_moves moves (event_move start first).after) move).effects)
 
-can-push : (moves : List EventMove) (move : EventMove) (start : EventState) → CanMove moves start → can_move (moved_on moves start) move ≡ true → CanMove (moves ++ move ∷ []) start
+can-push : (moves : List EventMove) (move : EventMove) (start : EventState) → CanMove moves start → can_move (after_moves moves start) move ≡ true → CanMove (moves ++ move ∷ []) start
 can-push [] move start can may = (may, tt)
 can-push (first ∷ moves) move start can may = (can.0, can-push moves move (event_move start first).after can.1 may)
 
@@ -59,15 +59,15 @@ module _ (start : EventState) where
     abbrev InIt : Session B → Type 0
     InIt session = IsMoved start session.live.pod session.steps
 
-    called-moves : (live : Live B) (steps : List Made) (t : ℕ) (reply : Polled B) → IsMoved start live.pod steps → InIt (extended (record { live = live; steps = steps }) None (called setting.bodies live t reply))
-    unfolding called
+    called-moves : (live : Live B) (steps : List Made) (t : ℕ) (reply : Polled B) → IsMoved start live.pod steps → InIt (with_move (record { live = live; steps = steps }) None (call_move setting.bodies live t reply))
+    unfolding call_move
     called-moves live steps t reply was = moves live.pod steps None (ToCall reply.0) was refl
 
-    row-moves : (live : Live B) (steps : List Made) (t : ℕ) (o : Option (Row B)) → IsMoved start live.pod steps → InIt (extended (record { live = live; steps = steps }) None (move_row setting.next setting.bodies live t o))
+    row-moves : (live : Live B) (steps : List Made) (t : ℕ) (o : Option (Row B)) → IsMoved start live.pod steps → InIt (with_move (record { live = live; steps = steps }) None (move_row setting.next setting.bodies live t o))
     row-moves live steps t None was = idle live.pod steps None was
     row-moves live steps t (Some row) was = called-moves live steps t (setting.next row.body (polled_as t live.names) row.answer) was
 
-    by-moves : (live : Live B) (steps : List Made) (o : Option ℕ) → IsMoved start live.pod steps → InIt (extended (record { live = live; steps = steps }) None (move_by setting.next setting.bodies live o))
+    by-moves : (live : Live B) (steps : List Made) (o : Option ℕ) → IsMoved start live.pod steps → InIt (with_move (record { live = live; steps = steps }) None (move_by setting.next setting.bodies live o))
     by-moves live steps None was = idle live.pod steps None was
     by-moves live steps (Some t) was = row-moves live steps t (row_of t live.rows) was
 
@@ -76,7 +76,7 @@ module _ (start : EventState) where
     call-moves s was = by-moves s.live s.steps (choice s.live.pod.state) was
 
     take-moves : (took : Took) (s : Session B) → IsTrue (is_take_due took s) → InIt s → InIt (take_step setting took s)
-    unfolding taken
+    unfolding take_move
     take-moves took s may was = moves s.live.pod s.steps (Some took) (ToTake took.event took.line.text) was may
 
     module _ (opens : IsMoved start (quiet_events (opening setting.params)) []) where
@@ -94,9 +94,9 @@ module _ (start : EventState) where
           by_turn true rest h = take-moves took (before (suc n)) h.1 (was (suc n) h.0)
           by_turn false rest h = call-moves (with_take setting took before n) (rest h.0)
 
-      played-moves : (takes : List Took) (n : ℕ) → AllDue setting takes n → InIt (played setting takes n)
+      played-moves : (takes : List Took) (n : ℕ) → AllDue setting takes n → InIt (session_of_takes setting takes n)
       played-moves [] n h = calls-move n
-      played-moves (took ∷ takes) n h = with-moves took (played setting takes) (AllDue setting takes) (λ m d. played-moves takes m d) n h
+      played-moves (took ∷ takes) n h = with-moves took (session_of_takes setting takes) (AllDue setting takes) (λ m d. played-moves takes m d) n h
 
 pub sessions_are_moves : (B : Type 0) → SessionsAreMoves B
 unfolding play IsDefined

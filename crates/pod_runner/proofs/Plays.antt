@@ -4,7 +4,7 @@ use Rattle.std.specs.Prelude.{Option, option_map, reverse, IsTrue, MatchBool, �
 use Rattle.std.proofs.lemmas.List.{reverse-append}
 use Rattle.std.proofs.lemmas.Bool.{eq-eqb, eqb-true, ne_eqb}
 use Rattle.pod_runner.specs.Due.{AllDue, IsDefined, TakeDue, is_call_due, is_take_due}
-use Rattle.pod_runner.specs.Play.{LastBy, play, played, with_take}
+use Rattle.pod_runner.specs.Play.{LastBy, play, session_of_takes, with_take}
 use Rattle.trace_text.specs.Lines.{step_lines}
 use Rattle.pod_runner.specs.Trace.{lines, made_lines}
 use Rattle.lwp_types.specs.declared.call.Effect.{Effect}
@@ -12,7 +12,7 @@ use Rattle.pod_runner.specs.Session.{Made, Session, Setting, call_step, opening_
 use Rattle.pod_runner.specs.declared.session.Took.{Took}
 
 -- with the newest take before it, a call is the last step
-pub played-call : {B : Type 0} (setting : Setting B) (takes : List Took) (n : ℕ) → LastBy takes n → played setting takes (n + 1) ≡ call_step setting (played setting takes n)
+pub played-call : {B : Type 0} (setting : Setting B) (takes : List Took) (n : ℕ) → LastBy takes n → session_of_takes setting takes (n + 1) ≡ call_step setting (session_of_takes setting takes n)
 played-call setting [] n h = rw add-one refl
 played-call setting (t ∷ takes) n h = rw (add-one, ne_eqb t.turn (suc n) (λ e. omega arith)) refl
 
@@ -25,7 +25,7 @@ unfolding play
 play-call setting takes n h = played-call setting (reverse takes) n h
 
 -- where a take is the newest of this turn, it is the last step
-played-take : {B : Type 0} (setting : Setting B) (took : Took) (takes : List Took) (n : ℕ) → took.turn ≡ n → played setting (took ∷ takes) n ≡ take_step setting took (played setting takes n)
+played-take : {B : Type 0} (setting : Setting B) (took : Took) (takes : List Took) (n : ℕ) → took.turn ≡ n → session_of_takes setting (took ∷ takes) n ≡ take_step setting took (session_of_takes setting takes n)
 played-take setting took takes zero h = refl
 played-take setting took takes (suc n) h = rw (eq-eqb took.turn (suc n) h) refl
 
@@ -34,7 +34,7 @@ newest xs x = reverse-append xs (x ∷ [])
 
 pub play-take : {B : Type 0} (setting : Setting B) (took : Took) (takes : List Took) (n : ℕ) → took.turn ≡ n → play setting (takes ++ took ∷ []) n ≡ take_step setting took (play setting takes n)
 unfolding play
-play-take setting took takes n h = ap (λ newest. played setting newest n) (newest takes took) ∙ played-take setting took (reverse takes) n h
+play-take setting took takes n h = ap (λ newest. session_of_takes setting newest n) (newest takes took) ∙ played-take setting took (reverse takes) n h
 
 -- ---- defined sessions
 
@@ -51,13 +51,13 @@ last-due setting took before Before (suc n) h = by_turn (took.turn == suc n) ref
 
 last-all : {B : Type 0} (setting : Setting B) (takes : List Took) (n : ℕ) → AllDue setting takes n → LastBy takes n
 last-all setting [] n h = tt
-last-all setting (took ∷ takes) n h = last-due setting took (played setting takes) (AllDue setting takes) n h
+last-all setting (took ∷ takes) n h = last-due setting took (session_of_takes setting takes) (AllDue setting takes) n h
 
 pub LastBy-of : {B : Type 0} (setting : Setting B) (takes : List Took) (n : ℕ) → IsDefined setting takes n → LastBy (reverse takes) n
 unfolding IsDefined
 LastBy-of setting takes n h = last-all setting (reverse takes) n h
 
-due-take : {B : Type 0} (setting : Setting B) (took : Took) (takes : List Took) (n : ℕ) → took.turn ≡ n → AllDue setting takes n → IsTrue (is_take_due took (played setting takes n)) → AllDue setting (took ∷ takes) n
+due-take : {B : Type 0} (setting : Setting B) (took : Took) (takes : List Took) (n : ℕ) → took.turn ≡ n → AllDue setting takes n → IsTrue (is_take_due took (session_of_takes setting takes n)) → AllDue setting (took ∷ takes) n
 due-take setting took takes zero h all due = (h, all, due)
 due-take setting took takes (suc n) h all due = rw (eq-eqb took.turn (suc n) h) (all, due)
 
@@ -69,7 +69,7 @@ pub IsDefined-zero : {B : Type 0} (setting : Setting B) → IsDefined setting []
 unfolding IsDefined
 IsDefined-zero setting = tt
 
-due-call : {B : Type 0} (setting : Setting B) (takes : List Took) (n : ℕ) → LastBy takes n → AllDue setting takes n → IsTrue (is_call_due (played setting takes n)) → AllDue setting takes (n + 1)
+due-call : {B : Type 0} (setting : Setting B) (takes : List Took) (n : ℕ) → LastBy takes n → AllDue setting takes n → IsTrue (is_call_due (session_of_takes setting takes n)) → AllDue setting takes (n + 1)
 due-call setting [] n h all due = rw add-one (all, due)
 due-call setting (t ∷ takes) n h all due = rw (add-one, ne_eqb t.turn (suc n) (λ e. omega arith)) (all, due)
 

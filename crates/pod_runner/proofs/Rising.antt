@@ -8,7 +8,7 @@ use Rattle.std.proofs.lemmas.Bool.{cases_lt, eq-eqb, ne_eqb}
 use Rattle.std.proofs.lemmas.List.{get_or_default}
 use Rattle.lwp_types.specs.ListLaws.{All-push, All-weaker}
 use Rattle.pod_runner.specs.Polls.{AreRising, ComesLast, place_of}
-use Rattle.pod_runner.specs.Session.{answered, with_row, without_row}
+use Rattle.pod_runner.specs.Session.{after_answer, with_row, without_row}
 use Rattle.pod_runner.specs.declared.session.Row.{Row}
 
 module _ {X : Type 0} (P : X → Type 0) where
@@ -111,7 +111,7 @@ module _ {B : Type 0} where
 
   -- a thread is answered at its place
   pub answered_at : (t : ℕ) (a : Answer) (rows : List (Row B)) (i : ℕ) (seen : Row B) → i ≡ place_of t rows → i < length rows → seen ≡ get_or rows i seen
-      → slice_set rows i (record seen { answer = a }) ≡ answered t a rows
+      → slice_set rows i (record seen { answer = a }) ≡ after_answer t a rows
   answered_at t a rows i seen at within there =
       let here : slice_get rows (place_of t rows) ≡ Some seen = ap (slice_get rows) (sym at) ∙ row_at rows i seen within ∙ ap Some (sym there) in
       ap (λ n. slice_set rows n (record seen { answer = a })) at ∙ sym (with_row-place t (λ row. record row { answer = a }) rows seen here)

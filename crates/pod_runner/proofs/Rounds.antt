@@ -5,17 +5,17 @@ use Rattle.std.specs.Prelude.{Option, Result, Ok, Err, OnOk, OnErr, IsErrAnd, Is
 use Rattle.std.specs.List.{fold, range_with_len}
 use Rattle.std.specs.Slice.Scan.{HoldsNowhere}
 use Rattle.std.proofs.lemmas.List.Sums.{fold-append}
-use Rattle.event_gate.specs.Shelves.{Shelves, first_left, left_in_all, taken_from}
+use Rattle.event_gate.specs.Shelves.{Shelves, after_take_from, first_left, left_in_all}
 use Rattle.pod_events.specs.Events.{is_takeable}
 use Rattle.lwp_types.specs.Poll.{Next}
 use Rattle.lwp_types.specs.declared.call.Line.{Line}
 use Rattle.pod_runner.specs.Does.{Does, RunsOn}
 use Rattle.pod_runner.specs.Due.{IsDefined}
-use Rattle.pod_runner.specs.Eager.{IsFirstPart, Plan, Planned, advanced, boundary, finished, offered, one_call, opening_plan, plan_over, plan_whole, round, pod_of}
+use Rattle.pod_runner.specs.Eager.{IsFirstPart, Plan, Planned, after_advance, boundary, after_finish, after_offer, one_call, opening_plan, plan_over, plan_whole, round, pod_of}
 use Rattle.pod_runner.specs.Phase.{phase_of}
-use Rattle.pod_runner.specs.Run.{Broke, GoesOn, IsNew, Played, Tells, WritesPart, Wrote, but_last, plan_now, planned_of, session_of, phase_now, setting_of, stepped, took_now, trace_before, trace_of, with_call, with_took}
+use Rattle.pod_runner.specs.Run.{Broke, GoesOn, IsNew, Played, Tells, WritesPart, Wrote, but_last, plan_now, planned_of, session_of, phase_now, setting_of, after_step, took_now, trace_before, trace_of, with_call, with_took}
 use Rattle.whole_streams.specs.Streams.{Stream}
-use Rattle.pod_runner.specs.Session.{Made, Move, Session, call_step, extended, take_step}
+use Rattle.pod_runner.specs.Session.{Made, Move, Session, call_step, take_step, with_move}
 use Rattle.pod_runner.specs.Play.{play}
 use Rattle.pod_runner.specs.Trace.{lines}
 use Rattle.pod_runner.specs.declared.phase.Phase.TheVariants as phase
@@ -65,7 +65,7 @@ but_last-step steps made =
     let n : length (steps ++ made ∷ []) - 1 ≡ length steps = omega (arith, length-append steps (made ∷ [])) in
     ap (λ n. take n (steps ++ made ∷ [])) n ∙ take-append_seam steps (made ∷ [])
 
-pub but_last-extended : {B : Type 0} (new old : Session B) (took : Option Took) (m : Move B) → new ≡ extended old took m → but_last new.steps ≡ old.steps
+pub but_last-extended : {B : Type 0} (new old : Session B) (took : Option Took) (m : Move B) → new ≡ with_move old took m → but_last new.steps ≡ old.steps
 but_last-extended new old took m is = ap (λ (s : Session _). but_last s.steps) is ∙ but_last-step old.steps (record { take = took; effects = m.effects })
 
 module _ {B P : Type 0} (next : Next B) (bodies : P → List B) (procs : P → List (List ℕ)) where
@@ -124,7 +124,7 @@ module _ {B P : Type 0} (next : Next B) (bodies : P → List B) (procs : P → L
   -- one step, if it counts
   pub ran-step : {T : Type 0} (s : Stream) (old counted new : Played P) (r : Result T RunErr)
       → GoesOn old counted → counted.failed ≡ false → but_last (session_of next bodies counted).steps ≡ (session_of next bodies old).steps
-      → new ≡ stepped old counted r
+      → new ≡ after_step old counted r
       → Tells s (trace_of next bodies procs old) (trace_of next bodies procs old) (trace_of next bodies procs new) r
       → IsDefined (setting_of next bodies new) new.takes new.calls → new.calls ≤ new.turns
       → Runs s old new r
@@ -209,13 +209,13 @@ module _ {B P : Type 0} (next : Next B) (bodies : P → List B) (procs : P → L
 
   -- the events below n, in turn
   abbrev first_events : ℕ → Planned B → Plan B → Plan B
-  first_events n planned plan = fold (λ (now : Plan B) e. offered planned e now) plan (range_with_len 0 n)
+  first_events n planned plan = fold (λ (now : Plan B) e. after_offer planned e now) plan (range_with_len 0 n)
 
-  more-events : (planned : Planned B) (plan : Plan B) (n : ℕ) → offered planned n (first_events n planned plan) ≡ first_events (n + 1) planned plan
+  more-events : (planned : Planned B) (plan : Plan B) (n : ℕ) → after_offer planned n (first_events n planned plan) ≡ first_events (n + 1) planned plan
   more-events planned plan n =
       let at : 0 + n ≡ n = omega arith in
-      sym (ap (λ es. fold (λ (now : Plan B) e. offered planned e now) plan es) (one_more 0 n ∙ ap (λ k. range_with_len 0 n ++ k ∷ []) at)
-      ∙ fold-append (λ (now : Plan B) e. offered planned e now) plan (range_with_len 0 n) (n ∷ []))
+      sym (ap (λ es. fold (λ (now : Plan B) e. after_offer planned e now) plan es) (one_more 0 n ∙ ap (λ k. range_with_len 0 n ++ k ∷ []) at)
+      ∙ fold-append (λ (now : Plan B) e. after_offer planned e now) plan (range_with_len 0 n) (n ∷ []))
     where
       one_more : (a n : ℕ) → range_with_len a (n + 1) ≡ range_with_len a n ++ (a + n) ∷ []
       one_more a zero = let at : a ≡ a + 0 = omega arith in ap (λ k. k ∷ []) at
@@ -227,12 +227,12 @@ module _ {B P : Type 0} (next : Next B) (bodies : P → List B) (procs : P → L
   events-begin w f run stock x sound made room = does-nothing w f run stock x sound made room
 
   pub events-more : {T : Type 0} (a b c : Option (List ℕ)) (i j k : ℕ) (old mid new : Played P) (stock some left : Shelves) (e : ℕ) (x : T) (r : Result (Unit {0}) RunErr)
-      → Came (stream a b i j) (λ planned plan. first_events e planned plan) old mid stock some (Ok x) → Came (stream b c j k) (λ planned plan. offered planned e plan) mid new some left r
+      → Came (stream a b i j) (λ planned plan. first_events e planned plan) old mid stock some (Ok x) → Came (stream b c j k) (λ planned plan. after_offer planned e plan) mid new some left r
       → Came (stream a c i k) (λ planned plan. first_events (e + 1) planned plan) old new stock left r
   events-more a b c i j k old mid new stock some left e x r p q =
-      does-by (stream a c i k) (λ planned plan. offered planned e (first_events e planned plan)) (λ planned plan. first_events (e + 1) planned plan) old new stock left r
+      does-by (stream a c i k) (λ planned plan. after_offer planned e (first_events e planned plan)) (λ planned plan. first_events (e + 1) planned plan) old new stock left r
       (more-events (planned_of next bodies old) (plan_now next bodies old stock) e)
-      (does-then a b c i j k (λ planned plan. first_events e planned plan) (λ planned plan. offered planned e plan) old mid new stock some left x r p q)
+      (does-then a b c i j k (λ planned plan. first_events e planned plan) (λ planned plan. after_offer planned e plan) old mid new stock some left x r p q)
 
   cut : (a m n : ℕ) → range_with_len a m ++ range_with_len (a + m) n ≡ range_with_len a (m + n)
   cut a zero n = let at : a + 0 ≡ a = omega arith in let all : n ≡ 0 + n = omega arith in ap (λ k. range_with_len k n) at ∙ ap (range_with_len a) all
@@ -240,11 +240,11 @@ module _ {B P : Type 0} (next : Next B) (bodies : P → List B) (procs : P → L
       ap (λ k. a ∷ (range_with_len (a + 1) m ++ range_with_len k n)) e ∙ ap (λ es. a ∷ es) (cut (a + 1) m n) ∙ sym (ap (range_with_len a) more)
 
   -- the events below a, and so many more
-  joined : (planned : Planned B) (plan : Plan B) (a n b : ℕ) → a + n ≡ b → fold (λ (now : Plan B) e. offered planned e now) (first_events a planned plan) (range_with_len a n) ≡ fold (λ (now : Plan B) e. offered planned e now) plan (range_with_len 0 b)
+  joined : (planned : Planned B) (plan : Plan B) (a n b : ℕ) → a + n ≡ b → fold (λ (now : Plan B) e. after_offer planned e now) (first_events a planned plan) (range_with_len a n) ≡ fold (λ (now : Plan B) e. after_offer planned e now) plan (range_with_len 0 b)
   joined planned plan a n b total =
       let at : a ≡ 0 + a = omega arith in
-      sym (fold-append (λ (now : Plan B) e. offered planned e now) plan (range_with_len 0 a) (range_with_len a n))
-      ∙ ap (λ es. fold (λ (now : Plan B) e. offered planned e now) plan es) (ap (λ k. range_with_len 0 a ++ range_with_len k n) at ∙ cut 0 a n ∙ ap (range_with_len 0) total)
+      sym (fold-append (λ (now : Plan B) e. after_offer planned e now) plan (range_with_len 0 a) (range_with_len a n))
+      ∙ ap (λ es. fold (λ (now : Plan B) e. after_offer planned e now) plan es) (ap (λ k. range_with_len 0 a ++ range_with_len k n) at ∙ cut 0 a n ∙ ap (range_with_len 0) total)
 
   -- events that can't be delivered are passed over
   pub events-skip : {T : Type 0} (s : Stream) (old new : Played P) (stock left : Shelves) (a b : ℕ) (x : T) → a ≤ b
@@ -256,9 +256,9 @@ module _ {B P : Type 0} (next : Next B) (bodies : P → List B) (procs : P → L
       let now = plan_now next bodies new left in
       let n = b - a in
       let reach : b ≡ a + n = omega (arith, up) in
-      let still : fold (λ (now : Plan B) e. offered planned e now) now (range_with_len a n) ≡ now = serves-none planned now a n (subst (λ e. HoldsNowhere (can_take (session_of next bodies new).live.pod left) a e) reach none) in
+      let still : fold (λ (now : Plan B) e. after_offer planned e now) now (range_with_len a n) ≡ now = serves-none planned now a n (subst (λ e. HoldsNowhere (can_take (session_of next bodies new).live.pod left) a e) reach none) in
       does-by s (λ planned plan. first_events a planned plan) (λ planned plan. first_events b planned plan) old new stock left (Ok x)
-      (sym p.comes ∙ sym still ∙ ap (λ q. fold (λ (now : Plan B) e. offered planned e now) q (range_with_len a n)) p.comes ∙ joined planned plan a n b (sym reach)) p
+      (sym p.comes ∙ sym still ∙ ap (λ q. fold (λ (now : Plan B) e. after_offer planned e now) q (range_with_len a n)) p.comes ∙ joined planned plan a n b (sym reach)) p
 
   pub events-end : {T : Type 0} (s : Stream) (old new : Played P) (stock left : Shelves) (e : ℕ) (x : T) → e ≡ 32
       → Came s (λ planned plan. first_events e planned plan) old new stock left (Ok x) → Came s (λ planned plan. boundary planned plan) old new stock left (Ok x)
@@ -275,7 +275,7 @@ module _ {B P : Type 0} (next : Next B) (bodies : P → List B) (procs : P → L
       subst (λ whole. IsFirstPart (first_events e planned plan) whole) (joined planned plan e n 32 total) (serves-grow planned (range_with_len e n) (first_events e planned plan))
 
   pub events-part : {T U : Type 0} (a b c : Option (List ℕ)) (i j k : ℕ) (old mid new : Played P) (stock some left : Shelves) (e : ℕ) (x : T) (r : Result U RunErr) (error : RunErr) → IsErrAnd r (λ given. given ≡ error) → e < 32
-      → Came (stream a b i j) (λ planned plan. first_events e planned plan) old mid stock some (Ok x) → Came {T = Unit {0}} (stream b c j k) (λ planned plan. offered planned e plan) mid new some left (Err error)
+      → Came (stream a b i j) (λ planned plan. first_events e planned plan) old mid stock some (Ok x) → Came {T = Unit {0}} (stream b c j k) (λ planned plan. after_offer planned e plan) mid new some left (Err error)
       → Came (stream a c i k) (λ planned plan. boundary planned plan) old new stock left r
   events-part a b c i j k old mid new stock some left e x r error is high p q =
       does-err _ (stream a c i k) (λ planned plan. boundary planned plan) old new stock left r error is
@@ -295,7 +295,7 @@ module _ {B P : Type 0} (next : Next B) (bodies : P → List B) (procs : P → L
     pub more : IsFirstPart (plan_now next bodies old stock) (by (planned_of next bodies old) (plan_now next bodies old stock))
 
   does-step : {T : Type 0} (s : Stream) (by : Planned B → Plan B → Plan B) (old counted new : Played P) (stock left : Shelves) (r : Result T RunErr)
-      → IsStep by old counted stock left → new ≡ stepped old counted r
+      → IsStep by old counted stock left → new ≡ after_step old counted r
       → Tells s (trace_of next bodies procs old) (trace_of next bodies procs old) (trace_of next bodies procs new) r
       → IsDefined (setting_of next bodies new) new.takes new.calls → new.calls ≤ new.turns
       → Came s by old new stock left r
@@ -326,7 +326,7 @@ module _ {B P : Type 0} (next : Next B) (bodies : P → List B) (procs : P → L
   take-last run e line = play-take (setting_of next bodies run) (took_now run e line) run.takes run.calls refl
 
   pub does-call : {T : Type 0} (s : Stream) (old new : Played P) (stock : Shelves) (r : Result T RunErr)
-      → old.failed ≡ false → IsDefined (setting_of next bodies old) old.takes old.calls → new ≡ stepped old (with_call old) r
+      → old.failed ≡ false → IsDefined (setting_of next bodies old) old.takes old.calls → new ≡ after_step old (with_call old) r
       → Tells s (trace_of next bodies procs old) (trace_of next bodies procs old) (trace_of next bodies procs new) r
       → IsDefined (setting_of next bodies new) new.takes new.calls → new.calls ≤ new.turns
       → Came s (λ planned plan. one_call planned plan) old new stock stock r
@@ -341,12 +341,12 @@ module _ {B P : Type 0} (next : Next B) (bodies : P → List B) (procs : P → L
   -- ---- a take
 
   pub does-take : {T : Type 0} (s : Stream) (e : ℕ) (line : Line) (old new : Played P) (stock left : Shelves) (r : Result T RunErr)
-      → old.failed ≡ false → is_takeable (session_of next bodies old).live.pod e ≡ true → first_left stock e ≡ Some line → left ≡ taken_from stock e
-      → new ≡ stepped old (with_took old e line) r
+      → old.failed ≡ false → is_takeable (session_of next bodies old).live.pod e ≡ true → first_left stock e ≡ Some line → left ≡ after_take_from stock e
+      → new ≡ after_step old (with_took old e line) r
       → Tells s (trace_of next bodies procs old) (trace_of next bodies procs old) (trace_of next bodies procs new) r
       → IsDefined (setting_of next bodies new) new.takes new.calls → new.calls ≤ new.turns
-      → Came s (λ planned plan. offered planned e plan) old new stock left r
-  does-take s e line old new stock left r sound may first rest is told made room = does-step s (λ planned plan. offered planned e plan) old (with_took old e line) new stock left r (record {
+      → Came s (λ planned plan. after_offer planned e plan) old new stock left r
+  does-take s e line old new stock left r sound may first rest is told made room = does-step s (λ planned plan. after_offer planned e plan) old (with_took old e line) new stock left r (record {
     same = record { program = refl; params = refl; names = refl; turns = refl };
     sound = sound;
     comes = (λ t. record { session = take-last old e line t; calls = old.calls; left = rest t; takes = old.takes ++ took_now old e line ∷ [] })
@@ -357,13 +357,13 @@ module _ {B P : Type 0} (next : Next B) (bodies : P → List B) (procs : P → L
 
   -- with no line to be taken, nothing is done
   pub does-none : {T : Type 0} (w : Option (List ℕ)) (f e : ℕ) (run : Played P) (stock left : Shelves) (x : T)
-      → run.failed ≡ false → first_left stock e ≡ None → left ≡ taken_from stock e
+      → run.failed ≡ false → first_left stock e ≡ None → left ≡ after_take_from stock e
       → IsDefined (setting_of next bodies run) run.takes run.calls → run.calls ≤ run.turns
-      → Came (stream w w f f) (λ planned plan. offered planned e plan) run run stock left (Ok x)
+      → Came (stream w w f f) (λ planned plan. after_offer planned e plan) run run stock left (Ok x)
   does-none w f e run stock left x sound first rest made room =
       let still : left ≡ stock = rest ∙ taken_from-none stock e first in
-      subst (λ l. Came (stream w w f f) (λ planned plan. offered planned e plan) run run stock l (Ok x)) (sym still)
-      (does-by (stream w w f f) (λ planned plan. plan) (λ planned plan. offered planned e plan) run run stock stock (Ok x)
+      subst (λ l. Came (stream w w f f) (λ planned plan. after_offer planned e plan) run run stock l (Ok x)) (sym still)
+      (does-by (stream w w f f) (λ planned plan. plan) (λ planned plan. after_offer planned e plan) run run stock stock (Ok x)
       (sym (offered-unable (planned_of next bodies run) e (plan_now next bodies run stock) first))
       (does-nothing w f run stock x sound made room))
 
@@ -436,7 +436,7 @@ module _ {B P : Type 0} (next : Next B) (bodies : P → List B) (procs : P → L
     pub same : GoesOn old now
     pub sound : now.failed ≡ false
     pub told : Wrote s (trace_of next bodies procs old) (trace_of next bodies procs now)
-    pub ends : finished (planned_of next bodies old) (plan_now next bodies now left) ≡ finished (planned_of next bodies old) (plan_now next bodies old stock)
+    pub ends : after_finish (planned_of next bodies old) (plan_now next bodies now left) ≡ after_finish (planned_of next bodies old) (plan_now next bodies old stock)
 
   going-round : (old now new : Played P) (some left : Shelves) → GoesOn old now → plan_now next bodies new left ≡ round (planned_of next bodies now) (plan_now next bodies now some)
       → plan_now next bodies new left ≡ round (planned_of next bodies old) (plan_now next bodies now some)
@@ -449,7 +449,7 @@ module _ {B P : Type 0} (next : Next B) (bodies : P → List B) (procs : P → L
     same = goes-then old now new g.same p.ran.same;
     sound = p.ran.sound;
     told = tells-then {T = Unit {0}} a b c i j k (trace_of next bodies procs old) (trace_of next bodies procs now) (trace_of next bodies procs new) (trace_of next bodies procs new) (Ok tt) g.told p.ran.told;
-    ends = ap (finished (planned_of next bodies old)) (going-round old now new some left g.same p.comes)
+    ends = ap (after_finish (planned_of next bodies old)) (going-round old now new some left g.same p.comes)
         ∙ finished-round (planned_of next bodies old) (plan_now next bodies now some)
         ∙ g.ends;
   }
@@ -460,7 +460,7 @@ module _ {B P : Type 0} (next : Next B) (bodies : P → List B) (procs : P → L
   going-falls s now new some left x p is =
       let planned = planned_of next bodies now in
       let plan = plan_now next bodies now some in
-      let e : to_do planned (plan_now next bodies new left) ≡ to_do planned (advanced planned plan) = ap (to_do planned) (p.comes ∙ ap (λ (o : Option Halt). elim o as (λ _. Plan B) [ None ↦ advanced planned plan | Some halt ↦ plan ]) is) in
+      let e : to_do planned (plan_now next bodies new left) ≡ to_do planned (after_advance planned plan) = ap (to_do planned) (p.comes ∙ ap (λ (o : Option Halt). elim o as (λ _. Plan B) [ None ↦ after_advance planned plan | Some halt ↦ plan ]) is) in
       let f = falls planned plan is in
       omega (arith, e, f, p.ran.same.turns)
 
@@ -469,11 +469,11 @@ module _ {B P : Type 0} (next : Next B) (bodies : P → List B) (procs : P → L
       → Came s (λ planned plan. round planned plan) now new some left (Ok x) → plan_over (planned_of next bodies now) (plan_now next bodies now some) ≡ Some halt
       → plan_now next bodies new left ≡ plan_now next bodies now some
   still-over s old now new some left halt x same p is = p.comes
-      ∙ ap (λ (o : Option Halt). elim o as (λ _. Plan B) [ None ↦ advanced (planned_of next bodies now) (plan_now next bodies now some) | Some halt ↦ plan_now next bodies now some ]) is
+      ∙ ap (λ (o : Option Halt). elim o as (λ _. Plan B) [ None ↦ after_advance (planned_of next bodies now) (plan_now next bodies now some) | Some halt ↦ plan_now next bodies now some ]) is
 
   pub going-finishes : {T : Type 0} (s u : Stream) (old now new : Played P) (stock some left : Shelves) (halt : Halt) (x : T)
       → Going s old now stock some → Came u (λ planned plan. round planned plan) now new some left (Ok x) → plan_over (planned_of next bodies now) (plan_now next bodies now some) ≡ Some halt
-      → plan_now next bodies new left ≡ finished (planned_of next bodies old) (plan_now next bodies old stock)
+      → plan_now next bodies new left ≡ after_finish (planned_of next bodies old) (plan_now next bodies old stock)
   going-finishes s u old now new stock some left halt x g p is =
       let over : plan_over (planned_of next bodies old) (plan_now next bodies now some) ≡ Some halt
       = ap (λ planned. plan_over planned (plan_now next bodies now some)) (sym (planned-same old now g.same)) ∙ is in
@@ -483,21 +483,21 @@ module _ {B P : Type 0} (next : Next B) (bodies : P → List B) (procs : P → L
 
   pub going-part : {T : Type 0} (s u : Stream) (old now new : Played P) (stock some left : Shelves) (e : RunErr)
       → Going s old now stock some → Came {T = T} u (λ planned plan. round planned plan) now new some left (Err e)
-      → IsFirstPart (plan_now next bodies new left) (finished (planned_of next bodies old) (plan_now next bodies old stock))
+      → IsFirstPart (plan_now next bodies new left) (after_finish (planned_of next bodies old) (plan_now next bodies old stock))
   going-part s u old now new stock some left e g p =
       let planned = planned_of next bodies old in
       let plan = plan_now next bodies now some in
       subst (λ whole. IsFirstPart (plan_now next bodies new left) whole) (finished-round planned plan ∙ g.ends)
-      (first-then (plan_now next bodies new left) (round planned plan) (finished planned (round planned plan))
+      (first-then (plan_now next bodies new left) (round planned plan) (after_finish planned (round planned plan))
       (subst (λ given. IsFirstPart (plan_now next bodies new left) (round given plan)) (planned-same old now g.same) p.part)
       (finished-grows planned (round planned plan)))
 
   -- a run to the end, whose last round failed
   pub going-fails : (T U : Type 0) (a b c : Option (List ℕ)) (i j k : ℕ) (old now new : Played P) (stock some left : Shelves) (e : RunErr) (r : Result U RunErr) → IsErrAnd r (λ given. given ≡ e)
       → Going (stream a b i j) old now stock some → Came {T = T} (stream b c j k) (λ planned plan. round planned plan) now new some left (Err e)
-      → Came (stream a c i k) (λ planned plan. finished planned plan) old new stock left r
+      → Came (stream a c i k) (λ planned plan. after_finish planned plan) old new stock left r
   going-fails T U a b c i j k old now new stock some left e r is g p =
-      does-err U (stream a c i k) (λ planned plan. finished planned plan) old new stock left r e is (record {
+      does-err U (stream a c i k) (λ planned plan. after_finish planned plan) old new stock left r e is (record {
         ran = ran-other T U (stream a c i k) old new e (ran-behind a b c i j k old now new (Err e) g.same g.told p.ran);
         comes = tt;
         part = going-part (stream a b i j) (stream b c j k) old now new stock some left e g p;
@@ -507,7 +507,7 @@ module _ {B P : Type 0} (next : Next B) (bodies : P → List B) (procs : P → L
   pub going-ends : {T U : Type 0} (a b c : Option (List ℕ)) (i j k : ℕ) (old now new : Played P) (stock some left : Shelves) (halt : Halt) (x : T) (y : U)
       → Going (stream a b i j) old now stock some → Came (stream b c j k) (λ planned plan. round planned plan) now new some left (Ok x)
       → plan_over (planned_of next bodies now) (plan_now next bodies now some) ≡ Some halt
-      → Came (stream a c i k) (λ planned plan. finished planned plan) old new stock left (Ok y)
+      → Came (stream a c i k) (λ planned plan. after_finish planned plan) old new stock left (Ok y)
   going-ends a b c i j k old now new stock some left halt x y g p is = record {
     ran = ran-answer (stream a c i k) old new x y (ran-behind a b c i j k old now new (Ok x) g.same g.told p.ran);
     comes = going-finishes (stream a b i j) (stream b c j k) old now new stock some left halt x g p is;
@@ -520,6 +520,6 @@ module _ {B P : Type 0} (next : Next B) (bodies : P → List B) (procs : P → L
       (λ t. record { session = play (setting_of next bodies run) (h.1 t) (h.0 t); calls = h.0 t; left = stock; takes = h.1 t })
       ∙ ap (λ session. record { session = session; calls = 0; left = stock; takes = [] }) (play-zero (setting_of next bodies run))
 
-  pub new-whole : (run : Played P) (stock : Shelves) → IsNew run → finished (planned_of next bodies run) (plan_now next bodies run stock) ≡ plan_whole (planned_of next bodies run) stock
+  pub new-whole : (run : Played P) (stock : Shelves) → IsNew run → after_finish (planned_of next bodies run) (plan_now next bodies run stock) ≡ plan_whole (planned_of next bodies run) stock
   unfolding plan_whole
-  new-whole run stock h = ap (finished (planned_of next bodies run)) (new-opens run stock h)
+  new-whole run stock h = ap (after_finish (planned_of next bodies run)) (new-opens run stock h)

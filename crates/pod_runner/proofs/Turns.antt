@@ -11,13 +11,13 @@ use Rattle.pod_runner.specs.Due.{IsDefined, is_call_due}
 use Rattle.pod_runner.specs.RunParts.{Moves}
 use Rattle.pod_runner.specs.Phase.{phase_by, phase_of}
 use Rattle.pod_runner.specs.Play.{play}
-use Rattle.pod_runner.specs.Session.{Live, Made, Move, Session, Setting, extended, move, taken}
+use Rattle.pod_runner.specs.Session.{Live, Made, Move, Session, Setting, move, take_move, with_move}
 use Rattle.pod_runner.specs.Keeps.{Keeps}
 use Rattle.pod_runner.specs.Run.{Broke, Tells}
 use Rattle.pod_runner.specs.Trace.{lines}
 use Rattle.whole_streams.specs.Writing.{AppendsPart}
 use Rattle.pod_events.specs.Events.{is_takeable}
-use Rattle.lwp_types.specs.Streams.{Rose, appended}
+use Rattle.lwp_types.specs.Streams.{Rose, after_append}
 use Rattle.trace_text.specs.Lines.{step_lines}
 use Rattle.pod_runner.proofs.Appends.{cut_on, writes_on}
 use Rattle.pod_runner.specs.declared.phase.Phase.TheVariants as phase
@@ -36,7 +36,7 @@ pub last_effects-step : (steps : List Made) (take : Option Took) (effects : List
 last_effects-step steps take effects = fold-append (λ (known : List Effect) (step : Made). step.effects) [] steps (record { take = take; effects = effects } ∷ [])
 
 stepped-by : {B : Type 0} (procs : List (List ℕ)) (old new : Session B) (take : Option Took) (m : Move B) (live : Live B) (told : List Effect) (out : List ℕ)
-    → new ≡ extended old take m → Moves procs (option_map (λ (took : Took). took.line) take) m live told out → Stepped procs old new live told out
+    → new ≡ with_move old take m → Moves procs (option_map (λ (took : Took). took.line) take) m live told out → Stepped procs old new live told out
 stepped-by procs old new take m live told out is moves = record {
   now = moves.live ∙ sym (ap (λ (s : Session _). s.live) is);
   last = moves.effects ∙ sym (ap (λ (s : Session _). last_effects s.steps) is ∙ last_effects-step old.steps take m.effects);
@@ -50,8 +50,8 @@ module _ {B : Type 0} (setting : Setting B) (procs : List (List ℕ)) (takes : L
   stepped-call moves = stepped-by procs (play setting takes n) (play setting takes (n + 1)) None (move setting.next setting.bodies (play setting takes n).live) new told out
       (play-call setting takes n (LastBy-of setting takes n made)) (rw (← was) moves)
 
-  pub stepped-take : (took : Took) → took.turn ≡ n → Moves procs (Some took.line) (taken setting.bodies took old) new told out → Stepped procs (play setting takes n) (play setting (takes ++ took ∷ []) n) new told out
-  stepped-take took h moves = stepped-by procs (play setting takes n) (play setting (takes ++ took ∷ []) n) (Some took) (taken setting.bodies took (play setting takes n).live) new told out
+  pub stepped-take : (took : Took) → took.turn ≡ n → Moves procs (Some took.line) (take_move setting.bodies took old) new told out → Stepped procs (play setting takes n) (play setting (takes ++ took ∷ []) n) new told out
+  stepped-take took h moves = stepped-by procs (play setting takes n) (play setting (takes ++ took ∷ []) n) (Some took) (take_move setting.bodies took (play setting takes n).live) new told out
       (play-take setting took takes n h) (rw (← was) moves)
 
 -- ---- what a call and a take leave
@@ -62,10 +62,10 @@ module _ {B : Type 0} (setting : Setting B) (names procs : List (List ℕ)) (tak
   called-step moves = stepped-call setting names takes n old new told bytes made was
       (record { live = moves.live; effects = moves.effects; lines = same ∙ moves.lines ∙ ap (λ names. step_lines names None (move setting.next setting.bodies old).effects) named })
 
-  pub taken-step : (took : Took) → took.turn ≡ n → Moves procs (Some took.line) (taken setting.bodies took old) new told out
+  pub taken-step : (took : Took) → took.turn ≡ n → Moves procs (Some took.line) (take_move setting.bodies took old) new told out
       → Stepped names (play setting takes n) (play setting (takes ++ took ∷ []) n) new told bytes
   taken-step took h moves = stepped-take setting names takes n old new told bytes made was took h
-      (record { live = moves.live; effects = moves.effects; lines = same ∙ moves.lines ∙ ap (λ names. step_lines names (Some took.line) (taken setting.bodies took old).effects) named })
+      (record { live = moves.live; effects = moves.effects; lines = same ∙ moves.lines ∙ ap (λ names. step_lines names (Some took.line) (take_move setting.bodies took old).effects) named })
 
 -- in phase Turn a call is due
 due-turn : (s : State) (turns calls : ℕ) → phase_of s turns calls ≡ phase.Turn → (not s.ended && is_some (choice s)) ≡ true
@@ -123,7 +123,7 @@ keeps-take setting names procs takes n turns live told failed out took named few
 
 -- ---- what is told
 
-pub told-ok : {B : Type 0} (procs : List (List ℕ)) (a b : Session B) (live : Live B) (told : List Effect) (out : List ℕ) (w v : Option (List ℕ)) (f g : ℕ) (x : Unit {0}) → Stepped procs a b live told out → v ≡ appended w out → g ≡ f
+pub told-ok : {B : Type 0} (procs : List (List ℕ)) (a b : Session B) (live : Live B) (told : List Effect) (out : List ℕ) (w v : Option (List ℕ)) (f g : ℕ) (x : Unit {0}) → Stepped procs a b live told out → v ≡ after_append w out → g ≡ f
     → Tells (record { old = w; new = v; faults_old = f; faults_new = g }) (lines procs a.steps) (lines procs a.steps) (lines procs b.steps) (Ok x)
 told-ok procs a b live told out w v f g x step wrote quiet = (writes_on w v (lines procs a.steps) out (lines procs b.steps) step.lines wrote, quiet)
 

@@ -1,6 +1,6 @@
 -- Which sessions there are: at each call somebody's turn had come, at each take the event could be delivered.
 use Rattle.pod_events.specs.Events.{has_turn, is_takeable}
-use Rattle.pod_runner.specs.Play.{calls_made, play, played, with_take}
+use Rattle.pod_runner.specs.Play.{calls_made, play, session_of_takes, with_take}
 use Rattle.pod_runner.specs.Session.{Session, Setting}
 use Rattle.pod_runner.specs.declared.session.Took.{Took}
 use Rattle.std.specs.List.{filter}
@@ -29,7 +29,7 @@ TakeDue setting took before Before (suc n) = MatchBool (took.turn == suc n)
 -- each of these takes, the newest first, and of so many calls could be made when it was
 abbrev pub AllDue : {B : Type 0} → Setting B → List Took → ℕ → Type 0
 AllDue setting [] = CallsDue setting
-AllDue setting (took ∷ takes) = TakeDue setting took (played setting takes) (AllDue setting takes)
+AllDue setting (took ∷ takes) = TakeDue setting took (session_of_takes setting takes) (AllDue setting takes)
 
 -- there is a session with these takes, the oldest first, and so many calls
 unfoldable pub IsDefined : {B : Type 0} → Setting B → List Took → ℕ → Type 0

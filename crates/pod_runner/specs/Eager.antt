@@ -1,5 +1,5 @@
 -- Sessions in which all lines are there from the start, and each is taken as soon as it can be.
-use Rattle.event_gate.specs.Shelves.{Shelves, first_left, left_in_all, taken_from}
+use Rattle.event_gate.specs.Shelves.{Shelves, after_take_from, first_left, left_in_all}
 use Rattle.lwp_types.specs.Choice.{choice}
 use Rattle.pod_events.specs.Events.{EventState, is_takeable}
 use Rattle.lwp_types.specs.declared.call.Line.{Line}
@@ -33,26 +33,26 @@ abbrev pub took_of : {B : Type 0} → ℕ → Line → Plan B → Took
 took_of e line plan = record { turn = plan.calls; event = e; line = line }
 
 -- the first line left of an event is this one, and is taken
-abbrev pub taken_line : {B : Type 0} → Planned B → ℕ → Line → Plan B → Plan B
-taken_line planned e line plan = let took = took_of e line plan in record {
+abbrev pub after_take : {B : Type 0} → Planned B → ℕ → Line → Plan B → Plan B
+after_take planned e line plan = let took = took_of e line plan in record {
   session = take_step planned.setting took plan.session;
   calls = plan.calls;
-  left = taken_from plan.left e;
+  left = after_take_from plan.left e;
   takes = plan.takes ++ took ∷ [];
 }
 
 -- the first line left of an event is taken, if there is one
-abbrev pub offered_by : {B : Type 0} → Planned B → ℕ → Plan B → Option Line → Plan B
-offered_by planned e plan None = plan
-offered_by planned e plan (Some line) = taken_line planned e line plan
+abbrev pub after_offer_by : {B : Type 0} → Planned B → ℕ → Plan B → Option Line → Plan B
+after_offer_by planned e plan None = plan
+after_offer_by planned e plan (Some line) = after_take planned e line plan
 
 -- the same, if it can be delivered
-abbrev pub offered : {B : Type 0} → Planned B → ℕ → Plan B → Plan B
-offered planned e plan = elim (is_takeable (pod_of plan) e) [ true ↦ offered_by planned e plan (first_left plan.left e) | false ↦ plan ]
+abbrev pub after_offer : {B : Type 0} → Planned B → ℕ → Plan B → Plan B
+after_offer planned e plan = elim (is_takeable (pod_of plan) e) [ true ↦ after_offer_by planned e plan (first_left plan.left e) | false ↦ plan ]
 
 -- between two calls, each event in turn may have one line taken
 abbrev pub boundary : {B : Type 0} → Planned B → Plan B → Plan B
-boundary planned plan = fold (λ now e. offered planned e now) plan events
+boundary planned plan = fold (λ now e. after_offer planned e now) plan events
 
 -- a call is made
 abbrev pub one_call : {B : Type 0} → Planned B → Plan B → Plan B
@@ -67,21 +67,21 @@ abbrev pub plan_over : {B : Type 0} → Planned B → Plan B → Option Halt
 plan_over planned plan = over planned.turns (pod_of plan) plan.calls plan.left
 
 -- lines are taken, and then, if somebody may run, a call is made
-abbrev pub advanced : {B : Type 0} → Planned B → Plan B → Plan B
-advanced planned plan = elim (has_choice plan) [ true ↦ one_call planned (boundary planned plan) | false ↦ boundary planned plan ]
+abbrev pub after_advance : {B : Type 0} → Planned B → Plan B → Plan B
+after_advance planned plan = elim (has_choice plan) [ true ↦ one_call planned (boundary planned plan) | false ↦ boundary planned plan ]
 
 -- the same, unless it has ended
 abbrev pub round : {B : Type 0} → Planned B → Plan B → Plan B
-round planned plan = elim (plan_over planned plan) [ None ↦ advanced planned plan | Some halt ↦ plan ]
+round planned plan = elim (plan_over planned plan) [ None ↦ after_advance planned plan | Some halt ↦ plan ]
 
 -- on and on, until it has ended; the number bounds the rounds
 unfoldable pub to_the_end : {B : Type 0} → Planned B → ℕ → Plan B → Plan B
 to_the_end planned zero plan = plan
-to_the_end planned (suc n) plan = elim (plan_over planned plan) [ None ↦ to_the_end planned n (advanced planned plan) | Some halt ↦ plan ]
+to_the_end planned (suc n) plan = elim (plan_over planned plan) [ None ↦ to_the_end planned n (after_advance planned plan) | Some halt ↦ plan ]
 
 -- the same with as many rounds as suffice, since each makes a call or takes a line
-abbrev pub finished : {B : Type 0} → Planned B → Plan B → Plan B
-finished planned plan = to_the_end planned (planned.turns + left_in_all plan.left) plan
+abbrev pub after_finish : {B : Type 0} → Planned B → Plan B → Plan B
+after_finish planned plan = to_the_end planned (planned.turns + left_in_all plan.left) plan
 
 -- before the first step, where these lines are in place
 abbrev pub opening_plan : {B : Type 0} → Planned B → Shelves → Plan B
@@ -89,7 +89,7 @@ opening_plan planned left = record { session = opening_session planned.setting; 
 
 -- the session whole
 unfoldable pub plan_whole : {B : Type 0} → Planned B → Shelves → Plan B
-plan_whole planned left = finished planned (opening_plan planned left)
+plan_whole planned left = after_finish planned (opening_plan planned left)
 
 -- what was done so far is the first part of what is done in the end: the first steps, the first takes, and no more calls
 pub record IsFirstPart {B : Type 0} (plan whole : Plan B) : Type 0 where

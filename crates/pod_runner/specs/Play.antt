@@ -14,13 +14,13 @@ with_take setting took before zero = take_step setting took (before 0)
 with_take setting took before (suc n) = if took.turn == suc n then take_step setting took (before (suc n)) else call_step setting (with_take setting took before n)
 
 -- these takes, the newest first, and so many calls
-abbrev pub played : {B : Type 0} → Setting B → List Took → ℕ → Session B
-played setting [] = calls_made setting
-played setting (took ∷ takes) = with_take setting took (played setting takes)
+abbrev pub session_of_takes : {B : Type 0} → Setting B → List Took → ℕ → Session B
+session_of_takes setting [] = calls_made setting
+session_of_takes setting (took ∷ takes) = with_take setting took (session_of_takes setting takes)
 
 -- these takes, the oldest first, and so many calls
 unfoldable pub play : {B : Type 0} → Setting B → List Took → ℕ → Session B
-play setting takes n = played setting (reverse takes) n
+play setting takes n = session_of_takes setting (reverse takes) n
 
 -- the newest take, if there is one, came after no more calls than these
 abbrev pub LastBy : List Took → ℕ → Type 0

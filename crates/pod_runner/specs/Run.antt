@@ -2,7 +2,7 @@
 use Rattle.event_gate.specs.Shelves.{Shelves}
 use Rattle.lwp_types.specs.Names.{Names, null_names}
 use Rattle.lwp_types.specs.Poll.{Next}
-use Rattle.lwp_types.specs.Streams.{AppendsPrefix, appended}
+use Rattle.lwp_types.specs.Streams.{AppendsPrefix, after_append}
 use Rattle.lwp_types.specs.declared.call.Line.{Line}
 use Rattle.lwp_types.specs.declared.call.PodParams.{PodParams}
 use Rattle.pod_runner.specs.Eager.{Plan, Planned}
@@ -88,31 +88,31 @@ abbrev pub with_took : {P : Type 0} → Played P → ℕ → Line → Played P
 with_took run e line = record run { takes = run.takes ++ took_now run e line ∷ [] }
 
 -- behind a step that would come to this: it does; or the run has failed, and the step counts unless memory was wanting
-abbrev pub stepped : {P T : Type 0} → Played P → Played P → Result T RunErr → Played P
-stepped old next (Ok x) = next
-stepped old next (Err fails.NoMemory) = record old { failed = true }
-stepped old next (Err fails.WriteFault) = record next { failed = true }
+abbrev pub after_step : {P T : Type 0} → Played P → Played P → Result T RunErr → Played P
+after_step old next (Ok x) = next
+after_step old next (Err fails.NoMemory) = record old { failed = true }
+after_step old next (Err fails.WriteFault) = record next { failed = true }
 
 -- ---- what is told
 
 -- what is told goes from a trace to a longer one
 abbrev pub Writes : Option (List ℕ) → Option (List ℕ) → List ℕ → List ℕ → Type 0
-Writes old new before after = (base : Option (List ℕ)) → old ≡ appended base before → new ≡ appended base after
+Writes old new before after = (base : Option (List ℕ)) → old ≡ after_append base before → new ≡ after_append base after
 
 -- the same, but only as far as some prefix of the longer one
 abbrev pub WritesPart : Option (List ℕ) → Option (List ℕ) → List ℕ → List ℕ → Type 0
-WritesPart old new before after = (base : Option (List ℕ)) → old ≡ appended base before → AppendsPrefix base new after
+WritesPart old new before after = (base : Option (List ℕ)) → old ≡ after_append base before → AppendsPrefix base new after
 
 -- what is told, with the first of these bytes at its end: as many as `least` has, or more, and not all
 pub record AppendsCut (old new : Option (List ℕ)) (least bytes : List ℕ) : Type 0 where
   pub kept : ℕ
-  pub told : new ≡ appended old (take kept bytes)
+  pub told : new ≡ after_append old (take kept bytes)
   pub some : length least ≤ kept
   pub not_all : kept < length bytes
 
 -- what is told goes from a trace to a longer one that is cut off, behind all of `least`
 abbrev pub WritesCut : Option (List ℕ) → Option (List ℕ) → List ℕ → List ℕ → List ℕ → Type 0
-WritesCut old new before least after = (base : Option (List ℕ)) → old ≡ appended base before → AppendsCut base new least after
+WritesCut old new before least after = (base : Option (List ℕ)) → old ≡ after_append base before → AppendsCut base new least after
 
 -- all was written, from one trace to another, and no fault came
 abbrev pub Wrote : Stream → List ℕ → List ℕ → Type 0

@@ -66,12 +66,12 @@ without_row t [] = []
 without_row t (row ∷ rows) = if row.tid == t then rows else row ∷ without_row t rows
 
 -- a thread is polled with this answer next
-abbrev pub answered : {B : Type 0} → ℕ → Answer → List (Row B) → List (Row B)
-answered t a rows = with_row t (λ row. record row { answer = a }) rows
+abbrev pub after_answer : {B : Type 0} → ℕ → Answer → List (Row B) → List (Row B)
+after_answer t a rows = with_row t (λ row. record row { answer = a }) rows
 
 -- a thread's body stands so; what it was answered last is its answer still
-abbrev pub polled : {B : Type 0} → ℕ → B → List (Row B) → List (Row B)
-polled t body rows = with_row t (λ row. record row { body = body }) rows
+abbrev pub after_poll : {B : Type 0} → ℕ → B → List (Row B) → List (Row B)
+after_poll t body rows = with_row t (λ row. record row { body = body }) rows
 
 -- the row of a new thread, if there is such a procedure
 abbrev pub row_opened : {B : Type 0} → ℕ → Option B → List (Row B)
@@ -95,28 +95,28 @@ rows_born bodies None t = []
 rows_born bodies (Some number) None = []
 
 -- what one effect does to the rows, in a step that creates a thread of this procedure, if any
-abbrev pub settled_by : {B : Type 0} → List B → Option ℕ → Effect → List (Row B) → List (Row B)
-settled_by bodies born (effect.Answered t a) rows = answered t a rows ++ rows_born bodies born (thread_in a)
-settled_by bodies born (effect.Died t) rows = without_row t rows
-settled_by bodies born _ rows = rows
+abbrev pub after_settle_by : {B : Type 0} → List B → Option ℕ → Effect → List (Row B) → List (Row B)
+after_settle_by bodies born (effect.Answered t a) rows = after_answer t a rows ++ rows_born bodies born (thread_in a)
+after_settle_by bodies born (effect.Died t) rows = without_row t rows
+after_settle_by bodies born _ rows = rows
 
 -- what the effects of a step do to them, one after the other
-abbrev pub settled : {B : Type 0} → List B → Option ℕ → List Effect → List (Row B) → List (Row B)
-settled bodies born [] rows = rows
-settled bodies born (e ∷ es) rows = settled bodies born es (settled_by bodies born e rows)
+abbrev pub after_settle : {B : Type 0} → List B → Option ℕ → List Effect → List (Row B) → List (Row B)
+after_settle bodies born [] rows = rows
+after_settle bodies born (e ∷ es) rows = after_settle bodies born es (after_settle_by bodies born e rows)
 
 -- ---- the two kinds of step
 
 -- nothing happens
-abbrev pub unmoved : {B : Type 0} → Live B → Move B
-unmoved live = record { live = live; effects = [] }
+abbrev pub no_move : {B : Type 0} → Live B → Move B
+no_move live = record { live = live; effects = [] }
 
 -- the call that a thread's body gave is made
-unfoldable pub called : {B : Type 0} → List B → Live B → ℕ → Polled B → Move B
-called bodies live t reply = let out = event_step live.pod reply.0 in record {
+unfoldable pub call_move : {B : Type 0} → List B → Live B → ℕ → Polled B → Move B
+call_move bodies live t reply = let out = event_step live.pod reply.0 in record {
   live = record {
     pod = out.after;
-    rows = settled bodies (proc_of reply.0) out.effects (polled t reply.1 live.rows);
+    rows = after_settle bodies (proc_of reply.0) out.effects (after_poll t reply.1 live.rows);
     names = reply.2;
   };
   effects = out.effects;
@@ -124,12 +124,12 @@ called bodies live t reply = let out = event_step live.pod reply.0 in record {
 
 -- the body of a thread is polled, and its call is made
 abbrev pub move_row : {B : Type 0} → Next B → List B → Live B → ℕ → Option (Row B) → Move B
-move_row next bodies live t None = unmoved live
-move_row next bodies live t (Some row) = called bodies live t (next row.body (polled_as t live.names) row.answer)
+move_row next bodies live t None = no_move live
+move_row next bodies live t (Some row) = call_move bodies live t (next row.body (polled_as t live.names) row.answer)
 
 -- the same, of the thread that was chosen, if one was
 abbrev pub move_by : {B : Type 0} → Next B → List B → Live B → Option ℕ → Move B
-move_by next bodies live None = unmoved live
+move_by next bodies live None = no_move live
 move_by next bodies live (Some t) = move_row next bodies live t (row_of t live.rows)
 
 -- a call: the thread whose turn it is is polled, and its call is made
@@ -137,9 +137,9 @@ unfoldable pub move : {B : Type 0} → Next B → List B → Live B → Move B
 move next bodies live = move_by next bodies live (choice live.pod.state)
 
 -- a take: its text is delivered to its event
-unfoldable pub taken : {B : Type 0} → List B → Took → Live B → Move B
-taken bodies took live = let out = take_event live.pod took.event took.line.text in record {
-  live = record live { pod = out.after; rows = settled bodies None out.effects live.rows };
+unfoldable pub take_move : {B : Type 0} → List B → Took → Live B → Move B
+take_move bodies took live = let out = take_event live.pod took.event took.line.text in record {
+  live = record live { pod = out.after; rows = after_settle bodies None out.effects live.rows };
   effects = out.effects;
 }
 
@@ -153,13 +153,13 @@ opening_session setting = record {
 }
 
 -- a session, one step on
-abbrev pub extended : {B : Type 0} → Session B → Option Took → Move B → Session B
-extended s took m = record { live = m.live; steps = s.steps ++ record { take = took; effects = m.effects } ∷ [] }
+abbrev pub with_move : {B : Type 0} → Session B → Option Took → Move B → Session B
+with_move s took m = record { live = m.live; steps = s.steps ++ record { take = took; effects = m.effects } ∷ [] }
 
 -- a session, one call on
 abbrev pub call_step : {B : Type 0} → Setting B → Session B → Session B
-call_step setting s = extended s None (move setting.next setting.bodies s.live)
+call_step setting s = with_move s None (move setting.next setting.bodies s.live)
 
 -- a session, one take on
 abbrev pub take_step : {B : Type 0} → Setting B → Took → Session B → Session B
-take_step setting took s = extended s (Some took) (taken setting.bodies took s.live)
+take_step setting took s = with_move s (Some took) (take_move setting.bodies took s.live)

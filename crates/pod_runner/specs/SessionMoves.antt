@@ -7,7 +7,7 @@ use Rattle.lwp_types.specs.State.{opening}
 use Rattle.lwp_types.specs.declared.call.Effect.{Effect}
 use Rattle.pod_events.specs.Events.{EventState, quiet_events}
 use Rattle.pod_events.specs.Laws.{CanMove}
-use Rattle.pod_events.specs.Moves.{EventMove, effects_of, moved_on}
+use Rattle.pod_events.specs.Moves.{EventMove, after_moves, effects_of}
 use Rattle.std.specs.List.{flat_map}
 use Rattle.std.specs.Prelude.{List, ℕ, ◌≡◌}
 
@@ -19,7 +19,7 @@ effects_in steps = flat_map (λ made. made.effects) steps
 pub record IsMoved (start pod : EventState) (steps : List Made) : Type 0 where
   pub moves : List EventMove
   pub can : CanMove moves start
-  pub pod_is : pod ≡ moved_on moves start
+  pub pod_is : pod ≡ after_moves moves start
   pub effects_are : effects_in steps ≡ effects_of moves start
 
 abbrev pub SessionsAreMoves : Type 0 → Type 0

@@ -4,7 +4,7 @@ ghost use Rattle.std.specs.Slice.Scan.{HoldsNowhere, IsFirstPlace};
 ghost use Rattle.pod_events.specs.Events.{is_takeable};
 ghost use Rattle.pod_runner.specs.Does.{Does};
 ghost use Rattle.pod_runner.specs.Due.{IsDefined};
-ghost use Rattle.pod_runner.specs.Eager.{IsFirstPart, boundary, finished, offered, plan_over, plan_whole, round};
+ghost use Rattle.pod_runner.specs.Eager.{IsFirstPart, after_finish, after_offer, boundary, plan_over, plan_whole, round};
 ghost use Rattle.pod_runner.specs.Over.{can_take};
 ghost use Rattle.pod_runner.specs.Run.{setting_of, session_of, plan_now, planned_of, EndsAt, IsNew};
 ghost use Rattle.whole_streams.specs.Streams.{sides};
@@ -27,7 +27,7 @@ fn take_line<'s, B: Polled<'s>, P: Program<B>, G: Gate<'s>, K: Sink>(
     requires room { run.old.calls ≤ run.old.turns }
     requires wanted { IsTrue (is_takeable (session_of B.next P.bodies run.old).live.pod event) }
     ensures { Does B.next P.bodies P.proc_names (sides K.written K.faults sink.old sink.new)
-        (λ planned plan. offered planned event plan) run.old run.new (G.stock gate.old)
+        (λ planned plan. after_offer planned event plan) run.old run.new (G.stock gate.old)
         (G.stock gate.new) result }
 {
     match gate.take(event) {
@@ -151,7 +151,7 @@ pub fn run<'s, B: Polled<'s>, P: Program<B>, G: Gate<'s>, K: Sink>(
 ) -> Result<Halt, RunErr>
     requires sound { run.old.failed ≡ false }
     ensures does { Does B.next P.bodies P.proc_names (sides K.written K.faults sink.old sink.new)
-        (λ planned plan. finished planned plan) run.old run.new (G.stock gate.old)
+        (λ planned plan. after_finish planned plan) run.old run.new (G.stock gate.old)
         (G.stock gate.new) result }
     ensures ends { IfOk result (EndsAt B.next P.bodies run.new (G.stock gate.new)) }
     ensures eager { IsNew run.old →

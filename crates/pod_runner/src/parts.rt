@@ -10,7 +10,7 @@ ghost use Rattle.trace_text.specs.Lines.{step_lines};
 ghost use Rattle.pod_runner.specs.Calls.{caller_of, made_in};
 ghost use Rattle.pod_runner.specs.Phase.{phase_of};
 ghost use Rattle.pod_runner.specs.Polls.{place_of};
-ghost use Rattle.pod_runner.specs.Session.{move, row_opened, taken};
+ghost use Rattle.pod_runner.specs.Session.{move, row_opened, take_move};
 
 use crate::calls::made_among;
 use crate::row_list::RowList;
@@ -193,7 +193,7 @@ impl<'s, B: Polled<'s>> RunParts<'s, B> {
         requires { IsTrue (is_takeable self.old.pod took.now.event) }
         ensures { OnOk result
             (Moves names.now (Some took.now.line)
-            (taken (P.bodies program.now) took.now (live_of self.old)) (live_of self.new)
+            (take_move (P.bodies program.now) took.now (live_of self.old)) (live_of self.new)
             (told_of self.new) out.new) }
     {
         self.caller = None;

@@ -4,7 +4,7 @@ ghost use Rattle.std.specs.Slice.Scan.{HoldsNowhere, IsFirstPlace};
 ghost use Rattle.pod_events.specs.Events.{is_takeable};
 ghost use Rattle.pod_runner.specs.Calls.{last_made};
 ghost use Rattle.pod_runner.specs.Due.{IsDefined};
-ghost use Rattle.pod_runner.specs.Run.{setting_of, session_of, phase_now, trace_of, names_like, stepped, with_call, with_took, Tells};
+ghost use Rattle.pod_runner.specs.Run.{setting_of, session_of, phase_now, trace_of, names_like, after_step, with_call, with_took, Tells};
 ghost use Rattle.pod_runner.specs.declared.phase.Phase.TheVariants as phase;
 ghost use Rattle.whole_streams.specs.Streams.{sides};
 
@@ -221,7 +221,7 @@ impl<'s, B: Polled<'s>, P: Program<B>> Run<'s, B, P> {
     pub fn offer<K: Sink>(&mut self, event: u8, line: Line<'s>, sink: &mut K) -> Result<(), RunErr>
         requires sound { self.old.failed ≡ false }
         requires wants { IsTrue (is_takeable (session_of B.next P.bodies self.old).live.pod event) }
-        ensures after { self.new ≡ stepped self.old (with_took self.old event line.entry) result }
+        ensures after { self.new ≡ after_step self.old (with_took self.old event line.entry) result }
         ensures told { Tells (sides K.written K.faults sink.old sink.new)
             (trace_of B.next P.bodies P.proc_names self.old)
             (trace_of B.next P.bodies P.proc_names self.old)
@@ -252,7 +252,7 @@ impl<'s, B: Polled<'s>, P: Program<B>> Run<'s, B, P> {
     pub fn turn<K: Sink>(&mut self, sink: &mut K) -> Result<(), RunErr>
         requires sound { self.old.failed ≡ false }
         requires due { phase_now B.next P.bodies self.old ≡ phase.Turn }
-        ensures after { self.new ≡ stepped self.old (with_call self.old) result }
+        ensures after { self.new ≡ after_step self.old (with_call self.old) result }
         ensures told { Tells (sides K.written K.faults sink.old sink.new)
             (trace_of B.next P.bodies P.proc_names self.old)
             (trace_of B.next P.bodies P.proc_names self.old)

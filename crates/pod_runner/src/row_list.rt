@@ -1,6 +1,6 @@
 // The bodies of the live threads, each found by its thread's number.
 ghost use Rattle.std.specs.Prelude.{◌≡◌, ◌++◌, ◌<◌, [], length, nat_lt, slice_get, Some, OnOk, IfOk, IsTrue};
-ghost use Rattle.pod_runner.specs.Session.{answered, without_row, row_opened};
+ghost use Rattle.pod_runner.specs.Session.{after_answer, without_row, row_opened};
 ghost use Rattle.pod_runner.specs.Polls.{AreRising, ComesLast, Polls, place_of};
 ghost use Rattle.lwp_types.specs.declared.call.Answer.TheVariants as answer;
 ghost use Rattle.pod_runner.specs.declared.session.Row.{Row};
@@ -197,7 +197,7 @@ fn put_answer<'s, B>(
 ) -> Result<(), NoMemory>
     requires at { i ≡ place_of tid rows.old.items }
     requires within { i < length rows.old.items }
-    ensures after { OnOk result (rows.new.items ≡ answered tid answer.now rows.old.items) }
+    ensures after { OnOk result (rows.new.items ≡ after_answer tid answer.now rows.old.items) }
     ensures rising { AreRising rows.old.items → AreRising rows.new.items }
 {
     let alloc = *rows.allocator();
@@ -302,7 +302,7 @@ impl<'s, B> RowList<'s, B> {
     /// Sets what a thread is polled with next.
     #[inline(always)]
     pub fn answer(&mut self, tid: Tid, answer: &Answer<'s>) -> Result<(), NoMemory>
-        ensures { OnOk result (self.new ≡ answered tid answer.now self.old) }
+        ensures { OnOk result (self.new ≡ after_answer tid answer.now self.old) }
     {
         let i = self.place(tid);
         if i < self.rows.len() {

@@ -1,6 +1,6 @@
 // What a step does to the rows of the live threads.
 ghost use Rattle.std.specs.Prelude.{◌≡◌, ◌++◌, OnOk};
-ghost use Rattle.pod_runner.specs.Session.{proc_of, thread_in, rows_born, settled_by, settled};
+ghost use Rattle.pod_runner.specs.Session.{proc_of, thread_in, rows_born, after_settle_by, after_settle};
 
 use crate::row_list::RowList;
 use lwp_types::{Answer, Call, Effect, Effects, NoMemory, Polled, Program, Tid};
@@ -48,7 +48,8 @@ fn settle_one<'s, B: Polled<'s>, P: Program<B>>(
     born: Option<u32>,
     effect: &Effect<'s>,
 ) -> Result<(), NoMemory>
-    ensures { OnOk result (rows.new ≡ settled_by (P.bodies program.now) born effect.now rows.old) }
+    ensures { OnOk result
+        (rows.new ≡ after_settle_by (P.bodies program.now) born effect.now rows.old) }
 {
     match effect {
         Effect::Answered { tid, answer } => {
@@ -71,7 +72,7 @@ pub fn settle<'s, B: Polled<'s>, P: Program<B>>(
     born: Option<u32>,
     effects: &Effects<'s>,
 ) -> Result<(), NoMemory>
-    ensures { OnOk result (rows.new ≡ settled (P.bodies program.now) born effects.now rows.old) }
+    ensures { OnOk result (rows.new ≡ after_settle (P.bodies program.now) born effects.now rows.old) }
 {
     for i in 0..effects.len() {
         settle_one(rows, program, born, effects.get(i))?;

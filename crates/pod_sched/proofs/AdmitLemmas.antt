@@ -1,12 +1,12 @@
 -- One thread more is known.
-use Rattle.buckets.specs.Order.{Order, prio_of, put_last}
-use Rattle.chains.specs.Lists.{Lists, items, moved_to_back}
+use Rattle.buckets.specs.Order.{Order, after_put_last, prio_of}
+use Rattle.chains.specs.Lists.{Lists, after_move_to_back, items}
 use Rattle.lwp_types.specs.State.{without}
 use Rattle.pod_sched.proofs.HeldLemmas.{thread_at}
 use Rattle.pod_sched.proofs.LeaveLemmas.{AreSlots-admitted, items_moved_other, items_moved_same, known_same, lists_moved, ready_joined, ready_kept, rows_admitted, slot_free, tids_joined, tids_stay}
 use Rattle.pod_sched.proofs.Ordered.{IsOrdered-admitted}
 use Rattle.pod_sched.specs.Held.{IsHeld, schedule_of, tid_at}
-use Rattle.pod_sched.specs.Schedule.{IsOrdered, admitted, is_of, knows, newcomer}
+use Rattle.pod_sched.specs.Schedule.{IsOrdered, after_admit, is_of, knows, newcomer}
 use Rattle.pod_sched.specs.Slots.{AreSlots, Changes, IsFree, Puts, row_at}
 use Rattle.pod_sched.specs.declared.rows.Known.{Known}
 use Rattle.std.proofs.Common.{Bool, List, None, Option, Some, [], ap, arith, cond, false, get_or-set_other, get_or-set_same, is_some, length, length-set, map, option_map, refl, slice_get, subst, sym, true, ℕ, ◌++◌, ◌+◌, ◌-◌, ◌<◌, ◌∙◌, ◌∷◌, ◌≡◌, ◌≢◌, ◌≤◌}
@@ -56,12 +56,12 @@ module _ (slots : Lists) (order : Order) (rows : List Known) (slot_of : ℕ → 
         low : prio < 256
         low = omega (arith, prio_most, held.most)
 
-        known_now : items (moved_to_back slots 0 slot) 0 ≡ items slots 0 ++ slot ∷ []
+        known_now : items (after_move_to_back slots 0 slot) 0 ≡ items slots 0 ++ slot ∷ []
         known_now =
             items_moved_same slots 0 slot (omega (arith, held.lists))
             ∙ ap (λ xs. xs ++ slot ∷ []) (known_same (row_at rows) (row_at rows') (items slots 0) (items slots 1) slot_of slot_of' places held.are_slots t slot unknown first (newcomer t prio suspended) changes refl low puts)
 
-        free_now : items (moved_to_back slots 0 slot) 1 ≡ without slot (items slots 1)
+        free_now : items (after_move_to_back slots 0 slot) 1 ≡ without slot (items slots 1)
         free_now = items_moved_other slots 0 slot (omega (arith, held.lists)) 1 (omega (arith, held.lists)) (λ same. absurd (omega arith))
 
         slots_now : AreSlots (row_at rows') (items slots 0 ++ slot ∷ []) (without slot (items slots 1)) slot_of' places
@@ -73,22 +73,22 @@ module _ (slots : Lists) (order : Order) (rows : List Known) (slot_of : ℕ → 
         tids_out : map (tid_at rows') order.order ≡ map (tid_at rows) order.order
         tids_out = tids_stay (row_at rows) (row_at rows') (items slots 0) (items slots 1) slot_of slot_of' places held.are_slots t slot unknown first (newcomer t prio suspended) changes refl low puts (prio_of order) (prio_of order) order.order held.ready (λ s is differs. refl)
 
-        weights : (s : ℕ) → 256 ≤ s → s ≢ slot → prio_of (put_last order slot prio) s ≡ prio_of order s
+        weights : (s : ℕ) → 256 ≤ s → s ≢ slot → prio_of (after_put_last order slot prio) s ≡ prio_of order s
         weights s s_slot differs = get_or-set_other order.prios (slot - order.levels) (s - order.levels) prio 0 (λ same. differs (omega (arith, same, is_free.is_slot, held.levels)))
 
         tids_in : map (tid_at rows') (without slot order.order ++ slot ∷ []) ≡ map (tid_at rows) order.order ++ t ∷ []
-        tids_in = tids_joined (row_at rows) (row_at rows') (items slots 0) (items slots 1) slot_of slot_of' places held.are_slots t slot unknown first (newcomer t prio suspended) changes refl low puts (prio_of order) (prio_of (put_last order slot prio)) order.order held.ready weights
+        tids_in = tids_joined (row_at rows) (row_at rows') (items slots 0) (items slots 1) slot_of slot_of' places held.are_slots t slot unknown first (newcomer t prio suspended) changes refl low puts (prio_of order) (prio_of (after_put_last order slot prio)) order.order held.ready weights
 
         ordered_now : IsOrdered (map (row_at rows) (items slots 0) ++ newcomer t prio suspended ∷ []) (cond suspended (map (tid_at rows) order.order) (map (tid_at rows) order.order ++ t ∷ []))
         ordered_now = IsOrdered-admitted _ _ held.ordered t prio suspended not_found
 
-        pub view_out : suspended ≡ true → schedule_of (moved_to_back slots 0 slot) order rows' maxpri places ≡ admitted (schedule_of slots order rows maxpri places) t prio suspended
+        pub view_out : suspended ≡ true → schedule_of (after_move_to_back slots 0 slot) order rows' maxpri places ≡ after_admit (schedule_of slots order rows maxpri places) t prio suspended
         view_out held_back = rw (known_now, threads_now, tids_out) (ap (λ b. record { threads = map (row_at rows) (items slots 0) ++ newcomer t prio suspended ∷ []; order = cond b (map (tid_at rows) order.order) (map (tid_at rows) order.order ++ t ∷ []); timers = []; now = 0; maxpri = maxpri; places = places }) (sym held_back))
 
-        pub view_in : suspended ≡ false → schedule_of (moved_to_back slots 0 slot) (put_last order slot prio) rows' maxpri places ≡ admitted (schedule_of slots order rows maxpri places) t prio suspended
+        pub view_in : suspended ≡ false → schedule_of (after_move_to_back slots 0 slot) (after_put_last order slot prio) rows' maxpri places ≡ after_admit (schedule_of slots order rows maxpri places) t prio suspended
         view_in joins = rw (known_now, threads_now, tids_in) (ap (λ b. record { threads = map (row_at rows) (items slots 0) ++ newcomer t prio suspended ∷ []; order = cond b (map (tid_at rows) order.order) (map (tid_at rows) order.order ++ t ∷ []); timers = []; now = 0; maxpri = maxpri; places = places }) (sym joins))
 
-        pub IsHeld-out : suspended ≡ true → IsHeld (moved_to_back slots 0 slot) order rows' slot_of' map_len' room' maxpri places
+        pub IsHeld-out : suspended ≡ true → IsHeld (after_move_to_back slots 0 slot) order rows' slot_of' map_len' room' maxpri places
         IsHeld-out held_back = record {
           lists = lists_moved slots 0 slot (omega (arith, held.lists)) ∙ held.lists;
           slot_room = held.slot_room;
@@ -104,7 +104,7 @@ module _ (slots : Lists) (order : Order) (rows : List Known) (slot_of : ℕ → 
           ordered = rw (known_now, threads_now, tids_out) (subst (IsOrdered (map (row_at rows) (items slots 0) ++ newcomer t prio suspended ∷ [])) (ap (λ b. cond b (map (tid_at rows) order.order) (map (tid_at rows) order.order ++ t ∷ [])) held_back) ordered_now);
         }
 
-        pub IsHeld-in : suspended ≡ false → IsHeld (moved_to_back slots 0 slot) (put_last order slot prio) rows' slot_of' map_len' room' maxpri places
+        pub IsHeld-in : suspended ≡ false → IsHeld (after_move_to_back slots 0 slot) (after_put_last order slot prio) rows' slot_of' map_len' room' maxpri places
         IsHeld-in joins = record {
           lists = lists_moved slots 0 slot (omega (arith, held.lists)) ∙ held.lists;
           slot_room = held.slot_room;
@@ -116,6 +116,6 @@ module _ (slots : Lists) (order : Order) (rows : List Known) (slot_of : ℕ → 
           least = held.least;
           most = held.most;
           are_slots = rw (known_now, free_now) slots_now;
-          ready = rw known_now (ready_joined (row_at rows) (row_at rows') (items slots 0) (items slots 1) slot_of slot_of' places held.are_slots t slot unknown first (newcomer t prio suspended) changes refl low puts (prio_of order) (prio_of (put_last order slot prio)) order.order held.ready weights (get_or-set_same order.prios (slot - order.levels) prio 0 (omega (arith, free_is_key, free_in_limit))));
+          ready = rw known_now (ready_joined (row_at rows) (row_at rows') (items slots 0) (items slots 1) slot_of slot_of' places held.are_slots t slot unknown first (newcomer t prio suspended) changes refl low puts (prio_of order) (prio_of (after_put_last order slot prio)) order.order held.ready weights (get_or-set_same order.prios (slot - order.levels) prio 0 (omega (arith, free_is_key, free_in_limit))));
           ordered = rw (known_now, threads_now, tids_in) (subst (IsOrdered (map (row_at rows) (items slots 0) ++ newcomer t prio suspended ∷ [])) (ap (λ b. cond b (map (tid_at rows) order.order) (map (tid_at rows) order.order ++ t ∷ [])) joins) ordered_now);
         }

@@ -1,5 +1,5 @@
 -- One thread goes right before another.
-use Rattle.buckets.specs.Order.{Order, prio_of, put_before as put_slot_before}
+use Rattle.buckets.specs.Order.{Order, after_put_before as put_slot_before, prio_of}
 use Rattle.chains.specs.Lists.{Lists, before, items}
 use Rattle.lwp_types.specs.CountLaws.{count-cons, one, times-without_other}
 use Rattle.lwp_types.specs.State.{passes, put_before, times_in, without}
@@ -7,7 +7,7 @@ use Rattle.pod_sched.proofs.HeldLemmas.{of_thread, thread}
 use Rattle.pod_sched.proofs.Ordered.{IsOrdered-moved_before, times-known}
 use Rattle.pod_sched.proofs.SlotLemmas.{All-weaker, All-without, only, tids_without}
 use Rattle.pod_sched.specs.Held.{IsHeld, schedule_of, tid_at}
-use Rattle.pod_sched.specs.Schedule.{Schedule, is_eligible, is_eligible_in, knows, priority_in, thread_of, yielded}
+use Rattle.pod_sched.specs.Schedule.{Schedule, after_yield, is_eligible, is_eligible_in, knows, priority_in, thread_of}
 use Rattle.pod_sched.specs.Slots.{IsReady, row_at}
 use Rattle.pod_sched.specs.declared.rows.Known.{Known}
 use Rattle.std.proofs.Common.{Bool, List, None, Option, Some, [], ap, arith, cond, eqb, false, inl, inr, is_some, map, option_map, refl, subst, sym, true, unwrap_or, ℕ, ◌+◌, ◌∙◌, ◌∷◌, ◌≡◌, ◌≢◌, ◌≤◌}
@@ -99,7 +99,7 @@ module _ (slots : Lists) (order : Order) (rows : List Known) (slot_of : ℕ → 
           ∙ ap (before u t) (tids_without (tid_at rows) u other order.order (its_tid u other at' runs') (All-weaker (IsReady (row_at rows) (items slots 0) (prio_of order)) _ (λ s is. only_slot u other at' runs' s is) order.order held.ready))
           ∙ before_once u t (without u (map (tid_at rows) order.order)) (times-without_other u t (map (tid_at rows) order.order) differs ∙ in_order t slot at runs)
 
-      pub view_before : schedule_of slots (put_slot_before order other slot) rows maxpri places ≡ yielded (schedule_of slots order rows maxpri places) t u
+      pub view_before : schedule_of slots (put_slot_before order other slot) rows maxpri places ≡ after_yield (schedule_of slots order rows maxpri places) t u
       view_before = rw (order_before, ne_eqb t u differs) refl
 
       pub IsHeld-before : IsHeld slots (put_slot_before order other slot) rows slot_of map_len room maxpri places

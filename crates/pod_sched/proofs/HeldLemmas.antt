@@ -1,5 +1,5 @@
 -- Each change of the fields of `Sched` leaves its invariant, and the schedule changed as said.
-use Rattle.buckets.specs.Order.{Order, prio_of, put_last, taken}
+use Rattle.buckets.specs.Order.{Order, after_put_last, after_take, prio_of}
 use Rattle.chains.specs.Lists.{Lists, items}
 use Rattle.lwp_types.specs.State.{to_end, without}
 use Rattle.pod_sched.proofs.SlotLemmas.{AreSlots-changed, IsOrdered-back_with, IsOrdered-out_with, find-map, ready_back, ready_out, rows_changed, slot_known, slot_tid, tids_back, tids_out}
@@ -58,10 +58,10 @@ module _ (slots : Lists) (order : Order) (rows : List Known) (slot_of : ℕ → 
       out_tids : map (tid_at rows') (without slot order.order) ≡ without t (map (tid_at rows) order.order)
       out_tids = tids_out (row_at rows) (row_at rows') (items slots 0) (items slots 1) slot_of places held.are_slots t slot at new changes same_tid low (prio_of order) (prio_of order) order.order held.ready (λ s s_slot differs. refl)
 
-      pub view_out : schedule_of slots (taken order slot) rows' maxpri places ≡ out_with (schedule_of slots order rows maxpri places) t new
+      pub view_out : schedule_of slots (after_take order slot) rows' maxpri places ≡ out_with (schedule_of slots order rows maxpri places) t new
       view_out = rw (threads_changed, out_tids) refl
 
-      pub IsHeld-out : is_eligible new ≡ false → IsHeld slots (taken order slot) rows' slot_of map_len room maxpri places
+      pub IsHeld-out : is_eligible new ≡ false → IsHeld slots (after_take order slot) rows' slot_of map_len room maxpri places
       IsHeld-out out = record {
         lists = held.lists;
         slot_room = held.slot_room;
@@ -77,19 +77,19 @@ module _ (slots : Lists) (order : Order) (rows : List Known) (slot_of : ℕ → 
         ordered = rw (threads_changed, out_tids) (IsOrdered-out_with _ _ held.ordered t (row_at rows slot) thread new same_tid out);
       }
 
-      weighs : prio_of (put_last order slot new.prio) slot ≡ new.prio
+      weighs : prio_of (after_put_last order slot new.prio) slot ≡ new.prio
       weighs = get_or-set_same order.prios (slot - order.levels) new.prio 0 (omega (arith, is_key, in_limit))
 
-      weights : (s : ℕ) → 256 ≤ s → s ≢ slot → prio_of (put_last order slot new.prio) s ≡ prio_of order s
+      weights : (s : ℕ) → 256 ≤ s → s ≢ slot → prio_of (after_put_last order slot new.prio) s ≡ prio_of order s
       weights s s_slot differs = get_or-set_other order.prios (slot - order.levels) (s - order.levels) new.prio 0 (λ same. differs (omega (arith, same, is_slot, held.levels)))
 
       back_tids : map (tid_at rows') (without slot order.order ++ slot ∷ []) ≡ to_end t (map (tid_at rows) order.order)
-      back_tids = tids_back (row_at rows) (row_at rows') (items slots 0) (items slots 1) slot_of places held.are_slots t slot at new changes same_tid low (prio_of order) (prio_of (put_last order slot new.prio)) order.order held.ready weights
+      back_tids = tids_back (row_at rows) (row_at rows') (items slots 0) (items slots 1) slot_of places held.are_slots t slot at new changes same_tid low (prio_of order) (prio_of (after_put_last order slot new.prio)) order.order held.ready weights
 
-      pub view_back : schedule_of slots (put_last order slot new.prio) rows' maxpri places ≡ back_with (schedule_of slots order rows maxpri places) t new
+      pub view_back : schedule_of slots (after_put_last order slot new.prio) rows' maxpri places ≡ back_with (schedule_of slots order rows maxpri places) t new
       view_back = rw (threads_changed, back_tids) refl
 
-      pub IsHeld-back : is_eligible new ≡ true → IsHeld slots (put_last order slot new.prio) rows' slot_of map_len room maxpri places
+      pub IsHeld-back : is_eligible new ≡ true → IsHeld slots (after_put_last order slot new.prio) rows' slot_of map_len room maxpri places
       IsHeld-back runs = record {
         lists = held.lists;
         slot_room = held.slot_room;
@@ -101,6 +101,6 @@ module _ (slots : Lists) (order : Order) (rows : List Known) (slot_of : ℕ → 
         least = held.least;
         most = held.most;
         are_slots = slots_changed;
-        ready = ready_back (row_at rows) (row_at rows') (items slots 0) (items slots 1) slot_of places held.are_slots t slot at new changes same_tid low (prio_of order) (prio_of (put_last order slot new.prio)) order.order held.ready weights weighs;
+        ready = ready_back (row_at rows) (row_at rows') (items slots 0) (items slots 1) slot_of places held.are_slots t slot at new changes same_tid low (prio_of order) (prio_of (after_put_last order slot new.prio)) order.order held.ready weights weighs;
         ordered = rw (threads_changed, back_tids) (IsOrdered-back_with _ _ held.ordered t (row_at rows slot) thread new same_tid runs);
       }

@@ -1,7 +1,7 @@
 -- A thread is forgotten, or one more is known.
-use Rattle.buckets.specs.Order.{Order, prio_of, taken}
+use Rattle.buckets.specs.Order.{Order, after_take, prio_of}
 use Rattle.chains.proofs.Pushes.{items_pushed_other, items_pushed_same, length-pushed}
-use Rattle.chains.specs.Lists.{Lists, items, moved_to_back}
+use Rattle.chains.specs.Lists.{Lists, after_move_to_back, items}
 use Rattle.lwp_types.specs.CountLaws.{count-cons, count-push, length-without, one, times-without_other, times-without_same}
 use Rattle.lwp_types.specs.State.{times_in, without}
 use Rattle.pod_sched.proofs.Counts.{one_other, one_same, times-same, times_found}
@@ -9,7 +9,7 @@ use Rattle.pod_sched.proofs.HeldLemmas.{is_slot, thread}
 use Rattle.pod_sched.proofs.Ordered.{IsOrdered-left}
 use Rattle.pod_sched.proofs.SlotLemmas.{All-found, All-push, All-weaker, All-without, find_agree, located, map_push, only, slot_known, slot_tid, tids_same, tids_without, without_none}
 use Rattle.pod_sched.specs.Held.{IsHeld, schedule_of, tid_at}
-use Rattle.pod_sched.specs.Schedule.{left, without_row}
+use Rattle.pod_sched.specs.Schedule.{after_leave, without_row}
 use Rattle.pod_sched.specs.Slots.{AreSlots, Changes, IsFree, IsKnown, IsReady, Puts, has_tid, row_at}
 use Rattle.pod_sched.specs.declared.rows.Known.{Known}
 use Rattle.std.proofs.Common.{Bool, List, None, Option, Some, [], ap, arith, cond, eqb, false, inl, inr, length, map, not, refl, slice_get, subst, sym, true, ℕ, ◌++◌, ◌+◌, ◌<◌, ◌∙◌, ◌∷◌, ◌≡◌, ◌≢◌, ◌≤◌}
@@ -20,14 +20,14 @@ use Rattle.std.specs.List.{AllByRecursion, find}
 -- ---- lists of lists
 
 module _ (slots : Lists) (l k : ℕ) (inside : l < length slots.lists) where
-  pub items_moved_same : items (moved_to_back slots l k) l ≡ without k (items slots l) ++ k ∷ []
+  pub items_moved_same : items (after_move_to_back slots l k) l ≡ without k (items slots l) ++ k ∷ []
   items_moved_same =
       items_pushed_same l k (map (without k) slots.lists) (omega (arith, length-map slots.lists (without k))) ∙ ap (λ xs. xs ++ k ∷ []) (get_or-map (without k) slots.lists l [] [] inside)
 
-  pub items_moved_other : (i : ℕ) → i < length slots.lists → i ≢ l → items (moved_to_back slots l k) i ≡ without k (items slots i)
+  pub items_moved_other : (i : ℕ) → i < length slots.lists → i ≢ l → items (after_move_to_back slots l k) i ≡ without k (items slots i)
   items_moved_other i i_in differs = items_pushed_other l k i (map (without k) slots.lists) differs ∙ get_or-map (without k) slots.lists i [] [] i_in
 
-  pub lists_moved : length (moved_to_back slots l k).lists ≡ length slots.lists
+  pub lists_moved : length (after_move_to_back slots l k).lists ≡ length slots.lists
   lists_moved = length-pushed l k (map (without k) slots.lists) ∙ length-map slots.lists (without k)
 
 -- ---- searches
@@ -113,10 +113,10 @@ module _ (slots : Lists) (order : Order) (rows : List Known) (slot_of : ℕ → 
   pub key_of_slots : length slots.lists ≤ slot
   key_of_slots = omega (arith, held.lists, is_slot slots order rows slot_of map_len room maxpri places held t slot at)
 
-  known_left : items (moved_to_back slots 1 slot) 0 ≡ without slot (items slots 0)
+  known_left : items (after_move_to_back slots 1 slot) 0 ≡ without slot (items slots 0)
   known_left = items_moved_other slots 1 slot (omega (arith, held.lists)) 0 (omega (arith, held.lists)) (λ same. absurd (omega arith))
 
-  free_left : items (moved_to_back slots 1 slot) 1 ≡ without slot (items slots 1) ++ slot ∷ []
+  free_left : items (after_move_to_back slots 1 slot) 1 ≡ without slot (items slots 1) ++ slot ∷ []
   free_left = items_moved_same slots 1 slot (omega (arith, held.lists))
 
   -- the entry of the thread is written, and nothing is said of how
@@ -127,7 +127,7 @@ module _ (slots : Lists) (order : Order) (rows : List Known) (slot_of : ℕ → 
     order_left : map (tid_at rows) (without slot order.order) ≡ without t (map (tid_at rows) order.order)
     order_left = tids_left (row_at rows) (items slots 0) (items slots 1) slot_of slot_of' places held.are_slots t slot at puts (prio_of order) order.order held.ready
 
-  pub view_left : schedule_of (moved_to_back slots 1 slot) (taken order slot) rows maxpri places ≡ left (schedule_of slots order rows maxpri places) t
+  pub view_left : schedule_of (after_move_to_back slots 1 slot) (after_take order slot) rows maxpri places ≡ after_leave (schedule_of slots order rows maxpri places) t
   view_left =
       let gone : ℕ → Option ℕ = λ u. cond (eqb u t) None (slot_of u) in
       let puts : Puts slot_of gone t None = record { here = rw (eq-eqb t t refl) refl; others = λ u differs. rw (ne_eqb u t differs) refl } in
@@ -137,7 +137,7 @@ module _ (slots : Lists) (order : Order) (rows : List Known) (slot_of : ℕ → 
     here_once : times_in (items slots 0) slot ≡ 1
     here_once = once_known (row_at rows) (items slots 0) (items slots 1) slot_of slot_of' places held.are_slots t slot at puts
 
-    pub IsHeld-left : IsHeld (moved_to_back slots 1 slot) (taken order slot) rows slot_of' map_len' room' maxpri places
+    pub IsHeld-left : IsHeld (after_move_to_back slots 1 slot) (after_take order slot) rows slot_of' map_len' room' maxpri places
     IsHeld-left = record {
       lists = lists_moved slots 1 slot (omega (arith, held.lists)) ∙ held.lists;
       slot_room = held.slot_room;

@@ -145,7 +145,7 @@ module _ (dying : Option ℕ) (v : Schedule) (s : State) (shows : Shows dying v 
       by_test true = is
       by_test false = refl
 
-  pub blocked-shown : (t : ℕ) (b : Block) → is_not_blocked b ≡ false → Shows dying (sched.blocked v t) (unblock.blocked s t b)
+  pub blocked-shown : (t : ℕ) (b : Block) → is_not_blocked b ≡ false → Shows dying (sched.after_block v t) (unblock.after_block s t b)
   blocked-shown t b waits = record {
     threads = λ u. moved-shown (sched.block_set t true) (machine.block_set t b) u (λ k. refl) (λ row. refl) (block-row t b true (ap not (sym waits)));
     order = ap (without t) shows.order;
@@ -158,7 +158,7 @@ module _ (dying : Option ℕ) (v : Schedule) (s : State) (shows : Shows dying v 
     same : AnswersAlike v s t
     same = alike t lives
 
-    pub unblocked-shown : Shows dying (sched.unblocked v t) (unblock.unblocked s t)
+    pub unblocked-shown : Shows dying (sched.after_unblock v t) (unblock.after_unblock s t)
     unblocked-shown = record {
       threads = λ u. moved-shown (sched.block_set t false) (machine.block_set t block.Not) u (λ k. refl) (λ row. refl) (block-row t block.Not false refl);
       order = ap (λ b. cond b v.order (v.order ++ t ∷ [])) same.suspended ∙ ap (λ o. cond (machine.is_suspended_in s t) o (o ++ t ∷ [])) shows.order;
@@ -167,7 +167,7 @@ module _ (dying : Option ℕ) (v : Schedule) (s : State) (shows : Shows dying v 
       maxpri = shows.maxpri;
     }
 
-    pub suspended-shown : Shows dying (sched.suspended v t) (threads.suspended s t)
+    pub suspended-shown : Shows dying (sched.after_suspend v t) (threads.after_suspend s t)
     suspended-shown = record {
       threads = λ u. moved-shown (sched.suspension_set t true) (machine.suspension_set t true) u (λ k. refl) (λ row. refl) (λ row. refl);
       order = ap (without t) shows.order;
@@ -176,7 +176,7 @@ module _ (dying : Option ℕ) (v : Schedule) (s : State) (shows : Shows dying v 
       maxpri = shows.maxpri;
     }
 
-    pub resumed-shown : Shows dying (sched.resumed v t) (threads.resumed s t)
+    pub resumed-shown : Shows dying (sched.after_resume v t) (threads.after_resume s t)
     resumed-shown = record {
       threads = λ u. moved-shown (sched.suspension_set t false) (machine.suspension_set t false) u (λ k. refl) (λ row. refl) (λ row. refl);
       order = ap (λ b. cond (b && not (sched.is_blocked_in v t)) (v.order ++ t ∷ []) v.order) same.suspended
@@ -187,7 +187,7 @@ module _ (dying : Option ℕ) (v : Schedule) (s : State) (shows : Shows dying v 
       maxpri = shows.maxpri;
     }
 
-    pub prioritized-shown : (p : ℕ) → Shows dying (sched.prioritized v t p) (threads.prioritized s t p)
+    pub prioritized-shown : (p : ℕ) → Shows dying (sched.after_set_priority v t p) (threads.after_set_priority s t p)
     prioritized-shown p = record {
       threads = λ u. moved-shown (sched.priority_set t p) (machine.priority_set t p) u (λ k. refl) (λ row. refl) (λ row. refl);
       order = ap (λ b. cond (b && not (eqb (sched.priority_in v t) p)) (to_end t v.order) v.order) same.eligible
@@ -198,7 +198,7 @@ module _ (dying : Option ℕ) (v : Schedule) (s : State) (shows : Shows dying v 
       maxpri = shows.maxpri;
     }
 
-  pub marks-hidden : (t : ℕ) (ms : List Mark) → Shows dying v (machine.marked s t ms)
+  pub marks-hidden : (t : ℕ) (ms : List Mark) → Shows dying v (machine.with_marks_of s t ms)
   marks-hidden t ms = record {
     threads = λ u. shows.threads u ∙ ap (λ o. cond (is_same_option dying u) None o) (by_found (machine.thread_of s u) ∙ ap (option_map known_of) (sym (find-moved (machine.is_number u) (machine.marks_set t ms) (λ row. refl) s.threads)));
     order = shows.order;
@@ -220,7 +220,7 @@ module _ (v : Schedule) (s : State) (shows : Shows None v s) where
   pub choice-same : sched.choice v ≡ choice.choice s
   choice-same = best-same (sched.prio_in v.threads) (machine.priority_in s) priority-all None v.order ∙ ap (fold (better_by (machine.priority_in s)) None) shows.order
 
-  pub yielded-shown : (t to : ℕ) → Shows None (sched.yielded v t to) (threads.yielded s t to)
+  pub yielded-shown : (t to : ℕ) → Shows None (sched.after_yield v t to) (threads.after_yield s t to)
   yielded-shown t to = record {
     threads = shows.threads;
     order = ap (λ o. cond (eqb t to) (to_end t o) (put_before to t (without to o))) shows.order;
@@ -229,7 +229,7 @@ module _ (v : Schedule) (s : State) (shows : Shows None v s) where
     maxpri = shows.maxpri;
   }
 
-  pub rescheduled-shown : (p : ℕ) → Shows None (sched.rescheduled v p) (threads.rescheduled s p)
+  pub rescheduled-shown : (p : ℕ) → Shows None (sched.after_resched v p) (threads.after_resched s p)
   rescheduled-shown p = record {
     threads = shows.threads;
     order = ap (λ o. moved_to_end o v.order) (find-same (λ t. eqb (sched.priority_in v t) p) (λ t. eqb (machine.priority_in s t) p) (λ t. ap (λ n. eqb n p) (priority-all t)) v.order)
@@ -239,20 +239,20 @@ module _ (v : Schedule) (s : State) (shows : Shows None v s) where
     maxpri = shows.maxpri;
   }
 
-  pub created-shown : (prio : ℕ) (flags : Flags) → Shows None (sched.admitted v s.births prio flags.suspended) (threads.created s prio flags)
+  pub created-shown : (prio : ℕ) (flags : Flags) → Shows None (sched.after_admit v s.births prio flags.suspended) (threads.after_create s prio flags)
   created-shown prio flags = record {
     threads = λ u.
         find-append (sched.is_of u) v.threads (newcomer s.births prio flags.suspended ∷ [])
         ∙ (ap (λ o. option_or o (find (sched.is_of u) (newcomer s.births prio flags.suspended ∷ []))) (shows.threads u)
         ∙ (by_found (eqb s.births u) (machine.thread_of s u)
-        ∙ ap (option_map known_of) (sym (find-append (machine.is_number u) s.threads (threads.born s.births prio flags ∷ [])))));
+        ∙ ap (option_map known_of) (sym (find-append (machine.is_number u) s.threads (threads.new_thread s.births prio flags ∷ [])))));
     order = ap (λ o. cond flags.suspended o (o ++ s.births ∷ [])) shows.order;
     timers = shows.timers;
     now = shows.now;
     maxpri = shows.maxpri;
   }
     where
-      by_found : (b : Bool) (m : Option ThreadRow) → option_or (option_map known_of m) (cond b (Some (newcomer s.births prio flags.suspended)) None) ≡ option_map known_of (option_or m (cond b (Some (threads.born s.births prio flags)) None))
+      by_found : (b : Bool) (m : Option ThreadRow) → option_or (option_map known_of m) (cond b (Some (newcomer s.births prio flags.suspended)) None) ≡ option_map known_of (option_or m (cond b (Some (threads.new_thread s.births prio flags)) None))
       by_found true None = refl
       by_found false None = refl
       by_found b (Some row) = refl
@@ -272,7 +272,7 @@ module _ (v : Schedule) (s : State) (t : ℕ) where
           let other : eqb row.number t ≡ false = ne_eqb row.number t (λ same. differs (sym same ∙ eqb-true _ _ (found-passes (machine.is_number u) s.threads row is))) in
           rw other refl
 
-  pub death-begins : Shows None v s → Shows (Some t) (sched.left v t) (death.withdraw t s).after
+  pub death-begins : Shows None v s → Shows (Some t) (sched.after_leave v t) (death.withdraw t s).after
   death-begins shows = record {
     threads = λ u. elim (cases_eq t u) [
       | inl same ↦ rw (eq-eqb t u same) (find-none (sched.is_of u) (sched.is_of t) (λ k is. eq-eqb k.tid t (eqb-true _ _ is ∙ sym same)) v.threads)

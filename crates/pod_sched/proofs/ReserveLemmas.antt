@@ -8,8 +8,8 @@ use Rattle.pod_sched.proofs.Counts.{one_other, one_same, times-same}
 use Rattle.pod_sched.proofs.LeaveLemmas.{items_moved_other, items_moved_same, lists_moved}
 use Rattle.pod_sched.proofs.SlotLemmas.{All-found, All-push, All-weaker, find_agree, tids_same, without_none}
 use Rattle.pod_sched.specs.Held.{IsHeld, schedule_of, tid_at}
-use Rattle.pod_sched.specs.Schedule.{reserved}
-use Rattle.pod_sched.specs.Slots.{AreSlots, Extends, IsFree, IsKnown, IsReady, freed, has_tid, row_at}
+use Rattle.pod_sched.specs.Schedule.{after_reserve}
+use Rattle.pod_sched.specs.Slots.{AreSlots, Extends, IsFree, IsKnown, IsReady, after_free, has_tid, row_at}
 use Rattle.pod_sched.specs.declared.rows.Known.{Known}
 use Rattle.std.proofs.Common.{List, Err, Ok, OnErr, Option, Result, Some, [], ap, arith, eqb, get_or, inl, inr, length, map, max, refl, replicate, subst, suc, sym, zero, ℕ, ◌++◌, ◌+◌, ◌-◌, ◌<◌, ◌∙◌, ◌∷◌, ◌≡◌, ◌≤◌}
 use Rattle.std.proofs.lemmas.Bool.{cases_eq, cases_lt, ne_eqb}
@@ -46,12 +46,12 @@ module _ (row : ℕ → Known) (known free : List ℕ) (slot_of : ℕ → Option
   known_one_more : without (256 + places) known ≡ known
   known_one_more = without_none (256 + places) known beyond_known
 
-pub freed_lists : (slots : Lists) (from n : ℕ) → length (freed slots from n).lists ≡ length slots.lists
+pub freed_lists : (slots : Lists) (from n : ℕ) → length (after_free slots from n).lists ≡ length slots.lists
 freed_lists slots from zero = refl
 freed_lists slots from (suc n) =
-    length-pushed 1 (from + n) (map (without (from + n)) (freed slots from n).lists) ∙ length-map (freed slots from n).lists (without (from + n)) ∙ freed_lists slots from n
+    length-pushed 1 (from + n) (map (without (from + n)) (after_free slots from n).lists) ∙ length-map (after_free slots from n).lists (without (from + n)) ∙ freed_lists slots from n
 
-pub freed_limit : (slots : Lists) (from n : ℕ) → (freed slots from n).limit ≡ slots.limit
+pub freed_limit : (slots : Lists) (from n : ℕ) → (after_free slots from n).limit ≡ slots.limit
 freed_limit slots from zero = refl
 freed_limit slots from (suc n) = freed_limit slots from n
 
@@ -62,21 +62,21 @@ record Freed (slots slots' : Lists) (row : ℕ → Known) (slot_of : ℕ → Opt
   known : items slots' 0 ≡ items slots 0
   are_slots : AreSlots row (items slots' 0) (items slots' 1) slot_of places
 
-Freed-freed : (slots : Lists) (row : ℕ → Known) (slot_of : ℕ → Option ℕ) (places n : ℕ) → length slots.lists ≡ 256 → AreSlots row (items slots 0) (items slots 1) slot_of places → Freed slots (freed slots (256 + places) n) row slot_of (places + n)
+Freed-freed : (slots : Lists) (row : ℕ → Known) (slot_of : ℕ → Option ℕ) (places n : ℕ) → length slots.lists ≡ 256 → AreSlots row (items slots 0) (items slots 1) slot_of places → Freed slots (after_free slots (256 + places) n) row slot_of (places + n)
 Freed-freed slots row slot_of places zero lists are = record { lists = refl; limit = refl; known = refl; are_slots = subst (AreSlots row (items slots 0) (items slots 1) slot_of) (omega arith) are }
 Freed-freed slots row slot_of places (suc n) lists are =
     let before = Freed-freed slots row slot_of places n lists are in
     let here : 256 + (places + n) ≡ (256 + places) + n = omega arith in
-    let long : length (freed slots (256 + places) n).lists ≡ 256 = before.lists ∙ lists in
-    let at_one = items_moved_same (freed slots (256 + places) n) 1 ((256 + places) + n) (omega (arith, long)) in
-    let at_zero = items_moved_other (freed slots (256 + places) n) 1 ((256 + places) + n) (omega (arith, long)) 0 (omega (arith, long)) (λ same. absurd (omega arith)) in
-    let more = AreSlots-one_more row (items (freed slots (256 + places) n) 0) (items (freed slots (256 + places) n) 1) slot_of (places + n) before.are_slots in
-    let same_known = known_one_more row (items (freed slots (256 + places) n) 0) (items (freed slots (256 + places) n) 1) slot_of (places + n) before.are_slots in
+    let long : length (after_free slots (256 + places) n).lists ≡ 256 = before.lists ∙ lists in
+    let at_one = items_moved_same (after_free slots (256 + places) n) 1 ((256 + places) + n) (omega (arith, long)) in
+    let at_zero = items_moved_other (after_free slots (256 + places) n) 1 ((256 + places) + n) (omega (arith, long)) 0 (omega (arith, long)) (λ same. absurd (omega arith)) in
+    let more = AreSlots-one_more row (items (after_free slots (256 + places) n) 0) (items (after_free slots (256 + places) n) 1) slot_of (places + n) before.are_slots in
+    let same_known = known_one_more row (items (after_free slots (256 + places) n) 0) (items (after_free slots (256 + places) n) 1) slot_of (places + n) before.are_slots in
     let count : (places + n) + 1 ≡ places + suc n = omega arith in
     record {
-      lists = lists_moved (freed slots (256 + places) n) 1 ((256 + places) + n) (omega (arith, long)) ∙ before.lists;
+      lists = lists_moved (after_free slots (256 + places) n) 1 ((256 + places) + n) (omega (arith, long)) ∙ before.lists;
       limit = before.limit;
-      known = at_zero ∙ ap (λ m. without m (items (freed slots (256 + places) n) 0)) (sym here) ∙ same_known ∙ before.known;
+      known = at_zero ∙ ap (λ m. without m (items (after_free slots (256 + places) n) 0)) (sym here) ∙ same_known ∙ before.known;
       are_slots = rw (at_zero, at_one) (rw (here, count) at more);
     }
 
@@ -170,13 +170,13 @@ module _ (slots : Lists) (order : Order) (rows : List Known) (slot_of : ℕ → 
 
   -- there is memory for so many, and the new slots are free
   module _ (n : ℕ) (slot_room : 256 + n ≤ slots.limit) (order_room : n ≤ length order.prios) (row_room : n ≤ length rows) (map_room : n ≤ room) (more : places ≤ n) where
-    new_slots : Freed slots (freed slots (256 + places) (n - places)) (row_at rows) slot_of (places + (n - places))
+    new_slots : Freed slots (after_free slots (256 + places) (n - places)) (row_at rows) slot_of (places + (n - places))
     new_slots = Freed-freed slots (row_at rows) slot_of places (n - places) held.lists held.are_slots
 
     in_all : places + (n - places) ≡ n
     in_all = omega arith
 
-    pub IsHeld-freed : IsHeld (freed slots (256 + places) (n - places)) order rows slot_of map_len room maxpri n
+    pub IsHeld-freed : IsHeld (after_free slots (256 + places) (n - places)) order rows slot_of map_len room maxpri n
     IsHeld-freed = record {
       lists = new_slots.lists ∙ held.lists;
       slot_room = rw new_slots.limit slot_room;
@@ -187,12 +187,12 @@ module _ (slots : Lists) (order : Order) (rows : List Known) (slot_of : ℕ → 
       map_room = map_room;
       least = held.least;
       most = held.most;
-      are_slots = subst (AreSlots (row_at rows) (items (freed slots (256 + places) (n - places)) 0) (items (freed slots (256 + places) (n - places)) 1) slot_of) in_all new_slots.are_slots;
+      are_slots = subst (AreSlots (row_at rows) (items (after_free slots (256 + places) (n - places)) 0) (items (after_free slots (256 + places) (n - places)) 1) slot_of) in_all new_slots.are_slots;
       ready = rw new_slots.known held.ready;
       ordered = rw new_slots.known held.ordered;
     }
 
-    pub view_freed : schedule_of (freed slots (256 + places) (n - places)) order rows maxpri n ≡ reserved (schedule_of slots order rows maxpri places) n
+    pub view_freed : schedule_of (after_free slots (256 + places) (n - places)) order rows maxpri n ≡ after_reserve (schedule_of slots order rows maxpri places) n
     view_freed =
         let most : max places n ≡ n = omega arith in
         rw (new_slots.known, most) refl
@@ -204,13 +204,13 @@ module _ (slots : Lists) (order : Order) (rows : List Known) (slot_of : ℕ → 
   order_room : n ≤ length (with_keys order n).prios
   order_room = omega (arith, length-append order.prios (replicate (n - length order.prios) 0), length-replicate {A = ℕ} (n - length order.prios) 0)
 
-  pub IsHeld-reserved : IsHeld (freed (with_limit slots (256 + n)) (256 + places) count) (with_keys order n) rows' slot_of map_len room' maxpri n
+  pub IsHeld-reserved : IsHeld (after_free (with_limit slots (256 + n)) (256 + places) count) (with_keys order n) rows' slot_of map_len room' maxpri n
   IsHeld-reserved = rw counts (IsHeld-freed (with_limit slots (256 + n)) (with_keys order n) rows' slot_of map_len room' maxpri places grown n (omega arith) order_room row_room map_room more)
 
-  pub view_reserved : schedule_of (freed (with_limit slots (256 + n)) (256 + places) count) (with_keys order n) rows' maxpri n ≡ reserved (schedule_of slots order rows maxpri places) n
+  pub view_reserved : schedule_of (after_free (with_limit slots (256 + n)) (256 + places) count) (with_keys order n) rows' maxpri n ≡ after_reserve (schedule_of slots order rows maxpri places) n
   view_reserved =
       rw counts (view_freed (with_limit slots (256 + n)) (with_keys order n) rows' slot_of map_len room' maxpri places grown n (omega arith) order_room row_room map_room more)
-      ∙ ap (λ s. reserved s n) (view_grown slots order rows slot_of map_len room maxpri places held rows' extends (256 + n) n room' longer)
+      ∙ ap (λ s. after_reserve s n) (view_grown slots order rows slot_of map_len room maxpri places held rows' extends (256 + n) n room' longer)
 
 -- a fact of what is left after an error
 pub on_err : {T E : Type 0} (r : Result T E) (P : Type 0) → P → OnErr r P

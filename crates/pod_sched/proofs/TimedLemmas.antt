@@ -5,7 +5,7 @@ use Rattle.lwp_types.specs.State.{passes}
 use Rattle.lwp_types.specs.Unblock.{is_timer_of, without_timer}
 use Rattle.lwp_types.specs.declared.rows.TimerRow.{TimerRow}
 use Rattle.pod_sched.specs.Clock.{IsTimed}
-use Rattle.timers.specs.Clock.{Clock, dropped, first_due, popped, reserved, set, ticked, without_found}
+use Rattle.timers.specs.Clock.{Clock, after_drop, after_pop, after_reserve, after_set, after_tick, first_due, without_found}
 use Rattle.pod_sched.specs.Schedule as sched
 use Rattle.pod_sched.specs.Schedule.{Schedule, is_of, without_row}
 use Rattle.pod_sched.specs.declared.rows.Known.{Known}
@@ -81,10 +81,10 @@ module _ {threads : List Known} {c : Clock} {places : ℕ} (was : IsTimed thread
   pub IsTimed-admitted : (row : Known) → IsTimed (threads ++ row ∷ []) c places
   IsTimed-admitted row = record { owned = λ t. omega (arith, was.owned t, count-push (is_of t) threads row); roomy = was.roomy }
 
-  pub IsTimed-dropped : (t : ℕ) → IsTimed threads (dropped c t) places
+  pub IsTimed-dropped : (t : ℕ) → IsTimed threads (after_drop c t) places
   IsTimed-dropped t = record { owned = λ u. omega (arith, was.owned u, count-filter-le (is_timer_of u) (λ row. not (is_timer_of t row)) c.timers); roomy = was.roomy }
 
-  pub IsTimed-left : (t : ℕ) → IsTimed (without_row t threads) (dropped c t) places
+  pub IsTimed-left : (t : ℕ) → IsTimed (without_row t threads) (after_drop c t) places
   IsTimed-left t = record {
     owned = λ u. elim (cases_eq t u) [
       | inl e ↦ omega (arith, none_left (λ (x : TimerRow). x.tid) t c.timers, ap (timers_of (without_timer t c.timers)) e)
@@ -93,25 +93,25 @@ module _ {threads : List Known} {c : Clock} {places : ℕ} (was : IsTimed thread
     roomy = was.roomy;
   }
 
-  pub IsTimed-ticked : IsTimed threads (ticked c) places
+  pub IsTimed-ticked : IsTimed threads (after_tick c) places
   IsTimed-ticked = record { owned = was.owned; roomy = was.roomy }
 
   pub IsTimed-found : (o : Option TimerRow) → IsTimed threads (record c { timers = without_found o c.timers }) places
   IsTimed-found None = was
   IsTimed-found (Some row) = IsTimed-dropped row.tid
 
-  pub IsTimed-popped : IsTimed threads (popped c) places
+  pub IsTimed-popped : IsTimed threads (after_pop c) places
   IsTimed-popped = IsTimed-found (first_due c.timers c.now)
 
   -- more places
-  pub IsTimed-roomier : (n : ℕ) → IsTimed threads (reserved c n) places
+  pub IsTimed-roomier : (n : ℕ) → IsTimed threads (after_reserve c n) places
   IsTimed-roomier n = record { owned = was.owned; roomy = omega (arith, was.roomy) }
 
-  pub IsTimed-reserved : (n : ℕ) → IsTimed threads (reserved c n) (max places n)
+  pub IsTimed-reserved : (n : ℕ) → IsTimed threads (after_reserve c n) (max places n)
   IsTimed-reserved n = record { owned = was.owned; roomy = omega (arith, was.roomy) }
 
   -- a known thread that has no timer gets one
-  pub IsTimed-set : (t due : ℕ) → 1 ≤ count_by (is_of t) threads → list_any (is_timer_of t) c.timers ≡ false → IsTimed threads (set c t due) places
+  pub IsTimed-set : (t due : ℕ) → 1 ≤ count_by (is_of t) threads → list_any (is_timer_of t) c.timers ≡ false → IsTimed threads (after_set c t due) places
   IsTimed-set t due known none = record {
     owned = λ u. elim (cases_eq t u) [
       | inl e ↦ omega (arith, count-push (is_timer_of u) c.timers (record { tid = t; due = due }), ap one (eq-eqb t u e), count_none (is_timer_of t) c.timers none, ap (timers_of c.timers) e, known, ap (λ n. count_by (is_of n) threads) e)
@@ -124,13 +124,13 @@ module _ {threads : List Known} {c : Clock} {places : ℕ} (was : IsTimed thread
   pub set_fits : (t due : ℕ) → 1 ≤ count_by (is_of t) threads → list_any (is_timer_of t) c.timers ≡ false → ((t : ℕ) → count_by (is_of t) threads ≤ 1) → length threads ≤ places → length c.timers + 1 ≤ c.places
   set_fits t due known none once few = omega (
     arith,
-    few_timers threads (set c t due).timers (IsTimed-set t due known none).owned once,
+    few_timers threads (after_set c t due).timers (IsTimed-set t due known none).owned once,
     length_push c.timers (record { tid = t; due = due }),
     few,
     was.roomy,
   )
 
   -- more places, or no memory for them
-  pub IsTimed-either : (n : ℕ) (T E : Type 0) (r : Result T E) (old new : Schedule) → OnOk r (new ≡ sched.reserved old n) → OnErr r (new ≡ old) → old.threads ≡ threads → old.places ≡ places → IsTimed new.threads (reserved c n) new.places
+  pub IsTimed-either : (n : ℕ) (T E : Type 0) (r : Result T E) (old new : Schedule) → OnOk r (new ≡ sched.after_reserve old n) → OnErr r (new ≡ old) → old.threads ≡ threads → old.places ≡ places → IsTimed new.threads (after_reserve c n) new.places
   IsTimed-either n T E (Ok x) old new ok err rows room = rw (ok, rows, room) (IsTimed-reserved n)
   IsTimed-either n T E (Err e) old new ok err rows room = rw (err, rows, room) (IsTimed-roomier n)

@@ -51,5 +51,5 @@ abbrev pub back_with : Schedule → ℕ → Known → Schedule
 back_with s t new = record s { threads = map (replace t new) s.threads; order = to_end t s.order }
 
 -- thread t goes last, with the row that it has
-abbrev pub requeued : Schedule → ℕ → Schedule
-requeued s t = record s { order = to_end t s.order }
+abbrev pub after_requeue : Schedule → ℕ → Schedule
+after_requeue s t = record s { order = to_end t s.order }

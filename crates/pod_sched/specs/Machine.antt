@@ -19,12 +19,12 @@ abbrev pub known_of : ThreadRow → Known
 known_of row = record { tid = row.number; prio = row.priority; suspended = row.suspended; blocked = not (is_not_blocked row.block) }
 
 -- what it knows of thread t: the dying one has left it
-abbrev pub seen : Option ℕ → State → ℕ → Option Known
-seen dying s t = if is_same_option dying t then None else option_map known_of (machine.thread_of s t)
+abbrev pub known_unless_dying : Option ℕ → State → ℕ → Option Known
+known_unless_dying dying s t = if is_same_option dying t then None else option_map known_of (machine.thread_of s t)
 
 -- the scheduler knows the machine's threads but the dying one, and has their order, their timers and the clock
 pub record Shows (dying : Option ℕ) (v : Schedule) (s : State) : Type 0 where
-  pub threads : (t : ℕ) → sched.thread_of v t ≡ seen dying s t
+  pub threads : (t : ℕ) → sched.thread_of v t ≡ known_unless_dying dying s t
   pub order : v.order ≡ s.order
   pub timers : v.timers ≡ s.timers
   pub now : v.now ≡ s.now
@@ -48,31 +48,31 @@ KeepsShown dying change move = (v : Schedule) (s : State) → Shows dying v s �
 
 -- a thread dies: the scheduler forgets it as the machine withdraws it, and has nothing to do as it is buried
 pub record DeathsAreShown : Type 0 where
-  pub begins : (v : Schedule) (s : State) (t : ℕ) → Shows None v s → Shows (Some t) (sched.left v t) (death.withdraw t s).after
+  pub begins : (v : Schedule) (s : State) (t : ℕ) → Shows None v s → Shows (Some t) (sched.after_leave v t) (death.withdraw t s).after
   pub ends : (v : Schedule) (s : State) (t : ℕ) → Shows (Some t) v s → Shows None v (death.bury t s).after
 
 -- threads begin to wait, and go on
 pub record WaitsAreShown (dying : Option ℕ) (t : ℕ) : Type 0 where
-  pub blocked : (b : Block) → is_not_blocked b ≡ false → KeepsShown dying (λ v. sched.blocked v t) (λ s. unblock.blocked s t b)
-  pub unblocked : KeepsShown dying (λ v. sched.unblocked v t) (λ s. unblock.unblocked s t)
+  pub blocked : (b : Block) → is_not_blocked b ≡ false → KeepsShown dying (λ v. sched.after_block v t) (λ s. unblock.after_block s t b)
+  pub unblocked : KeepsShown dying (λ v. sched.after_unblock v t) (λ s. unblock.after_unblock s t)
 
 -- threads are suspended, resumed and given priorities
 pub record FlagsAreShown (dying : Option ℕ) (t : ℕ) : Type 0 where
-  pub suspended : KeepsShown dying (λ v. sched.suspended v t) (λ s. threads.suspended s t)
-  pub resumed : KeepsShown dying (λ v. sched.resumed v t) (λ s. threads.resumed s t)
-  pub prioritized : (p : ℕ) → KeepsShown dying (λ v. sched.prioritized v t p) (λ s. threads.prioritized s t p)
+  pub suspended : KeepsShown dying (λ v. sched.after_suspend v t) (λ s. threads.after_suspend s t)
+  pub resumed : KeepsShown dying (λ v. sched.after_resume v t) (λ s. threads.after_resume s t)
+  pub prioritized : (p : ℕ) → KeepsShown dying (λ v. sched.after_set_priority v t p) (λ s. threads.after_set_priority s t p)
   pub raised : (p : ℕ) → KeepsShown dying (λ v. sched.with_maxpri v p) (λ (s : State). record s { maxpri = p })
 
 -- threads take turns
 pub record TurnsAreShown : Type 0 where
   pub chosen : (v : Schedule) (s : State) → Shows None v s → sched.choice v ≡ choice.choice s
-  pub yielded : (t to : ℕ) → KeepsShown None (λ v. sched.yielded v t to) (λ s. threads.yielded s t to)
-  pub rescheduled : (p : ℕ) → KeepsShown None (λ v. sched.rescheduled v p) (λ s. threads.rescheduled s p)
+  pub yielded : (t to : ℕ) → KeepsShown None (λ v. sched.after_yield v t to) (λ s. threads.after_yield s t to)
+  pub rescheduled : (p : ℕ) → KeepsShown None (λ v. sched.after_resched v p) (λ s. threads.after_resched s p)
 
 -- a thread is born, where nobody is dying
 abbrev pub BirthsAreShown : Type 0
-BirthsAreShown = (v : Schedule) (s : State) (prio : ℕ) (flags : Flags) → Shows None v s → Shows None (sched.admitted v s.births prio flags.suspended) (threads.created s prio flags)
+BirthsAreShown = (v : Schedule) (s : State) (prio : ℕ) (flags : Flags) → Shows None v s → Shows None (sched.after_admit v s.births prio flags.suspended) (threads.after_create s prio flags)
 
 -- the marks of a thread are no concern of a scheduler
 abbrev pub MarksAreHidden : Type 0
-MarksAreHidden = (dying : Option ℕ) (t : ℕ) (ms : List Mark) (v : Schedule) (s : State) → Shows dying v s → Shows dying v (machine.marked s t ms)
+MarksAreHidden = (dying : Option ℕ) (t : ℕ) (ms : List Mark) (v : Schedule) (s : State) → Shows dying v s → Shows dying v (machine.with_marks_of s t ms)

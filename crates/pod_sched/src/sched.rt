@@ -1,7 +1,7 @@
 // The scheduler.
 ghost use Rattle.std.specs.Prelude.{◌≡◌, ◌+◌, ◌<◌, ◌≤◌, ◌==◌, Some, false, length, option_map, true, IsTrue, IsOk, IfOk, OnOk, OnErr};
 ghost use Rattle.lwp_types.specs.First.{FindsBest};
-ghost use Rattle.pod_sched.specs.Schedule.{IsOrdered, admitted, blocked, choice, empty_schedule, first_due, first_of, has_timer, is_blocked_in, is_eligible_in, knows, left, popped, prio_in, prioritized, priority_in, rescheduled, reserved, resumed, suspended, ticked, timed, unblocked, with_maxpri, yielded};
+ghost use Rattle.pod_sched.specs.Schedule.{IsOrdered, after_admit, after_block, after_leave, after_pop, after_resched, after_reserve, after_resume, after_set_priority, after_set_timer, after_suspend, after_tick, after_unblock, after_yield, choice, empty_schedule, first_due, first_of, has_timer, is_blocked_in, is_eligible_in, knows, prio_in, priority_in, with_maxpri};
 
 use crate::Bucket;
 use crate::turns::Turns;
@@ -53,7 +53,7 @@ impl Sched {
 
     /// Makes places for `n` threads in all; what is done to so many then takes no memory.
     pub fn reserve(&mut self, n: usize) -> Result<(), NoMemory>
-        ensures ok { OnOk result (self.new ≡ reserved self.old n) }
+        ensures ok { OnOk result (self.new ≡ after_reserve self.old n) }
         ensures err { OnErr result (self.new ≡ self.old) }
         ensures has_room { n ≤ self.old.places → IsOk result }
     {
@@ -64,7 +64,7 @@ impl Sched {
     /// Forgets a thread, and with it its place in the order and its timer.
     pub fn leave(&mut self, tid: Tid)
         requires { IsTrue (knows self.old tid) }
-        ensures { self.new ≡ left self.old tid }
+        ensures { self.new ≡ after_leave self.old tid }
     {
         let Sched { timers, turns } = self;
         timers.drop_of(tid);
@@ -74,7 +74,7 @@ impl Sched {
     /// The thread has what it waited for, or waits no longer: its timer goes. It goes last, unless it is suspended.
     pub fn unblock(&mut self, tid: Tid)
         requires { IsTrue (is_blocked_in self.old tid) }
-        ensures { self.new ≡ unblocked self.old tid }
+        ensures { self.new ≡ after_unblock self.old tid }
     {
         self.timers.drop_of(tid);
         self.turns.unblock(tid);
@@ -91,7 +91,7 @@ impl Sched {
     /// The clock ticks.
     pub fn tick(&mut self)
         requires { self.old.now < 4294967295 }
-        ensures { self.new ≡ ticked self.old }
+        ensures { self.new ≡ after_tick self.old }
     {
         self.timers.tick();
     }
@@ -101,7 +101,7 @@ impl Sched {
         requires waits { IsTrue (is_blocked_in self.old tid) }
         requires new { has_timer self.old tid ≡ false }
         requires later { self.old.now < due }
-        ensures { self.new ≡ timed self.old tid due }
+        ensures { self.new ≡ after_set_timer self.old tid due }
     {
         // The check learns here that there are no more threads than places.
         let _known = self.turns.len();
@@ -112,7 +112,7 @@ impl Sched {
     pub fn pop_due(&mut self) -> Option<Tid>
         ensures value { result
             ≡ option_map (λ row. row.tid) (first_due self.old.timers self.old.now) }
-        ensures after { self.new ≡ popped self.old }
+        ensures after { self.new ≡ after_pop self.old }
     {
         self.timers.pop()
     }
@@ -123,7 +123,7 @@ impl Sched {
         requires room { length self.old.threads < self.old.places }
         requires least { 1 ≤ prio }
         requires most { prio ≤ self.old.maxpri }
-        ensures { self.new ≡ admitted self.old tid prio suspended }
+        ensures { self.new ≡ after_admit self.old tid prio suspended }
     {
         self.turns.admit(tid, prio, suspended);
     }
@@ -131,7 +131,7 @@ impl Sched {
     /// The thread begins to wait for something.
     pub fn block(&mut self, tid: Tid)
         requires { IsTrue (knows self.old tid) }
-        ensures { self.new ≡ blocked self.old tid }
+        ensures { self.new ≡ after_block self.old tid }
     {
         self.turns.block(tid);
     }
@@ -139,7 +139,7 @@ impl Sched {
     /// The thread may not run until it is resumed, whether or not it is blocked.
     pub fn suspend(&mut self, tid: Tid)
         requires { IsTrue (knows self.old tid) }
-        ensures { self.new ≡ suspended self.old tid }
+        ensures { self.new ≡ after_suspend self.old tid }
     {
         self.turns.suspend(tid);
     }
@@ -147,7 +147,7 @@ impl Sched {
     /// Ends a suspension. The thread goes last, unless it is blocked; one that isn't suspended keeps its place.
     pub fn resume(&mut self, tid: Tid)
         requires { IsTrue (knows self.old tid) }
-        ensures { self.new ≡ resumed self.old tid }
+        ensures { self.new ≡ after_resume self.old tid }
     {
         self.turns.resume(tid);
     }
@@ -158,7 +158,7 @@ impl Sched {
         requires least { 1 ≤ prio }
         requires most { prio ≤ self.old.maxpri }
         ensures before { result ≡ priority_in self.old tid }
-        ensures after { self.new ≡ prioritized self.old tid prio }
+        ensures after { self.new ≡ after_set_priority self.old tid prio }
     {
         self.turns.set_prio(tid, prio)
     }
@@ -168,14 +168,14 @@ impl Sched {
         requires from_may_run { IsTrue (is_eligible_in self.old from) }
         requires to_may_run { IsTrue (is_eligible_in self.old to) }
         requires same_prio { priority_in self.old from ≡ priority_in self.old to }
-        ensures { self.new ≡ yielded self.old from to }
+        ensures { self.new ≡ after_yield self.old from to }
     {
         self.turns.yield_to(from, to);
     }
 
     /// The first of this priority goes last. Where there is none, nothing happens.
     pub fn resched(&mut self, prio: u32)
-        ensures { self.new ≡ rescheduled self.old prio }
+        ensures { self.new ≡ after_resched self.old prio }
     {
         self.turns.resched(prio);
     }

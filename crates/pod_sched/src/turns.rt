@@ -1,7 +1,7 @@
 // Who is known, and whose turn it is: the scheduler but for its clock.
 ghost use Rattle.std.specs.Prelude.{[], ◌≡◌, ◌+◌, ◌<◌, ◌≤◌, ◌==◌, Some, false, length, true, IsTrue, IsOk, IfOk, OnOk, OnErr};
 ghost use Rattle.lwp_types.specs.First.{FindsBest};
-ghost use Rattle.pod_sched.specs.Schedule.{IsOrdered, admitted, blocked, choice, empty_schedule, first_of, is_blocked_in, is_eligible, is_eligible_in, knows, left, prio_in, prioritized, priority_in, rescheduled, reserved, resumed, suspended, thread_of, unblocked, with_maxpri, yielded};
+ghost use Rattle.pod_sched.specs.Schedule.{IsOrdered, after_admit, after_block, after_leave, after_resched, after_reserve, after_resume, after_set_priority, after_suspend, after_unblock, after_yield, choice, empty_schedule, first_of, is_blocked_in, is_eligible, is_eligible_in, knows, prio_in, priority_in, thread_of, with_maxpri};
 
 use crate::Known;
 use crate::bucket::{self, Bucket};
@@ -57,7 +57,7 @@ impl Model for Turns {
 }
 
 impl Turns {
-    ghost use Rattle.pod_sched.specs.Held.{back_with, out_with, requeued};
+    ghost use Rattle.pod_sched.specs.Held.{after_requeue, back_with, out_with};
 
     /// A scheduler that knows nobody yet, with priorities from 1 to `maxpri`.
     pub fn new(alloc: Global, maxpri: u32) -> Result<Turns, NoMemory>
@@ -77,7 +77,7 @@ impl Turns {
 
     /// Makes places for `n` threads in all; what is done to so many then takes no memory.
     pub fn reserve(&mut self, n: usize) -> Result<(), NoMemory>
-        ensures ok { OnOk result (self.new ≡ reserved self.old n) }
+        ensures ok { OnOk result (self.new ≡ after_reserve self.old n) }
         ensures err { OnErr result (self.new ≡ self.old) }
         ensures has_room { n ≤ self.old.places → IsOk result }
     {
@@ -102,7 +102,7 @@ impl Turns {
         requires room { length self.old.threads < self.old.places }
         requires least { 1 ≤ prio }
         requires most { prio ≤ self.old.maxpri }
-        ensures { self.new ≡ admitted self.old tid prio suspended }
+        ensures { self.new ≡ after_admit self.old tid prio suspended }
     {
         // As many slots are free as threads can still be known.
         let Some(slot) = self.slots.first(1) else {
@@ -128,7 +128,7 @@ impl Turns {
     /// Forgets a thread, and with it its place in the order.
     pub fn leave(&mut self, tid: Tid)
         requires { IsTrue (knows self.old tid) }
-        ensures { self.new ≡ left self.old tid }
+        ensures { self.new ≡ after_leave self.old tid }
     {
         let slot = index::known_slot(&self.index, tid.number);
         index::take(&mut self.index, tid.number);
@@ -139,7 +139,7 @@ impl Turns {
     /// The thread begins to wait for something.
     pub fn block(&mut self, tid: Tid)
         requires { IsTrue (knows self.old tid) }
-        ensures { self.new ≡ blocked self.old tid }
+        ensures { self.new ≡ after_block self.old tid }
     {
         let slot = index::known_slot(&self.index, tid.number);
         let row = row_at(&self.rows, slot);
@@ -154,7 +154,7 @@ impl Turns {
     /// The thread has what it waited for. It goes last, unless it is suspended.
     pub fn unblock(&mut self, tid: Tid)
         requires { IsTrue (is_blocked_in self.old tid) }
-        ensures { self.new ≡ unblocked self.old tid }
+        ensures { self.new ≡ after_unblock self.old tid }
     {
         let slot = index::known_slot(&self.index, tid.number);
         let row = row_at(&self.rows, slot);
@@ -173,7 +173,7 @@ impl Turns {
     /// The thread may not run until it is resumed, whether or not it is blocked.
     pub fn suspend(&mut self, tid: Tid)
         requires { IsTrue (knows self.old tid) }
-        ensures { self.new ≡ suspended self.old tid }
+        ensures { self.new ≡ after_suspend self.old tid }
     {
         let row = self.row(tid);
         self.put_out(
@@ -188,7 +188,7 @@ impl Turns {
     /// Ends a suspension. The thread goes last, unless it is blocked; one that isn't suspended keeps its place.
     pub fn resume(&mut self, tid: Tid)
         requires { IsTrue (knows self.old tid) }
-        ensures { self.new ≡ resumed self.old tid }
+        ensures { self.new ≡ after_resume self.old tid }
     {
         let row = self.row(tid);
         let now = Known {
@@ -208,7 +208,7 @@ impl Turns {
         requires least { 1 ≤ prio }
         requires most { prio ≤ self.old.maxpri }
         ensures before { result ≡ priority_in self.old tid }
-        ensures after { self.new ≡ prioritized self.old tid prio }
+        ensures after { self.new ≡ after_set_priority self.old tid prio }
     {
         let row = self.row(tid);
         let now = Known { prio, ..row };
@@ -226,7 +226,7 @@ impl Turns {
         requires from_may_run { IsTrue (is_eligible_in self.old from) }
         requires to_may_run { IsTrue (is_eligible_in self.old to) }
         requires same_prio { priority_in self.old from ≡ priority_in self.old to }
-        ensures { self.new ≡ yielded self.old from to }
+        ensures { self.new ≡ after_yield self.old from to }
     {
         if from == to {
             self.requeue(from);
@@ -239,7 +239,7 @@ impl Turns {
 
     /// The first of this priority goes last. Where there is none, nothing happens.
     pub fn resched(&mut self, prio: u32)
-        ensures { self.new ≡ rescheduled self.old prio }
+        ensures { self.new ≡ after_resched self.old prio }
     {
         if let Some(tid) = self.first_of(prio) {
             let row = self.row(tid);
@@ -392,7 +392,7 @@ impl Turns {
     // A thread that may run goes last, with the row that it has.
     fn requeue(&mut self, tid: Tid)
         requires { IsTrue (is_eligible_in self.old tid) }
-        ensures { self.new ≡ requeued self.old tid }
+        ensures { self.new ≡ after_requeue self.old tid }
     {
         let slot = index::known_slot(&self.index, tid.number);
         let prio = row_at(&self.rows, slot).prio;

@@ -1,6 +1,6 @@
 -- What the end of a walk comes to.
 use Rattle.event_gate.specs.Port.{of}
-use Rattle.event_gate.specs.Shelves.{event_of, first_left, stocked}
+use Rattle.event_gate.specs.Shelves.{event_of, first_left, full_shelves}
 use Rattle.lwp_types.specs.Choice.{choice}
 use Rattle.lwp_types.specs.State.{State}
 use Rattle.lwp_types.specs.declared.call.Line.{Line}
@@ -109,23 +109,23 @@ module _ {B : Type 0} (asked : Asked B) (fit : IsFit asked) (at : Reach) (is : I
       by_test true is h = (eqb-true (event_of asked.clients c) e is, mapped (next_of c at.left) h)
       by_test false is h = absurd (cc)
 
-  event-wanted : (e : ℕ) → e < 256 → is_some (take_of asked at e) ≡ can_take state (stocked asked.clients at.left) e
+  event-wanted : (e : ℕ) → e < 256 → is_some (take_of asked at e) ≡ can_take state (full_shelves asked.clients at.left) e
   event-wanted e high = by_armed (is_takeable state e)
     where
-      inner : is_some (first_given (take_by asked state.state.now at.left e) (range_with_len 0 (length asked.clients))) ≡ is_some (first_left (stocked asked.clients at.left) e)
+      inner : is_some (first_given (take_by asked state.state.now at.left e) (range_with_len 0 (length asked.clients))) ≡ is_some (first_left (full_shelves asked.clients at.left) e)
       inner = bool-same _ _
           (λ h. let w = given-some-at (take_by asked state.state.now at.left e) (range_with_len 0 (length asked.clients)) h in let x = some-take e w.0 w.1 in
           ap is_some (first-for asked.clients e at.left high) ∙ client-some asked.clients e at.left w.0 x.0 x.1)
           (λ h. let w = some-client asked.clients e at.left (ap is_some (sym (first-for asked.clients e at.left high)) ∙ h) in
           given-at (take_by asked state.state.now at.left e) 0 (length asked.clients) w.0 (omega arith) (omega (arith, left-client w.0 w.2)) (take-some e w.0 w.1 w.2))
 
-      by_armed : (b : Bool) → is_some (if b then first_given (take_by asked state.state.now at.left e) (range_with_len 0 (length asked.clients)) else None) ≡ (b && is_some (first_left (stocked asked.clients at.left) e))
+      by_armed : (b : Bool) → is_some (if b then first_given (take_by asked state.state.now at.left e) (range_with_len 0 (length asked.clients)) else None) ≡ (b && is_some (first_left (full_shelves asked.clients at.left) e))
       by_armed true = inner
       by_armed false = refl
 
-  pub lowest-wanted : is_some (lowest_take asked at) ≡ is_wanted state (stocked asked.clients at.left)
+  pub lowest-wanted : is_some (lowest_take asked at) ≡ is_wanted state (full_shelves asked.clients at.left)
   unfolding events
-  lowest-wanted = given-any (take_of asked at) (λ e. can_take state (stocked asked.clients at.left) e) 0 32 (λ e low under. event-wanted e (omega (arith, under)))
+  lowest-wanted = given-any (take_of asked at) (λ e. can_take state (full_shelves asked.clients at.left) e) 0 32 (λ e low under. event-wanted e (omega (arith, under)))
 
 -- ---- how many are left
 
@@ -198,7 +198,7 @@ module _ {B : Type 0} (asked : Asked B) (bytes : List ℕ) (fit : IsFit asked) (
   walk-over h is stuck v says = by_verdict v says
     where
       halted : halt_at asked at_here ≡ Some h
-      halted = over-phase (session_of asked.setting p).live.pod.state asked.turns p.calls h (is_wanted (session_of asked.setting p).live.pod (stocked asked.clients here.left)) is
+      halted = over-phase (session_of asked.setting p).live.pod.state asked.turns p.calls h (is_wanted (session_of asked.setting p).live.pod (full_shelves asked.clients here.left)) is
           (λ e. sym (lowest-wanted asked fit at_here here.reached) ∙ ap is_some (sym (lowest-same asked p lines here.left here.same_clients here.kept) ∙ stuck e))
 
       counts : counts_in lines ≡ counts_from 0 asked.clients here.left
@@ -260,8 +260,8 @@ module _ {B : Type 0} (asked : Asked B) (bytes : List ℕ) (fit : IsFit asked) (
       let pod = (session_of asked.setting p).live.pod in
       let w = idle-none s asked.turns p.calls idle in
       let low : lowest_take asked at_here ≡ Some line = sym (lowest-same asked p lines here.left here.same_clients here.kept) ∙ lowest in
-      let wanted : is_wanted pod (stocked asked.clients here.left) ≡ true = sym (lowest-wanted asked fit at_here here.reached) ∙ ap is_some low in
-      walk-missing line lowest (over-idle s.ended (choice s) (is_wanted pod (stocked asked.clients here.left)) s.status asked.turns p.calls w.0 w.1 wanted) (rw w.1 (ap (λ o. unwrap_or o (call_lines asked at_here)) low))
+      let wanted : is_wanted pod (full_shelves asked.clients here.left) ≡ true = sym (lowest-wanted asked fit at_here here.reached) ∙ ap is_some low in
+      walk-missing line lowest (over-idle s.ended (choice s) (is_wanted pod (full_shelves asked.clients here.left)) s.status asked.turns p.calls w.0 w.1 wanted) (rw w.1 (ap (λ o. unwrap_or o (call_lines asked at_here)) low))
       (λ due room agree. idle-call s w.1 due) v says
     where
       idle-call : (s : State) → choice s ≡ None → IsTrue (not s.ended && is_some (choice s)) → ⊥
@@ -274,6 +274,6 @@ module _ {B : Type 0} (asked : Asked B) (bytes : List ℕ) (fit : IsFit asked) (
       let s = (session_of asked.setting p).live.pod.state in
       let pod = (session_of asked.setting p).live.pod in
       let low : lowest_take asked at_here ≡ Some line = sym (lowest-same asked p lines here.left here.same_clients here.kept) ∙ lowest in
-      walk-missing line lowest (over-turn s asked.turns p.calls (is_wanted pod (stocked asked.clients here.left)) w.0)
+      walk-missing line lowest (over-turn s asked.turns p.calls (is_wanted pod (full_shelves asked.clients here.left)) w.0)
       (rw (chosen-turn s asked.turns p.calls w.0, w.1) (ap (λ o. unwrap_or o (call_lines asked at_here)) low))
       (λ due room agree. call-head due w.1 agree) v says

@@ -12,7 +12,7 @@ use Rattle.replay.proofs.Moves.{IsAt-moved, lines_on, told-gone, told-moved}
 use Rattle.replay.specs.Asked.{Asked, IsReached, Reach, end_by, halt_at, text_at, told_at}
 use Rattle.replay.specs.Recorded.{Agree, behind_lines, closes, first_lines, is_ended, line_count, next_line}
 use Rattle.replay.specs.Verdict.{IsBegun, IsFollowed, IsMost, IsOther, next_lines, or_else, want_at, want_between}
-use Rattle.replay.specs.Walk.{Due, DueAll, Forced, IsAt, IsFit, IsLast, IsNext, Moment, Move, Reaches, Speaks, Stands, gone, moment, move_lines, moved, session_of, told_until, took_at}
+use Rattle.replay.specs.Walk.{Due, DueAll, Forced, IsAt, IsFit, IsLast, IsNext, Moment, Move, Reaches, Speaks, Stands, after_move, after_moves, moment, move_lines, session_of, told_until, took_at}
 use Rattle.trace_text.specs.declared.ends.Halt.{Halt}
 use Rattle.std.specs.Prelude.{Option}
 use Rattle.std.proofs.Common.{List, None, Some, [], ap, append_assoc, append-nil, arith, inl, inr, length, length-append, refl, subst, sym, take, true, ℕ, ◌++◌, ◌+◌, ◌<◌, ◌∙◌, ◌∷◌, ◌≡◌, ◌≤◌, ◌⊎◌}
@@ -26,12 +26,12 @@ but-last-push xs x = ap (λ n. take n (xs ++ x ∷ [])) (omega (arith, length-ap
     take-length (y ∷ xs) ys = ap (λ l. y ∷ l) (take-length xs ys)
 
 -- one step more
-steps-moved : {B : Type 0} (asked : Asked B) (p : Moment) (m : Move) → IsAt asked.setting p → (made : Made) × ((session_of asked.setting (moved p m)).steps ≡ (session_of asked.setting p).steps ++ made ∷ [])
+steps-moved : {B : Type 0} (asked : Asked B) (p : Moment) (m : Move) → IsAt asked.setting p → (made : Made) × ((session_of asked.setting (after_move p m)).steps ≡ (session_of asked.setting p).steps ++ made ∷ [])
 steps-moved {B} asked p None made = (_, ap (λ (s : Session B). s.steps) (play-call asked.setting p.takes p.calls (LastBy-of asked.setting p.takes p.calls made)))
 steps-moved {B} asked p (Some t) made = (_, ap (λ (s : Session B). s.steps) (play-take asked.setting (took_at p t) p.takes p.calls refl))
 
 -- its first line is among those told
-pub last-moved : {B : Type 0} (asked : Asked B) (p : Moment) (m : Move) → IsAt asked.setting p → (n : ℕ) → line_count (told_until asked.setting asked.procs p) < n → IsLast asked (moved p m) n
+pub last-moved : {B : Type 0} (asked : Asked B) (p : Moment) (m : Move) → IsAt asked.setting p → (n : ℕ) → line_count (told_until asked.setting asked.procs p) < n → IsLast asked (after_move p m) n
 last-moved asked p m made n low =
     let w = steps-moved asked p m made in
     inr (omega (arith, low, ap (λ l. line_count (lines asked.procs (but_last l))) w.1, ap (λ l. line_count (lines asked.procs l)) (but-last-push (session_of asked.setting p).steps w.0)))
@@ -121,11 +121,11 @@ module _ {B : Type 0} (asked : Asked B) (bytes : List ℕ) (fit : IsFit asked) (
         step-one None due = call-one asked bytes speaks p here.made due
         step-one (Some t) due = take-one asked bytes p t here.made due
 
-        by_moves : (ms : List Move) → DueAll asked.setting p ms → gone p ms ≡ moment asked at → ((moment asked at ≡ p) × (rest ≡ end_of at)) ⊎ Agree (n + 1) bytes (text_at asked at)
+        by_moves : (ms : List Move) → DueAll asked.setting p ms → after_moves p ms ≡ moment asked at → ((moment asked at ≡ p) × (rest ≡ end_of at)) ⊎ Agree (n + 1) bytes (text_at asked at)
         by_moves [] due comes = inl (sym comes, cut (said p) rest (end_of at) (sym here.begins ∙ whole ∙ ap (λ q. said q ++ end_of at) (sym comes)))
         by_moves (m ∷ ms) due comes =
             let one = step-one m due.0 in
-            let way_told : told_at asked at ≡ said p ++ (move_lines asked.setting asked.procs p m ++ lines_on asked.setting asked.procs (moved p m) ms) =
+            let way_told : told_at asked at ≡ said p ++ (move_lines asked.setting asked.procs p m ++ lines_on asked.setting asked.procs (after_move p m) ms) =
             ap said (sym comes) ∙ told-gone asked.setting asked.procs (m ∷ ms) p here.made due in
             inr (agree-equal (n + 1) bytes (text_at asked at) whole (omega (
               arith,
@@ -134,8 +134,8 @@ module _ {B : Type 0} (asked : Asked B) (bytes : List ℕ) (fit : IsFit asked) (
               ap line_count whole,
               ap line_count way_told,
               count-append (told_at asked at) (end_of at),
-              count-append (said p) (move_lines asked.setting asked.procs p m ++ lines_on asked.setting asked.procs (moved p m) ms),
-              count-append (move_lines asked.setting asked.procs p m) (lines_on asked.setting asked.procs (moved p m) ms),
+              count-append (said p) (move_lines asked.setting asked.procs p m ++ lines_on asked.setting asked.procs (after_move p m) ms),
+              count-append (move_lines asked.setting asked.procs p m) (lines_on asked.setting asked.procs (after_move p m) ms),
             )))
 
     -- between two steps of a session that isn't over, where no recorded line is that of a next step
@@ -161,7 +161,7 @@ module _ {B : Type 0} (asked : Asked B) (bytes : List ℕ) (fit : IsFit asked) (
             (λ agree. absurd (let none : line_count (end_of to) ≡ 0 = ap (λ o. line_count (end_by asked to o)) goes_on in omega (arith, agree.there, none))) no_call no_take
 
     -- in the midst of a step, or before its end
-    pub in-step : (m : Move) → Due asked.setting p m → Forced asked bytes (n + 1) (moved p m) → (next : Reach) → IsReached asked next → moment asked next ≡ moved p m → (front more after : List ℕ)
+    pub in-step : (m : Move) → Due asked.setting p m → Forced asked bytes (n + 1) (after_move p m) → (next : Reach) → IsReached asked next → moment asked next ≡ after_move p m → (front more after : List ℕ)
         → move_lines asked.setting asked.procs p m ≡ front ++ more → rest ≡ front ++ after
         → closes true front ≡ true → 1 ≤ line_count front → 1 ≤ line_count more → (Agree 1 after more → ⊥)
         → IsOther asked bytes (n + line_count front + 1) (next_line more) (next_line after) (is_ended after) next.takes next.calls
@@ -196,11 +196,11 @@ module _ {B : Type 0} (asked : Asked B) (bytes : List ℕ) (fit : IsFit asked) (
         no_trace at reached h over whole =
             let enough : n + 1 ≤ line_count bytes = omega (arith, ap line_count start, count, count-append (said p ++ front) after, some) in
             let way = forced at reached (agree-equal (n + 1) bytes (text_at asked at) whole enough) in
-            let z = lines_on asked.setting asked.procs (moved p m) way.moves ++ end_of at in
+            let z = lines_on asked.setting asked.procs (after_move p m) way.moves ++ end_of at in
             let text : text_at asked at ≡ (said p ++ front) ++ (more ++ z) =
             ap (λ q. said q ++ end_of at) (sym way.comes)
-            ∙ ap (λ l. l ++ end_of at) (told-gone asked.setting asked.procs way.moves (moved p m) (IsAt-moved asked.setting p m here.made due) way.due)
-            ∙ append_assoc (said (moved p m)) (lines_on asked.setting asked.procs (moved p m) way.moves) (end_of at)
+            ∙ ap (λ l. l ++ end_of at) (told-gone asked.setting asked.procs way.moves (after_move p m) (IsAt-moved asked.setting p m here.made due) way.due)
+            ∙ append_assoc (said (after_move p m)) (lines_on asked.setting asked.procs (after_move p m) way.moves) (end_of at)
             ∙ ap (λ l. l ++ z) (ap said (sym moves_on) ∙ told_next)
             ∙ append_assoc (said p ++ front) more z in
             let same : after ≡ more ++ z = cut (said p ++ front) after (more ++ z) (sym start ∙ whole ∙ text) in

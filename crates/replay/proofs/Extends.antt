@@ -2,7 +2,7 @@
 use Rattle.event_gate.proofs.Lines.{cond_other, cond_same, of-append, same_or}
 use Rattle.event_gate.specs.History.{IsClientHistory, lines_of}
 use Rattle.event_gate.specs.Port.{IsNumbered, of}
-use Rattle.event_gate.specs.Shelves.{event_of, first_left, lines_for, stocked}
+use Rattle.event_gate.specs.Shelves.{event_of, first_left, full_shelves, lines_for}
 use Rattle.lwp_types.specs.Choice.{choice}
 use Rattle.lwp_types.specs.declared.call.Line.{Line}
 use Rattle.pod_events.specs.Events.{is_takeable}
@@ -141,21 +141,21 @@ module _ {B : Type 0} (asked : Asked B) (fit : IsFit asked) where
   and-parts true b h = (refl, h)
   and-parts false b h = absurd (cc)
 
-  next-take : (at : Reach) → is_wanted (session_at asked at).live.pod (stocked asked.clients at.left) ≡ true → Next at
+  next-take : (at : Reach) → is_wanted (session_at asked at).live.pod (full_shelves asked.clients at.left) ≡ true → Next at
   unfolding events
   next-take at h =
       let s = (session_at asked at).live.pod in
-      let w = any-in (λ e. can_take s (stocked asked.clients at.left) e) 0 32 h in
-      let both = and-parts (is_takeable s w.0) (is_some (first_left (stocked asked.clients at.left) w.0)) w.3 in
+      let w = any-in (λ e. can_take s (full_shelves asked.clients at.left) e) 0 32 h in
+      let both = and-parts (is_takeable s w.0) (is_some (first_left (full_shelves asked.clients at.left) w.0)) w.3 in
       let for_it : some_first (lines_for asked.clients at.left w.0) ≡ true = ap is_some (sym (first-for asked.clients w.0 at.left (omega (arith, w.2)))) ∙ both.1 in
       let who = some-client asked.clients w.0 at.left for_it in
       let line = some-line (of who.0 at.left) who.2 in
       Take who.0 w.0 line.0 who.1 line.1 both.0
 
   next-of : (at : Reach) → halt_at asked at ≡ None → Next at
-  next-of at h = by_end (session_at asked at).live.pod.state.ended (choice (session_at asked at).live.pod.state) (is_wanted (session_at asked at).live.pod (stocked asked.clients at.left)) refl refl refl h
+  next-of at h = by_end (session_at asked at).live.pod.state.ended (choice (session_at asked at).live.pod.state) (is_wanted (session_at asked at).live.pod (full_shelves asked.clients at.left)) refl refl refl h
     where
-      by_end : (b : Bool) (o : Option ℕ) (w : Bool) → (session_at asked at).live.pod.state.ended ≡ b → choice (session_at asked at).live.pod.state ≡ o → is_wanted (session_at asked at).live.pod (stocked asked.clients at.left) ≡ w
+      by_end : (b : Bool) (o : Option ℕ) (w : Bool) → (session_at asked at).live.pod.state.ended ≡ b → choice (session_at asked at).live.pod.state ≡ o → is_wanted (session_at asked at).live.pod (full_shelves asked.clients at.left) ≡ w
           → (if b then Some (Ended (session_at asked at).live.pod.state.status) else halt_if asked.turns at.calls w o) ≡ None → Next at
       by_end true o w e f g h = absurd (cc)
       by_end false None true e f g h = next-take at g

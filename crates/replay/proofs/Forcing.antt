@@ -5,14 +5,14 @@ use Rattle.event_gate.specs.Port.{of}
 use Rattle.event_gate.specs.Shelves.{event_of}
 use Rattle.lwp_types.specs.declared.call.Line.{Line}
 use Rattle.pod_runner.proofs.Plays.{IsDefined-zero}
-use Rattle.pod_runner.specs.Session.{Made, taken}
+use Rattle.pod_runner.specs.Session.{Made, take_move}
 use Rattle.pod_runner.specs.Trace.{lines, made_lines}
 use Rattle.pod_runner.specs.declared.session.Took.{Took}
 use Rattle.replay.proofs.Left.{end-same}
 use Rattle.replay.proofs.LineLaws.{agree-fewer, agree-heads, agree-peel, agree-shorter, closes-both, count-append, head-append, head_of}
 use Rattle.replay.proofs.Clock.{clock-free, takeable-small}
 use Rattle.replay.proofs.Moves.{IsAt-moved, gone-calls, gone-takes, lines_on, reached, told-gone, told-moved, told-opened}
-use Rattle.replay.specs.Walk.{Due, DueAll, Forced, IsAt, IsFit, IsNext, Moment, Move, Reaches, Speaks, Stands, count_of, first_moment, gone, moment, move_lines, moved, session_of, told_until, took_at}
+use Rattle.replay.specs.Walk.{Due, DueAll, Forced, IsAt, IsFit, IsNext, Moment, Move, Reaches, Speaks, Stands, after_move, after_moves, count_of, first_moment, moment, move_lines, session_of, told_until, took_at}
 use Rattle.replay.proofs.StepLines.{Speaking, call-lines, call-some, closes-step, end-head, one-line, take-client, take-first, take-tells, tells-head, tells-same}
 use Rattle.replay.specs.Asked.{Asked, IsReached, Reach, counts_from, end_by, halt_at, pairs_of, text_at, told_at}
 use Rattle.replay.specs.Recorded.{Agree, closes, line_count}
@@ -101,9 +101,9 @@ module _ {B : Type 0} (asked : Asked B) (bytes : List ℕ) where
   pub data Goes (p : Moment) (rest : List ℕ) (at : Reach) : Type 0 where
     Stays : p ≡ moment asked at → Agree 1 rest (end_of at) → Goes p rest at
     Calls : Due asked.setting p None → p.calls + 1 ≤ asked.turns → (more : List ℕ) → Agree 1 rest (move_lines asked.setting asked.procs p None ++ more)
-        → Reaches asked.setting (moved p None) (moment asked at) → Goes p rest at
+        → Reaches asked.setting (after_move p None) (moment asked at) → Goes p rest at
     Takes : (t : ℕ × Line) → Due asked.setting p (Some t) → IsNext asked p t → (more : List ℕ) → Agree 1 rest (move_lines asked.setting asked.procs p (Some t) ++ more)
-        → Reaches asked.setting (moved p (Some t)) (moment asked at) → Goes p rest at
+        → Reaches asked.setting (after_move p (Some t)) (moment asked at) → Goes p rest at
 
   closes-lines : (steps : List Made) → closes true (lines asked.procs steps) ≡ true
   closes-lines [] = refl
@@ -128,25 +128,25 @@ module _ {B : Type 0} (asked : Asked B) (bytes : List ℕ) where
       way : Reaches asked.setting p (moment asked at)
       way = here.forced at is (agree-fewer n (n + 1) bytes (text_at asked at) (omega arith) agree)
 
-      by_moves : (ms : List Move) → DueAll asked.setting p ms → gone p ms ≡ moment asked at → Goes p rest at
+      by_moves : (ms : List Move) → DueAll asked.setting p ms → after_moves p ms ≡ moment asked at → Goes p rest at
       by_moves [] due comes = Stays comes (next-line p rest (end_of at) n at here agree (ap (λ q. told_until asked.setting asked.procs q ++ end_of at) (sym comes)))
       by_moves (None ∷ ms) due comes =
           let way_told = told-gone asked.setting asked.procs (None ∷ ms) p here.made due in
-          let more = lines_on asked.setting asked.procs (moved p None) ms ++ end_of at in
+          let more = lines_on asked.setting asked.procs (after_move p None) ms ++ end_of at in
           let whole : text_at asked at ≡ told_until asked.setting asked.procs p ++ (move_lines asked.setting asked.procs p None ++ more) =
           ap (λ q. told_until asked.setting asked.procs q ++ end_of at) (sym comes) ∙ ap (λ l. l ++ end_of at) way_told
-          ∙ append_assoc (told_until asked.setting asked.procs p) (move_lines asked.setting asked.procs p None ++ lines_on asked.setting asked.procs (moved p None) ms) (end_of at)
-          ∙ ap (λ l. told_until asked.setting asked.procs p ++ l) (append_assoc (move_lines asked.setting asked.procs p None) (lines_on asked.setting asked.procs (moved p None) ms) (end_of at)) in
-          Calls due.0 (omega (arith, gone-calls ms (moved p None), ap (λ (q : Moment). q.calls) comes, is.room)) more (next-line p rest (move_lines asked.setting asked.procs p None ++ more) n at here agree whole)
+          ∙ append_assoc (told_until asked.setting asked.procs p) (move_lines asked.setting asked.procs p None ++ lines_on asked.setting asked.procs (after_move p None) ms) (end_of at)
+          ∙ ap (λ l. told_until asked.setting asked.procs p ++ l) (append_assoc (move_lines asked.setting asked.procs p None) (lines_on asked.setting asked.procs (after_move p None) ms) (end_of at)) in
+          Calls due.0 (omega (arith, gone-calls ms (after_move p None), ap (λ (q : Moment). q.calls) comes, is.room)) more (next-line p rest (move_lines asked.setting asked.procs p None ++ more) n at here agree whole)
           (record { moves = ms; due = due.1; comes = comes })
       by_moves (Some t ∷ ms) due comes =
           let way_told = told-gone asked.setting asked.procs (Some t ∷ ms) p here.made due in
-          let more = lines_on asked.setting asked.procs (moved p (Some t)) ms ++ end_of at in
+          let more = lines_on asked.setting asked.procs (after_move p (Some t)) ms ++ end_of at in
           let whole : text_at asked at ≡ told_until asked.setting asked.procs p ++ (move_lines asked.setting asked.procs p (Some t) ++ more) =
           ap (λ q. told_until asked.setting asked.procs q ++ end_of at) (sym comes) ∙ ap (λ l. l ++ end_of at) way_told
-          ∙ append_assoc (told_until asked.setting asked.procs p) (move_lines asked.setting asked.procs p (Some t) ++ lines_on asked.setting asked.procs (moved p (Some t)) ms) (end_of at)
-          ∙ ap (λ l. told_until asked.setting asked.procs p ++ l) (append_assoc (move_lines asked.setting asked.procs p (Some t)) (lines_on asked.setting asked.procs (moved p (Some t)) ms) (end_of at)) in
-          let later = gone-takes ms (moved p (Some t)) in
+          ∙ append_assoc (told_until asked.setting asked.procs p) (move_lines asked.setting asked.procs p (Some t) ++ lines_on asked.setting asked.procs (after_move p (Some t)) ms) (end_of at)
+          ∙ ap (λ l. told_until asked.setting asked.procs p ++ l) (append_assoc (move_lines asked.setting asked.procs p (Some t)) (lines_on asked.setting asked.procs (after_move p (Some t)) ms) (end_of at)) in
+          let later = gone-takes ms (after_move p (Some t)) in
           let takes : at.takes ≡ p.takes ++ took_at p t ∷ later.0 = sym (ap (λ (q : Moment). q.takes) comes) ∙ later.1 ∙ append_assoc p.takes (took_at p t ∷ []) later.0 in
           Takes t due.0 (next-of asked p t at.takes later.0 at.left takes is.history) more (next-line p rest (move_lines asked.setting asked.procs p (Some t) ++ more) n at here agree whole)
           (record { moves = ms; due = due.1; comes = comes })
@@ -162,7 +162,7 @@ module _ {B : Type 0} (asked : Asked B) (bytes : List ℕ) where
   told_line p t = ended_line (take_text (now_of p) t.0 t.1)
 
   pub take-told : (p : Moment) (t : ℕ × Line) → IsAt asked.setting p → Due asked.setting p (Some t) → (rest : List ℕ) × (move_lines asked.setting asked.procs p (Some t) ≡ told_line p t ++ rest)
-  unfolding taken
+  unfolding take_move
   take-told p t made due =
       let w = take-first (session_of asked.setting p).live.pod t.0 t.1.text (clock-free asked.setting p made) due in
       (later_lines asked.procs w.rest, ap (step_lines asked.procs (Some t.1)) w.are ∙ ap (λ l. ended_line l ++ later_lines asked.procs w.rest) (w.line asked.procs t.1))
@@ -230,13 +230,13 @@ module _ {B : Type 0} (asked : Asked B) (bytes : List ℕ) where
 
   module _ (fit : IsFit asked) (speaks : Speaks asked) (n : ℕ) (p : Moment) (rest : List ℕ) (here : Stands asked bytes n p rest) where
     -- the recorded line is that of a take of a client's next line: so each such session makes this take
-    pub forced-take : (t : ℕ × Line) → IsNext asked p t → (x : List ℕ) → Agree 1 rest (told_line p t ++ x) → Forced asked bytes (n + 1) (moved p (Some t))
+    pub forced-take : (t : ℕ × Line) → IsNext asked p t → (x : List ℕ) → Agree 1 rest (told_line p t ++ x) → Forced asked bytes (n + 1) (after_move p (Some t))
     forced-take t next x first at is agree = by_case (goes n p rest at here is agree)
       where
         head : tells_take rest ≡ true
         head = takes-rest p rest x t first
 
-        by_case : Goes p rest at → Reaches asked.setting (moved p (Some t)) (moment asked at)
+        by_case : Goes p rest at → Reaches asked.setting (after_move p (Some t)) (moment asked at)
         by_case (Stays same tail) = absurd (no-end rest (ends-rest rest at tail) head)
         by_case (Calls due room more line way) = absurd (no-call rest (tells-rest speaks p rest more here.made due line) head)
         by_case (Takes u due other more line way) =
@@ -246,16 +246,16 @@ module _ {B : Type 0} (asked : Asked B) (bytes : List ℕ) where
             (next-poster asked fit p t next) (next-poster asked fit p u other)
             (λ is. omega (arith, takeable-small (session_of asked.setting p).live.pod (clock-free asked.setting p here.made) (subst (λ e. Due asked.setting p (Some (e, u.1))) is due)))
             (sym first.same ∙ w.1.same) in
-            subst (λ v. Reaches asked.setting (moved p (Some v)) (moment asked at)) (sym (next-same asked p t u next other client)) way
+            subst (λ v. Reaches asked.setting (after_move p (Some v)) (moment asked at)) (sym (next-same asked p t u next other client)) way
 
     -- it is the first line of the next call: so each makes this call
-    pub forced-call : Due asked.setting p None → (x : List ℕ) → Agree 1 rest (move_lines asked.setting asked.procs p None ++ x) → Forced asked bytes (n + 1) (moved p None)
+    pub forced-call : Due asked.setting p None → (x : List ℕ) → Agree 1 rest (move_lines asked.setting asked.procs p None ++ x) → Forced asked bytes (n + 1) (after_move p None)
     forced-call may x first at is agree = by_case (goes n p rest at here is agree)
       where
         tells : Speaking rest
         tells = tells-rest speaks p rest x here.made may first
 
-        by_case : Goes p rest at → Reaches asked.setting (moved p None) (moment asked at)
+        by_case : Goes p rest at → Reaches asked.setting (after_move p None) (moment asked at)
         by_case (Stays same tail) = absurd (no-both rest tells (ends-rest rest at tail))
         by_case (Calls due room more line way) = way
         by_case (Takes u due other more line way) = let w = take-line p rest more u here.made due line in absurd (no-call rest tells (takes-rest p rest w.0 u w.1))
@@ -276,8 +276,8 @@ module _ {B : Type 0} (asked : Asked B) (bytes : List ℕ) where
             no_take u due other (agree-shorter 1 rest (told_line p u) w.0 (subst (λ l. 1 ≤ line_count l) (append-nil (told_line p u)) (one-line (take_text (now_of p) u.0 u.1) [])) w.1)
 
     -- the whole of a step was recorded
-    pub stands-on : (m : Move) → Due asked.setting p m → Forced asked bytes (n + 1) (moved p m) → (after : List ℕ) → rest ≡ move_lines asked.setting asked.procs p m ++ after → 1 ≤ line_count (move_lines asked.setting asked.procs p m)
-        → Stands asked bytes (n + line_count (move_lines asked.setting asked.procs p m)) (moved p m) after
+    pub stands-on : (m : Move) → Due asked.setting p m → Forced asked bytes (n + 1) (after_move p m) → (after : List ℕ) → rest ≡ move_lines asked.setting asked.procs p m ++ after → 1 ≤ line_count (move_lines asked.setting asked.procs p m)
+        → Stands asked bytes (n + line_count (move_lines asked.setting asked.procs p m)) (after_move p m) after
     stands-on m due forced after is some = record {
       made = IsAt-moved asked.setting p m here.made due;
       begins = here.begins ∙ ap (λ l. told_until asked.setting asked.procs p ++ l) is ∙ sym (append_assoc (told_until asked.setting asked.procs p) (move_lines asked.setting asked.procs p m) after)
@@ -285,21 +285,21 @@ module _ {B : Type 0} (asked : Asked B) (bytes : List ℕ) where
       count = ap (λ k. k + line_count (move_lines asked.setting asked.procs p m)) here.count
           ∙ sym (count-append (told_until asked.setting asked.procs p) (move_lines asked.setting asked.procs p m))
           ∙ ap line_count (sym (told-moved asked.setting asked.procs p m here.made));
-      forced = forced-more (n + line_count (move_lines asked.setting asked.procs p m)) (n + 1) (moved p m) (omega (arith, some)) forced;
+      forced = forced-more (n + line_count (move_lines asked.setting asked.procs p m)) (n + 1) (after_move p m) (omega (arith, some)) forced;
     }
 
     -- only the first lines of a step were recorded, and no session goes on behind them
-    pub none-in-step : (m : Move) → Due asked.setting p m → Forced asked bytes (n + 1) (moved p m) → (front more after : List ℕ) → move_lines asked.setting asked.procs p m ≡ front ++ more → rest ≡ front ++ after
+    pub none-in-step : (m : Move) → Due asked.setting p m → Forced asked bytes (n + 1) (after_move p m) → (front more after : List ℕ) → move_lines asked.setting asked.procs p m ≡ front ++ more → rest ≡ front ++ after
         → closes true front ≡ true → 1 ≤ line_count front → 1 ≤ line_count more → (Agree 1 after more → ⊥)
         → (at : Reach) → IsReached asked at → Agree (n + line_count front + 1) bytes (text_at asked at) → ⊥
     none-in-step m due forced front more after split is closed some goes_on differs at reached agree =
         let way = forced at reached (agree-fewer (n + 1) (n + line_count front + 1) bytes (text_at asked at) (omega (arith, some)) agree) in
         let said = told_until asked.setting asked.procs p in
-        let z = lines_on asked.setting asked.procs (moved p m) way.moves ++ end_of at in
+        let z = lines_on asked.setting asked.procs (after_move p m) way.moves ++ end_of at in
         let whole : text_at asked at ≡ (said ++ front) ++ (more ++ z) =
         ap (λ q. told_until asked.setting asked.procs q ++ end_of at) (sym way.comes)
-        ∙ ap (λ l. l ++ end_of at) (told-gone asked.setting asked.procs way.moves (moved p m) (IsAt-moved asked.setting p m here.made due) way.due)
-        ∙ append_assoc (told_until asked.setting asked.procs (moved p m)) (lines_on asked.setting asked.procs (moved p m) way.moves) (end_of at)
+        ∙ ap (λ l. l ++ end_of at) (told-gone asked.setting asked.procs way.moves (after_move p m) (IsAt-moved asked.setting p m here.made due) way.due)
+        ∙ append_assoc (told_until asked.setting asked.procs (after_move p m)) (lines_on asked.setting asked.procs (after_move p m) way.moves) (end_of at)
         ∙ ap (λ l. l ++ z) (told-moved asked.setting asked.procs p m here.made ∙ ap (λ l. said ++ l) split ∙ sym (append_assoc said front more))
         ∙ append_assoc (said ++ front) more z in
         let start : bytes ≡ (said ++ front) ++ after = here.begins ∙ ap (λ l. said ++ l) is ∙ sym (append_assoc said front after) in

@@ -2,7 +2,7 @@
 use Rattle.event_gate.proofs.Lines.{cond_same}
 use Rattle.event_gate.specs.History.{IsClientHistory, lines_of}
 use Rattle.event_gate.specs.Port.{of}
-use Rattle.event_gate.specs.Shelves.{bare, event_of, first_left, full, lines_for, stocked}
+use Rattle.event_gate.specs.Shelves.{bare, event_of, first_left, full, full_shelves, lines_for}
 use Rattle.lwp_types.specs.Choice.{choice}
 use Rattle.pod_events.specs.Events.{EventState, is_takeable}
 use Rattle.lwp_types.specs.declared.call.Line.{Line}
@@ -71,21 +71,21 @@ module _ (clients : List ℕ) (e : ℕ) where
       (λ h. let w = some-client l h in client-some m w.0 w.1 (ap some_first (sym (same w.0)) ∙ w.2))
       (λ h. let w = some-client m h in client-some l w.0 w.1 (ap some_first (same w.0) ∙ w.2))
 
-  pub first-for : (l : List Line) → e < 256 → first_left (stocked clients l) e ≡ slice_get (lines_for clients l e) 0
+  pub first-for : (l : List Line) → e < 256 → first_left (full_shelves clients l) e ≡ slice_get (lines_for clients l e) 0
   first-for l low = ap (λ shelf. slice_get shelf.left 0) (get_or-map-range_with_len (full clients l) 0 256 e e bare low (omega arith))
 
-wanted-same : (s : EventState) (clients : List ℕ) (l m : List Line) → SameLeft l m → is_wanted s (stocked clients l) ≡ is_wanted s (stocked clients m)
+wanted-same : (s : EventState) (clients : List ℕ) (l m : List Line) → SameLeft l m → is_wanted s (full_shelves clients l) ≡ is_wanted s (full_shelves clients m)
 unfolding events
 wanted-same s clients l m same = by 0 32 (omega arith)
   where
-    one : (e : ℕ) → e < 256 → can_take s (stocked clients l) e ≡ can_take s (stocked clients m) e
+    one : (e : ℕ) → e < 256 → can_take s (full_shelves clients l) e ≡ can_take s (full_shelves clients m) e
     one e low = ap (λ o. is_takeable s e && is_some o) (first-for clients e l low) ∙ ap (λ b. is_takeable s e && b) (for-same clients e l m same) ∙ sym (ap (λ o. is_takeable s e && is_some o) (first-for clients e m low))
 
-    by : (a n : ℕ) → a + n ≤ 256 → list_any (λ e. can_take s (stocked clients l) e) (range_with_len a n) ≡ list_any (λ e. can_take s (stocked clients m) e) (range_with_len a n)
+    by : (a n : ℕ) → a + n ≤ 256 → list_any (λ e. can_take s (full_shelves clients l) e) (range_with_len a n) ≡ list_any (λ e. can_take s (full_shelves clients m) e) (range_with_len a n)
     by a zero low = refl
     by a (suc n) low = rw (one a (omega (arith, low)), by (a + 1) n (omega (arith, low))) refl
 
-over-same : (turns : ℕ) (s : EventState) (calls : ℕ) (clients : List ℕ) (l m : List Line) → SameLeft l m → over turns s calls (stocked clients l) ≡ over turns s calls (stocked clients m)
+over-same : (turns : ℕ) (s : EventState) (calls : ℕ) (clients : List ℕ) (l m : List Line) → SameLeft l m → over turns s calls (full_shelves clients l) ≡ over turns s calls (full_shelves clients m)
 over-same turns s calls clients l m same = ap (λ w. if s.state.ended then Some (Ended s.state.status) else halt_if turns calls w (choice s.state)) (wanted-same s clients l m same)
 
 module _ {B : Type 0} (asked : Asked B) where

@@ -1,37 +1,37 @@
 -- Every thread has its body: so whoever is chosen speaks.
-use Rattle.lwp_types.specs.Agents.{armed, deliver, make_agent}
-use Rattle.lwp_types.specs.Case.{Case, Check, refused, unless}
+use Rattle.lwp_types.specs.Agents.{deliver, is_event_armed, make_agent}
+use Rattle.lwp_types.specs.Case.{Case, Check, refusal_case, unless}
 use Rattle.lwp_types.specs.Choice.{choice}
 use Rattle.lwp_types.specs.CountLaws.{count-cons, one}
 use Rattle.lwp_types.specs.Lawful.{Lawful}
 use Rattle.lwp_types.specs.Names.{polled_as}
 use Rattle.lwp_types.specs.Poll.{Polled}
 use Rattle.lwp_types.specs.State.{State, all_below, is_agent, is_number, is_thread, numbers, opening_thread, passes, ThreadRow}
-use Rattle.lwp_types.specs.Step.{end_effects, finished, step, step_by, step_if}
-use Rattle.lwp_types.specs.Threads.{create, created}
+use Rattle.lwp_types.specs.Step.{end_effects, step, step_by, step_if, step_outcome}
+use Rattle.lwp_types.specs.Threads.{after_create, create}
 use Rattle.lwp_types.specs.Unblock.{zero_answer}
 use Rattle.lwp_types.specs.declared.call.Call.{Call}
 use Rattle.lwp_types.specs.declared.call.Effect.{Effect}
 use Rattle.lwp_types.specs.declared.call.Flags.{Flags}
 use Rattle.lwp_types.specs.declared.call.LwpErr.{LwpErr}
-use Rattle.pod_events.specs.Events.{EventState, is_takeable, is_trapped, passed_on, rites_event, take_event, trap_taken}
-use Rattle.pod_events.specs.Rites.{as_rites, first_reported, report_text, reports_after, rites_said}
+use Rattle.pod_events.specs.Events.{EventState, after_pass_on, after_take_trap, is_takeable, is_trapped, rites_event, take_event}
+use Rattle.pod_events.specs.Rites.{after_first_report, as_rites, report_text, reports_after, rites_said}
 use Rattle.pod_events.specs.Step.{event_step, event_step_by, event_step_if}
-use Rattle.pod_events.specs.Traps.{agent_event_of, but_call, called, is_catch, is_given, made, made_as, notice, refused_by, stepped, trap_made, trap_of, trap_refusal}
+use Rattle.pod_events.specs.Traps.{after_call, after_call_as, after_machine_step, after_trap, after_trap_and_call, agent_event_of, but_call, is_catch, is_given, notice, refused_by, trap_of, trap_refusal}
 use Rattle.pod_laws.proofs.Chosen.{chosen}
 use Rattle.pod_laws.proofs.Fading.{Fades, deliver_fades, fades_still, fades_then, step_fades}
 use Rattle.pod_laws.proofs.Opening.{Lawful-opening}
 use Rattle.pod_laws.specs.Forgotten.{IsGone, is_died}
 use Rattle.pod_runner.proofs.Plays.{IsDefined-zero, play-zero}
 use Rattle.pod_runner.specs.Session as Sessions
-use Rattle.pod_runner.specs.Session.{Live, Session, Setting, answered as answered_row, move, move_by, move_row, polled, proc_of, row_of, row_opened, rows_born, settled, settled_by, taken, thread_in, with_row, without_row}
+use Rattle.pod_runner.specs.Session.{Live, Session, Setting, after_answer as answered_row, after_poll, after_settle, after_settle_by, move, move_by, move_row, proc_of, row_of, row_opened, rows_born, take_move, thread_in, with_row, without_row}
 use Rattle.pod_runner.specs.declared.session.Row.{Row}
 use Rattle.pod_runner.specs.declared.session.Took.{Took}
 use Rattle.replay.proofs.Clock.{live-call, live-take}
 use Rattle.replay.proofs.Moves.{IsAt-moved, reached}
 use Rattle.replay.proofs.StepLines.{FirstSpoken, event-first}
 use Rattle.replay.specs.Asked.{Asked}
-use Rattle.replay.specs.Walk.{DueAll, IsAt, IsPeopled, Moment, Move, Speaks, first_moment, gone, moved, session_of, took_at}
+use Rattle.replay.specs.Walk.{DueAll, IsAt, IsPeopled, Moment, Move, Speaks, after_move, after_moves, first_moment, session_of, took_at}
 use Rattle.session_laws.proofs.Numbering.{deliveries_bear_none, deliveries_keep_procs, steps_bear_none, steps_keep_procs}
 use Rattle.session_laws.proofs.Pods.{call_moved, take_moved}
 use Rattle.session_laws.specs.Numbers.{bears}
@@ -76,12 +76,12 @@ abbrev Passes : List Check → Type 0
 Passes [] = Unit {0}
 Passes (check ∷ checks) = (check.0 ≡ false) × Passes checks
 
-unless_case : (P : Case → Type 0) (s : State) (checks : List Check) (otherwise : Case) → ((e : LwpErr) → P (refused s e)) → (Passes checks → P otherwise) → P (unless s checks otherwise)
+unless_case : (P : Case → Type 0) (s : State) (checks : List Check) (otherwise : Case) → ((e : LwpErr) → P (refusal_case s e)) → (Passes checks → P otherwise) → P (unless s checks otherwise)
 unfolding unless
 unless_case P s [] otherwise refuses fine = fine tt
 unless_case P s (check ∷ checks) otherwise refuses fine = by_test check.0 refl (λ here. unless_case P s checks otherwise refuses (λ rest. fine (here, rest)))
   where
-    by_test : (b : Bool) → check.0 ≡ b → (check.0 ≡ false → P (unless s checks otherwise)) → P (cond b (refused s check.1) (unless s checks otherwise))
+    by_test : (b : Bool) → check.0 ≡ b → (check.0 ≡ false → P (unless s checks otherwise)) → P (cond b (refusal_case s check.1) (unless s checks otherwise))
     by_test true e rest = refuses check.1
     by_test false e rest = rest e
 
@@ -90,16 +90,16 @@ step-bears : (s : State) (t : ℕ) (c : Call) (u : ℕ) → choice s ≡ Some t 
 unfolding step step_by
 step-bears s t c u turn absent high low lives = by_kind c (bears c) refl low lives
   where
-    by_create : (number prio : ℕ) (flags : Flags) → u < (create s number prio flags).after.births → Bears s t (call.Create number prio flags) u (finished t (call.Create number prio flags) (create s number prio flags)).effects
-    by_create number prio flags = unless_case (λ (made : Case). u < made.after.births → Bears s t (call.Create number prio flags) u (finished t (call.Create number prio flags) made).effects) s _ _
+    by_create : (number prio : ℕ) (flags : Flags) → u < (create s number prio flags).after.births → Bears s t (call.Create number prio flags) u (step_outcome t (call.Create number prio flags) (create s number prio flags)).effects
+    by_create number prio flags = unless_case (λ (made : Case). u < made.after.births → Bears s t (call.Create number prio flags) u (step_outcome t (call.Create number prio flags) made).effects) s _ _
         (λ e low. absurd (omega (arith, high, low)))
         (λ passed low. record {
           number = number;
           is = refl;
           low = leb-false s.procs number passed.0;
           before = effect.Called t (call.Create number prio flags) ∷ [];
-          rest = end_effects (created s prio flags);
-          told = ap (λ n. effect.Called t (call.Create number prio flags) ∷ effect.Answered t (answer.Thread n) ∷ end_effects (created s prio flags)) (omega (arith, high, low));
+          rest = end_effects (after_create s prio flags);
+          told = ap (λ n. effect.Called t (call.Create number prio flags) ∷ effect.Answered t (answer.Thread n) ∷ end_effects (after_create s prio flags)) (omega (arith, high, low));
         })
 
     by_agent : (e : ℕ) → is_thread (make_agent s t e).after u ≡ true → ⊥
@@ -121,18 +121,18 @@ module _ (s : State) (t : ℕ) (u : ℕ) (turn : choice s ≡ Some t) (absent : 
   same-bears : (c : Call) (es : List Effect) → BearsIf s t c u s es
   same-bears c es low lives = absurd (omega (arith, high, low))
 
-  made-bears : (trapped : List Bool) (c : Call) → BearsIf s t c u (made s trapped t c).state (made s trapped t c).effects
+  made-bears : (trapped : List Bool) (c : Call) → BearsIf s t c u (after_call s trapped t c).state (after_call s trapped t c).effects
   made-bears trapped c = by_trap (trap_of c)
     where
-      by_refusal : (e : ℕ) (o : Option LwpErr) → BearsIf s t c u (trap_made s trapped t c e o).state (trap_made s trapped t c e o).effects
-      by_refusal e None = same-bears c (trap_made s trapped t c e None).effects
-      by_refusal e (Some why) = same-bears c (trap_made s trapped t c e (Some why)).effects
+      by_refusal : (e : ℕ) (o : Option LwpErr) → BearsIf s t c u (after_trap s trapped t c e o).state (after_trap s trapped t c e o).effects
+      by_refusal e None = same-bears c (after_trap s trapped t c e None).effects
+      by_refusal e (Some why) = same-bears c (after_trap s trapped t c e (Some why)).effects
 
-      by_agent : (b : Bool) → BearsIf s t c u (cond b (refused_by s trapped t c error.InUse) (stepped trapped (step s c))).state (cond b (refused_by s trapped t c error.InUse) (stepped trapped (step s c))).effects
+      by_agent : (b : Bool) → BearsIf s t c u (cond b (refused_by s trapped t c error.InUse) (after_machine_step trapped (step s c))).state (cond b (refused_by s trapped t c error.InUse) (after_machine_step trapped (step s c))).effects
       by_agent true = same-bears c (refused_by s trapped t c error.InUse).effects
       by_agent false = λ low lives. step-bears s t c u turn absent high low lives
 
-      by_trap : (o : Option ℕ) → BearsIf s t c u (made_as s trapped t c o).state (made_as s trapped t c o).effects
+      by_trap : (o : Option ℕ) → BearsIf s t c u (after_call_as s trapped t c o).state (after_call_as s trapped t c o).effects
       by_trap None = by_agent (passes (is_trapped trapped) (agent_event_of c))
       by_trap (Some e) = by_refusal e (trap_refusal s trapped e)
 
@@ -150,20 +150,20 @@ module _ (s : State) (t : ℕ) (u : ℕ) (turn : choice s ≡ Some t) (absent : 
     told = ap (λ l. effect.Trapped t e ∷ l) w.told;
   }
 
-  called-bears : (trapped : List Bool) (c : Call) (pending : Option ℕ) → BearsIf s t c u (called s trapped t c pending).state (called s trapped t c pending).effects
+  called-bears : (trapped : List Bool) (c : Call) (pending : Option ℕ) → BearsIf s t c u (after_trap_and_call s trapped t c pending).state (after_trap_and_call s trapped t c pending).effects
   called-bears trapped c None = made-bears trapped c
   called-bears trapped c (Some e) = by_given (passes is_given (notice s t e)) (passes is_catch (notice s t e))
     where
       by_given : (b d : Bool) → BearsIf s t c u
-          (cond b (made s trapped t c) (cond d (stepped trapped (but_call (step s (call.ExcNotify e)))) (stepped trapped (but_call (step s (call.Destroy t)))))).state
-          (effect.Trapped t e ∷ (cond b (made s trapped t c) (cond d (stepped trapped (but_call (step s (call.ExcNotify e)))) (stepped trapped (but_call (step s (call.Destroy t)))))).effects)
-      by_given true d = behind c (made s trapped t c).state (made s trapped t c).effects e (made-bears trapped c)
+          (cond b (after_call s trapped t c) (cond d (after_machine_step trapped (but_call (step s (call.ExcNotify e)))) (after_machine_step trapped (but_call (step s (call.Destroy t)))))).state
+          (effect.Trapped t e ∷ (cond b (after_call s trapped t c) (cond d (after_machine_step trapped (but_call (step s (call.ExcNotify e)))) (after_machine_step trapped (but_call (step s (call.Destroy t)))))).effects)
+      by_given true d = behind c (after_call s trapped t c).state (after_call s trapped t c).effects e (made-bears trapped c)
       by_given false true = unborn c (call.ExcNotify e) _ refl
       by_given false false = unborn c (call.Destroy t) _ refl
 
   -- and with the report behind it
   said-bears : (c : Call) (after : State) (es : List Effect) (reports : List ℕ) → BearsIf s t c u after es → BearsIf s t c u (rites_said after es reports).state (rites_said after es reports).effects
-  said-bears c after es reports h = by_armed (armed after rites_event) reports
+  said-bears c after es reports h = by_armed (is_event_armed after rites_event) reports
     where
       lived : (b : Bool) (text : List ℕ) → is_thread after u ≡ b → u < (deliver after rites_event text).after.births → is_thread (deliver after rites_event text).after u ≡ true → is_thread after u ≡ true
       lived true text e low lives = e
@@ -171,7 +171,7 @@ module _ (s : State) (t : ℕ) (u : ℕ) (turn : choice s ≡ Some t) (absent : 
           let off = (deliver_fades u after rites_event text).threads (omega (arith, low, deliveries_bear_none after rites_event text)) e in
           let bad : true ≡ false = sym lives ∙ off in absurd (cc)
 
-      by_armed : (b : Bool) (rs : List ℕ) → BearsIf s t c u (cond b (first_reported after es rs) (record { state = after; reports = rs; effects = es })).state (cond b (first_reported after es rs) (record { state = after; reports = rs; effects = es })).effects
+      by_armed : (b : Bool) (rs : List ℕ) → BearsIf s t c u (cond b (after_first_report after es rs) (record { state = after; reports = rs; effects = es })).state (cond b (after_first_report after es rs) (record { state = after; reports = rs; effects = es })).effects
       by_armed true [] = h
       by_armed true (dead ∷ later) = λ low lives.
           let text = report_text dead in
@@ -196,7 +196,7 @@ event-bears es t c u turn absent high = by_choice (choice es.state) turn
     by_choice (Some v) e =
         let same : v ≡ t = cc in
         subst (λ w. BearsIf es.state t c u (event_step_if es c (Some w)).after.state (event_step_if es c (Some w)).effects) (sym same)
-        (let out = called es.state es.trapped t c es.pending in
+        (let out = after_trap_and_call es.state es.trapped t c es.pending in
         said-bears es.state t u turn absent high c out.state out.effects (reports_after es.state out.state es.reports out.effects) (called-bears es.state t u turn absent high es.trapped c es.pending))
 
 -- ---- whoever isn't there and was born stays away, and the number of procedures stays
@@ -217,34 +217,34 @@ keeps_deliver u s e text = record { fades = deliver_fades u s e text; procs = de
 keeps_then : (u : ℕ) (s middle after : State) → Keeps u s middle → Keeps u middle after → Keeps u s after
 keeps_then u s middle after one two = record { fades = fades_then u s middle after one.fades two.fades; procs = two.procs ∙ one.procs }
 
-keeps_made : (u : ℕ) (s : State) (trapped : List Bool) (t : ℕ) (c : Call) → Keeps u s (made s trapped t c).state
+keeps_made : (u : ℕ) (s : State) (trapped : List Bool) (t : ℕ) (c : Call) → Keeps u s (after_call s trapped t c).state
 keeps_made u s trapped t c = by_trap (trap_of c)
   where
-    by_refusal : (e : ℕ) (o : Option LwpErr) → Keeps u s (trap_made s trapped t c e o).state
+    by_refusal : (e : ℕ) (o : Option LwpErr) → Keeps u s (after_trap s trapped t c e o).state
     by_refusal e None = keeps_still u s
     by_refusal e (Some why) = keeps_still u s
 
-    by_agent : (b : Bool) → Keeps u s (cond b (refused_by s trapped t c error.InUse) (stepped trapped (step s c))).state
+    by_agent : (b : Bool) → Keeps u s (cond b (refused_by s trapped t c error.InUse) (after_machine_step trapped (step s c))).state
     by_agent true = keeps_still u s
     by_agent false = keeps_step u s c
 
-    by_trap : (o : Option ℕ) → Keeps u s (made_as s trapped t c o).state
+    by_trap : (o : Option ℕ) → Keeps u s (after_call_as s trapped t c o).state
     by_trap None = by_agent (passes (is_trapped trapped) (agent_event_of c))
     by_trap (Some e) = by_refusal e (trap_refusal s trapped e)
 
-keeps_called : (u : ℕ) (s : State) (trapped : List Bool) (t : ℕ) (c : Call) (pending : Option ℕ) → Keeps u s (called s trapped t c pending).state
+keeps_called : (u : ℕ) (s : State) (trapped : List Bool) (t : ℕ) (c : Call) (pending : Option ℕ) → Keeps u s (after_trap_and_call s trapped t c pending).state
 keeps_called u s trapped t c None = keeps_made u s trapped t c
 keeps_called u s trapped t c (Some e) = by_given (passes is_given (notice s t e)) (passes is_catch (notice s t e))
   where
-    by_given : (b d : Bool) → Keeps u s (cond b (made s trapped t c) (cond d (stepped trapped (but_call (step s (call.ExcNotify e)))) (stepped trapped (but_call (step s (call.Destroy t)))))).state
+    by_given : (b d : Bool) → Keeps u s (cond b (after_call s trapped t c) (cond d (after_machine_step trapped (but_call (step s (call.ExcNotify e)))) (after_machine_step trapped (but_call (step s (call.Destroy t)))))).state
     by_given true d = keeps_made u s trapped t c
     by_given false true = keeps_step u s (call.ExcNotify e)
     by_given false false = keeps_step u s (call.Destroy t)
 
 keeps_said : (u : ℕ) (s : State) (es : List Effect) (reports : List ℕ) → Keeps u s (rites_said s es reports).state
-keeps_said u s es reports = by_armed (armed s rites_event) reports
+keeps_said u s es reports = by_armed (is_event_armed s rites_event) reports
   where
-    by_armed : (b : Bool) (rs : List ℕ) → Keeps u s (cond b (first_reported s es rs) (record { state = s; reports = rs; effects = es })).state
+    by_armed : (b : Bool) (rs : List ℕ) → Keeps u s (cond b (after_first_report s es rs) (record { state = s; reports = rs; effects = es })).state
     by_armed true [] = keeps_still u s
     by_armed true (dead ∷ later) = keeps_deliver u s rites_event (report_text dead)
     by_armed false rs = keeps_still u s
@@ -256,7 +256,7 @@ keeps_call u es c = by_choice (choice es.state)
     by_choice : (o : Option ℕ) → Keeps u es.state (event_step_if es c o).after.state
     by_choice None = keeps_still u es.state
     by_choice (Some t) =
-        let out = called es.state es.trapped t c es.pending in
+        let out = after_trap_and_call es.state es.trapped t c es.pending in
         keeps_then u es.state out.state _ (keeps_called u es.state es.trapped t c es.pending) (keeps_said u out.state out.effects (reports_after es.state out.state es.reports out.effects))
 
 -- in a take nobody is born
@@ -264,8 +264,8 @@ take_known : (u : ℕ) (es : EventState) (e : ℕ) (text : List ℕ) → ((take_
 unfolding take_event
 take_known u es e text = by_trapped (is_trapped es.trapped e)
   where
-    by_trapped : (b : Bool) → ((cond b (trap_taken es e) (passed_on es (deliver es.state e text))).after.state.procs ≡ es.state.procs)
-        × (u < (cond b (trap_taken es e) (passed_on es (deliver es.state e text))).after.state.births → is_thread es.state u ≡ false → is_thread (cond b (trap_taken es e) (passed_on es (deliver es.state e text))).after.state u ≡ false)
+    by_trapped : (b : Bool) → ((cond b (after_take_trap es e) (after_pass_on es (deliver es.state e text))).after.state.procs ≡ es.state.procs)
+        × (u < (cond b (after_take_trap es e) (after_pass_on es (deliver es.state e text))).after.state.births → is_thread es.state u ≡ false → is_thread (cond b (after_take_trap es e) (after_pass_on es (deliver es.state e text))).after.state u ≡ false)
     by_trapped true = (refl, λ low absent. absent)
     by_trapped false = (deliveries_keep_procs es.state e text, λ low absent. (deliver_fades u es.state e text).threads (omega (arith, low, deliveries_bear_none es.state e text)) absent)
 
@@ -319,15 +319,15 @@ module _ {B : Type 0} where
       by_test true rest = refl
       by_test false rest = rest
 
-  row_settled : (bodies : List B) (born : Option ℕ) (es : List Effect) (rows : List (Row B)) (u : ℕ) → count_by (is_died u) es ≡ 0 → is_some (row_of u rows) ≡ true → is_some (row_of u (settled bodies born es rows)) ≡ true
+  row_settled : (bodies : List B) (born : Option ℕ) (es : List Effect) (rows : List (Row B)) (u : ℕ) → count_by (is_died u) es ≡ 0 → is_some (row_of u rows) ≡ true → is_some (row_of u (after_settle bodies born es rows)) ≡ true
   row_settled bodies born [] rows u none h = h
-  row_settled bodies born (e ∷ es) rows u none h = row_settled bodies born es (settled_by bodies born e rows) u (omega (arith, none, count-cons (is_died u) e es)) (by_effect e (omega (arith, none, count-cons (is_died u) e es)))
+  row_settled bodies born (e ∷ es) rows u none h = row_settled bodies born es (after_settle_by bodies born e rows) u (omega (arith, none, count-cons (is_died u) e es)) (by_effect e (omega (arith, none, count-cons (is_died u) e es)))
     where
       other : (b : Bool) → one b ≡ 0 → b ≡ false
       other true h = absurd (omega (arith, h))
       other false h = refl
 
-      by_effect : (e : Effect) → one (is_died u e) ≡ 0 → is_some (row_of u (settled_by bodies born e rows)) ≡ true
+      by_effect : (e : Effect) → one (is_died u e) ≡ 0 → is_some (row_of u (after_settle_by bodies born e rows)) ≡ true
       by_effect (effect.Answered t a) quiet = row_before u (answered_row t a rows) (rows_born bodies born (thread_in a)) (row_changed u t (λ (row : Row B). record row { answer = a }) rows (λ row. refl) ∙ h)
       by_effect (effect.Died t) quiet = row_stays u t rows (other (t == u) quiet) h
       by_effect (effect.Called t c) quiet = h
@@ -339,12 +339,12 @@ module _ {B : Type 0} where
       by_effect (effect.Rites a d) quiet = h
 
   row_born : (bodies : List B) (number : ℕ) (body : B) (t u : ℕ) (before rest : List Effect) (rows : List (Row B)) → slice_get bodies number ≡ Some body → count_by (is_died u) (before ++ effect.Answered t (answer.Thread u) ∷ rest) ≡ 0
-      → is_some (row_of u (settled bodies (Some number) (before ++ effect.Answered t (answer.Thread u) ∷ rest) rows)) ≡ true
+      → is_some (row_of u (after_settle bodies (Some number) (before ++ effect.Answered t (answer.Thread u) ∷ rest) rows)) ≡ true
   row_born bodies number body t u [] rest rows is none =
       row_settled bodies (Some number) rest (answered_row t (answer.Thread u) rows ++ row_opened u (slice_get bodies number)) u (omega (arith, none, count-cons (is_died u) (effect.Answered t (answer.Thread u)) rest))
       (subst (λ o. is_some (row_of u (answered_row t (answer.Thread u) rows ++ row_opened u o)) ≡ true) (sym is) (row_last u (answered_row t (answer.Thread u) rows) _ refl))
   row_born bodies number body t u (e ∷ before) rest rows is none =
-      row_born bodies number body t u before rest (settled_by bodies (Some number) e rows) is (omega (arith, none, count-cons (is_died u) e (before ++ effect.Answered t (answer.Thread u) ∷ rest)))
+      row_born bodies number body t u before rest (after_settle_by bodies (Some number) e rows) is (omega (arith, none, count-cons (is_died u) e (before ++ effect.Answered t (answer.Thread u) ∷ rest)))
 
   there : (xs : List B) (i : ℕ) → i < length xs → (x : B) × (slice_get xs i ≡ Some x)
   there [] i low = absurd (omega (arith, low))
@@ -375,8 +375,8 @@ module _ {B : Type 0} (setting : Setting B) where
   abbrev bodies : List B
   bodies = setting.bodies
 
-  peopled_called : (live : Live B) (t : ℕ) (reply : Polled B) → choice live.pod.state ≡ Some t → Peopled bodies live → Peopled bodies (Sessions.called bodies live t reply).live
-  unfolding Sessions.called
+  peopled_called : (live : Live B) (t : ℕ) (reply : Polled B) → choice live.pod.state ≡ Some t → Peopled bodies live → Peopled bodies (Sessions.call_move bodies live t reply).live
+  unfolding Sessions.call_move
   peopled_called live t reply turn was =
       let c = reply.0 in
       let after = (event_step live.pod c).after.state in
@@ -391,22 +391,22 @@ module _ {B : Type 0} (setting : Setting B) where
       }
     where
       by_before : (u : ℕ) → is_thread (event_step live.pod reply.0).after.state u ≡ true → count_by (is_died u) (event_step live.pod reply.0).effects ≡ 0 → u < (event_step live.pod reply.0).after.state.births
-          → (b : Bool) → is_thread live.pod.state u ≡ b → is_some (row_of u (settled bodies (proc_of reply.0) (event_step live.pod reply.0).effects (polled t reply.1 live.rows))) ≡ true
+          → (b : Bool) → is_thread live.pod.state u ≡ b → is_some (row_of u (after_settle bodies (proc_of reply.0) (event_step live.pod reply.0).effects (after_poll t reply.1 live.rows))) ≡ true
       by_before u lives quiet low true e =
-          row_settled bodies (proc_of reply.0) (event_step live.pod reply.0).effects (polled t reply.1 live.rows) u quiet
+          row_settled bodies (proc_of reply.0) (event_step live.pod reply.0).effects (after_poll t reply.1 live.rows) u quiet
           (row_changed u t (λ (row : Row B). record row { body = reply.1 }) live.rows (λ row. refl) ∙ was.rows u e)
       by_before u lives quiet low false e = by_age (nat_le live.pod.state.births u) refl
         where
-          by_age : (b : Bool) → nat_le live.pod.state.births u ≡ b → is_some (row_of u (settled bodies (proc_of reply.0) (event_step live.pod reply.0).effects (polled t reply.1 live.rows))) ≡ true
+          by_age : (b : Bool) → nat_le live.pod.state.births u ≡ b → is_some (row_of u (after_settle bodies (proc_of reply.0) (event_step live.pod reply.0).effects (after_poll t reply.1 live.rows))) ≡ true
           by_age false age =
               let off = (keeps_call u live.pod reply.0).fades.threads (leb-false live.pod.state.births u age) e in
               absurd (let bad : true ≡ false = sym lives ∙ off in cc)
           by_age true age =
               let w = event-bears live.pod t reply.0 u turn e (leb_true live.pod.state.births u age) low lives in
               let body = there bodies w.number (omega (arith, w.low, was.procs)) in
-              subst (λ o. is_some (row_of u (settled bodies o (event_step live.pod reply.0).effects (polled t reply.1 live.rows))) ≡ true) (sym w.is)
-              (subst (λ l. is_some (row_of u (settled bodies (Some w.number) l (polled t reply.1 live.rows))) ≡ true) (sym w.told)
-              (row_born bodies w.number body.0 t u w.before w.rest (polled t reply.1 live.rows) body.1 (subst (λ l. count_by (is_died u) l ≡ 0) w.told quiet)))
+              subst (λ o. is_some (row_of u (after_settle bodies o (event_step live.pod reply.0).effects (after_poll t reply.1 live.rows))) ≡ true) (sym w.is)
+              (subst (λ l. is_some (row_of u (after_settle bodies (Some w.number) l (after_poll t reply.1 live.rows))) ≡ true) (sym w.told)
+              (row_born bodies w.number body.0 t u w.before w.rest (after_poll t reply.1 live.rows) body.1 (subst (λ l. count_by (is_died u) l ≡ 0) w.told quiet)))
             where
               leb_true : (m n : ℕ) → nat_le m n ≡ true → m ≤ n
               leb_true m n h = leb-true m n h
@@ -423,8 +423,8 @@ module _ {B : Type 0} (setting : Setting B) where
       by_choice None turn = was
       by_choice (Some t) turn = by_row t (row_of t live.rows) turn
 
-  peopled_taken : (took : Took) (live : Live B) → IsTrue (is_takeable live.pod took.event) → Peopled bodies live → Peopled bodies (taken bodies took live).live
-  unfolding taken
+  peopled_taken : (took : Took) (live : Live B) → IsTrue (is_takeable live.pod took.event) → Peopled bodies live → Peopled bodies (take_move bodies took live).live
+  unfolding take_move
   peopled_taken took live may was =
       let out = take_event live.pod took.event took.line.text in
       let moves = take_moved live.pod was.lawful took.event took.line.text may in
@@ -440,11 +440,11 @@ module _ {B : Type 0} (setting : Setting B) where
       lived u lives low true e = e
       lived u lives low false e = absurd (let bad : true ≡ false = sym lives ∙ (take_known u live.pod took.event took.line.text).1 low e in cc)
 
-  peopled_moves : (ms : List Move) (p : Moment) → IsAt setting p → DueAll setting p ms → Peopled bodies (session_of setting p).live → Peopled bodies (session_of setting (gone p ms)).live
+  peopled_moves : (ms : List Move) (p : Moment) → IsAt setting p → DueAll setting p ms → Peopled bodies (session_of setting p).live → Peopled bodies (session_of setting (after_moves p ms)).live
   peopled_moves [] p made due was = was
-  peopled_moves (None ∷ ms) p made due was = peopled_moves ms (moved p None) (IsAt-moved setting p None made due.0) due.1
+  peopled_moves (None ∷ ms) p made due was = peopled_moves ms (after_move p None) (IsAt-moved setting p None made due.0) due.1
       (subst (λ (l : Live B). Peopled bodies l) (sym (live-call setting p made)) (peopled_move (session_of setting p).live was))
-  peopled_moves (Some t ∷ ms) p made due was = peopled_moves ms (moved p (Some t)) (IsAt-moved setting p (Some t) made due.0) due.1
+  peopled_moves (Some t ∷ ms) p made due was = peopled_moves ms (after_move p (Some t)) (IsAt-moved setting p (Some t) made due.0) due.1
       (subst (λ (l : Live B). Peopled bodies l) (sym (live-take setting p t made)) (peopled_taken (took_at p t) (session_of setting p).live due.0 was))
 
   module _ (fit : IsPeopled setting) where
@@ -465,14 +465,14 @@ module _ {B : Type 0} (setting : Setting B) where
         alone u body false lives = absurd (cc)
 
     pub peopled : (p : Moment) → IsAt setting p → Peopled bodies (session_of setting p).live
-    peopled p made =
-        let way = reached setting p made in
+    peopled p after_call =
+        let way = reached setting p after_call in
         subst (λ q. Peopled bodies (session_of setting q).live) way.comes
         (peopled_moves way.moves first_moment (IsDefined-zero setting) way.due (subst (λ (s : Session B). Peopled bodies s.live) (sym (play-zero setting)) peopled_opened))
 
 -- whoever is chosen has a body, and speaks
 pub speaks : {B : Type 0} (asked : Asked B) → IsPeopled asked.setting → Speaks asked
-unfolding move Sessions.called
+unfolding move Sessions.call_move
 speaks {B} asked fit p made due =
     let w = by_choice (choice live.pod.state) refl (second (not live.pod.state.ended) (is_some (choice live.pod.state)) due) in
     (w.first, w.rest, w.are, w.spoken)
@@ -484,7 +484,7 @@ speaks {B} asked fit p made due =
     second true b h = h
     second false b h = absurd (cc)
 
-    spoken_in : (t : ℕ) (reply : Polled B) → choice live.pod.state ≡ Some t → FirstSpoken (Sessions.called asked.setting.bodies live t reply).effects
+    spoken_in : (t : ℕ) (reply : Polled B) → choice live.pod.state ≡ Some t → FirstSpoken (Sessions.call_move asked.setting.bodies live t reply).effects
     spoken_in t reply turn = event-first live.pod reply.0 t turn
 
     by_row : (t : ℕ) (o : Option (Row B)) → choice live.pod.state ≡ Some t → is_some o ≡ true → FirstSpoken (move_row asked.setting.next asked.setting.bodies live t o).effects

@@ -1,20 +1,20 @@
 -- How the lines of a step begin, and those of an end.
-use Rattle.lwp_types.specs.Agents.{armed, deliver, deliver_to, event_agents, is_for, message}
+use Rattle.lwp_types.specs.Agents.{deliver, deliver_to, event_agents, is_event_armed, is_for, message}
 use Rattle.lwp_types.specs.Choice.{choice}
 use Rattle.lwp_types.specs.Messages.{post, with_holding}
 use Rattle.lwp_types.specs.Names.{null_id}
 use Rattle.lwp_types.specs.State.{State, and_then, for_each, is_empty, passes}
 use Rattle.lwp_types.specs.Step.{case_of, end_effects, own_effects, step, step_by, step_if}
-use Rattle.lwp_types.specs.Time.{due_threads, may_tick, tick, ticked, time_out}
+use Rattle.lwp_types.specs.Time.{after_tick, due_threads, may_tick, tick, time_out}
 use Rattle.lwp_types.specs.declared.call.Call.{Call}
 use Rattle.lwp_types.specs.declared.call.Effect.{Effect}
 use Rattle.lwp_types.specs.declared.call.Line.{Line}
 use Rattle.lwp_types.specs.declared.call.LwpErr.{LwpErr}
 use Rattle.lwp_types.specs.declared.rows.AgentRow.{AgentRow}
-use Rattle.pod_events.specs.Events.{EventState, is_takeable, is_trapped, may_trap, passed_on, rites_event, take_event, trap_taken}
-use Rattle.pod_events.specs.Rites.{as_rites, first_reported, report_text, reports_after, rites_said}
+use Rattle.pod_events.specs.Events.{EventState, after_pass_on, after_take_trap, is_takeable, is_trapped, may_trap, rites_event, take_event}
+use Rattle.pod_events.specs.Rites.{after_first_report, as_rites, report_text, reports_after, rites_said}
 use Rattle.pod_events.specs.Step.{event_step, event_step_by, event_step_if}
-use Rattle.pod_events.specs.Traps.{agent_event_of, called, made_as, refused_by, stepped, trap_made, trap_of, trap_refusal}
+use Rattle.pod_events.specs.Traps.{after_call_as, after_machine_step, after_trap, after_trap_and_call, agent_event_of, refused_by, trap_of, trap_refusal}
 use Rattle.replay.proofs.Digits.{decimal-no-line, number-split}
 use Rattle.replay.proofs.LineLaws.{agree-behind, agree-head, closes-both, closes-line, count-append, head_of}
 use Rattle.replay.specs.Recorded.{Agree, closes, first_lines, is_newline, line_count}
@@ -25,7 +25,7 @@ use Rattle.std.specs.Prelude.{IsTrue, Option, map, nat_lt, not, ◌&&◌, ◌==�
 use Rattle.std.specs.List.{AllByRecursion, filter, list_all}
 use Rattle.std.specs.Fmt.{decimal, digit_glyph, digits, digits_onto}
 use Rattle.std.proofs.lemmas.Bool.{eqb-true, ne_eqb}
-use Rattle.trace_text.specs.Lines.{call_text, end_text, ended_line, halt_text, later_lines, left_text, left_texts, line_text, spaced, step_lines, taken_text, thread_text, ticked_text}
+use Rattle.trace_text.specs.Lines.{call_text, end_text, ended_line, halt_text, later_lines, left_text, left_texts, line_text, step_lines, taken_text, thread_text, ticked_text, with_space}
 use Rattle.trace_text.specs.declared.ends.Halt.{Halt}
 use Rattle.lwp_types.specs.declared.call.Effect.TheVariants as effect
 use Rattle.lwp_types.specs.declared.call.LwpErr.TheVariants as error
@@ -188,27 +188,27 @@ step-called s t c is = by_choice (choice s) is
     by_choice None e = absurd (cc)
     by_choice (Some u) e = let same : u ≡ t = cc in ((case_of s t c).others ++ (own_effects t (case_of s t c).own ++ end_effects (case_of s t c).after), ap (λ v. (step_if s c (Some v)).effects) same)
 
-called-first : (s : State) (trapped : List Bool) (t : ℕ) (c : Call) (pending : Option ℕ) → choice s ≡ Some t → FirstSpoken (called s trapped t c pending).effects
+called-first : (s : State) (trapped : List Bool) (t : ℕ) (c : Call) (pending : Option ℕ) → choice s ≡ Some t → FirstSpoken (after_trap_and_call s trapped t c pending).effects
 called-first s trapped t c (Some e) is = record { first = effect.Trapped t e; rest = _; are = refl; spoken = refl }
 called-first s trapped t c None is = by_trap (trap_of c)
   where
-    by_refusal : (e : ℕ) (o : Option LwpErr) → FirstSpoken (trap_made s trapped t c e o).effects
+    by_refusal : (e : ℕ) (o : Option LwpErr) → FirstSpoken (after_trap s trapped t c e o).effects
     by_refusal e None = record { first = effect.Called t c; rest = _; are = refl; spoken = refl }
     by_refusal e (Some why) = record { first = effect.Called t c; rest = _; are = refl; spoken = refl }
 
-    by_agent : (b : Bool) → FirstSpoken (cond b (refused_by s trapped t c error.InUse) (stepped trapped (step s c))).effects
+    by_agent : (b : Bool) → FirstSpoken (cond b (refused_by s trapped t c error.InUse) (after_machine_step trapped (step s c))).effects
     by_agent true = record { first = effect.Called t c; rest = _; are = refl; spoken = refl }
     by_agent false = let w = step-called s t c is in record { first = effect.Called t c; rest = w.0; are = w.1; spoken = refl }
 
-    by_trap : (o : Option ℕ) → FirstSpoken (made_as s trapped t c o).effects
+    by_trap : (o : Option ℕ) → FirstSpoken (after_call_as s trapped t c o).effects
     by_trap None = by_agent (passes (is_trapped trapped) (agent_event_of c))
     by_trap (Some e) = by_refusal e (trap_refusal s trapped e)
 
 -- a report comes behind it
 said-first : (s : State) (es : List Effect) (reports : List ℕ) → FirstSpoken es → FirstSpoken (rites_said s es reports).effects
-said-first s es reports h = by_armed (armed s rites_event) reports
+said-first s es reports h = by_armed (is_event_armed s rites_event) reports
   where
-    by_armed : (b : Bool) (rs : List ℕ) → FirstSpoken (cond b (first_reported s es rs) (record { state = s; reports = rs; effects = es })).effects
+    by_armed : (b : Bool) (rs : List ℕ) → FirstSpoken (cond b (after_first_report s es rs) (record { state = s; reports = rs; effects = es })).effects
     by_armed true [] = h
     by_armed true (dead ∷ later) =
         let told = map (as_rites dead) (deliver s rites_event (report_text dead)).effects in
@@ -223,7 +223,7 @@ event-first es c t is = by_choice (choice es.state) is
     by_choice None e = absurd (cc)
     by_choice (Some u) e =
         let same : u ≡ t = cc in
-        let out = called es.state es.trapped u c es.pending in
+        let out = after_trap_and_call es.state es.trapped u c es.pending in
         said-first out.state out.effects (reports_after es.state out.state es.reports out.effects) (called-first es.state es.trapped u c es.pending (is ∙ ap Some (sym same)))
 
 -- the end begins otherwise, if there is anything
@@ -291,43 +291,43 @@ take-first es e text clock may = by_trapped (is_trapped es.trapped e) refl may
     second true q h = h
     second false q h = absurd (cc)
 
-    by_clock : (b : Bool) → (e == 0) ≡ b → armed es.state e ≡ true
+    by_clock : (b : Bool) → (e == 0) ≡ b → is_event_armed es.state e ≡ true
         → (first : Effect) × (rest : List Effect) × ((cond b (tick es.state) (for_each (deliver_to text) (event_agents es.state.agents e) es.state)).effects ≡ first ∷ rest)
         × ((procs : List (List ℕ)) (line : Line) → line_text procs (Some line) first ≡ take_text es.state.now e line)
-    by_clock true h waits = (effect.Ticked (es.state.now + 1), (for_each time_out (due_threads (ticked es.state)) (ticked es.state)).effects, refl, λ procs line. ap (λ b. cond b (ticked_text (es.state.now + 1) line) (taken_text e line)) (sym h))
+    by_clock true h waits = (effect.Ticked (es.state.now + 1), (for_each time_out (due_threads (after_tick es.state)) (after_tick es.state)).effects, refl, λ procs line. ap (λ b. cond b (ticked_text (es.state.now + 1) line) (taken_text e line)) (sym h))
     by_clock false h waits =
         let go = second (not es.state.ended) (cond (e == 0) (may_tick es.state) (not (is_empty (event_agents es.state.agents e)) && list_all (λ (row : AgentRow). not row.holding) (event_agents es.state.agents e))) waits in
         let is_armed_now = subst (λ b. cond b (may_tick es.state) (not (is_empty (event_agents es.state.agents e)) && list_all (λ (row : AgentRow). not row.holding) (event_agents es.state.agents e)) ≡ true) h go in
         by_agents (event_agents es.state.agents e) refl h (both (not (is_empty (event_agents es.state.agents e))) (list_all (λ (row : AgentRow). not row.holding) (event_agents es.state.agents e)) is_armed_now)
 
-    by_trapped : (b : Bool) → is_trapped es.trapped e ≡ b → cond b (may_trap es) (nat_lt e rites_event && armed es.state e) ≡ true → FirstTaken es e text
+    by_trapped : (b : Bool) → is_trapped es.trapped e ≡ b → cond b (may_trap es) (nat_lt e rites_event && is_event_armed es.state e) ≡ true → FirstTaken es e text
     by_trapped true h may = record {
       first = effect.Delivered null_id e;
       rest = [];
-      are = ap (λ b. (cond b (trap_taken es e) (passed_on es (deliver es.state e text))).effects) h;
+      are = ap (λ b. (cond b (after_take_trap es e) (after_pass_on es (deliver es.state e text))).effects) h;
       line = λ procs line. other-text es.state.now e line (no_clock (e == 0) refl h);
     }
     by_trapped false h may =
-        let w = by_clock (e == 0) refl (second (nat_lt e rites_event) (armed es.state e) may) in
-        record { first = w.0; rest = w.1; are = ap (λ b. (cond b (trap_taken es e) (passed_on es (deliver es.state e text))).effects) h ∙ w.2; line = w.3 }
+        let w = by_clock (e == 0) refl (second (nat_lt e rites_event) (is_event_armed es.state e) may) in
+        record { first = w.0; rest = w.1; are = ap (λ b. (cond b (after_take_trap es e) (after_pass_on es (deliver es.state e text))).effects) h ∙ w.2; line = w.3 }
 
 -- ---- lines of takes
 
 -- what stands behind the client's number
 abbrev behind_client : Line → List ℕ → List ℕ
-behind_client line more = codes "seq " ++ (decimal line.seq ++ (spaced line.text ++ more))
+behind_client line more = codes "seq " ++ (decimal line.seq ++ (with_space line.text ++ more))
 
 -- a word, a number, and what a client has posted
-posted-shape : (word : List ℕ) (n : ℕ) (line : Line) (more : List ℕ) → ended_line (word ++ (decimal n ++ (codes " client " ++ (decimal line.client ++ (codes " seq " ++ (decimal line.seq ++ spaced line.text)))))) ++ more
+posted-shape : (word : List ℕ) (n : ℕ) (line : Line) (more : List ℕ) → ended_line (word ++ (decimal n ++ (codes " client " ++ (decimal line.client ++ (codes " seq " ++ (decimal line.seq ++ with_space line.text)))))) ++ more
     ≡ word ++ (decimal n ++ (codes " client " ++ (decimal line.client ++ 32 ∷ behind_client line (10 ∷ more))))
 posted-shape word n line more =
-    append_assoc (word ++ (decimal n ++ (codes " client " ++ (decimal line.client ++ (codes " seq " ++ (decimal line.seq ++ spaced line.text)))))) (10 ∷ []) more
-    ∙ append_assoc word (decimal n ++ (codes " client " ++ (decimal line.client ++ (codes " seq " ++ (decimal line.seq ++ spaced line.text))))) (10 ∷ more)
+    append_assoc (word ++ (decimal n ++ (codes " client " ++ (decimal line.client ++ (codes " seq " ++ (decimal line.seq ++ with_space line.text)))))) (10 ∷ []) more
+    ∙ append_assoc word (decimal n ++ (codes " client " ++ (decimal line.client ++ (codes " seq " ++ (decimal line.seq ++ with_space line.text))))) (10 ∷ more)
     ∙ ap (λ l. word ++ l) (
-    append_assoc (decimal n) (codes " client " ++ (decimal line.client ++ (codes " seq " ++ (decimal line.seq ++ spaced line.text)))) (10 ∷ more)
+    append_assoc (decimal n) (codes " client " ++ (decimal line.client ++ (codes " seq " ++ (decimal line.seq ++ with_space line.text)))) (10 ∷ more)
     ∙ ap (λ l. decimal n ++ (codes " client " ++ l)) (
-    append_assoc (decimal line.client) (codes " seq " ++ (decimal line.seq ++ spaced line.text)) (10 ∷ more)
-    ∙ ap (λ l. decimal line.client ++ (codes " seq " ++ l)) (append_assoc (decimal line.seq) (spaced line.text) (10 ∷ more))))
+    append_assoc (decimal line.client) (codes " seq " ++ (decimal line.seq ++ with_space line.text)) (10 ∷ more)
+    ∙ ap (λ l. decimal line.client ++ (codes " seq " ++ l)) (append_assoc (decimal line.seq) (with_space line.text) (10 ∷ more))))
 
 -- texts that begin so, with the same first line, tell of the same client
 posted-client : (word : List ℕ) (n : ℕ) (line other : Line) (x y : List ℕ) → line_count word ≡ 0 → n < 2 ^ 64 → line.client < 2 ^ 64 → other.client < 2 ^ 64

@@ -15,7 +15,7 @@ use Rattle.replay.specs.Asked.{Asked, IsReached, Reach, end_by, halt_at, pairs_o
 use Rattle.replay.specs.Recorded.{Agree, first_lines, line_count}
 use Rattle.replay.specs.Next.{without_next}
 use Rattle.replay.specs.Verdict.{IsSame}
-use Rattle.replay.specs.Walk.{AreLeft, ClientsLeft, Due, Forced, Going, IsFit, IsLast, IsNext, Moment, Move, Speaks, Stands, count_of, first_moment, move_lines, moved, ticks_after, told_until, took_at}
+use Rattle.replay.specs.Walk.{AreLeft, ClientsLeft, Due, Forced, Going, IsFit, IsLast, IsNext, Moment, Move, Speaks, Stands, after_move, count_of, first_moment, move_lines, ticks_after, told_until, took_at}
 use Rattle.trace_text.specs.declared.ends.Halt.{Halt}
 use Rattle.std.specs.Prelude.{slice_index_or, set}
 use Rattle.std.proofs.Common.{List, None, Some, [], ap, append-nil, arith, drop, drop-drop, get_or, get_or-set_other, get_or-set_same, inl, length, length-set, refl, slice_get, subst, sym, take, take-add, take-append-drop, ℕ, ⊎_elim, ◌++◌, ◌+◌, ◌<◌, ◌∙◌, ◌∷◌, ◌≡◌, ◌≢◌, ◌≤◌}
@@ -82,21 +82,21 @@ module _ {B : Type 0} (asked : Asked B) (bytes : List ℕ) where
       same = ap (first_lines 1) is ∙ first-append 1 w more some ∙ sym (ap (first_lines 1) (append-nil w));
     }
 
-    said-on : (m : Move) (w : List ℕ) → w ≡ lines_of_move m → take (length w) rest ≡ w → take (at + length w) bytes ≡ told_until asked.setting asked.procs (moved p m)
+    said-on : (m : Move) (w : List ℕ) → w ≡ lines_of_move m → take (length w) rest ≡ w → take (at + length w) bytes ≡ told_until asked.setting asked.procs (after_move p m)
     said-on m w is front = take-add at (length w) bytes ∙ ap (λ l. l ++ take (length w) rest) here.said ∙ ap (λ l. told_until asked.setting asked.procs p ++ l) (front ∙ is) ∙ sym (told-moved asked.setting asked.procs p m here.stands.made)
 
-    stands-by : (m : Move) (w : List ℕ) → w ≡ lines_of_move m → take (length w) rest ≡ w → Due asked.setting p m → 1 ≤ line_count w → Forced asked bytes (n + 1) (moved p m) → Stands asked bytes (n + line_count w) (moved p m) (drop (at + length w) bytes)
+    stands-by : (m : Move) (w : List ℕ) → w ≡ lines_of_move m → take (length w) rest ≡ w → Due asked.setting p m → 1 ≤ line_count w → Forced asked bytes (n + 1) (after_move p m) → Stands asked bytes (n + line_count w) (after_move p m) (drop (at + length w) bytes)
     stands-by m w is front due some forced =
-        subst (λ l. Stands asked bytes (n + line_count l) (moved p m) (drop (at + length w) bytes)) (sym is)
+        subst (λ l. Stands asked bytes (n + line_count l) (after_move p m) (drop (at + length w) bytes)) (sym is)
         (stands-on asked bytes fit speaks n p rest here.stands m due forced (drop (at + length w) bytes)
         (recorded w front ∙ ap (λ l. l ++ drop (at + length w) bytes) is)
         (subst (λ l. 1 ≤ line_count l) is some))
 
-    last-by : (m : Move) (w : List ℕ) → 1 ≤ line_count w → IsLast asked (moved p m) (n + line_count w)
+    last-by : (m : Move) (w : List ℕ) → 1 ≤ line_count w → IsLast asked (after_move p m) (n + line_count w)
     last-by m w some = last-moved asked p m here.stands.made (n + line_count w) (omega (arith, here.stands.count, some))
 
     -- a call whose lines were recorded
-    pub going-call : (w : List ℕ) → Due asked.setting p None → p.calls + 1 ≤ asked.turns → w ≡ lines_of_move None → take (length w) rest ≡ w → Going asked bytes (moved p None) clients (at + length w) (n + line_count w) ticks
+    pub going-call : (w : List ℕ) → Due asked.setting p None → p.calls + 1 ≤ asked.turns → w ≡ lines_of_move None → take (length w) rest ≡ w → Going asked bytes (after_move p None) clients (at + length w) (n + line_count w) ticks
     going-call w due room is front =
         let some : 1 ≤ line_count w = subst (λ l. 1 ≤ line_count l) (sym is) (call-one asked bytes speaks p here.stands.made due) in
         let forced = forced-call asked bytes fit speaks n p rest here.stands due [] (subst (λ l. Agree 1 rest (l ++ [])) is (agrees w (drop (at + length w) bytes) (recorded w front) some)) in
@@ -111,7 +111,7 @@ module _ {B : Type 0} (asked : Asked B) (bytes : List ℕ) where
           clock = call-clock asked.setting p here.stands.made ∙ here.clock;
         }
 
-    pub reached-call : Due asked.setting p None → p.calls + 1 ≤ asked.turns → IsReached asked (at_moment (moved p None) here.left)
+    pub reached-call : Due asked.setting p None → p.calls + 1 ≤ asked.turns → IsReached asked (at_moment (after_move p None) here.left)
     reached-call due room = record { due = IsAt-moved asked.setting p None here.stands.made due; room = room; history = here.reached.history }
 
     kept-by : (c : ℕ) → c < length clients.clients → AreLeft (without_next clients c) (without_first c here.left)
@@ -134,7 +134,7 @@ module _ {B : Type 0} (asked : Asked B) (bytes : List ℕ) where
     next-of c x low first = subst (λ es. IsNext asked p (event_of es c, x)) (sym here.same_clients) (next-left p here.left c x here.reached (first-of c x low first))
 
     pub reached-take : (c : ℕ) (x : Line) → c < length clients.clients → slice_get (slice_index_or clients.left c []) 0 ≡ Some x → Due asked.setting p (Some (event_of clients.clients c, x))
-        → IsReached asked (at_moment (moved p (Some (event_of clients.clients c, x))) (without_first c here.left))
+        → IsReached asked (at_moment (after_move p (Some (event_of clients.clients c, x))) (without_first c here.left))
     reached-take c x low first due =
         let e = event_of clients.clients c in
         record {
@@ -145,7 +145,7 @@ module _ {B : Type 0} (asked : Asked B) (bytes : List ℕ) where
         }
 
     pub forced-by : (c : ℕ) (x : Line) → c < length clients.clients → slice_get (slice_index_or clients.left c []) 0 ≡ Some x
-        → Agree 1 rest (told_line asked bytes p (event_of clients.clients c, x)) → Forced asked bytes (n + 1) (moved p (Some (event_of clients.clients c, x)))
+        → Agree 1 rest (told_line asked bytes p (event_of clients.clients c, x)) → Forced asked bytes (n + 1) (after_move p (Some (event_of clients.clients c, x)))
     forced-by c x low first agree =
         forced-take asked bytes fit speaks n p rest here.stands (event_of clients.clients c, x) (next-of c x low first) []
         (subst (λ l. Agree 1 rest l) (sym (append-nil (told_line asked bytes p (event_of clients.clients c, x)))) agree)
@@ -153,7 +153,7 @@ module _ {B : Type 0} (asked : Asked B) (bytes : List ℕ) where
     -- a take whose lines were recorded
     pub going-take : (c : ℕ) (x : Line) (w : List ℕ) → c < length clients.clients → slice_get (slice_index_or clients.left c []) 0 ≡ Some x → Due asked.setting p (Some (event_of clients.clients c, x))
         → Agree 1 rest (told_line asked bytes p (event_of clients.clients c, x)) → w ≡ lines_of_move (Some (event_of clients.clients c, x)) → take (length w) rest ≡ w
-        → Going asked bytes (moved p (Some (event_of clients.clients c, x))) (without_next clients c) (at + length w) (n + line_count w) (ticks_after (event_of clients.clients c) ticks)
+        → Going asked bytes (after_move p (Some (event_of clients.clients c, x))) (without_next clients c) (at + length w) (n + line_count w) (ticks_after (event_of clients.clients c) ticks)
     going-take c x w low first due agree is front =
         let e = event_of clients.clients c in
         let some : 1 ≤ line_count w = subst (λ l. 1 ≤ line_count l) (sym is) (take-one asked bytes p (e, x) here.stands.made due) in

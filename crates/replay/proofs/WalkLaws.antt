@@ -1,5 +1,5 @@
 -- What each step of a walk comes to.
-use Rattle.event_gate.specs.Shelves.{event_of, stocked}
+use Rattle.event_gate.specs.Shelves.{event_of, full_shelves}
 use Rattle.lwp_types.specs.Choice.{choice}
 use Rattle.lwp_types.specs.State.{State}
 use Rattle.lwp_types.specs.declared.call.Line.{Line}
@@ -24,7 +24,7 @@ use Rattle.replay.specs.Recorded.{Agree, IsCommon, closes, is_ended, is_newline,
 use Rattle.replay.specs.Replayed.{Says}
 use Rattle.replay.specs.Says.{ComparedBy, DiffersBy, IsDifference}
 use Rattle.replay.specs.Verdict.{IsOther, call_lines, first_given, lowest_take, next_lines, take_by, take_of, tells_take}
-use Rattle.replay.specs.Walk.{AreLeft, ClientsLeft, Due, Forced, Going, IsFit, IsNext, Moment, Move, Speaks, moment, move_effects, move_lines, moved, session_of, ticks_after, told_until}
+use Rattle.replay.specs.Walk.{AreLeft, ClientsLeft, Due, Forced, Going, IsFit, IsNext, Moment, Move, Speaks, after_move, moment, move_effects, move_lines, session_of, ticks_after, told_until}
 use Rattle.replay.specs.declared.stepping.Difference.{Difference}
 use Rattle.replay.specs.declared.verdict.Verdict.{Verdict}
 use Rattle.std.specs.List.{range_with_len}
@@ -109,10 +109,10 @@ module _ {B : Type 0} (asked : Asked B) (fit : IsFit asked) (speaks : Speaks ask
   lines_of m = move_lines asked.setting asked.procs p m
 
   abbrev Wrote : Move → Type 0
-  Wrote m = Writes (Some (told_in f0)) (Some (told_in f1)) (told_until asked.setting asked.procs p) (told_until asked.setting asked.procs (moved p m))
+  Wrote m = Writes (Some (told_in f0)) (Some (told_in f1)) (told_until asked.setting asked.procs p) (told_until asked.setting asked.procs (after_move p m))
 
-  keeps : (m : Move) → Wrote m → Kept f0 f1 (told_until asked.setting asked.procs (moved p m))
-  keeps m wrote = kept f0 f1 (told_until asked.setting asked.procs p) (told_until asked.setting asked.procs (moved p m)) clean here.said wrote
+  keeps : (m : Move) → Wrote m → Kept f0 f1 (told_until asked.setting asked.procs (after_move p m))
+  keeps m wrote = kept f0 f1 (told_until asked.setting asked.procs p) (told_until asked.setting asked.procs (after_move p m)) clean here.said wrote
 
   step-is : (m : Move) → Wrote m → f1.step ≡ lines_of m
   step-is m wrote = cut (told_until asked.setting asked.procs p) f1.step (lines_of m)
@@ -133,18 +133,18 @@ module _ {B : Type 0} (asked : Asked B) (fit : IsFit asked) (speaks : Speaks ask
   ticks-kept m wrote f2 is = sym (ap (λ (f : Following). f.ticks) is ∙ (keeps m wrote).ticks)
 
   pub walk-take : (c : ℕ) (x : Line) → IsTold lines (session_of asked.setting p).live.pod rest c x → Wrote (Some (event_in lines c, x)) → (f2 : Following) → ComparedBy f1 f2 None
-      → Going asked f0.recorded (moved p (Some (event_in lines c, x))) (without_next lines c) f2.at f2.lines (ticks_after (event_in lines c) f2.ticks)
+      → Going asked f0.recorded (after_move p (Some (event_in lines c, x))) (without_next lines c) f2.at f2.lines (ticks_after (event_in lines c) f2.ticks)
   walk-take c x is wrote f2 by =
       let m = Some (event_in lines c, x) in
-      subst (λ n. Going asked f0.recorded (moved p m) (without_next lines c) f2.at f2.lines (ticks_after (event_in lines c) n)) (ticks-kept m wrote f2 by.1)
-      (moved-to m wrote f2 (moved p m) (without_next lines c) (ticks_after (event_in lines c) f0.ticks) by.1
+      subst (λ n. Going asked f0.recorded (after_move p m) (without_next lines c) f2.at f2.lines (ticks_after (event_in lines c) n)) (ticks-kept m wrote f2 by.1)
+      (moved-to m wrote f2 (after_move p m) (without_next lines c) (ticks_after (event_in lines c) f0.ticks) by.1
       (going-take asked f0.recorded fit speaks p lines f0.at f0.lines f0.ticks here c x f1.step is.within is.next is.waits is.agree (step-is m wrote) (front-is m wrote by.0)))
 
   pub walk-call : phase_of (session_of asked.setting p).live.pod.state asked.turns p.calls ≡ phase.Turn → Wrote None → (f2 : Following) → ComparedBy f1 f2 None
-      → Going asked f0.recorded (moved p None) lines f2.at f2.lines f2.ticks
+      → Going asked f0.recorded (after_move p None) lines f2.at f2.lines f2.ticks
   walk-call turn wrote f2 by =
-      subst (λ n. Going asked f0.recorded (moved p None) lines f2.at f2.lines n) (ticks-kept None wrote f2 by.1)
-      (moved-to None wrote f2 (moved p None) lines f0.ticks by.1
+      subst (λ n. Going asked f0.recorded (after_move p None) lines f2.at f2.lines n) (ticks-kept None wrote f2 by.1)
+      (moved-to None wrote f2 (after_move p None) lines f0.ticks by.1
       (going-call asked f0.recorded fit speaks p lines f0.at f0.lines f0.ticks here f1.step (is_call_due-turn (session_of asked.setting p) asked.turns p.calls turn) (room-turn (session_of asked.setting p).live.pod.state asked.turns p.calls turn)
       (step-is None wrote) (front-is None wrote by.0)))
 
@@ -201,7 +201,7 @@ module _ {B : Type 0} (asked : Asked B) (fit : IsFit asked) (speaks : Speaks ask
             let empty = ap length (none-whole (drop by.bytes (lines_of m)) whole (omega (arith, none))) in
             absurd (omega (arith, empty, length-drop by.bytes (lines_of m), by.more, ap length (step-is m wrote)))
 
-    pub differs-in : Due asked.setting p m → Forced asked f0.recorded (f0.lines + 1) (moved p m) → (next : Reach) → IsReached asked next → moment asked next ≡ moved p m → 1 ≤ d.lines → Says asked f0.recorded d.verdict next.takes next.calls
+    pub differs-in : Due asked.setting p m → Forced asked f0.recorded (f0.lines + 1) (after_move p m) → (next : Reach) → IsReached asked next → moment asked next ≡ after_move p m → 1 ≤ d.lines → Says asked f0.recorded d.verdict next.takes next.calls
     differs-in due forced next reached stands some =
         let k = line_count (take by.bytes (lines_of m)) in
         says-other asked f0.recorded d.verdict (f0.lines + k + 1) (next_line (drop by.bytes (lines_of m))) (next_line (drop by.bytes rest)) (is_ended (drop by.bytes rest)) next.takes next.calls
@@ -212,13 +212,13 @@ module _ {B : Type 0} (asked : Asked B) (fit : IsFit asked) (speaks : Speaks ask
         common.closed (omega (arith, some, common.count)) more-lines common.differs)
 
   pub walk-take-differs : (c : ℕ) (x : Line) → IsTold lines (session_of asked.setting p).live.pod rest c x → (wrote : Wrote (Some (event_in lines c, x))) → (d : Difference) → IsDifference f1.step (drop f1.at f1.recorded) f1.lines d
-      → Says asked f0.recorded d.verdict (moved p (Some (event_in lines c, x))).takes (moved p (Some (event_in lines c, x))).calls
+      → Says asked f0.recorded d.verdict (after_move p (Some (event_in lines c, x))).takes (after_move p (Some (event_in lines c, x))).calls
   walk-take-differs c x is wrote d by =
       let m = Some (event_in lines c, x) in
       let w = take-told asked f0.recorded p (event_in lines c, x) here.stands.made is.waits in
       let same : Agree 1 rest (lines_of m) = subst (λ l. Agree 1 rest l) (sym w.1) (agree-longer 1 rest (told_line asked f0.recorded p (event_in lines c, x)) w.0 is.agree) in
       differs-in m wrote d by is.waits (forced-by asked f0.recorded fit speaks p lines f0.at f0.lines f0.ticks here c x is.within is.next is.agree)
-      (record { takes = (moved p m).takes; calls = p.calls; left = without_first c here.left })
+      (record { takes = (after_move p m).takes; calls = p.calls; left = without_first c here.left })
       (reached-take asked f0.recorded fit speaks p lines f0.at f0.lines f0.ticks here c x is.within is.next is.waits) refl
       (by_lines d.lines refl same)
     where
@@ -262,7 +262,7 @@ module _ {B : Type 0} (asked : Asked B) (fit : IsFit asked) (speaks : Speaks ask
       (subst (λ o. DiffersBy d.verdict (f0.lines + 1) o (next_line (drop by.bytes rest)) (is_ended (drop by.bytes rest))) want
       (subst (λ n. DiffersBy d.verdict n (next_line (drop by.bytes (lines_of None))) (next_line (drop by.bytes rest)) (is_ended (drop by.bytes rest))) (omega (arith, zero_lines)) (tells None wrote d by))))
       (missing asked f0.recorded fit speaks f0.lines p rest here.stands at_here here.reached refl here.last
-      (over-turn (session_of asked.setting p).live.pod.state asked.turns p.calls (is_wanted (session_of asked.setting p).live.pod (stocked asked.clients here.left)) turn)
+      (over-turn (session_of asked.setting p).live.pod.state asked.turns p.calls (is_wanted (session_of asked.setting p).live.pod (full_shelves asked.clients here.left)) turn)
       (λ due room agree. common-none (lines_of None) rest by.bytes d.lines shared zero_lines agree)
       (no-take none))
     where

@@ -1,7 +1,7 @@
 -- What a trace is a trace of, and which traces there are.
 use Rattle.event_gate.specs.History.{IsClientHistory}
 use Rattle.event_gate.specs.Port.{of}
-use Rattle.event_gate.specs.Shelves.{stocked}
+use Rattle.event_gate.specs.Shelves.{full_shelves}
 use Rattle.lwp_types.specs.declared.call.Line.{Line}
 use Rattle.pod_runner.specs.Due.{IsDefined}
 use Rattle.pod_runner.specs.Over.{over}
@@ -62,7 +62,7 @@ told_before asked at = lines asked.procs (but_last (session_at asked at).steps)
 
 -- how it has ended, if it has
 abbrev pub halt_at : {B : Type 0} → Asked B → Reach → Option Halt
-halt_at asked at = over asked.turns (session_at asked at).live.pod at.calls (stocked asked.clients at.left)
+halt_at asked at = over asked.turns (session_at asked at).live.pod at.calls (full_shelves asked.clients at.left)
 
 -- what stands behind the lines of the last step, if it has ended so; nothing, as long as it goes on
 abbrev pub end_by : {B : Type 0} → Asked B → Reach → Option Halt → List ℕ

@@ -8,7 +8,7 @@ use Rattle.pod_events.specs.Events.{is_takeable}
 use Rattle.pod_runner.specs.Due.{IsDefined, is_call_due}
 use Rattle.pod_runner.specs.Play.{play}
 use Rattle.pod_runner.specs.Run.{but_last}
-use Rattle.pod_runner.specs.Session.{Session, Setting, move, taken}
+use Rattle.pod_runner.specs.Session.{Session, Setting, move, take_move}
 use Rattle.pod_runner.specs.Trace.{lines}
 use Rattle.pod_runner.specs.declared.session.Took.{Took}
 use Rattle.replay.specs.Asked.{Asked, IsReached, Reach, pairs_of, text_at}
@@ -30,14 +30,14 @@ Move = Option (ℕ × Line)
 abbrev pub took_at : Moment → ℕ × Line → Took
 took_at at t = record { turn = at.calls; event = t.0; line = t.1 }
 
-abbrev pub moved : Moment → Move → Moment
-moved at None = record at { calls = at.calls + 1 }
-moved at (Some t) = record at { takes = at.takes ++ took_at at t ∷ [] }
+abbrev pub after_move : Moment → Move → Moment
+after_move at None = record at { calls = at.calls + 1 }
+after_move at (Some t) = record at { takes = at.takes ++ took_at at t ∷ [] }
 
 -- after all these, one by one
-abbrev pub gone : Moment → List Move → Moment
-gone at [] = at
-gone at (m ∷ ms) = gone (moved at m) ms
+abbrev pub after_moves : Moment → List Move → Moment
+after_moves at [] = at
+after_moves at (m ∷ ms) = after_moves (after_move at m) ms
 
 -- before the first step
 abbrev pub first_moment : Moment
@@ -58,13 +58,13 @@ module _ {B : Type 0} (setting : Setting B) where
 
   abbrev pub DueAll : Moment → List Move → Type 0
   DueAll at [] = Unit {0}
-  DueAll at (m ∷ ms) = Due at m × DueAll (moved at m) ms
+  DueAll at (m ∷ ms) = Due at m × DueAll (after_move at m) ms
 
   -- a moment from which another is reached
   pub record Reaches (from to : Moment) : Type 0 where
     pub moves : List Move
     pub due : DueAll from moves
-    pub comes : gone from moves ≡ to
+    pub comes : after_moves from moves ≡ to
 
 module _ {B : Type 0} (setting : Setting B) (procs : List (List ℕ)) where
   -- the lines told until then
@@ -74,7 +74,7 @@ module _ {B : Type 0} (setting : Setting B) (procs : List (List ℕ)) where
   -- the effects of the next step
   abbrev pub move_effects : Moment → Move → List Effect
   move_effects at None = (move setting.next setting.bodies (session_of setting at).live).effects
-  move_effects at (Some t) = (taken setting.bodies (took_at at t) (session_of setting at).live).effects
+  move_effects at (Some t) = (take_move setting.bodies (took_at at t) (session_of setting at).live).effects
 
   -- its lines
   abbrev pub move_lines : Moment → Move → List ℕ

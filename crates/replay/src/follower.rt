@@ -1,6 +1,6 @@
 // A sink for the lines of a run, which are compared with what was recorded.
 ghost use Rattle.std.specs.Prelude.{◌≡◌, ◌<◌, ◌≤◌, ◌++◌, ◌+◌, [], IfOk, MatchBool, None, OnErr, Some, drop, length, take};
-ghost use Rattle.lwp_types.specs.Streams.{HasCause, appended};
+ghost use Rattle.lwp_types.specs.Streams.{HasCause, after_append};
 ghost use Rattle.replay.specs.Following.{Departs, told_in};
 ghost use Rattle.replay.specs.Says.{ComparedBy};
 ghost use Rattle.replay.specs.Walk.{ticks_after};
@@ -125,7 +125,8 @@ impl<'b> Sink for Follower<'b> {
         ensures bound { IfOk result (λ n. n ≤ length bytes.now) }
         ensures some { IfOk result (λ n. 0 < length bytes.now → 0 < n) }
         ensures ok { IfOk result
-            (λ n. Some (told_in self.new) ≡ appended (Some (told_in self.old)) (take n bytes.now)) }
+            (λ n.
+                Some (told_in self.new) ≡ after_append (Some (told_in self.old)) (take n bytes.now)) }
         ensures err { OnErr result (Some (told_in self.new) ≡ Some (told_in self.old)) }
         ensures cause { HasCause self.old.faults self.new.faults result }
         // It only makes the step longer.

@@ -4,7 +4,7 @@ use Rattle.std.proofs.lemmas.List.{append-nil, get_or-drop, length-drop}
 use Rattle.memchr.specs.Find.{NoneAfter, Passes, is_byte}
 use Rattle.script_lines.specs.Reading.{phrase_at}
 use Rattle.script_text.proofs.CutLaws.{line_none}
-use Rattle.script_text.specs.Spelling.{cut, onto_first}
+use Rattle.script_text.specs.Spelling.{line_cut, onto_first}
 use Rattle.script_advice.specs.declared.ahead.Ahead.{Ahead}
 use Rattle.script_advice.specs.declared.sets.Sets.{Sets}
 use Rattle.script_advice.specs.declared.texts.Format.{Format}
@@ -20,11 +20,11 @@ Cut = List (List ℕ) × List ℕ
 -- ---- The lines before an end.
 
 -- behind an end all lines have ended, and there is one
-pub ended : (xs : List ℕ) → (l : List ℕ) × ((ls : List (List ℕ)) × (cut (xs ++ 10 ∷ []) ≡ (l ∷ ls, [])))
+pub ended : (xs : List ℕ) → (l : List ℕ) × ((ls : List (List ℕ)) × (line_cut (xs ++ 10 ∷ []) ≡ (l ∷ ls, [])))
 ended [] = ([], ([], refl))
 ended (b ∷ bs) =
     let before = ended bs in
-    elim (eqb b 10) as (λ v. (l : List ℕ) × ((ls : List (List ℕ)) × (cond v ([] ∷ (cut (bs ++ 10 ∷ [])).0, (cut (bs ++ 10 ∷ [])).1) (onto_first b (cut (bs ++ 10 ∷ []))) ≡ (l ∷ ls, [])))) [
+    elim (eqb b 10) as (λ v. (l : List ℕ) × ((ls : List (List ℕ)) × (cond v ([] ∷ (line_cut (bs ++ 10 ∷ [])).0, (line_cut (bs ++ 10 ∷ [])).1) (onto_first b (line_cut (bs ++ 10 ∷ []))) ≡ (l ∷ ls, [])))) [
       | true ↦ ([], (before.0 ∷ before.1.0, ap (λ (c : Cut). ([] ∷ c.0, c.1)) before.1.1))
       | false ↦ (b ∷ before.0, (before.1.0, ap (onto_first b) before.1.1))
     ]
@@ -33,14 +33,14 @@ onto_lines : (b : ℕ) (ks : List (List ℕ)) (t l : List ℕ) (ls : List (List 
 onto_lines b ks t l ls e = rw e refl
 
 -- the lines up to an end, and those behind it
-pub lines_join : (xs ys : List ℕ) → (cut (xs ++ 10 ∷ ys)).0 ≡ (cut (xs ++ 10 ∷ [])).0 ++ (cut ys).0
+pub lines_join : (xs ys : List ℕ) → (line_cut (xs ++ 10 ∷ ys)).0 ≡ (line_cut (xs ++ 10 ∷ [])).0 ++ (line_cut ys).0
 lines_join [] ys = refl
 lines_join (b ∷ bs) ys =
     let before = ended bs in
-    let joined : (cut (bs ++ 10 ∷ ys)).0 ≡ before.0 ∷ (before.1.0 ++ (cut ys).0) = lines_join bs ys ∙ ap (λ (c : Cut). c.0 ++ (cut ys).0) before.1.1 in
-    elim (eqb b 10) as (λ v. (cond v ([] ∷ (cut (bs ++ 10 ∷ ys)).0, (cut (bs ++ 10 ∷ ys)).1) (onto_first b (cut (bs ++ 10 ∷ ys)))).0 ≡ (cond v ([] ∷ (cut (bs ++ 10 ∷ [])).0, (cut (bs ++ 10 ∷ [])).1) (onto_first b (cut (bs ++ 10 ∷ [])))).0 ++ (cut ys).0) [
+    let joined : (line_cut (bs ++ 10 ∷ ys)).0 ≡ before.0 ∷ (before.1.0 ++ (line_cut ys).0) = lines_join bs ys ∙ ap (λ (c : Cut). c.0 ++ (line_cut ys).0) before.1.1 in
+    elim (eqb b 10) as (λ v. (cond v ([] ∷ (line_cut (bs ++ 10 ∷ ys)).0, (line_cut (bs ++ 10 ∷ ys)).1) (onto_first b (line_cut (bs ++ 10 ∷ ys)))).0 ≡ (cond v ([] ∷ (line_cut (bs ++ 10 ∷ [])).0, (line_cut (bs ++ 10 ∷ [])).1) (onto_first b (line_cut (bs ++ 10 ∷ [])))).0 ++ (line_cut ys).0) [
       | true ↦ ap (λ (l : List (List ℕ)). [] ∷ l) (lines_join bs ys)
-      | false ↦ onto_lines b (cut (bs ++ 10 ∷ ys)).0 (cut (bs ++ 10 ∷ ys)).1 before.0 (before.1.0 ++ (cut ys).0) joined ∙ sym (ap (λ (c : Cut). (onto_first b c).0 ++ (cut ys).0) before.1.1)
+      | false ↦ onto_lines b (line_cut (bs ++ 10 ∷ ys)).0 (line_cut (bs ++ 10 ∷ ys)).1 before.0 (before.1.0 ++ (line_cut ys).0) joined ∙ sym (ap (λ (c : Cut). (onto_first b c).0 ++ (line_cut ys).0) before.1.1)
     ]
 
 onto_none : (b : ℕ) (ls : List (List ℕ)) (t tl : List ℕ) → onto_first b (ls, t) ≡ ([], b ∷ tl) → (ls ≡ []) × (t ≡ tl)
@@ -48,26 +48,26 @@ onto_none b [] t tl e = (refl, let f : b ∷ t ≡ b ∷ tl = ap (λ (c : Cut). 
 onto_none b (l ∷ ls) t tl e = absurd (let f : (b ∷ l) ∷ ls ≡ [] = ap (λ (c : Cut). c.0) e in cc)
 
 -- a piece without an end is one line where an end is put behind it
-pub one_line : (xs : List ℕ) → cut xs ≡ ([], xs) → (cut (xs ++ 10 ∷ [])).0 ≡ xs ∷ []
+pub one_line : (xs : List ℕ) → line_cut xs ≡ ([], xs) → (line_cut (xs ++ 10 ∷ [])).0 ≡ xs ∷ []
 one_line [] e = refl
-one_line (b ∷ bs) e = elim (eqb b 10) as (λ v. cond v ([] ∷ (cut bs).0, (cut bs).1) (onto_first b (cut bs)) ≡ ([], b ∷ bs) → (cond v ([] ∷ (cut (bs ++ 10 ∷ [])).0, (cut (bs ++ 10 ∷ [])).1) (onto_first b (cut (bs ++ 10 ∷ [])))).0 ≡ (b ∷ bs) ∷ []) [
-  | true ↦ λ f. absurd (let g : [] ∷ (cut bs).0 ≡ [] = ap (λ (c : Cut). c.0) f in cc)
-  | false ↦ λ f. onto_lines b (cut (bs ++ 10 ∷ [])).0 (cut (bs ++ 10 ∷ [])).1 bs [] (one_line bs (let i = onto_none b (cut bs).0 (cut bs).1 bs f in ap (λ (ls : List (List ℕ)). (ls, (cut bs).1)) i.0 ∙ ap (λ (t : List ℕ). ([], t)) i.1))
+one_line (b ∷ bs) e = elim (eqb b 10) as (λ v. cond v ([] ∷ (line_cut bs).0, (line_cut bs).1) (onto_first b (line_cut bs)) ≡ ([], b ∷ bs) → (cond v ([] ∷ (line_cut (bs ++ 10 ∷ [])).0, (line_cut (bs ++ 10 ∷ [])).1) (onto_first b (line_cut (bs ++ 10 ∷ [])))).0 ≡ (b ∷ bs) ∷ []) [
+  | true ↦ λ f. absurd (let g : [] ∷ (line_cut bs).0 ≡ [] = ap (λ (c : Cut). c.0) f in cc)
+  | false ↦ λ f. onto_lines b (line_cut (bs ++ 10 ∷ [])).0 (line_cut (bs ++ 10 ∷ [])).1 bs [] (one_line bs (let i = onto_none b (line_cut bs).0 (line_cut bs).1 bs f in ap (λ (ls : List (List ℕ)). (ls, (line_cut bs).1)) i.0 ∙ ap (λ (t : List ℕ). ([], t)) i.1))
 ] e
 
 -- ---- The last line.
 
 -- no end stands behind the last one
-pub last_tail : (text after : List ℕ) (e : ℕ) → NoneAfter (Passes (is_byte 10) text) 0 (length text) e → after ≡ take (length text - (e + 1)) (drop (e + 1) text) → cut after ≡ ([], after)
+pub last_tail : (text after : List ℕ) (e : ℕ) → NoneAfter (Passes (is_byte 10) text) 0 (length text) e → after ≡ take (length text - (e + 1)) (drop (e + 1) text) → line_cut after ≡ ([], after)
 last_tail text after e h q =
     let all : after ≡ drop (e + 1) text = q ∙ take_all (length text - (e + 1)) (drop (e + 1) text) (omega (arith, length-drop (e + 1) text)) in
     rw all (line_none (drop (e + 1) text) (λ k low high is. h.after (e + 1 + k) (omega arith) (omega (arith, high, h.high, length-drop (e + 1) text)) (sym (ap (is_byte 10) (get_or-drop (e + 1) text k 0)) ∙ is)))
 
 -- the lines up to the last end
-text_lines : (text lines after : List ℕ) → text ≡ lines ++ 10 ∷ after → cut after ≡ ([], after) → (cut text).0 ≡ (cut (lines ++ 10 ∷ [])).0
-text_lines text lines after e f = ap (λ (t : List ℕ). (cut t).0) e ∙ lines_join lines after ∙ ap (λ (c : Cut). (cut (lines ++ 10 ∷ [])).0 ++ c.0) f ∙ append-nil (cut (lines ++ 10 ∷ [])).0
+text_lines : (text lines after : List ℕ) → text ≡ lines ++ 10 ∷ after → line_cut after ≡ ([], after) → (line_cut text).0 ≡ (line_cut (lines ++ 10 ∷ [])).0
+text_lines text lines after e f = ap (λ (t : List ℕ). (line_cut t).0) e ∙ lines_join lines after ∙ ap (λ (c : Cut). (line_cut (lines ++ 10 ∷ [])).0 ++ c.0) f ∙ append-nil (line_cut (lines ++ 10 ∷ [])).0
 
-pub last_alone : (text lines after : List ℕ) → text ≡ lines ++ 10 ∷ after → cut after ≡ ([], after) → cut lines ≡ ([], lines) → (cut text).0 ≡ lines ∷ []
+pub last_alone : (text lines after : List ℕ) → text ≡ lines ++ 10 ∷ after → line_cut after ≡ ([], after) → line_cut lines ≡ ([], lines) → (line_cut text).0 ≡ lines ∷ []
 last_alone text lines after e f g = text_lines text lines after e f ∙ one_line lines g
 
 take_end : (xs ys : List ℕ) → take (length xs + 1) (xs ++ 10 ∷ ys) ≡ xs ++ 10 ∷ []
@@ -76,11 +76,11 @@ take_end (x ∷ xs) ys =
     let e : suc (length xs) + 1 ≡ suc (length xs + 1) = omega arith in
     rw e (ap (λ (l : List ℕ). x ∷ l) (take_end xs ys))
 
-pub last_behind : (text lines after front line : List ℕ) → text ≡ lines ++ 10 ∷ after → cut after ≡ ([], after) → lines ≡ front ++ 10 ∷ line → cut line ≡ ([], line) → (cut text).0 ≡ (cut (take (length front + 1) lines)).0 ++ line ∷ []
+pub last_behind : (text lines after front line : List ℕ) → text ≡ lines ++ 10 ∷ after → line_cut after ≡ ([], after) → lines ≡ front ++ 10 ∷ line → line_cut line ≡ ([], line) → (line_cut text).0 ≡ (line_cut (take (length front + 1) lines)).0 ++ line ∷ []
 last_behind text lines after front line e f g h =
     let all : lines ++ 10 ∷ [] ≡ front ++ 10 ∷ (line ++ 10 ∷ []) = ap (λ (l : List ℕ). l ++ 10 ∷ []) g ∙ append_assoc front (10 ∷ line) (10 ∷ []) in
     let part : take (length front + 1) lines ≡ front ++ 10 ∷ [] = ap (take (length front + 1)) g ∙ take_end front line in
-    text_lines text lines after e f ∙ ap (λ (l : List ℕ). (cut l).0) all ∙ lines_join front (line ++ 10 ∷ []) ∙ ap (λ (l : List (List ℕ)). (cut (front ++ 10 ∷ [])).0 ++ l) (one_line line h) ∙ sym (ap (λ (l : List ℕ). (cut l).0 ++ line ∷ []) part)
+    text_lines text lines after e f ∙ ap (λ (l : List ℕ). (line_cut l).0) all ∙ lines_join front (line ++ 10 ∷ []) ∙ ap (λ (l : List (List ℕ)). (line_cut (front ++ 10 ∷ [])).0 ++ l) (one_line line h) ∙ sym (ap (λ (l : List ℕ). (line_cut l).0 ++ line ∷ []) part)
 
 -- ---- One line more at the end.
 

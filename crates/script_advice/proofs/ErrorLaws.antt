@@ -7,7 +7,7 @@ use Rattle.script_text.specs.declared.reason.Reason.{Reason}
 use Rattle.script_text.specs.declared.reason.Reason.TheVariants as reason
 use Rattle.script_text.specs.declared.script.Script.{Script}
 use Rattle.script_text.specs.Grammar.{Spells}
-use Rattle.script_text.specs.Spelling.{cut, verdict}
+use Rattle.script_text.specs.Spelling.{line_cut, verdict}
 use Rattle.script_text.proofs.ScriptLaws.{is_verdict, spelt_from, verdict_long}
 use Rattle.script_advice.specs.Advice.{doubted_grade, grade_by, grade_of, remarks_by, report}
 use Rattle.script_advice.specs.Doubts.{are_some, doubts}
@@ -26,9 +26,9 @@ first_from d n why (line ∷ lines) tail = (refl, refl)
 
 first_at : (text : List ℕ) (n : ℕ) (why : Reason) → BeginsWith (errors_at text n why) n why
 unfolding errors_at
-first_at text n why = elim (eqb n 0) as (λ v. eqb n 0 ≡ v → BeginsWith (cond v (remark_of (declared_by text) 0 why [] ∷ []) (from_first (declared_by text) n why (drop (n - 1) (cut text).0) (cut text).1)) n why) [
+first_at text n why = elim (eqb n 0) as (λ v. eqb n 0 ≡ v → BeginsWith (cond v (remark_of (declared_by text) 0 why [] ∷ []) (from_first (declared_by text) n why (drop (n - 1) (line_cut text).0) (line_cut text).1)) n why) [
   | true ↦ λ e. (sym (eqb-true n 0 e), refl)
-  | false ↦ λ e. first_from (declared_by text) n why (drop (n - 1) (cut text).0) (cut text).1
+  | false ↦ λ e. first_from (declared_by text) n why (drop (n - 1) (line_cut text).0) (line_cut text).1
 ] refl
 
 pub first_is : (text : List ℕ) → FirstIsReaders text

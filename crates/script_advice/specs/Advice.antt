@@ -1,7 +1,7 @@
 -- What is told of a text, and what the program comes to, with all that it meets outside.
 use Rattle.std.specs.Prelude.{ℕ, Bool, true, false, List, [], ◌∷◌, Option, Some, None, Result, Ok, Err, codes, take, if◌then◌else◌, ◌≡◌}
 use Rattle.std.specs.Str.{bytes_eq}
-use Rattle.lwp_types.specs.Streams.{appended}
+use Rattle.lwp_types.specs.Streams.{after_append}
 use Rattle.script_text.specs.declared.reason.Reason.{Reason}
 use Rattle.script_text.specs.declared.script.Script.{Script}
 use Rattle.script_text.specs.Spelling.{verdict}
@@ -58,7 +58,7 @@ Says source says = IsFaultless source × IsReadUp 16777217 source.old source.new
 
 -- all that is told of the text was written
 abbrev pub IsTold : Format → Stream → Grade → List ℕ → Type 0
-IsTold f sink g text = (grade_of text ≡ g) × (sink.new ≡ appended sink.old (report f text)) × IsFaultless sink
+IsTold f sink g text = (grade_of text ≡ g) × (sink.new ≡ after_append sink.old (report f text)) × IsFaultless sink
 
 -- a first part of it was written, and a write failed before the last byte
 abbrev pub IsCut : Format → Stream → List ℕ → Type 0

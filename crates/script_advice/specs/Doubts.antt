@@ -12,7 +12,7 @@ use Rattle.script_lines.specs.Phrase.{Phrase}
 use Rattle.script_lines.specs.Reading.{phrase_at}
 use Rattle.script_lines.specs.Table.{ranks, role_of, starts}
 use Rattle.script_text.specs.Meaning.{contains_name, enter}
-use Rattle.script_text.specs.Spelling.{cut}
+use Rattle.script_text.specs.Spelling.{line_cut}
 use Rattle.script_line_faults.specs.Near.{nearest, or_else}
 use Rattle.script_line_faults.specs.Faults.{slot_at}
 use Rattle.script_advice.specs.Remarks.{Remark, place_at, some_names, word_or_none}
@@ -115,7 +115,7 @@ sets_on s line = sets_told s (phrase_at line)
 
 -- what the lines of a text set
 abbrev pub sets_of : List ℕ → Sets
-sets_of text = fold sets_on no_sets (cut text).0
+sets_of text = fold sets_on no_sets (line_cut text).0
 
 -- ---- The way through a procedure.
 
@@ -277,7 +277,7 @@ doubts_from s w n (line ∷ lines) = doubts_told s w (keeps (ahead_of no_ahead l
 
 -- the warnings of a text that spells a script
 abbrev pub doubts : List ℕ → List Remark
-doubts text = doubts_from (sets_of text) no_way 1 (cut text).0
+doubts text = doubts_from (sets_of text) no_way 1 (line_cut text).0
 
 -- there is one at least
 abbrev pub are_some : List Remark → Bool

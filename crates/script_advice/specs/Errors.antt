@@ -9,7 +9,7 @@ use Rattle.script_text.specs.declared.reason.Reason.TheVariants as reason
 use Rattle.script_text.specs.declared.script.Script.{Script}
 use Rattle.script_text.specs.declared.stage.Stage.TheVariants as stage
 use Rattle.script_text.specs.Grammar.{is_declared}
-use Rattle.script_text.specs.Spelling.{cut, declared_in, reason_of, verdict}
+use Rattle.script_text.specs.Spelling.{declared_in, line_cut, reason_of, verdict}
 use Rattle.script_advice.specs.Remarks.{Remark, remark_of}
 
 -- ---- A line by itself.
@@ -32,13 +32,13 @@ told_first d n line None others = others
 told_first d n line (Some why) others = remark_of d n why line ∷ others
 
 -- a last line that hasn't ended
-abbrev pub unended : Declared → ℕ → List ℕ → List Remark
-unended d n [] = []
-unended d n (b ∷ bs) = remark_of d n reason.Unended (b ∷ bs) ∷ []
+abbrev pub end_remarks : Declared → ℕ → List ℕ → List Remark
+end_remarks d n [] = []
+end_remarks d n (b ∷ bs) = remark_of d n reason.Unended (b ∷ bs) ∷ []
 
 -- the errors of these lines, of which the first has this number, and of what stands behind them
 abbrev pub later : Declared → ℕ → List (List ℕ) → List ℕ → List Remark
-later d n [] tail = unended d n tail
+later d n [] tail = end_remarks d n tail
 later d n (line ∷ lines) tail = told_first d n line (alone d line) (later d (suc n) lines tail)
 
 -- the errors from the first bad line on, which is the first of these, or what stands behind them
@@ -48,13 +48,13 @@ from_first d n why (line ∷ lines) tail = remark_of d n why line ∷ later d (s
 
 -- the procedures that a text declares, wherever they stand
 abbrev pub declared_by : List ℕ → Declared
-declared_by text = declared_in ((cut text).0 ++ (cut text).1 ∷ [])
+declared_by text = declared_in ((line_cut text).0 ++ (line_cut text).1 ∷ [])
 
 -- the errors of a text whose first bad line is this; line 0 stands for the whole
 unfoldable pub errors_at : List ℕ → ℕ → Reason → List Remark
 errors_at text n why =
     if n == 0 then remark_of (declared_by text) 0 why [] ∷ []
-    else from_first (declared_by text) n why (drop (n - 1) (cut text).0) (cut text).1
+    else from_first (declared_by text) n why (drop (n - 1) (line_cut text).0) (line_cut text).1
 
 -- the errors of a text, by what reading it comes to
 abbrev pub errors_by : List ℕ → Result Script (ℕ × Reason) → List Remark

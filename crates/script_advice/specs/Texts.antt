@@ -9,9 +9,9 @@ use Rattle.script_advice.specs.declared.texts.Format.{Format}
 use Rattle.script_advice.specs.declared.texts.Format.TheVariants as format
 
 -- a text behind this one, if there is any
-abbrev pub labelled : List ℕ → List ℕ → List ℕ → List ℕ
-labelled front [] end = []
-labelled front (b ∷ bs) end = front ++ ((b ∷ bs) ++ end)
+abbrev pub with_label : List ℕ → List ℕ → List ℕ → List ℕ
+with_label front [] end = []
+with_label front (b ∷ bs) end = front ++ ((b ∷ bs) ++ end)
 
 -- the form of this kind of line behind this text, if there is one
 abbrev pub labelled_form : List ℕ → Option Op → List ℕ → List ℕ
@@ -25,17 +25,17 @@ column r = length r.text - r.place.left
 -- ---- For readers: the line, a caret under the wrong word, and a line for all else.
 
 -- a byte as it is shown: one that isn't printable is a question mark
-abbrev pub shown : ℕ → ℕ
-shown b = if nat_le 32 b && nat_le b 126 then b else 63
+abbrev pub shown_byte : ℕ → ℕ
+shown_byte b = if nat_le 32 b && nat_le b 126 then b else 63
 
 -- what stands under a byte that is before the wrong word: a space
 abbrev pub under : ℕ → ℕ
 under b = 32
 
 -- the line, and a caret behind so many bytes of the next; nothing, where the line is empty
-abbrev pub quoted : List ℕ → ℕ → List ℕ
-quoted [] at = []
-quoted (b ∷ bs) at = codes "  " ++ (map shown (b ∷ bs) ++ (codes "\n  " ++ (map under (take at (b ∷ bs)) ++ codes "^\n")))
+abbrev pub line_with_caret : List ℕ → ℕ → List ℕ
+line_with_caret [] at = []
+line_with_caret (b ∷ bs) at = codes "  " ++ (map shown_byte (b ∷ bs) ++ (codes "\n  " ++ (map under (take at (b ∷ bs)) ++ codes "^\n")))
 
 -- whether it is an error, the number of its line, and why it is told
 unfoldable pub head_text : Remark → List ℕ
@@ -44,11 +44,11 @@ head_text r = severity_text r.cause ++ (codes " line " ++ (decimal r.line ++ (co
 -- what is wrong, what may stand there, and what nearly does
 unfoldable pub advice_text : Remark → List ℕ
 advice_text r =
-    labelled (codes "here: ") (why_text r.place.why) (codes "\n")
-    ++ (labelled_form (codes "expected: ") r.form (codes "\n") ++ labelled (codes "did you mean: ") r.near (codes "\n"))
+    with_label (codes "here: ") (why_text r.place.why) (codes "\n")
+    ++ (labelled_form (codes "expected: ") r.form (codes "\n") ++ with_label (codes "did you mean: ") r.near (codes "\n"))
 
 abbrev pub plain_text : Remark → List ℕ
-plain_text r = head_text r ++ (quoted r.text (column r) ++ advice_text r)
+plain_text r = head_text r ++ (line_with_caret r.text (column r) ++ advice_text r)
 
 -- ---- For programs: one object a line. No byte of it has to be escaped.
 
@@ -60,8 +60,8 @@ json_reason r = codes ",\"severity\":\"" ++ (severity_text r.cause ++ (codes "\"
 
 unfoldable pub json_advice : Remark → List ℕ
 json_advice r =
-    labelled (codes ",\"what\":\"") (why_text r.place.why) (codes "\"")
-    ++ (labelled_form (codes ",\"expected\":\"") r.form (codes "\"") ++ labelled (codes ",\"suggestion\":\"") r.near (codes "\""))
+    with_label (codes ",\"what\":\"") (why_text r.place.why) (codes "\"")
+    ++ (labelled_form (codes ",\"expected\":\"") r.form (codes "\"") ++ with_label (codes ",\"suggestion\":\"") r.near (codes "\""))
 
 abbrev pub json_text : Remark → List ℕ
 json_text r = json_place r ++ (json_reason r ++ (json_advice r ++ codes "}\n"))

@@ -1,7 +1,7 @@
 // What stands ahead of a line in its procedure.
 ghost use Rattle.std.specs.Prelude.{◌≡◌, ◌++◌, ◌∷◌, [], IfOk, OnOk, Some};
 ghost use Rattle.script_lines.specs.Reading.{phrase_at};
-ghost use Rattle.script_text.specs.Spelling.{cut};
+ghost use Rattle.script_text.specs.Spelling.{line_cut};
 ghost use Rattle.script_advice.specs.Doubts.{ahead_told, keeping, keeps, monitor_entered, monitor_left, no_ahead};
 
 use crate::lines::last_line;
@@ -118,7 +118,7 @@ fn note_line(
 
 /// Which lines of a text keep a monitor, the last line first.
 pub fn keeping(alloc: Global, text: &[u8]) -> Result<Vec<bool>, NoMemory>
-    ensures { IfOk result (λ kept. kept.items ≡ keeping no_ahead (cut text.now).0) }
+    ensures { IfOk result (λ kept. kept.items ≡ keeping no_ahead (line_cut text.now).0) }
 {
     let mut ahead = Ahead::none(alloc);
     let mut kept = Vec::new(alloc);

@@ -1,7 +1,7 @@
 // What is allowed in a script and hardly meant, line by line.
 ghost use Rattle.std.specs.Prelude.{◌≡◌, ◌++◌, ◌∷◌, ◌||◌, [], Bool, IfOk, List, OnOk, suc, take};
 ghost use Rattle.script_lines.specs.Reading.{phrase_at};
-ghost use Rattle.script_text.specs.Spelling.{cut};
+ghost use Rattle.script_text.specs.Spelling.{line_cut};
 ghost use Rattle.script_advice.specs.Doubts.{are_some, doubt_if, doubt_of, doubt_remark, doubted_words, doubts, doubts_told, is_unset, name_doubt, near_set, or_words, role_doubt, way_told};
 ghost use Rattle.script_advice.specs.Remarks.{Remark, some_names, word_or_none};
 ghost use Rattle.script_line_faults.specs.Near.{nearest};

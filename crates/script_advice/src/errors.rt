@@ -1,9 +1,9 @@
 // The errors of a text are told: its first bad line, and the lines behind it that are bad by themselves.
 ghost use Rattle.std.specs.Prelude.{◌≡◌, ◌++◌, ◌<◌, None, IfOk, OnOk, List, take};
 ghost use Rattle.script_lines.specs.Reading.{phrase_at};
-ghost use Rattle.script_text.specs.Spelling.{cut, reason_of};
+ghost use Rattle.script_text.specs.Spelling.{line_cut, reason_of};
 ghost use Rattle.script_text.specs.declared.stage.Stage.TheVariants as stage;
-ghost use Rattle.script_advice.specs.Errors.{alone, errors_at, later, told_first, unended};
+ghost use Rattle.script_advice.specs.Errors.{alone, end_remarks, errors_at, later, told_first};
 ghost use Rattle.script_advice.specs.Remarks.{Remark, remark_of};
 ghost use Rattle.script_advice.specs.Texts.{remark_text, remarks_text};
 
@@ -109,7 +109,7 @@ fn add_unended(
 ) -> Result<(), NoMemory>
     ensures { OnOk result
         (out.new.items
-        ≡ out.old.items ++ remarks_text format (take left (unended known.now number tail.now))) }
+        ≡ out.old.items ++ remarks_text format (take left (end_remarks known.now number tail.now))) }
 {
     if left == 0 || tail.is_empty() {
         return Ok(());
@@ -130,7 +130,7 @@ fn add_later(
         (out.new.items
         ≡ out.old.items
         ++ remarks_text format
-        (take most (later known.now first (cut text.now).0 (cut text.now).1))) }
+        (take most (later known.now first (line_cut text.now).0 (line_cut text.now).1))) }
 {
     let mut number = first;
     let mut rest = text;

@@ -72,7 +72,7 @@ fn native_on(line: &[u8]) -> &[u8]
 impl Known {
     ghost use Rattle.std.specs.Prelude.{◌≡◌, OnOk, IfOk};
     ghost use Rattle.script_text.specs.Grammar.{has, is_declared, nothing};
-    ghost use Rattle.script_text.specs.Spelling.{noted};
+    ghost use Rattle.script_text.specs.Spelling.{after_note};
     ghost use Rattle.script_advice.specs.Errors.{declared_by};
 
     fn new(alloc: Global) -> Known
@@ -86,7 +86,7 @@ impl Known {
 
     // Notes what a line declares.
     fn note(&mut self, line: &[u8]) -> Result<(), NoMemory>
-        ensures { OnOk result (self.new ≡ noted self.old line.now) }
+        ensures { OnOk result (self.new ≡ after_note self.old line.now) }
     {
         self.procs.enter(proc_on(line))?;
         self.natives.enter(native_on(line))

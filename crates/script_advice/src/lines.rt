@@ -1,14 +1,15 @@
 // The lines of a text, one by one.
 ghost use Rattle.std.specs.Prelude.{◌≡◌, ◌<◌, ◌++◌, ◌∷◌, [], drop, length, IfSome, IfNone};
-ghost use Rattle.script_text.specs.Spelling.{cut};
+ghost use Rattle.script_text.specs.Spelling.{line_cut};
 
 use memchr::{memchr, memrchr};
 
 /// The first line and what stands behind its end.
 pub fn first_line(text: &[u8]) -> Option<(&[u8], &[u8])>
-    ensures some { IfSome result (λ x. cut text.now ≡ (x.0.now ∷ (cut x.1.now).0, (cut x.1.now).1)) }
+    ensures some { IfSome result
+        (λ x. line_cut text.now ≡ (x.0.now ∷ (line_cut x.1.now).0, (line_cut x.1.now).1)) }
     ensures shorter { IfSome result (λ x. length x.1.now < length text.now) }
-    ensures none { IfNone result (cut text.now ≡ ([], text.now)) }
+    ensures none { IfNone result (line_cut text.now ≡ ([], text.now)) }
 {
     match memchr(b'\n', text) {
         None => None,
@@ -19,8 +20,8 @@ pub fn first_line(text: &[u8]) -> Option<(&[u8], &[u8])>
 // What stands before the last newline, and what behind it.
 fn last_end(text: &[u8]) -> Option<(&[u8], &[u8])>
     ensures some { IfSome result (λ x. text.now ≡ x.0.now ++ 10 ∷ x.1.now) }
-    ensures tail { IfSome result (λ x. cut x.1.now ≡ ([], x.1.now)) }
-    ensures none { IfNone result (cut text.now ≡ ([], text.now)) }
+    ensures tail { IfSome result (λ x. line_cut x.1.now ≡ ([], x.1.now)) }
+    ensures none { IfNone result (line_cut text.now ≡ ([], text.now)) }
 {
     match memrchr(b'\n', text) {
         None => None,
@@ -30,9 +31,9 @@ fn last_end(text: &[u8]) -> Option<(&[u8], &[u8])>
 
 /// What stands before the last line that has ended, and that line.
 pub fn last_line(text: &[u8]) -> Option<(&[u8], &[u8])>
-    ensures some { IfSome result (λ x. (cut text.now).0 ≡ (cut x.0.now).0 ++ x.1.now ∷ []) }
+    ensures some { IfSome result (λ x. (line_cut text.now).0 ≡ (line_cut x.0.now).0 ++ x.1.now ∷ []) }
     ensures shorter { IfSome result (λ x. length x.0.now < length text.now) }
-    ensures none { IfNone result ((cut text.now).0 ≡ []) }
+    ensures none { IfNone result ((line_cut text.now).0 ≡ []) }
 {
     let (lines, _) = last_end(text)?;
     match last_end(lines) {
@@ -43,8 +44,8 @@ pub fn last_line(text: &[u8]) -> Option<(&[u8], &[u8])>
 
 /// What stands behind so many lines; where there are fewer, what stands behind all of them.
 pub fn behind_lines(count: u32, text: &[u8]) -> &[u8]
-    ensures lines { (cut result.now).0 ≡ drop count (cut text.now).0 }
-    ensures tail { (cut result.now).1 ≡ (cut text.now).1 }
+    ensures lines { (line_cut result.now).0 ≡ drop count (line_cut text.now).0 }
+    ensures tail { (line_cut result.now).1 ≡ (line_cut text.now).1 }
 {
     let mut rest = text;
     let mut left = count;

@@ -1,6 +1,6 @@
 // How a remark is written. Each function puts its part behind the bytes so far.
 ghost use Rattle.std.specs.Prelude.{◌≡◌, ◌++◌, OnOk, map};
-ghost use Rattle.script_advice.specs.Texts.{advice_text, column, head_text, json_advice, json_place, json_reason, json_text, labelled, labelled_form, plain_text, quoted, remark_text, shown, under};
+ghost use Rattle.script_advice.specs.Texts.{advice_text, column, head_text, json_advice, json_place, json_reason, json_text, labelled_form, line_with_caret, plain_text, remark_text, shown_byte, under, with_label};
 
 use crate::remarks::{Remark, cause_text, severity_text, why_text};
 use lwp_types::NoMemory;
@@ -17,7 +17,7 @@ pub enum Format {
 
 // A text behind this one, if there is any.
 fn add_labelled(out: &mut Vec<u8>, front: &[u8], text: &[u8], end: &[u8]) -> Result<(), NoMemory>
-    ensures { OnOk result (out.new.items ≡ out.old.items ++ labelled front.now text.now end.now) }
+    ensures { OnOk result (out.new.items ≡ out.old.items ++ with_label front.now text.now end.now) }
 {
     if text.is_empty() {
         return Ok(());
@@ -55,7 +55,7 @@ fn column(remark: &Remark<'_>) -> usize
 
 // The bytes as they are shown.
 fn add_shown(out: &mut Vec<u8>, bytes: &[u8]) -> Result<(), NoMemory>
-    ensures { OnOk result (out.new.items ≡ out.old.items ++ map shown bytes.now) }
+    ensures { OnOk result (out.new.items ≡ out.old.items ++ map shown_byte bytes.now) }
 {
     for byte in bytes {
         let is_plain = 32 <= *byte && *byte <= 126;
@@ -83,7 +83,7 @@ fn add_under(out: &mut Vec<u8>, bytes: &[u8]) -> Result<(), NoMemory>
 
 // The line, and a caret behind so many bytes of the next; nothing, where the line is empty.
 fn add_quoted(out: &mut Vec<u8>, text: &[u8], at: usize) -> Result<(), NoMemory>
-    ensures { OnOk result (out.new.items ≡ out.old.items ++ quoted text.now at) }
+    ensures { OnOk result (out.new.items ≡ out.old.items ++ line_with_caret text.now at) }
 {
     if text.is_empty() {
         return Ok(());

@@ -1,13 +1,13 @@
 -- From the rounds of a run to what a session of `answers` says.
 use Rattle.event_gate.specs.Shelves.{Shelves, left_in_all}
-use Rattle.lwp_types.specs.Streams.{AppendsPrefix, Rose, appended}
+use Rattle.lwp_types.specs.Streams.{AppendsPrefix, Rose, after_append}
 use Rattle.pod_runner.proofs.Appends.{cut_on}
 use Rattle.pod_runner.proofs.Eagers.{finished-grows}
 use Rattle.pod_runner.proofs.Rounds.{Going, going-falls, going-finishes, going-on, going-part, goes-same, goes-then, new-whole, stream}
 use Rattle.pod_runner.specs.Calls.{last_made}
 use Rattle.pod_runner.specs.Does.{Does}
 use Rattle.pod_runner.specs.Due.{IsDefined}
-use Rattle.pod_runner.specs.Eager.{IsFirstPart, Plan, Planned, advanced, plan_over, plan_whole, round}
+use Rattle.pod_runner.specs.Eager.{IsFirstPart, Plan, Planned, after_advance, plan_over, plan_whole, round}
 use Rattle.pod_runner.specs.Eager as eager
 use Rattle.pod_runner.specs.Over.{over}
 use Rattle.pod_runner.specs.Play.{play}
@@ -68,7 +68,7 @@ pub record Answering (event : Option ℕ) (old now : Played Script) (stock left 
   pub going : Goes old now stock left
   pub is_event : known ≡ event
   pub has_agents : agents ≡ (known_in event (steps_of now)).agents
-  pub written : v ≡ appended w (known_in event (steps_of now)).replies
+  pub written : v ≡ after_append w (known_in event (steps_of now)).replies
   pub same : g ≡ f
 
 -- a count that stays 0 hasn't risen
@@ -89,10 +89,10 @@ module _ (event : Option ℕ) (old now new : Played Script) (stock some left : S
     (so : Answering event old now stock some known agents w v f g) where
   module _ (x : Option Halt) (p : Round now new some left (Ok x)) (none : plan_over (planned_by now) (plan_at now some) ≡ None) where
     -- the round, by its calls
-    comes : plan_at new left ≡ advanced (planned_by now) (plan_at now some)
+    comes : plan_at new left ≡ after_advance (planned_by now) (plan_at now some)
     comes = p.comes ∙ round-goes-on event (planned_by now) (plan_at now some) none
 
-    calls-are : new.calls ≢ now.calls → (advanced (planned_by now) (plan_at now some)).calls ≢ now.calls
+    calls-are : new.calls ≢ now.calls → (after_advance (planned_by now) (plan_at now some)).calls ≢ now.calls
     calls-are h is = h (ap (λ (plan : Plan ThreadBody). plan.calls) comes ∙ is)
 
     pub called : new.calls ≢ now.calls → known_in event (steps_of new) ≡ known_by event (known_in event (steps_of now)) (last_made (steps_of new))
@@ -116,21 +116,21 @@ module _ (event : Option ℕ) (old now new : Played Script) (stock some left : S
       going = goes-on;
       is_event = so.is_event;
       has_agents = so.has_agents ∙ ap (λ (k : Known). k.agents) (sym (still h));
-      written = so.written ∙ ap (λ (k : Known). appended w k.replies) (sym (still h));
+      written = so.written ∙ ap (λ (k : Known). after_append w k.replies) (sym (still h));
       same = so.same;
     }
 
     -- a call was told
     pub answering-told : new.calls ≢ now.calls → (later : Option ℕ) (told : List ℕ) (after : List ℕ) (u : Option (List ℕ)) (h : ℕ) → later ≡ known → told ≡ told_by agents (last_made (steps_of new)) → after ≡ agents_after known agents (last_made (steps_of new))
-        → u ≡ appended v told → h ≡ g → Answering event old new stock left later after w u f h
+        → u ≡ after_append v told → h ≡ g → Answering event old new stock left later after w u f h
     answering-told differs later told after u h kept is-told is-after wrote quiet = record {
       going = goes-on;
       is_event = kept ∙ so.is_event;
       has_agents = is-after ∙ ap (λ e. agents_after e agents (last_made (steps_of new))) so.is_event ∙ ap (λ those. agents_after event those (last_made (steps_of new))) so.has_agents
           ∙ ap (λ (k : Known). k.agents) (sym (called differs));
-      written = wrote ∙ ap (λ x. appended x told) so.written ∙ appended-append w (known_in event (steps_of now)).replies told
-          ∙ ap (λ x. appended w ((known_in event (steps_of now)).replies ++ x)) (is-told ∙ ap (λ those. told_by those (last_made (steps_of new))) so.has_agents)
-          ∙ ap (λ (k : Known). appended w k.replies) (sym (called differs));
+      written = wrote ∙ ap (λ x. after_append x told) so.written ∙ appended-append w (known_in event (steps_of now)).replies told
+          ∙ ap (λ x. after_append w ((known_in event (steps_of now)).replies ++ x)) (is-told ∙ ap (λ those. told_by those (last_made (steps_of new))) so.has_agents)
+          ∙ ap (λ (k : Known). after_append w k.replies) (sym (called differs));
       same = quiet ∙ so.same;
     }
 
@@ -155,13 +155,13 @@ no-steps event setting = refl
 
 module _ (client : ℕ) (script : Script) (o : Played Script) (stock : Shelves) (opening : o ≡ opening_run script o.turns) (stocked : stock ≡ stock_of script) where
   -- where it goes is the script's own session
-  end-is : eager.finished (planned_by o) (plan_at o stock) ≡ plan_of script o.turns
+  end-is : eager.after_finish (planned_by o) (plan_at o stock) ≡ plan_of script o.turns
   end-is = new-whole body_next bodies_of proc_names o stock (is-new script o.turns o opening) ∙ whole-is script o.turns o stock opening stocked
 
   pub first-of : (now : Played Script) (some : Shelves) → Goes o now stock some → IsFirstPart (plan_at now some) (plan_of script o.turns)
   first-of now some going = subst (λ (whole : Plan ThreadBody). IsFirstPart (plan_at now some) whole) (going.ends ∙ end-is) (finished-grows (planned_by o) (plan_at now some))
 
-  came-by : (r : Played Script) (left : Shelves) → GoesOn o r → IsFirstPart (plan_at r left) (eager.finished (planned_by o) (plan_at o stock))
+  came-by : (r : Played Script) (left : Shelves) → GoesOn o r → IsFirstPart (plan_at r left) (eager.after_finish (planned_by o) (plan_at o stock))
       → IsDefined (run.setting_of body_next bodies_of r) r.takes r.calls → Came script o.turns r left
   came-by r left goes first made = came script o.turns o r stock left opening stocked goes
       (λ new. subst (λ (whole : Plan ThreadBody). IsFirstPart (plan_at r left) whole) (new-whole body_next bodies_of proc_names o stock new) first) made
@@ -226,7 +226,7 @@ module _ (client : ℕ) (script : Script) (o : Played Script) (stock : Shelves) 
           let last = end_text o.turns (left_from 0 script.clients left) halt in
           record {
             planned = whole-of script o.turns new left halt None None None last done posted refl refl refl;
-            written = so.written ∙ ap (λ (plan : Plan ThreadBody). appended w (known_in (event_of script client) plan.session.steps).replies) (sym still ∙ sym done.whole);
+            written = so.written ∙ ap (λ (plan : Plan ThreadBody). after_append w (known_in (event_of script client) plan.session.steps).replies) (sym still ∙ sym done.whole);
           }
 
   -- before the first round
@@ -239,7 +239,7 @@ module _ (client : ℕ) (script : Script) (o : Played Script) (stock : Shelves) 
         going = record { same = goes-same body_next bodies_of proc_names o; sound = sound; told = ((λ base before. before), refl); ends = refl };
         is_event = is;
         has_agents = none ∙ ap (λ (k : Known). k.agents) (sym fresh);
-        written = sym (ap (λ (k : Known). appended w k.replies) fresh ∙ appended-nil w);
+        written = sym (ap (λ (k : Known). after_append w k.replies) fresh ∙ appended-nil w);
         same = refl;
       }
 

@@ -6,10 +6,10 @@ use Rattle.pod_events.specs.Events.{is_takeable}
 use Rattle.pod_runner.proofs.Rounds.{but_last-extended}
 use Rattle.pod_runner.proofs.Turns.{last_effects-step}
 use Rattle.pod_runner.specs.Calls.{last_made, made_in}
-use Rattle.pod_runner.specs.Eager.{Plan, Planned, advanced, boundary, has_choice, offered, offered_by, one_call, plan_over, pod_of, round, took_of}
+use Rattle.pod_runner.specs.Eager.{Plan, Planned, after_advance, after_offer, after_offer_by, boundary, has_choice, one_call, plan_over, pod_of, round, took_of}
 use Rattle.pod_runner.specs.Over.{events}
 use Rattle.pod_runner.specs.Run.{but_last}
-use Rattle.pod_runner.specs.Session.{Made, call_step, move, taken}
+use Rattle.pod_runner.specs.Session.{Made, call_step, move, take_move}
 use Rattle.pod_runner.specs.declared.session.Took.{Took}
 use Rattle.script_answers.specs.Replies.{Known, call_in, known_by, known_in, known_step, nothing_known, replies_in, told_by}
 use Rattle.std.proofs.Common.{Bool, List, None, Option, Some, [], ap, append-nil, append_assoc, arith, false, refl, sym, true, ℕ, ◌++◌, ◌+◌, ◌∙◌, ◌∷◌, ◌≡◌, ◌≢◌}
@@ -45,37 +45,37 @@ module _ (event : Option ℕ) where
 
     -- ---- lines that are taken tell nothing
 
-    by_line : (e : ℕ) (plan : Plan B) (o : Option Line) → known_of (offered_by planned e plan o) ≡ known_of plan
+    by_line : (e : ℕ) (plan : Plan B) (o : Option Line) → known_of (after_offer_by planned e plan o) ≡ known_of plan
     by_line e plan None = refl
     by_line e plan (Some line) =
         let took = took_of e line plan in
-        let effects = (taken planned.setting.bodies took plan.session.live).effects in
+        let effects = (take_move planned.setting.bodies took plan.session.live).effects in
         known-push plan.session.steps (record { take = Some took; effects = effects }) ∙ take-step (known_of plan) took effects
 
-    by_armed : (e : ℕ) (plan : Plan B) (b : Bool) → known_of (elim b as (λ _. Plan B) [ true ↦ offered_by planned e plan (first_left plan.left e) | false ↦ plan ]) ≡ known_of plan
+    by_armed : (e : ℕ) (plan : Plan B) (b : Bool) → known_of (elim b as (λ _. Plan B) [ true ↦ after_offer_by planned e plan (first_left plan.left e) | false ↦ plan ]) ≡ known_of plan
     by_armed e plan true = by_line e plan (first_left plan.left e)
     by_armed e plan false = refl
 
-    serves-known : (es : List ℕ) (plan : Plan B) → known_of (fold (λ (now : Plan B) e. offered planned e now) plan es) ≡ known_of plan
+    serves-known : (es : List ℕ) (plan : Plan B) → known_of (fold (λ (now : Plan B) e. after_offer planned e now) plan es) ≡ known_of plan
     serves-known [] plan = refl
-    serves-known (e ∷ es) plan = serves-known es (offered planned e plan) ∙ by_armed e plan (is_takeable (pod_of plan) e)
+    serves-known (e ∷ es) plan = serves-known es (after_offer planned e plan) ∙ by_armed e plan (is_takeable (pod_of plan) e)
 
     boundary-known : (plan : Plan B) → known_of (boundary planned plan) ≡ known_of plan
     boundary-known plan = serves-known events plan
 
     -- and make no calls
 
-    line-calls : (e : ℕ) (plan : Plan B) (o : Option Line) → (offered_by planned e plan o).calls ≡ plan.calls
+    line-calls : (e : ℕ) (plan : Plan B) (o : Option Line) → (after_offer_by planned e plan o).calls ≡ plan.calls
     line-calls e plan None = refl
     line-calls e plan (Some line) = refl
 
-    armed-calls : (e : ℕ) (plan : Plan B) (b : Bool) → (elim b as (λ _. Plan B) [ true ↦ offered_by planned e plan (first_left plan.left e) | false ↦ plan ]).calls ≡ plan.calls
+    armed-calls : (e : ℕ) (plan : Plan B) (b : Bool) → (elim b as (λ _. Plan B) [ true ↦ after_offer_by planned e plan (first_left plan.left e) | false ↦ plan ]).calls ≡ plan.calls
     armed-calls e plan true = line-calls e plan (first_left plan.left e)
     armed-calls e plan false = refl
 
-    serves-calls : (es : List ℕ) (plan : Plan B) → (fold (λ (now : Plan B) e. offered planned e now) plan es).calls ≡ plan.calls
+    serves-calls : (es : List ℕ) (plan : Plan B) → (fold (λ (now : Plan B) e. after_offer planned e now) plan es).calls ≡ plan.calls
     serves-calls [] plan = refl
-    serves-calls (e ∷ es) plan = serves-calls es (offered planned e plan) ∙ armed-calls e plan (is_takeable (pod_of plan) e)
+    serves-calls (e ∷ es) plan = serves-calls es (after_offer planned e plan) ∙ armed-calls e plan (is_takeable (pod_of plan) e)
 
     boundary-calls : (plan : Plan B) → (boundary planned plan).calls ≡ plan.calls
     boundary-calls plan = serves-calls events plan
@@ -91,8 +91,8 @@ module _ (event : Option ℕ) where
     abbrev advanced_by : Plan B → Bool → Plan B
     advanced_by plan b = elim b as (λ _. Plan B) [ true ↦ one_call planned (boundary planned plan) | false ↦ boundary planned plan ]
 
-    pub advanced-called : (plan : Plan B) → (advanced planned plan).calls ≢ plan.calls
-        → known_of (advanced planned plan) ≡ known_by event (known_of plan) (last_made (advanced planned plan).session.steps)
+    pub advanced-called : (plan : Plan B) → (after_advance planned plan).calls ≢ plan.calls
+        → known_of (after_advance planned plan) ≡ known_by event (known_of plan) (last_made (after_advance planned plan).session.steps)
     advanced-called plan h = by (has_choice plan) h
       where
         by : (b : Bool) → (advanced_by plan b).calls ≢ plan.calls → known_of (advanced_by plan b) ≡ known_by event (known_of plan) (last_made (advanced_by plan b).session.steps)
@@ -100,7 +100,7 @@ module _ (event : Option ℕ) where
         by false h = absurd (h (boundary-calls plan))
 
     -- before it, nothing more was known
-    pub advanced-before : (plan : Plan B) → (advanced planned plan).calls ≢ plan.calls → known_in event (but_last (advanced planned plan).session.steps) ≡ known_of plan
+    pub advanced-before : (plan : Plan B) → (after_advance planned plan).calls ≢ plan.calls → known_in event (but_last (after_advance planned plan).session.steps) ≡ known_of plan
     advanced-before plan h = by (has_choice plan) h
       where
         by : (b : Bool) → (advanced_by plan b).calls ≢ plan.calls → known_in event (but_last (advanced_by plan b).session.steps) ≡ known_of plan
@@ -109,15 +109,15 @@ module _ (event : Option ℕ) where
         by false h = absurd (h (boundary-calls plan))
 
     -- a round without a call tells nothing
-    pub advanced-still : (plan : Plan B) → (advanced planned plan).calls ≡ plan.calls → known_of (advanced planned plan) ≡ known_of plan
+    pub advanced-still : (plan : Plan B) → (after_advance planned plan).calls ≡ plan.calls → known_of (after_advance planned plan) ≡ known_of plan
     advanced-still plan h = by (has_choice plan) h
       where
         by : (b : Bool) → (advanced_by plan b).calls ≡ plan.calls → known_of (advanced_by plan b) ≡ known_of plan
         by true h = let same = boundary-calls plan in absurd (omega (arith, h, same))
         by false h = boundary-known plan
 
-    pub round-goes-on : (plan : Plan B) → plan_over planned plan ≡ None → round planned plan ≡ advanced planned plan
-    round-goes-on plan is = ap (λ (o : Option Halt). elim o as (λ _. Plan B) [ None ↦ advanced planned plan | Some halt ↦ plan ]) is
+    pub round-goes-on : (plan : Plan B) → plan_over planned plan ≡ None → round planned plan ≡ after_advance planned plan
+    round-goes-on plan is = ap (λ (o : Option Halt). elim o as (λ _. Plan B) [ None ↦ after_advance planned plan | Some halt ↦ plan ]) is
 
     pub round-ends : (plan : Plan B) (halt : Halt) → plan_over planned plan ≡ Some halt → round planned plan ≡ plan
-    round-ends plan halt is = ap (λ (o : Option Halt). elim o as (λ _. Plan B) [ None ↦ advanced planned plan | Some halt ↦ plan ]) is
+    round-ends plan halt is = ap (λ (o : Option Halt). elim o as (λ _. Plan B) [ None ↦ after_advance planned plan | Some halt ↦ plan ]) is

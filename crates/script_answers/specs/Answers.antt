@@ -1,5 +1,5 @@
 -- What `answers` comes to, with all that it meets outside.
-use Rattle.lwp_types.specs.Streams.{AppendsPrefix, appended}
+use Rattle.lwp_types.specs.Streams.{AppendsPrefix, after_append}
 use Rattle.pod_runner.specs.Run.{AppendsCut}
 use Rattle.pod_runner.specs.declared.session.Took.{Took}
 use Rattle.script_answers.specs.Replies.{answers_after, answers_before, answers_of}
@@ -29,7 +29,7 @@ IsPlannedPart turns script takes calls = IsPart turns script None None takes cal
 -- a session to its end: all that the client is told was written
 pub record IsTold (client turns : ℕ) (script : Script) (old new : Option (List ℕ)) (takes : List Took) (calls : ℕ) (halt : Halt) : Type 0 where
   pub planned : IsPlannedWhole turns script takes calls halt
-  pub written : new ≡ appended old (answers_of client script turns)
+  pub written : new ≡ after_append old (answers_of client script turns)
 
 -- a session as far as it came, where a write failed: what the client was told before the last call was written, and not all of what
 -- it was told then

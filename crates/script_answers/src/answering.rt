@@ -1,6 +1,6 @@
 // A script is read, and run with all lines in place, and what one client is told is written.
 ghost use Rattle.std.specs.Prelude.{◌≡◌, ◌≤◌, IfOk, IsErrOf, OnOk};
-ghost use Rattle.lwp_types.specs.Streams.{Rose, appended};
+ghost use Rattle.lwp_types.specs.Streams.{Rose, after_append};
 ghost use Rattle.script_answers.specs.Answers.{IsAnswered, IsAnswers, IsCutOff, IsStopped, IsTold};
 ghost use Rattle.script_answers.specs.Replies.{agents_after, event_of, told_by};
 ghost use Rattle.script_gate.specs.Posted.{IsPosted};
@@ -42,7 +42,7 @@ fn tell<K: Sink>(
     sink: &mut K,
 ) -> Result<(), RunErr>
     ensures told { OnOk result
-        (K.written sink.new ≡ appended (K.written sink.old) (told_by notes.old.agents made.now)) }
+        (K.written sink.new ≡ after_append (K.written sink.old) (told_by notes.old.agents made.now)) }
     ensures agents { OnOk result
         (notes.new.agents ≡ agents_after notes.old.event notes.old.agents made.now) }
     ensures event { notes.new.event ≡ notes.old.event }

@@ -1,6 +1,6 @@
 -- What each end of a session says.
 use Rattle.batch.specs.declared.part.Part.{Part}
-use Rattle.lwp_types.specs.Streams.{appended}
+use Rattle.lwp_types.specs.Streams.{after_append}
 use Rattle.script_batch.proofs.InputLaws.{reports-of}
 use Rattle.script_batch.specs.Batch.{BatchSays, IsBatch, IsInput, IsNoInput}
 use Rattle.script_batch.specs.Report.{report_of}
@@ -38,7 +38,7 @@ says-late turns source sink quiet same up = (same, within-of source.old source.n
 
 -- all of the report was written
 pub says-whole : (turns : ℕ) (source sink : Stream) (text : List ℕ) (parts : List Part) (report : List ℕ) → IsFaultless source → IsReadUp 33554433 source.old source.new
-    → IsInput source.old text parts → report ≡ report_of turns text parts → IsFaultless sink → sink.new ≡ appended sink.old report → BatchSays turns source sink end.Reported
+    → IsInput source.old text parts → report ≡ report_of turns text parts → IsFaultless sink → sink.new ≡ after_append sink.old report → BatchSays turns source sink end.Reported
 says-whole turns source sink text parts report same up input is faultless written =
     (same, up, faultless, (report, reports-of turns source.old text parts report input is, written))
 

@@ -1,7 +1,7 @@
 -- What `batch` comes to, with all that it meets outside.
 use Rattle.batch.specs.Parts.{parts_of}
 use Rattle.batch.specs.declared.part.Part.{Part}
-use Rattle.lwp_types.specs.Streams.{appended}
+use Rattle.lwp_types.specs.Streams.{after_append}
 use Rattle.script_batch.specs.Report.{report_of}
 use Rattle.script_session.specs.Outcome.{outcome_of}
 use Rattle.script_session.specs.declared.session.Session.{Session}
@@ -42,7 +42,7 @@ IsNoInput source _ = ⊥
 abbrev pub IsReported : ℕ → Stream → Stream → Type 0
 IsReported turns source sink =
     IsFaultless source × IsReadUp most_read source.old source.new × IsFaultless sink
-    × ((report : List ℕ) × Reports turns source.old report × (sink.new ≡ appended sink.old report))
+    × ((report : List ℕ) × Reports turns source.old report × (sink.new ≡ after_append sink.old report))
 
 -- a write failed, and not all of it was written
 abbrev pub IsCut : ℕ → Stream → Stream → Type 0

@@ -1,10 +1,10 @@
 -- The meaning of a script's procedures: what a thread that runs one calls next.
 use Rattle.lwp_types.specs.declared.call.Answer.{Answer}
 use Rattle.lwp_types.specs.Names.{Names, null_id}
-use Rattle.lwp_types.specs.Poll.{Next, Polled, is_refused, stopped}
+use Rattle.lwp_types.specs.Poll.{Next, Polled, is_refused, stop_poll}
 use Rattle.script_body.specs.Calls.{call_of}
 use Rattle.script_body.specs.Frame.{Frame, opening_frame, with_caught, with_handler, without_handler}
-use Rattle.script_body.specs.Naming.{named}
+use Rattle.script_body.specs.Naming.{after_name}
 use Rattle.script_body.specs.Walk.{At, next_stmt}
 use Rattle.script_text.specs.Script.{proc_number, stmts_at}
 use Rattle.script_text.specs.declared.script.Script.{Script}
@@ -45,8 +45,8 @@ caught_at body depth mark None = None
 caught_at body depth mark (Some place) = Some (back_at body depth mark place)
 
 -- a catch leaves so many frames, and goes on behind the handler of this number in the innermost
-abbrev pub taken_caught : ScriptBody → ℕ → ℕ → Option ScriptBody
-taken_caught body depth mark = if (depth == 0) || nat_lt (length body.below + 1) depth then None
+abbrev pub after_take_caught : ScriptBody → ℕ → ℕ → Option ScriptBody
+after_take_caught body depth mark = if (depth == 0) || nat_lt (length body.below + 1) depth then None
     else caught_at body (depth - 1) mark (slice_get (frame_above body (depth - 1)).handlers mark)
 
 -- ---- other answers
@@ -56,16 +56,16 @@ abbrev pub with_top : ScriptBody → Frame → ScriptBody
 with_top body frame = record body { top = frame }
 
 -- the last handler of the present procedure was removed, if it has one
-abbrev pub unhandled : ScriptBody → Option ScriptBody
-unhandled body = if length body.top.handlers == 0 then None else Some (with_top body (without_handler body.top))
+abbrev pub after_unhandle : ScriptBody → Option ScriptBody
+after_unhandle body = if length body.top.handlers == 0 then None else Some (with_top body (without_handler body.top))
 
 -- a procedure was called: it is at its start
 abbrev pub with_frame : ScriptBody → ℕ → ScriptBody
 with_frame body number = record body { top = opening_frame number; below = body.below ++ body.top ∷ [] }
 
 -- the present procedure has returned, if there is one to return to
-abbrev pub returned : ScriptBody → Option ScriptBody
-returned body = if length body.below == 0 then None
+abbrev pub after_return : ScriptBody → Option ScriptBody
+after_return body = if length body.below == 0 then None
     else Some (record body { top = frame_above body (length body.below - 1); below = take (length body.below - 1) body.below })
 
 -- the sender is known, if a letter was received
@@ -74,13 +74,13 @@ with_sender_by (answer.Letter from text room) body = record body { sender = from
 with_sender_by _ body = body
 
 -- an answer that is neither a catch nor a refusal, by the statement of the last call
-abbrev pub taken_by : ScriptBody → Answer → Stmt → Option ScriptBody
-taken_by body a (stmt.Recv from mode) = Some (with_sender_by a body)
-taken_by body a (stmt.Handle pat func arg) = Some (with_top body (with_handler body.top))
-taken_by body a stmt.Unhandle = unhandled body
-taken_by body a (stmt.CallProc name) = Some (with_frame body (proc_number body.script name))
-taken_by body a stmt.Return = returned body
-taken_by body a _ = Some body
+abbrev pub after_take_by : ScriptBody → Answer → Stmt → Option ScriptBody
+after_take_by body a (stmt.Recv from mode) = Some (with_sender_by a body)
+after_take_by body a (stmt.Handle pat func arg) = Some (with_top body (with_handler body.top))
+after_take_by body a stmt.Unhandle = after_unhandle body
+after_take_by body a (stmt.CallProc name) = Some (with_frame body (proc_number body.script name))
+after_take_by body a stmt.Return = after_return body
+after_take_by body a _ = Some body
 
 -- the statement is a return
 abbrev pub is_return : Stmt → Bool
@@ -88,18 +88,18 @@ is_return stmt.Return = true
 is_return _ = false
 
 -- a refusal changes nothing; a return isn't refused, but then, too, its frame has gone
-abbrev pub taken_refused : ScriptBody → Stmt → Option ScriptBody
-taken_refused body s = if is_return s then returned body else Some body
+abbrev pub after_take_refused : ScriptBody → Stmt → Option ScriptBody
+after_take_refused body s = if is_return s then after_return body else Some body
 
 -- an answer that is no catch; before the first call it changes nothing
-abbrev pub taken_plain : ScriptBody → Answer → Option Stmt → Option ScriptBody
-taken_plain body a None = Some body
-taken_plain body a (Some s) = if is_refused a then taken_refused body s else taken_by body a s
+abbrev pub after_take_plain : ScriptBody → Answer → Option Stmt → Option ScriptBody
+after_take_plain body a None = Some body
+after_take_plain body a (Some s) = if is_refused a then after_take_refused body s else after_take_by body a s
 
 -- the answer to the last call is taken, if it can be; a catch is the same after every statement
-abbrev pub taken : ScriptBody → Answer → Option ScriptBody
-taken body (answer.Caught depth mark p) = taken_caught body depth mark
-taken body a = taken_plain body a body.last
+abbrev pub after_take : ScriptBody → Answer → Option ScriptBody
+after_take body (answer.Caught depth mark p) = after_take_caught body depth mark
+after_take body a = after_take_plain body a body.last
 
 -- ---- the next call
 
@@ -118,9 +118,9 @@ polled_at body names at = (call_of body.script body.sender names at.stmt, behind
 
 -- to an answer that can't be taken it returns
 abbrev pub polled_by : ScriptBody → Names → Answer → Option ScriptBody → Polled ScriptBody
-polled_by body names a None = stopped body names
-polled_by body names a (Some now) = polled_at now (named a body.last names) (stmt_after a now)
+polled_by body names a None = stop_poll body names
+polled_by body names a (Some now) = polled_at now (after_name a body.last names) (stmt_after a now)
 
 -- a thread takes the answer, and goes on to the next statement that makes a call
 unfoldable pub script_next : Next ScriptBody
-script_next body names a = polled_by body names a (taken body a)
+script_next body names a = polled_by body names a (after_take body a)

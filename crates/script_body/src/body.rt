@@ -2,8 +2,8 @@
 ghost use Rattle.std.specs.Prelude.{◌≡◌, ◌<◌, ◌≤◌, ◌^◌, Some, false, is_some, unwrap_or, length, IfOk, IsTrue, OnOk, OnErr};
 ghost use Rattle.script_text.specs.Script.{proc_number, proc_places};
 ghost use Rattle.script_body.specs.Calls.{call_of};
-ghost use Rattle.script_body.specs.Naming.{named};
-ghost use Rattle.script_body.specs.ScriptBody.{script_opening, frame_above, back_at, taken_caught, unhandled, with_frame, returned, with_sender_by, taken_by, taken_refused, taken_plain, taken, stmt_after, behind, script_next};
+ghost use Rattle.script_body.specs.Naming.{after_name};
+ghost use Rattle.script_body.specs.ScriptBody.{script_opening, frame_above, back_at, after_take_caught, after_unhandle, with_frame, after_return, with_sender_by, after_take_by, after_take_refused, after_take_plain, after_take, stmt_after, behind, script_next};
 
 use crate::calls::{set_call, set_return};
 use crate::frame::Frame;
@@ -96,8 +96,8 @@ impl<'s> ScriptBody<'s> {
 
     // Whether there is such a handler. If not, nothing changes.
     fn take_caught(&mut self, depth: usize, mark: usize) -> bool
-        ensures took { result ≡ is_some (taken_caught self.old depth mark) }
-        ensures after { self.new ≡ unwrap_or (taken_caught self.old depth mark) self.old }
+        ensures took { result ≡ is_some (after_take_caught self.old depth mark) }
+        ensures after { self.new ≡ unwrap_or (after_take_caught self.old depth mark) self.old }
     {
         if depth == 0 || self.below.len() + 1 < depth {
             return false;
@@ -113,8 +113,8 @@ impl<'s> ScriptBody<'s> {
 
     // Whether there is a frame to return to.
     fn take_returned(&mut self) -> bool
-        ensures took { result ≡ is_some (returned self.old) }
-        ensures after { self.new ≡ unwrap_or (returned self.old) self.old }
+        ensures took { result ≡ is_some (after_return self.old) }
+        ensures after { self.new ≡ unwrap_or (after_return self.old) self.old }
     {
         match self.below.pop() {
             Some(frame) => {
@@ -127,8 +127,8 @@ impl<'s> ScriptBody<'s> {
 
     // Whether there is a handler to remove.
     fn take_unhandled(&mut self) -> bool
-        ensures took { result ≡ is_some (unhandled self.old) }
-        ensures after { self.new ≡ unwrap_or (unhandled self.old) self.old }
+        ensures took { result ≡ is_some (after_unhandle self.old) }
+        ensures after { self.new ≡ unwrap_or (after_unhandle self.old) self.old }
     {
         self.top.remove_handler()
     }
@@ -153,9 +153,10 @@ impl<'s> ScriptBody<'s> {
 
     // Takes an answer that is neither a catch nor a refusal, by the statement of the last call.
     fn take_by(&mut self, got: &Answer, stmt: &Stmt) -> Result<bool, NoMemory>
-        ensures took { IfOk result (λ took. took ≡ is_some (taken_by self.old got.now stmt.now)) }
+        ensures took { IfOk result
+            (λ took. took ≡ is_some (after_take_by self.old got.now stmt.now)) }
         ensures after { OnOk result
-            (self.new ≡ unwrap_or (taken_by self.old got.now stmt.now) self.old) }
+            (self.new ≡ unwrap_or (after_take_by self.old got.now stmt.now) self.old) }
     {
         match stmt {
             Stmt::Recv { .. } => self.know_sender(got),
@@ -169,8 +170,8 @@ impl<'s> ScriptBody<'s> {
     }
 
     fn take_refused(&mut self, stmt: &Stmt) -> bool
-        ensures took { result ≡ is_some (taken_refused self.old stmt.now) }
-        ensures after { self.new ≡ unwrap_or (taken_refused self.old stmt.now) self.old }
+        ensures took { result ≡ is_some (after_take_refused self.old stmt.now) }
+        ensures after { self.new ≡ unwrap_or (after_take_refused self.old stmt.now) self.old }
     {
         match stmt {
             Stmt::Return => self.take_returned(),
@@ -180,9 +181,9 @@ impl<'s> ScriptBody<'s> {
 
     fn take_plain(&mut self, got: &Answer) -> Result<bool, NoMemory>
         ensures took { IfOk result
-            (λ took. took ≡ is_some (taken_plain self.old got.now self.old.last)) }
+            (λ took. took ≡ is_some (after_take_plain self.old got.now self.old.last)) }
         ensures after { OnOk result
-            (self.new ≡ unwrap_or (taken_plain self.old got.now self.old.last) self.old) }
+            (self.new ≡ unwrap_or (after_take_plain self.old got.now self.old.last) self.old) }
     {
         let Some(stmt) = self.last else {
             return Ok(true);
@@ -195,8 +196,8 @@ impl<'s> ScriptBody<'s> {
 
     // Takes the answer to the last call, if it can be one. If not, nothing changes.
     fn take(&mut self, got: &Answer) -> Result<bool, NoMemory>
-        ensures took { IfOk result (λ took. took ≡ is_some (taken self.old got.now)) }
-        ensures after { OnOk result (self.new ≡ unwrap_or (taken self.old got.now) self.old) }
+        ensures took { IfOk result (λ took. took ≡ is_some (after_take self.old got.now)) }
+        ensures after { OnOk result (self.new ≡ unwrap_or (after_take self.old got.now) self.old) }
     {
         match got {
             Answer::Caught { depth, mark, .. } => {
@@ -209,8 +210,8 @@ impl<'s> ScriptBody<'s> {
     // Takes an answer that changes no more than the names and the sender, as most do. Any other is left, and nothing changes.
     #[inline(always)]
     fn settle(&mut self, env: &mut Env, got: &Answer) -> bool
-        ensures took { IsTrue result → taken self.old got.now ≡ Some self.new }
-        ensures names { IsTrue result → env.new ≡ named got.now self.old.last env.old }
+        ensures took { IsTrue result → after_take self.old got.now ≡ Some self.new }
+        ensures names { IsTrue result → env.new ≡ after_name got.now self.old.last env.old }
         ensures same { result ≡ false → self.new ≡ self.old }
         ensures same_names { result ≡ false → env.new ≡ env.old }
     {

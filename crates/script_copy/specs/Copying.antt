@@ -1,8 +1,8 @@
 -- What becomes of a script that is read and printed.
-use Rattle.lwp_types.specs.Streams.{appended}
+use Rattle.lwp_types.specs.Streams.{after_append}
 use Rattle.script_copy.specs.declared.failure.CopyFailure.{CopyFailure}
 use Rattle.script_copy.specs.declared.failure.CopyFailure.TheVariants as failure
-use Rattle.script_printer.specs.Printing.{printed}
+use Rattle.script_printer.specs.Printing.{text_of_script}
 use Rattle.script_text.specs.Grammar.{Spells}
 use Rattle.script_text.specs.Spelling.{verdict}
 use Rattle.script_text.specs.declared.reason.ReadErr.{ReadErr}
@@ -18,9 +18,9 @@ read_failed read_failure.Fault = failure.ReadFault
 read_failed read_failure.NoMemory = failure.NoMemory
 
 -- the failure where the bytes aren't read as a script
-abbrev pub refused : ReadErr → CopyFailure
-refused read_err.NoMemory = failure.NoMemory
-refused (read_err.Bad line why) = failure.Script line why
+abbrev pub copy_failure : ReadErr → CopyFailure
+copy_failure read_err.NoMemory = failure.NoMemory
+copy_failure (read_err.Bad line why) = failure.Script line why
 
 -- the status that the program ends with
 abbrev pub status_of : CopyFailure → ℕ
@@ -36,7 +36,7 @@ Holds (Some told) script = Spells told script
 
 -- behind what was written stands the printed text of the script that the source held
 abbrev pub Copies : Option (List ℕ) → Option (List ℕ) → Option (List ℕ) → Type 0
-Copies source before after = (script : Script) × Holds source script × (after ≡ appended before (printed script))
+Copies source before after = (script : Script) × Holds source script × (after ≡ after_append before (text_of_script script))
 
 -- where the failure names a line, it is the first bad one of the bytes that the source had left, with the first reason that fits
 abbrev pub Refuses : Option (List ℕ) → CopyFailure → Type 0

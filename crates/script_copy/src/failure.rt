@@ -1,6 +1,6 @@
 // Why a script wasn't copied.
 ghost use Rattle.std.specs.Prelude.{◌≡◌};
-ghost use Rattle.script_copy.specs.Copying.{read_failed, refused, status_of};
+ghost use Rattle.script_copy.specs.Copying.{copy_failure, read_failed, status_of};
 ghost use Rattle.script_copy.specs.declared.failure.CopyFailure.TheVariants as failure;
 
 use lwp_types::{Failed, NoMemory};
@@ -45,7 +45,7 @@ impl From<ReadFailure> for CopyFailure {
 }
 
 impl From<ReadErr> for CopyFailure {
-    ghost from_gives = { λ why e. e ≡ refused why };
+    ghost from_gives = { λ why e. e ≡ copy_failure why };
 
     fn from(why: ReadErr) -> CopyFailure {
         match why {

@@ -1,6 +1,6 @@
 -- What a take and a post more make of the lines by their places, and of the counts.
 use Rattle.event_gate.proofs.ShelfLaws.{Counts, add_next, add_of, begins, no_counts, take_of, taken_none}
-use Rattle.event_gate.specs.Shelves.{Shelf, Shelves, added_to, bare, bare_rack, first_left, has_left, left_in_all, left_of_client, moved, shelf_of, stocked, taken_from, with_one_more}
+use Rattle.event_gate.specs.Shelves.{Shelf, Shelves, after_add_to, after_next, after_take_from, bare, bare_rack, first_left, full_shelves, has_left, left_in_all, left_of_client, shelf_of, with_one_more}
 use Rattle.lwp_types.specs.declared.call.Line.{Line}
 use Rattle.script_gate.specs.Posted.{IsPosted}
 use Rattle.script_gate.specs.Stocked.{stock_of}
@@ -18,7 +18,7 @@ use Rattle.std.proofs.lemmas.Option.{get_or_from_slice_get, slice_get-map, slice
 
 -- ---- one shelf of places, as a shelf of lines
 
-moved-is : (lines : List Line) (p : Shelf ℕ) → shelf_by lines (moved p) ≡ moved (shelf_by lines p)
+moved-is : (lines : List Line) (p : Shelf ℕ) → shelf_by lines (after_next p) ≡ after_next (shelf_by lines p)
 moved-is lines p =
     let f = line_at lines in
     ap (λ (xs : List Line). record { taken = xs; left = map f (drop 1 p.left) }) (map-append f p.taken (take 1 p.left) ∙ ap (λ xs. map f p.taken ++ xs) (sym (take-map f 1 p.left)))
@@ -36,9 +36,9 @@ shelf-is lines places e there = sym (get_or-map (shelf_by lines) places e bare b
 pub first-is : (lines : List Line) (places : List (Shelf ℕ)) (e : ℕ) → e < length places → option_map (line_at lines) (first_left places e) ≡ first_left (shelves_by lines places) e
 first-is lines places e there = sym (slice_get-map (line_at lines) (shelf_of places e).left 0) ∙ ap (λ (s : Shelf Line). slice_get s.left 0) (shelf-is lines places e there)
 
-pub after-is : (lines : List Line) (places : List (Shelf ℕ)) (e : ℕ) → e < length places → shelves_by lines (taken_from places e) ≡ taken_from (shelves_by lines places) e
+pub after-is : (lines : List Line) (places : List (Shelf ℕ)) (e : ℕ) → e < length places → shelves_by lines (after_take_from places e) ≡ after_take_from (shelves_by lines places) e
 after-is lines places e there =
-    map-set (shelf_by lines) places e (moved (shelf_of places e)) ∙ ap (set (shelves_by lines places) e) (moved-is lines (shelf_of places e) ∙ ap moved (shelf-is lines places e there))
+    map-set (shelf_by lines) places e (after_next (shelf_of places e)) ∙ ap (set (shelves_by lines places) e) (moved-is lines (shelf_of places e) ∙ ap after_next (shelf-is lines places e there))
 
 -- of an event a place is left where a line is
 pub left-is : (lines : List Line) (places : List (Shelf ℕ)) (e : ℕ) → e < length places → has_left places e ≡ has_left (shelves_by lines places) e
@@ -62,13 +62,13 @@ next-is lines places from (Some e) long within is = record {
 }
 
 pub line_taken : (lines : List Line) (left : List ℕ) (places : List (Shelf ℕ)) (e i n place : ℕ) → Counts left (shelves_by lines places) → e < length places → i < length left → first_left places e ≡ Some place → i ≡ (line_at lines place).client → n ≡ get_or left i n
-    → (1 ≤ n) × Counts (set left i (n - 1)) (shelves_by lines (taken_from places e))
+    → (1 ≤ n) × Counts (set left i (n - 1)) (shelves_by lines (after_take_from places e))
 line_taken lines left places e i n place h there known first i_is n_is =
     let took = take_of left (shelves_by lines places) e i n (line_at lines place) h (omega (arith, there, length-map places (shelf_by lines))) known (sym (first-is lines places e there) ∙ ap (option_map (line_at lines)) first) i_is n_is in
     (took.0, subst (Counts (set left i (n - 1))) (sym (after-is lines places e there)) took.1)
 
 -- where no place is left, none is taken
-pub none_taken : (places : List (Shelf ℕ)) (e : ℕ) → first_left places e ≡ None → taken_from places e ≡ places
+pub none_taken : (places : List (Shelf ℕ)) (e : ℕ) → first_left places e ≡ None → after_take_from places e ≡ places
 none_taken places e none = taken_none places e none
 
 -- ---- the line that a place stands for
@@ -91,7 +91,7 @@ no-line-at script i none = get_or-eq_default (lines_posted script) no_line (omeg
 pub record Shelved (script : Script) (i : ℕ) (places : List (Shelf ℕ)) (left : List ℕ) : Type 0 where
   pub places_are : length places ≡ 256
   pub left_are : length left ≡ 256
-  pub stocked_are : shelves_by (lines_posted script) places ≡ stocked script.clients (take i (lines_posted script))
+  pub stocked_are : shelves_by (lines_posted script) places ≡ full_shelves script.clients (take i (lines_posted script))
   pub all : left_in_all (shelves_by (lines_posted script) places) ≡ i
   pub counts : Counts left (shelves_by (lines_posted script) places)
 
@@ -122,7 +122,7 @@ client-known script posts i c d posted same there c_is =
 
 pub shelved-more : (script : Script) (clients : List ℕ) (posts : List Post) (i c e n : ℕ) (d : Post) (z : ℕ) (places : List (Shelf ℕ)) (left : List ℕ) → Shelved script i places left → clients ≡ script.clients → posts ≡ script.posts
     → i < length posts → c ≡ (get_or posts i d).client → c < length clients → c < 256 → e ≡ get_or clients c z → e < 256 → n ≡ get_or left c n
-    → (n ≤ i) × Shelved script (i + 1) (added_to places e i) (set left c (n + 1))
+    → (n ≤ i) × Shelved script (i + 1) (after_add_to places e i) (set left c (n + 1))
 shelved-more script clients posts i c e n d z places left h clients_are posts_are there c_is c_known c_low e_is e_low n_is =
     let lines = lines_posted script in
     let line = line_at lines i in
@@ -134,9 +134,9 @@ shelved-more script clients posts i c e n d z places left h clients_are posts_ar
     let shelves = shelves_by lines places in
     let long : length shelves ≡ 256 = length-map places (shelf_by lines) ∙ h.places_are in
     let added = add_of left shelves e c n line h.counts (omega (arith, e_low, long)) (omega (arith, c_low, h.left_are)) client_is n_is in
-    let now : shelves_by lines (added_to places e i) ≡ added_to shelves e line
+    let now : shelves_by lines (after_add_to places e i) ≡ after_add_to shelves e line
     = map-set (shelf_by lines) places e (with_one_more (shelf_of places e) i) ∙ ap (set shelves e) (more-is lines (shelf_of places e) i ∙ ap (λ s. with_one_more s line) (shelf-is lines places e (omega (arith, e_low, h.places_are)))) in
-    let next = add_next script.clients lines i e line shelves (shelves_by lines (added_to places e i)) under (get_or_default lines i no_line line under) h.stocked_are h.all event_is e_low now in (
+    let next = add_next script.clients lines i e line shelves (shelves_by lines (after_add_to places e i)) under (get_or_default lines i no_line line under) h.stocked_are h.all event_is e_low now in (
       omega (arith, added.0, h.all),
       record {
         places_are = length-set places e (with_one_more (shelf_of places e) i) ∙ h.places_are;
@@ -149,4 +149,4 @@ shelved-more script clients posts i c e n d z places left h clients_are posts_ar
 
 pub shelved-all : (script : Script) (i : ℕ) (places : List (Shelf ℕ)) (left : List ℕ) → Shelved script i places left → length script.posts ≤ i → shelves_by (lines_posted script) places ≡ stock_of script
 shelved-all script i places left h past =
-    h.stocked_are ∙ ap (stocked script.clients) (take_all i (lines_posted script) (omega (arith, past, length-map script.posts (line_of script.texts))))
+    h.stocked_are ∙ ap (full_shelves script.clients) (take_all i (lines_posted script) (omega (arith, past, length-map script.posts (line_of script.texts))))

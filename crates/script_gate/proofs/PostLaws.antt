@@ -7,7 +7,7 @@ use Rattle.script_text.proofs.TrackLaws.{fold_push}
 use Rattle.script_lines.proofs.WordLemmas.{both}
 use Rattle.script_text.specs.Grammar.{AllStand, SpelledBy, Spells, declared_of, follows, keeps_rule, posted_of, spelling, stage_of}
 use Rattle.script_lines.specs.Line.{IsLine, IsPhrase, SlotFits, phrase_text}
-use Rattle.script_text.specs.Meaning.{added, added_at, draft_of, empty_draft, entered, named, places_of, raised, script_of}
+use Rattle.script_text.specs.Meaning.{after_add, after_add_at, after_enter, after_name, after_raise, draft_of, empty_draft, places_of, script_of}
 use Rattle.script_lines.specs.Phrase.{Phrase}
 use Rattle.script_text.specs.Script.{line_of}
 use Rattle.script_lines.proofs.TableLaws.{only_of_role}
@@ -51,17 +51,17 @@ record Posted (n : ℕ) (d : Draft) : Type 0 where
 
 -- ---- the counts
 
-length-raised : (c : ℕ) (ns : List ℕ) → length (raised c ns) ≡ length ns
+length-raised : (c : ℕ) (ns : List ℕ) → length (after_raise c ns) ≡ length ns
 length-raised c [] = refl
 length-raised zero (n ∷ ns) = refl
 length-raised (suc c) (n ∷ ns) = ap suc (length-raised c ns)
 
-raised-same : (c : ℕ) (ns : List ℕ) → c < length ns → slice_index_or (raised c ns) c 0 ≡ suc (slice_index_or ns c 0)
+raised-same : (c : ℕ) (ns : List ℕ) → c < length ns → slice_index_or (after_raise c ns) c 0 ≡ suc (slice_index_or ns c 0)
 raised-same c [] h = absurd (omega (arith, h))
 raised-same zero (n ∷ ns) h = refl
 raised-same (suc c) (n ∷ ns) h = raised-same c ns (omega (arith, h))
 
-raised-other : (c d : ℕ) (ns : List ℕ) → c ≢ d → slice_index_or (raised c ns) d 0 ≡ slice_index_or ns d 0
+raised-other : (c d : ℕ) (ns : List ℕ) → c ≢ d → slice_index_or (after_raise c ns) d 0 ≡ slice_index_or ns d 0
 raised-other c d [] h = refl
 raised-other zero zero (n ∷ ns) h = absurd (h refl)
 raised-other zero (suc d) (n ∷ ns) h = refl
@@ -101,7 +101,7 @@ kept n d e h posted clients posts = record {
 }
 
 client_more : (n : ℕ) (at : Places) (d : Draft) (p : Phrase) → p.client ≡ length d.posted → p.client ≤ 15 → p.event ≤ 31 → Posted n d
-    → Posted (suc n) (added_at role.Client at (entered d p) p)
+    → Posted (suc n) (after_add_at role.Client at (after_enter d p) p)
 client_more n at d p is fits low h = record {
   counts = omega (arith, h.counts, length-append d.posted (0 ∷ []), length-append d.script.clients (p.event ∷ []));
   most = omega (arith, h.counts, is, fits, length-append d.script.clients (p.event ∷ []));
@@ -113,7 +113,7 @@ client_more n at d p is fits low h = record {
   few = omega (arith, h.few);
 }
 
-post_more : (n : ℕ) (at : Places) (d : Draft) (p : Phrase) → p.client < length d.posted → slice_index_or d.posted p.client 0 < 20000 → Posted n d → Posted (suc n) (added_at role.Post at (entered d p) p)
+post_more : (n : ℕ) (at : Places) (d : Draft) (p : Phrase) → p.client < length d.posted → slice_index_or d.posted p.client 0 < 20000 → Posted n d → Posted (suc n) (after_add_at role.Post at (after_enter d p) p)
 post_more n at d p known small h = record {
   counts = length-raised p.client d.posted ∙ h.counts;
   most = h.most;
@@ -124,11 +124,11 @@ post_more n at d p known small h = record {
       (λ (other : p.client ≢ c). rw (more texts, of_other c (map (line_of texts) d.script.posts) (line_of texts post) other) (h.numbered texts c))
       (same_or p.client c);
   counted = λ texts c. ⊎_elim
-      (λ (same : p.client ≡ c). rw (more texts, of_same c (map (line_of texts) d.script.posts) (line_of texts post) same) (omega (arith, h.counted texts c, length-append (of_posts texts c d.script.posts) (line_of texts post ∷ []), raised-same p.client d.posted known, ap (λ k. slice_index_or d.posted k 0) same, ap (λ k. slice_index_or (raised p.client d.posted) k 0) same)))
+      (λ (same : p.client ≡ c). rw (more texts, of_same c (map (line_of texts) d.script.posts) (line_of texts post) same) (omega (arith, h.counted texts c, length-append (of_posts texts c d.script.posts) (line_of texts post ∷ []), raised-same p.client d.posted known, ap (λ k. slice_index_or d.posted k 0) same, ap (λ k. slice_index_or (after_raise p.client d.posted) k 0) same)))
       (λ (other : p.client ≢ c). rw (more texts, of_other c (map (line_of texts) d.script.posts) (line_of texts post) other) (h.counted texts c ∙ sym (raised-other p.client c d.posted other)))
       (same_or p.client c);
   bounded = λ c. ⊎_elim
-      (λ (same : p.client ≡ c). omega (arith, small, raised-same p.client d.posted known, ap (λ k. slice_index_or (raised p.client d.posted) k 0) same))
+      (λ (same : p.client ≡ c). omega (arith, small, raised-same p.client d.posted known, ap (λ k. slice_index_or (after_raise p.client d.posted) k 0) same))
       (λ (other : p.client ≢ c). omega (arith, h.bounded c, raised-other p.client c d.posted other))
       (same_or p.client c);
   few = omega (arith, h.few, length-append d.script.posts (post ∷ []));
@@ -140,17 +140,17 @@ post_more n at d p known small h = record {
     more : (texts : List (List ℕ)) → map (line_of texts) (d.script.posts ++ post ∷ []) ≡ map (line_of texts) d.script.posts ++ line_of texts post ∷ []
     more texts = map-append (line_of texts) d.script.posts (post ∷ [])
 
-posted_more : (r : Role) (n : ℕ) (known : Declared) (at : Places) (d : Draft) (p : Phrase) → role_of p.op ≡ r → keeps_rule known d.posted r p ≡ true → IsPhrase p → Posted n d → Posted (suc n) (added_at r at (entered d p) p)
-posted_more role.Header n known at d p e k f h = kept n d (added_at role.Header at (entered d p) p) h refl refl refl
-posted_more role.Pod n known at d p e k f h = kept n d (added_at role.Pod at (entered d p) p) h refl refl refl
-posted_more role.Limit n known at d p e k f h = kept n d (added_at role.Limit at (entered d p) p) h refl refl refl
+posted_more : (r : Role) (n : ℕ) (known : Declared) (at : Places) (d : Draft) (p : Phrase) → role_of p.op ≡ r → keeps_rule known d.posted r p ≡ true → IsPhrase p → Posted n d → Posted (suc n) (after_add_at r at (after_enter d p) p)
+posted_more role.Header n known at d p e k f h = kept n d (after_add_at role.Header at (after_enter d p) p) h refl refl refl
+posted_more role.Pod n known at d p e k f h = kept n d (after_add_at role.Pod at (after_enter d p) p) h refl refl refl
+posted_more role.Limit n known at d p e k f h = kept n d (after_add_at role.Limit at (after_enter d p) p) h refl refl refl
 posted_more role.Client n known at d p e k f h = let fits = client_fits p.op p e f in client_more n at d p (eqb-true p.client (length d.posted) k) fits.0 fits.1 h
-posted_more role.Native n known at d p e k f h = kept n d (added_at role.Native at (entered d p) p) h refl refl refl
-posted_more role.Proc n known at d p e k f h = kept n d (added_at role.Proc at (entered d p) p) h refl refl refl
+posted_more role.Native n known at d p e k f h = kept n d (after_add_at role.Native at (after_enter d p) p) h refl refl refl
+posted_more role.Proc n known at d p e k f h = kept n d (after_add_at role.Proc at (after_enter d p) p) h refl refl refl
 posted_more role.Post n known at d p e k f h = let may = may-post d.posted p.client k in post_more n at d p may.0 may.1 h
-posted_more role.Statement n known at d p e k f h = kept n d (added_at role.Statement at (entered d p) p) h refl refl refl
-posted_more role.Skip n known at d p e k f h = kept n d (added_at role.Skip at (entered d p) p) h refl refl refl
-posted_more role.Again n known at d p e k f h = kept n d (added_at role.Again at (entered d p) p) h refl refl refl
+posted_more role.Statement n known at d p e k f h = kept n d (after_add_at role.Statement at (after_enter d p) p) h refl refl refl
+posted_more role.Skip n known at d p e k f h = kept n d (after_add_at role.Skip at (after_enter d p) p) h refl refl refl
+posted_more role.Again n known at d p e k f h = kept n d (after_add_at role.Again at (after_enter d p) p) h refl refl refl
 
 posted_on : (n : ℕ) (before ps : List Phrase) → AllStand before ps → AllByRecursion IsLine ps → Posted n (draft_of before) → Posted (n + length ps) (draft_of (before ++ ps))
 posted_on n before [] s l h = rw (append-nil before) (subst (λ (m : ℕ). Posted m (draft_of before)) (omega arith) h)
@@ -158,8 +158,8 @@ posted_on n before (p ∷ ps) s l h =
     let r = role_of p.op in
     let d = draft_of before in
     let k = (both (follows (stage_of before) r) (keeps_rule (declared_of before) (posted_of before) r p) s.0).1 in
-    let one = posted_more r n (declared_of before) (places_of (named d.script.names p) d.script.texts p) d p refl k l.0.0 h in
-    let more : Posted (suc n) (draft_of (before ++ p ∷ [])) = rw (fold_push added empty_draft before p) one in
+    let one = posted_more r n (declared_of before) (places_of (after_name d.script.names p) d.script.texts p) d p refl k l.0.0 h in
+    let more : Posted (suc n) (draft_of (before ++ p ∷ [])) = rw (fold_push after_add empty_draft before p) one in
     let all : Posted (suc n + length ps) (draft_of ((before ++ p ∷ []) ++ ps)) = posted_on (suc n) (before ++ p ∷ []) ps s.1 l.1 more in
     subst (λ (m : ℕ). Posted m (draft_of (before ++ (p ∷ ps)))) (omega arith) (subst (λ (x : List Phrase). Posted (suc n + length ps) (draft_of x)) (append_assoc before (p ∷ []) ps) all)
 

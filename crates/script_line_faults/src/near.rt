@@ -1,6 +1,6 @@
 // Words that are nearly the same.
 ghost use Rattle.std.specs.Prelude.{◌≡◌, ℕ, Bool, List};
-ghost use Rattle.script_line_faults.specs.Near.{behind_first, edited, edited_once, one_apart, two_apart};
+ghost use Rattle.script_line_faults.specs.Near.{behind_first, is_edited, is_edited_once, one_apart, two_apart};
 
 /// The word without its first byte.
 pub(crate) fn behind_first(word: &[u8]) -> &[u8]
@@ -15,7 +15,7 @@ pub(crate) fn behind_first(word: &[u8]) -> &[u8]
 // What is left of two words behind the bytes with which both begin.
 fn parted<'v, 'w>(v: &'v [u8], w: &'w [u8]) -> (&'v [u8], &'w [u8])
     ensures { (alike : List ℕ → List ℕ → Bool) →
-        edited_once alike v.now w.now ≡ edited alike result.0.now result.1.now }
+        is_edited_once alike v.now w.now ≡ is_edited alike result.0.now result.1.now }
 {
     let mut left = v;
     let mut other = w;

@@ -21,7 +21,7 @@ use Rattle.script_lines.specs.declared.table.Whom.TheVariants as whom
 use Rattle.script_lines.specs.Phrase.{Phrase}
 use Rattle.script_lines.specs.Words.{is_lowercase, is_name, is_name_byte, is_reserved}
 use Rattle.script_lines.specs.Table.{Row, key_of, slots_of}
-use Rattle.trace_text.specs.Lines.{spaced, flags_text, mode_text, pattern_text, func_text}
+use Rattle.trace_text.specs.Lines.{with_space, flags_text, mode_text, pattern_text, func_text}
 use Rattle.script_lines.specs.Line.{who_text, built_text, test_text, SourceFits, TestFits, PatternFits, ModeFits, BuiltFits, slot_text, phrase_text, SlotFits, IsPhrase}
 use Rattle.script_lines.specs.Reading.{flags_by, phrase_at}
 use Rattle.script_lines.proofs.TableLaws.{on_rows}
@@ -88,7 +88,7 @@ built_length e w (inr h) =
     let some : eqb e 0 ≡ false = ne_eqb e 0 (λ z. omega (arith, h.0.0)) in
     rw some (omega (arith, number_length e (omega (arith, h.0.1)), name_length w h.1, length-append (decimal e) (32 ∷ w)))
 
-spaced_length : (w : List ℕ) → is_text w ≡ true → length (spaced w) ≤ 241
+spaced_length : (w : List ℕ) → is_text w ≡ true → length (with_space w) ≤ 241
 spaced_length [] h = lit≤ tt
 spaced_length (b ∷ bs) h = omega (arith, text_length (b ∷ bs) h)
 

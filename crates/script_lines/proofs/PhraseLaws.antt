@@ -33,8 +33,8 @@ use Rattle.script_lines.specs.Phrase.{Phrase}
 use Rattle.script_lines.specs.Words.{is_lowercase, is_reserved, is_name, is_name_byte, number_at, reach}
 use Rattle.script_lines.specs.Table.{Row, key_of, role_of, slots_of, has, starts, op_at, is_half, key_length}
 use Rattle.lwp_types.specs.TextFields.{is_text}
-use Rattle.trace_text.specs.Lines.{spaced, flags_text, mode_text, pattern_text, func_text}
-use Rattle.script_lines.specs.Line.{who_text, built_text, test_text, WhoFits, SourceFits, TestFits, PatternFits, ModeFits, IsEvent, IsAgentEvent, BuiltFits, slot_text, phrase_text, SlotFits, IsPhrase, blank, copy_slot, copy_slots, needed, IsNeeded}
+use Rattle.trace_text.specs.Lines.{with_space, flags_text, mode_text, pattern_text, func_text}
+use Rattle.script_lines.specs.Line.{who_text, built_text, test_text, WhoFits, SourceFits, TestFits, PatternFits, ModeFits, IsEvent, IsAgentEvent, BuiltFits, slot_text, phrase_text, SlotFits, IsPhrase, blank, copy_slot, copy_slots, own_slots, IsNeeded}
 use Rattle.script_lines.specs.Reading.{flags_by, all_flags, flags_in, flags_at, within_room, room_at, client_at, event_at, agent_event_at, pattern_at, func_at, who_at, source_at, name_in, mode_at, value_at, test_at, spaced_name, session_at, built_at, fill_word, fill_text, fill_test, fill_built, fill_spaced, slot_at, fill, phrase_at}
 use Rattle.script_lines.proofs.TableLaws.{on_rows, op_found, op_again}
 use Rattle.script_lines.proofs.WordLemmas.{both, Stops, reach-append, reach_in, number_again, number_found, own}
@@ -798,10 +798,10 @@ spaced_again : (k : Kind) (q r : Phrase) (w after : List ℕ) → reach 32 w ≡
 spaced_again k q r w after whole s e =
     rw (reach-append 32 w after whole s, take_at w after (length w) refl, drop_at w after (length w) refl, e) refl
 
-text_again : (p q : Phrase) → is_text p.text ≡ true → fill_text q (spaced p.text ++ []) ≡ Some (record q { text = p.text }, [])
+text_again : (p q : Phrase) → is_text p.text ≡ true → fill_text q (with_space p.text ++ []) ≡ Some (record q { text = p.text }, [])
 text_again p q h = rw append-nil (of_text q p.text h)
   where
-    of_text : (q : Phrase) (t : List ℕ) → is_text t ≡ true → fill_text q (spaced t) ≡ Some (record q { text = t }, [])
+    of_text : (q : Phrase) (t : List ℕ) → is_text t ≡ true → fill_text q (with_space t) ≡ Some (record q { text = t }, [])
     of_text q [] h = refl
     of_text q (b ∷ bs) h = let some : ltb 0 (length (b ∷ bs)) ≡ true = lt-ltb 0 (length (b ∷ bs)) (omega arith) in rw (some, h) refl
 
@@ -834,7 +834,7 @@ slot_again kind.Built p q after h s l =
     rw (nothing, append-nil (built_text p.event p.thread), built_again p.event p.thread h) refl
 slot_again kind.Text p q after h s l =
     let nothing : after ≡ [] = l refl in
-    subst (λ (r : List ℕ). fill_text q (spaced p.text ++ r) ≡ Some (record q { text = p.text }, r)) (sym nothing) (text_again p q h)
+    subst (λ (r : List ℕ). fill_text q (with_space p.text ++ r) ≡ Some (record q { text = p.text }, r)) (sym nothing) (text_again p q h)
 
 -- the text of slots is empty or begins with a space
 places_stop : (p : Phrase) (ks : List Kind) → is_row ks ≡ true → Stops 32 (flat_map (slot_text p) ks)
@@ -858,7 +858,7 @@ places_stop p (kind.Test ∷ ks) r = refl
 places_stop p (kind.Built ∷ ks) r = refl
 places_stop p (kind.Text ∷ []) r = rw append-nil (of_text p.text)
   where
-    of_text : (t : List ℕ) → Stops 32 (spaced t)
+    of_text : (t : List ℕ) → Stops 32 (with_space t)
     of_text [] = tt
     of_text (b ∷ bs) = refl
 places_stop p (kind.Text ∷ k ∷ ks) r = absurd (let no = (both (absent kind.Text (k ∷ ks) && is_row (k ∷ ks)) false r).1 in cc)
@@ -882,7 +882,7 @@ pub slots_stop : (p : Phrase) → Stops 32 (flat_map (slot_text p) (slots_of p.o
 slots_stop p = places_stop p (slots_of p.op) (rows p.op)
 
 -- the text of a phrase is read as the phrase
-pub phrase_again : (p : Phrase) → IsPhrase p → phrase_at (phrase_text p) ≡ Some (needed p)
+pub phrase_again : (p : Phrase) → IsPhrase p → phrase_at (phrase_text p) ≡ Some (own_slots p)
 unfolding phrase_at
 phrase_again p h =
     let w = key_of p.op in
@@ -894,9 +894,9 @@ phrase_again p h =
 pub phrase_needed : (line : List ℕ) (p : Phrase) → phrase_at line ≡ Some p → IsNeeded p
 phrase_needed line p e =
     let f = phrase_found line p e in
-    let again : phrase_at (phrase_text p) ≡ Some (needed p) = phrase_again p f.0 in
+    let again : phrase_at (phrase_text p) ≡ Some (own_slots p) = phrase_again p f.0 in
     let same : phrase_at line ≡ phrase_at (phrase_text p) = ap phrase_at f.1 in
-    let both_are : Some (needed p) ≡ Some p = sym again ∙ sym same ∙ e in
+    let both_are : Some (own_slots p) ≡ Some p = sym again ∙ sym same ∙ e in
     cc
 
 -- ---- Lines that start a procedure.

@@ -25,7 +25,7 @@ use Rattle.script_lines.specs.declared.table.Whom.TheVariants as whom
 use Rattle.script_lines.specs.Phrase.{Phrase}
 use Rattle.script_lines.specs.Words.{is_name}
 use Rattle.script_lines.specs.Table.{Row, key_of, slots_of}
-use Rattle.trace_text.specs.Lines.{spaced, flags_text, mode_text, pattern_text, func_text}
+use Rattle.trace_text.specs.Lines.{with_space, flags_text, mode_text, pattern_text, func_text}
 use Rattle.script_lines.specs.Line.{who_text, built_text, test_text, SourceFits, TestFits, PatternFits, ModeFits, BuiltFits, slot_text, phrase_text, SlotFits, IsPhrase}
 use Rattle.script_lines.specs.Reading.{flags_by, phrase_at}
 use Rattle.script_lines.proofs.TableLaws.{on_rows}
@@ -100,7 +100,7 @@ built_is_printable e w (inr h) =
     let some : eqb e 0 ≡ false = ne_eqb e 0 (λ z. omega (arith, h.0.0)) in
     rw some (printable_append (decimal e) (32 ∷ w) (number_is_printable e (omega (arith, h.0.1))) (name_is_printable w h.1))
 
-spaced_is_printable : (w : List ℕ) → is_text w ≡ true → is_printable (spaced w) ≡ true
+spaced_is_printable : (w : List ℕ) → is_text w ≡ true → is_printable (with_space w) ≡ true
 spaced_is_printable [] h = refl
 spaced_is_printable (b ∷ bs) h = text_is_printable (b ∷ bs) h
 

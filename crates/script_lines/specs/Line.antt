@@ -19,7 +19,7 @@ use Rattle.script_lines.specs.declared.table.Test.TheVariants as test
 use Rattle.script_lines.specs.Phrase.{Phrase}
 use Rattle.script_lines.specs.Words.{is_name}
 use Rattle.script_lines.specs.Table.{key_of, slots_of}
-use Rattle.trace_text.specs.Lines.{spaced, flags_text, mode_text, pattern_text, func_text}
+use Rattle.trace_text.specs.Lines.{with_space, flags_text, mode_text, pattern_text, func_text}
 
 -- a word that means a thread, or anybody
 abbrev pub who_text : Whom → List ℕ → List ℕ
@@ -60,7 +60,7 @@ slot_text p kind.Pattern = 32 ∷ pattern_text p.pattern
 slot_text p kind.Func = 32 ∷ func_text p.func
 slot_text p kind.Test = 32 ∷ test_text p.test
 slot_text p kind.Built = 32 ∷ built_text p.event p.thread
-slot_text p kind.Text = spaced p.text
+slot_text p kind.Text = with_space p.text
 
 -- the key and the slots of its row
 abbrev pub phrase_text : Phrase → List ℕ
@@ -195,17 +195,17 @@ copy_slots [] p q = q
 copy_slots (k ∷ ks) p q = copy_slots ks p (copy_slot k p q)
 
 -- p's slots of its own row, and nothing else
-abbrev pub needed : Phrase → Phrase
-needed p = copy_slots (slots_of p.op) p (blank p.op)
+abbrev pub own_slots : Phrase → Phrase
+own_slots p = copy_slots (slots_of p.op) p (blank p.op)
 
 -- only the slots of its row are filled
 abbrev pub IsNeeded : Phrase → Type 0
-IsNeeded p = needed p ≡ p
+IsNeeded p = own_slots p ≡ p
 
 -- a line: its slots fit, and nothing else is filled
 abbrev pub IsLine : Phrase → Type 0
 IsLine p = IsPhrase p × IsNeeded p
 
 -- a line and its end
-abbrev pub ended : List ℕ → List ℕ
-ended line = line ++ 10 ∷ []
+abbrev pub with_newline : List ℕ → List ℕ
+with_newline line = line ++ 10 ∷ []

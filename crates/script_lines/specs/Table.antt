@@ -160,8 +160,8 @@ rises b [] = true
 rises b (r ∷ rs) = nat_le b (first_letter r.key) && rises (first_letter r.key) rs
 
 -- a row of the table as the code has it
-abbrev pub read : Op × Bor (List ℕ) × Role × Bor (List Kind) → Row
-read r = row r.0 r.1.now r.2 r.3.now
+abbrev pub table_row : Op × Bor (List ℕ) × Role × Bor (List Kind) → Row
+table_row r = row r.0 r.1.now r.2 r.3.now
 
 -- a first word that is no key without the second
 abbrev pub is_half : List ℕ → Bool

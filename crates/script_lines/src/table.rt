@@ -1,7 +1,7 @@
 // The table of lines. A new kind of line is a variant of `Op`, a row of `ROWS` and an entry of `OPS` at the same place, among those of
 // its first letter, and the same row in `rows` of specs/Table.antt. If the first of its two words is a new one, `is_half` needs it.
 ghost use Rattle.std.specs.Prelude.{◌≡◌, ◌<◌, ℕ, List, map, IsTrue};
-ghost use Rattle.script_lines.specs.Table.{read, rows, all_ops, row_of, key_of, role_of, slots_of, has, says, ranks, starts, starts_any, first_letter, rises, op_in, op_at};
+ghost use Rattle.script_lines.specs.Table.{table_row, rows, all_ops, row_of, key_of, role_of, slots_of, has, says, ranks, starts, starts_any, first_letter, rises, op_in, op_at};
 
 /// What stands in a slot of a line.
 #[derive(Clone, Copy, PartialEq, Eq)]
@@ -411,7 +411,7 @@ static OPS: [Op; 66] = [
 
 // The whole table.
 fn table() -> &'static [Row]
-    ensures { map read result.now ≡ rows }
+    ensures { map table_row result.now ≡ rows }
 {
     &ROWS
 }
@@ -426,7 +426,7 @@ impl Op {
 
     // The row of the table.
     fn row(self) -> &'static Row
-        ensures { read result.now ≡ row_of self }
+        ensures { table_row result.now ≡ row_of self }
     {
         &table()[self as usize]
     }
@@ -505,17 +505,17 @@ fn has(slots: &[Kind], kind: Kind) -> bool
 
 // The letter with which the row's key begins.
 fn letter_of(row: &Row) -> u8
-    requires { 0 < first_letter (read row.now).key }
-    ensures { result ≡ first_letter (read row.now).key }
+    requires { 0 < first_letter (table_row row.now).key }
+    ensures { result ≡ first_letter (table_row row.now).key }
 {
     row.1[0]
 }
 
 // The rows without most of those that have an earlier letter: by steps that halve, rows are passed over where the last of them has one.
 fn rows_from(rows: &[Row], letter: u8) -> &[Row]
-    requires { IsTrue (rises 1 (map read rows.now)) }
+    requires { IsTrue (rises 1 (map table_row rows.now)) }
     ensures { (key : List ℕ) → first_letter key ≡ letter →
-        op_in (map read result.now) key ≡ op_in (map read rows.now) key }
+        op_in (map table_row result.now) key ≡ op_in (map table_row rows.now) key }
 {
     let mut first = 0;
     let mut step = rows.len() / 2;
@@ -529,7 +529,7 @@ fn rows_from(rows: &[Row], letter: u8) -> &[Row]
 }
 
 fn among(rows: &[Row], key: &[u8]) -> Option<Op>
-    ensures { result ≡ op_in (map read rows.now) key.now }
+    ensures { result ≡ op_in (map table_row rows.now) key.now }
 {
     for row in rows {
         if row.1 == key {

@@ -6,7 +6,7 @@ use Rattle.std.proofs.lemmas.Bool.{cases_lt}
 use Rattle.std.proofs.lemmas.List.Concat.{flat_map-append}
 use native.Mathlib.Nat.{suc-mul}
 use Rattle.script_lines.specs.Phrase.{Phrase}
-use Rattle.script_lines.specs.Line.{phrase_text, ended}
+use Rattle.script_lines.specs.Line.{phrase_text, with_newline}
 use Rattle.script_text.specs.Grammar.{spelling}
 use Rattle.script_maker.specs.Made.{each}
 
@@ -20,7 +20,7 @@ gathered g zero = []
 gathered g (suc n) = gathered g n ++ g n
 
 pub spelling_append : (ps qs : List Phrase) → spelling (ps ++ qs) ≡ spelling ps ++ spelling qs
-spelling_append ps qs = flat_map-append (λ p. ended (phrase_text p)) ps qs
+spelling_append ps qs = flat_map-append (λ p. with_newline (phrase_text p)) ps qs
 
 pub spelt_each : (f : ℕ → List ℕ) (g : ℕ → List Phrase) (n : ℕ) → ((c : ℕ) → c < n → f c ≡ spelling (g c)) → each f n ≡ spelling (gathered g n)
 spelt_each f g zero h = refl

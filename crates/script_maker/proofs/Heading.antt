@@ -14,7 +14,7 @@ use Rattle.script_lines.specs.Words.{is_name}
 use Rattle.script_lines.specs.Line.{built_text, blank, IsLine}
 use Rattle.script_text.specs.Grammar.{spelling, follows, declared_of, is_declared}
 use Rattle.script_lines.specs.Reading.{flags_by}
-use Rattle.script_text.specs.Meaning.{added, empty_draft, draft_of}
+use Rattle.script_text.specs.Meaning.{after_add, empty_draft, draft_of}
 use Rattle.script_maker.specs.declared.script.ClientLine.{ClientLine}
 use Rattle.script_maker.specs.declared.script.ClientLine.TheVariants as line
 use Rattle.script_maker.specs.Made.{each, client_line, declarations, procedure}
@@ -203,5 +203,5 @@ heads (suc t) some few = heads_by (suc t) (below (λ t. check (suc t) ≡ true) 
 pub has_procedure : (t : ℕ) → is_some (draft_of (head t)).current ≡ true
 unfolding row_of
 has_procedure t =
-    let e : draft_of (head t) ≡ fold added (added (draft_of (front t)) main) (body t) = fold-append added empty_draft (front t) (main ∷ body t) in
-    rw e (some_behind (added (draft_of (front t)) main) (body t) refl)
+    let e : draft_of (head t) ≡ fold after_add (after_add (draft_of (front t)) main) (body t) = fold-append after_add empty_draft (front t) (main ∷ body t) in
+    rw e (some_behind (after_add (draft_of (front t)) main) (body t) refl)

@@ -10,7 +10,7 @@ use Rattle.script_text.specs.declared.script.Proc.{Proc}
 use Rattle.script_lines.specs.Phrase.{Phrase}
 use Rattle.script_text.specs.Grammar.{spelling, is_declared, declared_of, SpelledBy}
 use Rattle.script_lines.specs.Line.{IsLine}
-use Rattle.script_text.specs.Meaning.{added, with_last_procedure, empty_draft, draft_of, script_of}
+use Rattle.script_text.specs.Meaning.{after_add, with_last_procedure, empty_draft, draft_of, script_of}
 use Rattle.script_maker.specs.declared.script.ClientLine.TheVariants as line
 use Rattle.script_maker.specs.Laws.{MadeSpells}
 use Rattle.script_maker.specs.Made.{each, client_line, declarations, procedure, post_line, past, round, rounds, made_script}
@@ -79,7 +79,7 @@ spelled seed threads lines a =
     let known : declared_of (says seed threads lines) ≡ declared_of (head threads) =
     known_is (says seed threads lines) ∙ ap (λ s. s.known) (fold-append moved start (head threads) (posts seed threads lines)) ∙ p.ready.knows ∙ sym (known_is (head threads)) in
     let some : is_some (draft_of (says seed threads lines)).current ≡ true =
-    subst (λ d. is_some d.current ≡ true) (sym (fold-append added empty_draft (head threads) (posts seed threads lines))) (some_behind (draft_of (head threads)) (posts seed threads lines) (has_procedure threads)) in
+    subst (λ d. is_some d.current ≡ true) (sym (fold-append after_add empty_draft (head threads) (posts seed threads lines))) (some_behind (draft_of (head threads)) (posts seed threads lines) (has_procedure threads)) in
     record {
       text_is = text_is seed threads lines a.few_lines;
       short = short seed threads lines few a.few_lines h.short;

@@ -18,11 +18,11 @@ use Rattle.script_text.specs.declared.reader.Declared.{Declared}
 use Rattle.script_lines.specs.declared.table.Role.TheVariants as role
 use Rattle.script_lines.specs.Phrase.{Phrase}
 use Rattle.script_lines.specs.Words.{value_after}
-use Rattle.trace_text.specs.Lines.{spaced}
+use Rattle.trace_text.specs.Lines.{with_space}
 use Rattle.script_text.specs.Grammar.{spelling, follows}
 use Rattle.script_lines.specs.Line.{IsLine}
-use Rattle.script_text.specs.Meaning.{raised}
-use Rattle.script_maker.specs.Draws.{next, drawn}
+use Rattle.script_text.specs.Meaning.{after_raise}
+use Rattle.script_maker.specs.Draws.{next, draw_below}
 use Rattle.script_maker.specs.declared.script.ClientLine.TheVariants as line
 use Rattle.script_maker.specs.Made.{client_line, command, post_line, past, round, rounds}
 use Rattle.script_maker.proofs.Gathered.{both, gathered, spelt_each, all_gathered}
@@ -56,7 +56,7 @@ short_decimal n h = length-decimal-le 4 n (omega arith) (omega arith) (omega ari
 record Written (text : List ℕ) : Type 0 where
   printable : is_printable text ≡ true
   short : length text ≤ 20
-  seen : spaced text ≡ 32 ∷ text
+  seen : with_space text ≡ 32 ∷ text
 
 written : (kind k i : ℕ) → k < 10000 → i < 10000 → Written (command kind k i)
 written zero k i hk hi = record {
@@ -70,12 +70,12 @@ written (suc (suc (suc n))) k i hk hi = record { printable = refl; short = omega
 
 -- the command that is drawn at a state
 abbrev drawn_command : ℕ → ℕ → List ℕ
-drawn_command x i = command (drawn 4 (next (next x))) (drawn 50 (next x)) i
+drawn_command x i = command (draw_below 4 (next (next x))) (draw_below 50 (next x)) i
 
 drawn_written : (x i : ℕ) → i < 10000 → Written (drawn_command x i)
 drawn_written x i h =
-    let k : drawn 50 (next x) < 50 = mod_below (next x / 2 ^ 33) 50 (omega arith) in
-    written (drawn 4 (next (next x))) (drawn 50 (next x)) i (omega arith) h
+    let k : draw_below 50 (next x) < 50 = mod_below (next x / 2 ^ 33) 50 (omega arith) in
+    written (draw_below 4 (next (next x))) (draw_below 50 (next x)) i (omega arith) h
 
 -- what a post says
 abbrev drawn_post : ℕ → ℕ → ℕ → Phrase
@@ -88,7 +88,7 @@ post_is_line c text h w =
     let is : is_text text ≡ true = rw (fits, w.printable) refl in
     ((omega arith, (is, tt)), refl)
 
-post_spelt : (c : ℕ) (text : List ℕ) → spaced text ≡ 32 ∷ text → codes "post " ++ (decimal c ++ (codes " " ++ (text ++ codes "\n"))) ≡ spelling (post c text ∷ [])
+post_spelt : (c : ℕ) (text : List ℕ) → with_space text ≡ 32 ∷ text → codes "post " ++ (decimal c ++ (codes " " ++ (text ++ codes "\n"))) ≡ spelling (post c text ∷ [])
 unfolding row_of
 post_spelt c text h = rw h (ap (λ (l : List ℕ). codes "post " ++ l) (line_end (decimal c) (32 ∷ text)))
 
@@ -124,21 +124,21 @@ rounds_are_lines seed threads n few h = all_gathered IsLine (λ i. round_says th
 
 -- ---- They stand.
 
-raised_more : (c d e : ℕ) (ns : List ℕ) → slice_index_or (raised c ns) d e ≤ suc (slice_index_or ns d e)
+raised_more : (c d e : ℕ) (ns : List ℕ) → slice_index_or (after_raise c ns) d e ≤ suc (slice_index_or ns d e)
 raised_more c d e [] = omega arith
 raised_more zero zero e (n ∷ ns) = omega arith
 raised_more zero (suc d) e (n ∷ ns) = omega arith
 raised_more (suc c) zero e (n ∷ ns) = omega arith
 raised_more (suc c) (suc d) e (n ∷ ns) = raised_more c d e ns
 
-raised_other : (c d e : ℕ) (ns : List ℕ) → c < d → slice_index_or (raised c ns) d e ≡ slice_index_or ns d e
+raised_other : (c d e : ℕ) (ns : List ℕ) → c < d → slice_index_or (after_raise c ns) d e ≡ slice_index_or ns d e
 raised_other c d e [] lt = refl
 raised_other zero zero e (n ∷ ns) lt = absurd (omega arith)
 raised_other zero (suc d) e (n ∷ ns) lt = refl
 raised_other (suc c) zero e (n ∷ ns) lt = absurd (omega arith)
 raised_other (suc c) (suc d) e (n ∷ ns) lt = raised_other c d e ns (omega arith)
 
-raised_behind : (c d e : ℕ) (ns : List ℕ) → d < c → slice_index_or (raised c ns) d e ≡ slice_index_or ns d e
+raised_behind : (c d e : ℕ) (ns : List ℕ) → d < c → slice_index_or (after_raise c ns) d e ≡ slice_index_or ns d e
 raised_behind c d e [] lt = refl
 raised_behind zero d e (n ∷ ns) lt = absurd (omega arith)
 raised_behind (suc c) zero e (n ∷ ns) lt = refl
@@ -156,7 +156,7 @@ pub record Posted (threads c n : ℕ) (known : Declared) (s : Place) (ps : List 
   pub stand : stands s ps ≡ true
   pub ready : IsReady threads c n known (fold moved s ps)
 
-most_behind : (threads c n d : ℕ) (known : Declared) (s : Place) → c < threads → d < threads → IsReady threads c n known s → slice_index_or (raised c s.posted) d 20000 ≤ suc n
+most_behind : (threads c n d : ℕ) (known : Declared) (s : Place) → c < threads → d < threads → IsReady threads c n known s → slice_index_or (after_raise c s.posted) d 20000 ≤ suc n
 most_behind threads c n d known s inside lt r = elim (cases_lt d c) [
   | inl less ↦ omega (arith, raised_behind c d 20000 s.posted less, r.most d lt)
   | inr more ↦ omega (arith, raised_more c d 20000 s.posted, r.low d more lt)

@@ -14,7 +14,7 @@ use Rattle.script_lines.specs.declared.table.Role.TheVariants as role
 use Rattle.script_lines.specs.Phrase.{Phrase}
 use Rattle.script_lines.specs.Table.{role_of}
 use Rattle.script_text.specs.Grammar.{stage_after, stage_of, declares, declared_of, nothing, posted_of, may_stand_at, AllStand}
-use Rattle.script_text.specs.Meaning.{raised, grown, statement_of, named, places_of, added_at, added, entered, empty_draft, draft_of}
+use Rattle.script_text.specs.Meaning.{after_raise, with_statement, statement_of, after_name, places_of, after_add_at, after_add, after_enter, empty_draft, draft_of}
 use Rattle.script_maker.proofs.Gathered.{both}
 
 -- what the lines before one come to, as far as a line's rules look at it
@@ -26,7 +26,7 @@ pub record Place : Type 0 where
 -- how many lines each client has posted, one line later
 abbrev pub counted : Role → ℕ → List ℕ → List ℕ
 counted role.Client c posted = posted ++ 0 ∷ []
-counted role.Post c posted = raised c posted
+counted role.Post c posted = after_raise c posted
 counted role.Header c posted = posted
 counted role.Pod c posted = posted
 counted role.Limit c posted = posted
@@ -58,7 +58,7 @@ stands_append s (p ∷ ps) qs h k =
 abbrev place_of : List Phrase → Place
 place_of ps = record { stage = stage_of ps; known = declared_of ps; posted = posted_of ps }
 
-counted_at : (r : Role) (at : Places) (d : Draft) (p : Phrase) → (added_at r at d p).posted ≡ counted r p.client d.posted
+counted_at : (r : Role) (at : Places) (d : Draft) (p : Phrase) → (after_add_at r at d p).posted ≡ counted r p.client d.posted
 counted_at role.Client at d p = refl
 counted_at role.Post at d p = refl
 counted_at role.Header at d p = refl
@@ -74,9 +74,9 @@ place_push : (ps : List Phrase) (p : Phrase) → place_of (ps ++ p ∷ []) ≡ m
 place_push ps p =
     let s : stage_of (ps ++ p ∷ []) ≡ stage_after (stage_of ps) (role_of p.op) = fold-append (λ (s : Stage) (q : Phrase). stage_after s (role_of q.op)) stages.Start ps (p ∷ []) in
     let k : declared_of (ps ++ p ∷ []) ≡ declares (role_of p.op) (declared_of ps) p = fold-append (λ (d : Declared) (q : Phrase). declares (role_of q.op) d q) nothing ps (p ∷ []) in
-    let d : draft_of (ps ++ p ∷ []) ≡ added (draft_of ps) p = fold-append added empty_draft ps (p ∷ []) in
+    let d : draft_of (ps ++ p ∷ []) ≡ after_add (draft_of ps) p = fold-append after_add empty_draft ps (p ∷ []) in
     let n : posted_of (ps ++ p ∷ []) ≡ counted (role_of p.op) p.client (posted_of ps) =
-    ap (λ (x : Draft). x.posted) d ∙ counted_at (role_of p.op) (places_of (named (draft_of ps).script.names p) (draft_of ps).script.texts p) (entered (draft_of ps) p) p in
+    ap (λ (x : Draft). x.posted) d ∙ counted_at (role_of p.op) (places_of (after_name (draft_of ps).script.names p) (draft_of ps).script.texts p) (after_enter (draft_of ps) p) p in
     rw (s, k, n) refl
 
 all_stand_behind : (before ps : List Phrase) (s : Place) → place_of before ≡ s → stands s ps ≡ true → AllStand before ps
@@ -99,12 +99,12 @@ known_is ps = sym (known_behind start ps)
 
 -- ---- A procedure that has begun is there at the end.
 
-grown_some : (s : Option Stmt) (o : Option Proc) → is_some o ≡ true → is_some (grown s o) ≡ true
+grown_some : (s : Option Stmt) (o : Option Proc) → is_some o ≡ true → is_some (with_statement s o) ≡ true
 grown_some None o h = h
 grown_some (Some s) None h = absurd cc
 grown_some (Some s) (Some p) h = refl
 
-some_at : (r : Role) (at : Places) (d : Draft) (p : Phrase) → is_some d.current ≡ true → is_some (added_at r at d p).current ≡ true
+some_at : (r : Role) (at : Places) (d : Draft) (p : Phrase) → is_some d.current ≡ true → is_some (after_add_at r at d p).current ≡ true
 some_at role.Client at d p h = h
 some_at role.Post at d p h = h
 some_at role.Header at d p h = h
@@ -116,6 +116,6 @@ some_at role.Statement at d p h = grown_some (statement_of p.op at p) d.current 
 some_at role.Skip at d p h = grown_some (statement_of p.op at p) d.current h
 some_at role.Again at d p h = grown_some (statement_of p.op at p) d.current h
 
-pub some_behind : (d : Draft) (ps : List Phrase) → is_some d.current ≡ true → is_some (fold added d ps).current ≡ true
+pub some_behind : (d : Draft) (ps : List Phrase) → is_some d.current ≡ true → is_some (fold after_add d ps).current ≡ true
 some_behind d [] h = h
-some_behind d (p ∷ ps) h = some_behind (added d p) ps (some_at (role_of p.op) (places_of (named d.script.names p) d.script.texts p) (entered d p) p h)
+some_behind d (p ∷ ps) h = some_behind (after_add d p) ps (some_at (role_of p.op) (places_of (after_name d.script.names p) d.script.texts p) (after_enter d p) p h)

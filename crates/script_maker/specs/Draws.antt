@@ -6,5 +6,5 @@ abbrev pub next : ℕ → ℕ
 next x = (x * 6364136223846793005 + 1442695040888963407) % 2 ^ 64
 
 -- what is drawn from the numbers below n, at the state that has just been reached
-abbrev pub drawn : ℕ → ℕ → ℕ
-drawn n x = x / 2 ^ 33 % n
+abbrev pub draw_below : ℕ → ℕ → ℕ
+draw_below n x = x / 2 ^ 33 % n

@@ -1,7 +1,7 @@
 -- The script that is made: a store, a session for each client, and the lines that the clients post.
 use Rattle.std.specs.Prelude.{ℕ, zero, suc, ◌+◌, ◌*◌, List, [], ◌++◌, codes}
 use Rattle.std.specs.Fmt.{decimal}
-use Rattle.script_maker.specs.Draws.{next, drawn}
+use Rattle.script_maker.specs.Draws.{next, draw_below}
 use Rattle.script_maker.specs.declared.script.ClientLine.{ClientLine}
 use Rattle.script_maker.specs.declared.script.ClientLine.TheVariants as line
 
@@ -39,7 +39,7 @@ command (suc (suc (suc n))) k i = codes "bogus"
 
 -- line i of client c, from this state: a key is drawn from 50, and then a kind from 4
 abbrev pub post_line : ℕ → ℕ → ℕ → List ℕ
-post_line x i c = codes "post " ++ (decimal c ++ (codes " " ++ (command (drawn 4 (next (next x))) (drawn 50 (next x)) i ++ codes "\n")))
+post_line x i c = codes "post " ++ (decimal c ++ (codes " " ++ (command (draw_below 4 (next (next x))) (draw_below 50 (next x)) i ++ codes "\n")))
 
 -- the state behind n posts: two numbers are drawn for each
 abbrev pub past : ℕ → ℕ → ℕ

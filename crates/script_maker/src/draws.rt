@@ -1,6 +1,6 @@
 // Numbers that look random.
 ghost use Rattle.std.specs.Prelude.{◌≡◌, ◌<◌};
-ghost use Rattle.script_maker.specs.Draws.{next, drawn};
+ghost use Rattle.script_maker.specs.Draws.{next, draw_below};
 
 /// The state from which numbers are drawn.
 #[derive(Clone, Copy)]
@@ -13,7 +13,7 @@ impl Draws {
     pub fn draw(&mut self, n: u64) -> u64
         requires { 0 < n }
         ensures state { self.new.state ≡ next self.old.state }
-        ensures value { result ≡ drawn n (next self.old.state) }
+        ensures value { result ≡ draw_below n (next self.old.state) }
     {
         self.state = self
             .state

@@ -3,14 +3,14 @@ use Rattle.event_gate.proofs.HistoryLaws.{clients_keep_history, gates_keep_histo
 use Rattle.event_gate.proofs.Lines.{cond_other, cond_same, of-append, same_or}
 use Rattle.event_gate.specs.History.{IsClientHistory, IsGateHistory, lines_of}
 use Rattle.event_gate.specs.Port.{IsNumbered, of}
-use Rattle.event_gate.specs.Shelves.{Shelf, Shelves, bare, event_of, first_left, full, left_in_all, left_of_client, lines_for, moved, shelf_of, stocked, taken_from}
+use Rattle.event_gate.specs.Shelves.{Shelf, Shelves, after_next, after_take_from, bare, event_of, first_left, full, full_shelves, left_in_all, left_of_client, lines_for, shelf_of}
 use Rattle.script_session.specs.History.{counts_from, lines_left, pair_of, pairs_of}
 use Rattle.script_plan.specs.Planned.{plan_of, planned_of}
 use Rattle.script_gate.specs.Posted.{IsPosted}
 use Rattle.script_program.specs.declared.body.ThreadBody.{ThreadBody}
 use Rattle.lwp_types.specs.ListLaws.{All-push}
 use Rattle.lwp_types.specs.declared.call.Line.{Line}
-use Rattle.pod_runner.specs.Eager.{Plan, Planned, advanced, boundary, has_choice, offered, offered_by, one_call, opening_plan, plan_over, plan_whole, pod_of, taken_line, took_of, to_the_end}
+use Rattle.pod_runner.specs.Eager.{Plan, Planned, after_advance, boundary, has_choice, after_offer, after_offer_by, one_call, opening_plan, plan_over, plan_whole, pod_of, after_take, took_of, to_the_end}
 use Rattle.pod_runner.specs.Over.{events}
 use Rattle.pod_runner.specs.Trace.{left_from}
 use Rattle.pod_runner.specs.declared.session.Took.{Took}
@@ -100,7 +100,7 @@ record Keeps (clients : List ℕ) (posts : List Line) (plan : Plan ThreadBody) :
   at_events : AllByRecursion (IsAtEvent clients) plan.takes
 
 module _ (clients : List ℕ) (posts : List Line) (planned : Planned ThreadBody) where
-  keeps_opening : Keeps clients posts (opening_plan planned (stocked clients posts))
+  keeps_opening : Keeps clients posts (opening_plan planned (full_shelves clients posts))
   keeps_opening = record {
     size = length-map-range_with_len (full clients posts) 0 256;
     gate = gates_keep_history.begins clients posts;
@@ -108,39 +108,39 @@ module _ (clients : List ℕ) (posts : List Line) (planned : Planned ThreadBody)
     at_events = tt;
   }
 
-  keeps_taken : (e : ℕ) (line : Line) (plan : Plan ThreadBody) → e < 256 → first_left plan.left e ≡ Some line → Keeps clients posts plan → Keeps clients posts (taken_line planned e line plan)
+  keeps_taken : (e : ℕ) (line : Line) (plan : Plan ThreadBody) → e < 256 → first_left plan.left e ≡ Some line → Keeps clients posts plan → Keeps clients posts (after_take planned e line plan)
   keeps_taken e line plan low first h =
       let s = shelf_of plan.left e in
       let whole : AllByRecursion (IsFor clients e) (s.taken ++ s.left) = rw (h.gate e low) (for_event clients e posts) in
       let is : event_of clients line.client ≡ e = all_first (IsFor clients e) s.left line first (all_right (IsFor clients e) s.taken s.left whole) in
       record {
-        size = length-set plan.left e (moved s) ∙ h.size;
+        size = length-set plan.left e (after_next s) ∙ h.size;
         gate = gates_keep_history.keeps clients posts plan.left e h.size h.gate;
         shelves = λ d there. at-push d plan.takes (took_of e line plan) ∙ ⊎_elim
             (λ (same : e ≡ d).
             ap (λ ls. at d plan.takes ++ ls) (cond_same e d (line ∷ []) [] same) ∙ ap (λ ls. ls ++ line ∷ []) (h.shelves d there)
             ∙ ap (λ k. (shelf_of plan.left k).taken ++ line ∷ []) (sym same)
             ∙ ap (λ ls. s.taken ++ ls) (sym (take_first s.left line first))
-            ∙ ap (λ (x : Shelf Line). x.taken) (sym (get_or-set_same plan.left e (moved s) bare (omega (arith, h.size, low))))
-            ∙ ap (λ k. (shelf_of (taken_from plan.left e) k).taken) same)
+            ∙ ap (λ (x : Shelf Line). x.taken) (sym (get_or-set_same plan.left e (after_next s) bare (omega (arith, h.size, low))))
+            ∙ ap (λ k. (shelf_of (after_take_from plan.left e) k).taken) same)
             (λ (other : e ≢ d).
             ap (λ ls. at d plan.takes ++ ls) (cond_other e d (line ∷ []) [] other) ∙ append-nil (at d plan.takes) ∙ h.shelves d there
-            ∙ ap (λ (x : Shelf Line). x.taken) (sym (get_or-set_other plan.left e d (moved s) bare (λ k. other (sym k)))))
+            ∙ ap (λ (x : Shelf Line). x.taken) (sym (get_or-set_other plan.left e d (after_next s) bare (λ k. other (sym k)))))
             (same_or e d);
         at_events = All-push (IsAtEvent clients) plan.takes (took_of e line plan) h.at_events is;
       }
 
-  keeps_offered : (e : ℕ) (plan : Plan ThreadBody) → e < 256 → Keeps clients posts plan → Keeps clients posts (offered planned e plan)
+  keeps_offered : (e : ℕ) (plan : Plan ThreadBody) → e < 256 → Keeps clients posts plan → Keeps clients posts (after_offer planned e plan)
   keeps_offered e plan low h = by (is_takeable (pod_of plan) e) (first_left plan.left e) refl
     where
-      by : (b : Bool) (o : Option Line) → first_left plan.left e ≡ o → Keeps clients posts (elim b [ true ↦ offered_by planned e plan o | false ↦ plan ])
+      by : (b : Bool) (o : Option Line) → first_left plan.left e ≡ o → Keeps clients posts (elim b [ true ↦ after_offer_by planned e plan o | false ↦ plan ])
       by false o is = h
       by true None is = h
       by true (Some line) is = keeps_taken e line plan low is h
 
-  keeps_all : (es : List ℕ) (plan : Plan ThreadBody) → AllByRecursion (λ e. e < 256) es → Keeps clients posts plan → Keeps clients posts (fold (λ now e. offered planned e now) plan es)
+  keeps_all : (es : List ℕ) (plan : Plan ThreadBody) → AllByRecursion (λ e. e < 256) es → Keeps clients posts plan → Keeps clients posts (fold (λ now e. after_offer planned e now) plan es)
   keeps_all [] plan low h = h
-  keeps_all (e ∷ es) plan low h = keeps_all es (offered planned e plan) low.1 (keeps_offered e plan low.0 h)
+  keeps_all (e ∷ es) plan low h = keeps_all es (after_offer planned e plan) low.1 (keeps_offered e plan low.0 h)
 
   low_range : (a n : ℕ) → a + n ≤ 256 → AllByRecursion (λ e. e < 256) (range_with_len a n)
   low_range a zero h = tt
@@ -156,7 +156,7 @@ module _ (clients : List ℕ) (posts : List Line) (planned : Planned ThreadBody)
   keeps_call : (plan : Plan ThreadBody) → Keeps clients posts plan → Keeps clients posts (one_call planned plan)
   keeps_call plan h = record { size = h.size; gate = h.gate; shelves = h.shelves; at_events = h.at_events }
 
-  keeps_advanced : (plan : Plan ThreadBody) → Keeps clients posts plan → Keeps clients posts (advanced planned plan)
+  keeps_advanced : (plan : Plan ThreadBody) → Keeps clients posts plan → Keeps clients posts (after_advance planned plan)
   keeps_advanced plan h = by (has_choice plan) (keeps_boundary plan h)
     where
       by : (b : Bool) → Keeps clients posts (boundary planned plan) → Keeps clients posts (elim b [ true ↦ one_call planned (boundary planned plan) | false ↦ boundary planned plan ])
@@ -166,15 +166,15 @@ module _ (clients : List ℕ) (posts : List Line) (planned : Planned ThreadBody)
   keeps_to : (n : ℕ) (plan : Plan ThreadBody) → Keeps clients posts plan → Keeps clients posts (to_the_end planned n plan)
   unfolding to_the_end
   keeps_to zero plan h = h
-  keeps_to (suc n) plan h = by (plan_over planned plan) (keeps_to n (advanced planned plan) (keeps_advanced plan h))
+  keeps_to (suc n) plan h = by (plan_over planned plan) (keeps_to n (after_advance planned plan) (keeps_advanced plan h))
     where
-      by : (o : Option Halt) → Keeps clients posts (to_the_end planned n (advanced planned plan)) → Keeps clients posts (elim o [ None ↦ to_the_end planned n (advanced planned plan) | Some halt ↦ plan ])
+      by : (o : Option Halt) → Keeps clients posts (to_the_end planned n (after_advance planned plan)) → Keeps clients posts (elim o [ None ↦ to_the_end planned n (after_advance planned plan) | Some halt ↦ plan ])
       by None more = more
       by (Some halt) more = h
 
-  keeps_whole : Keeps clients posts (plan_whole planned (stocked clients posts))
+  keeps_whole : Keeps clients posts (plan_whole planned (full_shelves clients posts))
   unfolding plan_whole
-  keeps_whole = keeps_to (planned.turns + left_in_all (stocked clients posts)) (opening_plan planned (stocked clients posts)) keeps_opening
+  keeps_whole = keeps_to (planned.turns + left_in_all (full_shelves clients posts)) (opening_plan planned (full_shelves clients posts)) keeps_opening
 
 -- ---- the lines of one client
 

@@ -16,7 +16,7 @@ use Rattle.script_plan.specs.Planned.{halt_of, takes_of, trace_of}
 use Rattle.script_session.specs.declared.session.Session.{Session}
 use Rattle.script_session.specs.declared.session.SessionEnd.{SessionEnd}
 use Rattle.script_session.specs.declared.session.SessionEnd.TheVariants as end
-use Rattle.lwp_types.specs.Streams.{appended}
+use Rattle.lwp_types.specs.Streams.{after_append}
 use Rattle.lwp_types.specs.declared.call.Line.{Line}
 use Rattle.pod_runner.specs.declared.session.Took.{Took}
 use Rattle.script_maker.specs.Made.{made_script}
@@ -217,10 +217,10 @@ pub says-cut : (summary told : List ℕ) (script : Script) (bytes : List ℕ) (s
 says-cut summary told script bytes sink session is cut faulty r =
     record { written = subst (λ (b : List ℕ). AppendsPart sink.old sink.new b) is cut; faulty = faulty; all = tells-all script session end.WriteFault r.all }
 
-pub says-whole : (summary told : List ℕ) (script : Script) (bytes : List ℕ) (sink : Stream) (session : Session) → told ≡ summary → sink.new ≡ appended sink.old told → IsFaultless sink
+pub says-whole : (summary told : List ℕ) (script : Script) (bytes : List ℕ) (sink : Stream) (session : Session) → told ≡ summary → sink.new ≡ after_append sink.old told → IsFaultless sink
     → is_over session.end ≡ true → Ran script bytes session → MakeSays summary script sink session session.end
 says-whole summary told script bytes sink session is written faultless o r =
-    by session.end o (record { written = written ∙ ap (appended sink.old) is; faultless = faultless; over = r.over; all = r.all })
+    by session.end o (record { written = written ∙ ap (after_append sink.old) is; faultless = faultless; over = r.over; all = r.all })
   where
     by : (e : SessionEnd) → is_over e ≡ true → IsSummedUp summary script sink session → MakeSays summary script sink session e
     by (end.Ended status) o s = s

@@ -20,7 +20,7 @@ use Rattle.script_session.specs.declared.session.SessionEnd.{SessionEnd}
 use Rattle.script_session.specs.declared.session.SessionEnd.TheVariants as end
 use Rattle.pod_events.specs.Events.{EventState}
 use Rattle.lwp_types.specs.Choice.{choice}
-use Rattle.lwp_types.specs.Streams.{AppendsPrefix, appended}
+use Rattle.lwp_types.specs.Streams.{AppendsPrefix, after_append}
 use Rattle.pod_runner.specs.Due.{IsDefined}
 use Rattle.pod_runner.specs.Eager.{IsFirstPart, Plan, plan_over, plan_whole}
 use Rattle.pod_runner.specs.Over.{halt_if, is_wanted, over}
@@ -47,16 +47,16 @@ first-of (suc k) (x ∷ a) rest = let h = first-of k a rest in (suc h.0, ap (λ 
 
 pub prefix-more : (old new : Option (List ℕ)) (a rest whole : List ℕ) → whole ≡ a ++ rest → AppendsPrefix old new a → AppendsPrefix old new whole
 prefix-more old new a rest whole h p = let found = first-of p.0 a rest in
-    (found.0, p.1 ∙ ap (appended old) (found.1 ∙ ap (take found.0) (sym h)))
+    (found.0, p.1 ∙ ap (after_append old) (found.1 ∙ ap (take found.0) (sym h)))
 
-pub prefix-all : (old new : Option (List ℕ)) (a : List ℕ) → new ≡ appended old a → AppendsPrefix old new a
-prefix-all old new a h = (length a, h ∙ ap (appended old) (sym (take-length a)))
+pub prefix-all : (old new : Option (List ℕ)) (a : List ℕ) → new ≡ after_append old a → AppendsPrefix old new a
+prefix-all old new a h = (length a, h ∙ ap (after_append old) (sym (take-length a)))
 
-prefix-then : (old mid new : Option (List ℕ)) (a b whole : List ℕ) → whole ≡ a ++ b → mid ≡ appended old a → AppendsPrefix mid new b → AppendsPrefix old new whole
+prefix-then : (old mid new : Option (List ℕ)) (a b whole : List ℕ) → whole ≡ a ++ b → mid ≡ after_append old a → AppendsPrefix mid new b → AppendsPrefix old new whole
 prefix-then old mid new a b whole h g p = (
   length a + p.0,
-  p.1 ∙ ap (λ w. appended w (take p.0 b)) g ∙ appended-append old a (take p.0 b)
-      ∙ ap (appended old) (sym (take-append-add a b p.0) ∙ ap (take (length a + p.0)) (sym h)),
+  p.1 ∙ ap (λ w. after_append w (take p.0 b)) g ∙ appended-append old a (take p.0 b)
+      ∙ ap (after_append old) (sym (take-append-add a b p.0) ∙ ap (take (length a + p.0)) (sym h)),
 )
 
 -- the session planned for it is the script's
@@ -115,13 +115,13 @@ part-of script turns r stock old new h posted p = let found = rest-of script tur
     part-by script turns r stock old new h posted (prefix-more old new (run.trace_of body_next bodies_of proc_names r) found.0 (trace_of script turns) found.1 p)
 
 pub part-all : (script : Script) (turns : ℕ) (r : Played Script) (stock : Shelves) (old new : Option (List ℕ)) → Came script turns r stock → IsPosted script
-    → new ≡ appended old (run.trace_of body_next bodies_of proc_names r) → IsPart turns script old new r.takes r.calls
+    → new ≡ after_append old (run.trace_of body_next bodies_of proc_names r) → IsPart turns script old new r.takes r.calls
 part-all script turns r stock old new h posted p = part-of script turns r stock old new h posted (prefix-all old new (run.trace_of body_next bodies_of proc_names r) p)
 
 -- memory was wanting
 pub stopped-of : (script : Script) (turns : ℕ) (r : Played Script) (stock : Shelves) (old new : Option (List ℕ)) → Came script turns r stock
-    → new ≡ appended old (run.trace_of body_next bodies_of proc_names r) → IsStopped script old new r.takes r.calls
-stopped-of script turns r stock old new h p = p ∙ ap (appended old) (lines-is script turns r h.plays_it)
+    → new ≡ after_append old (run.trace_of body_next bodies_of proc_names r) → IsStopped script old new r.takes r.calls
+stopped-of script turns r stock old new h p = p ∙ ap (after_append old) (lines-is script turns r h.plays_it)
 
 -- a write of lines failed
 pub broken-of : (script : Script) (turns : ℕ) (r : Played Script) (stock : Shelves) (old new : Option (List ℕ)) → Came script turns r stock
@@ -166,15 +166,15 @@ end-trace script turns r stock halt h =
     ∙ ap (λ p. lines (proc_names p) (run.session_of body_next bodies_of r).steps ++ end_text turns (left_from 0 script.clients stock) halt) (sym h.came_so.plays_it.program)
 
 pub whole-of : (script : Script) (turns : ℕ) (r : Played Script) (stock : Shelves) (halt : Halt) (old mid new : Option (List ℕ)) (last : List ℕ) → Finished script turns r stock halt → IsPosted script
-    → mid ≡ appended old (run.trace_of body_next bodies_of proc_names r) → last ≡ end_text turns (left_from 0 script.clients stock) halt → new ≡ appended mid last
+    → mid ≡ after_append old (run.trace_of body_next bodies_of proc_names r) → last ≡ end_text turns (left_from 0 script.clients stock) halt → new ≡ after_append mid last
     → IsWhole turns script old new r.takes r.calls halt
 unfolding halt_of calls_of takes_of
 whole-of script turns r stock halt old mid new last h posted g e n =
     let all = run.trace_of body_next bodies_of proc_names r in
     let halted : plan_over (planned_of script turns) (plan_of script turns) ≡ Some halt = ap (plan_over (planned_of script turns)) h.whole ∙ over-is script turns r stock halt h in
     record {
-      trace = n ∙ ap (λ w. appended w last) g ∙ appended-append old all last
-          ∙ ap (appended old) (ap (λ xs. all ++ xs) e ∙ sym (end-trace script turns r stock halt h));
+      trace = n ∙ ap (λ w. after_append w last) g ∙ appended-append old all last
+          ∙ ap (after_append old) (ap (λ xs. all ++ xs) e ∙ sym (end-trace script turns r stock halt h));
       halted = halted;
       made = sym (ap (λ (p : Plan ThreadBody). p.calls) h.whole);
       taken = sym (ap (λ (p : Plan ThreadBody). p.takes) h.whole);
@@ -189,14 +189,14 @@ whole-of script turns r stock halt old mid new last h posted g e n =
 
 -- the last write failed
 pub part-last : (script : Script) (turns : ℕ) (r : Played Script) (stock : Shelves) (halt : Halt) (old mid new : Option (List ℕ)) (last : List ℕ) → Finished script turns r stock halt → IsPosted script
-    → mid ≡ appended old (run.trace_of body_next bodies_of proc_names r) → last ≡ end_text turns (left_from 0 script.clients stock) halt → AppendsPart mid new last
+    → mid ≡ after_append old (run.trace_of body_next bodies_of proc_names r) → last ≡ end_text turns (left_from 0 script.clients stock) halt → AppendsPart mid new last
     → IsPart turns script old new r.takes r.calls
 part-last script turns r stock halt old mid new last h posted g e p = let all = run.trace_of body_next bodies_of proc_names r in
     part-by script turns r stock old new h.came_so posted
     (prefix-then old mid new all last (trace_of script turns) (end-trace script turns r stock halt h ∙ ap (λ xs. all ++ xs) (sym e)) g (p.kept, p.told))
 
 pub broken-last : (script : Script) (turns : ℕ) (r : Played Script) (stock : Shelves) (halt : Halt) (old mid new : Option (List ℕ)) (last : List ℕ) → Finished script turns r stock halt
-    → mid ≡ appended old (run.trace_of body_next bodies_of proc_names r) → last ≡ end_text turns (left_from 0 script.clients stock) halt → AppendsPart mid new last
+    → mid ≡ after_append old (run.trace_of body_next bodies_of proc_names r) → last ≡ end_text turns (left_from 0 script.clients stock) halt → AppendsPart mid new last
     → IsBroken turns script old new r.takes r.calls
 unfolding calls_of takes_of
 broken-last script turns r stock halt old mid new last h g e p =
@@ -205,8 +205,8 @@ broken-last script turns r stock halt old mid new last h g e p =
     inr (record {
       cut = record {
         kept = length all + p.kept;
-        told = p.told ∙ ap (λ w. appended w (take p.kept last)) g ∙ appended-append old all (take p.kept last)
-            ∙ ap (appended old) (sym (take-append-add all last p.kept) ∙ ap (take (length all + p.kept)) (sym whole));
+        told = p.told ∙ ap (λ w. after_append w (take p.kept last)) g ∙ appended-append old all (take p.kept last)
+            ∙ ap (after_append old) (sym (take-append-add all last p.kept) ∙ ap (take (length all + p.kept)) (sym whole));
         some = omega (arith, ap length (lines-is script turns r h.came_so.plays_it));
         not_all = omega (arith, p.not_all, ap length whole, length-append all last);
       };

@@ -9,7 +9,7 @@ use Rattle.script_plan.specs.Planned.{calls_of, halt_of, takes_of, trace_of}
 use Rattle.script_session.specs.declared.session.Session.{Session}
 use Rattle.script_session.specs.declared.session.SessionEnd.{SessionEnd}
 use Rattle.script_session.specs.declared.session.SessionEnd.TheVariants as end
-use Rattle.lwp_types.specs.Streams.{appended}
+use Rattle.lwp_types.specs.Streams.{after_append}
 use Rattle.lwp_types.specs.declared.call.Line.{Line}
 use Rattle.pod_runner.specs.declared.session.Took.{Took}
 use Rattle.script_maker.specs.Made.{made_script}
@@ -112,7 +112,7 @@ pub record TellsPart (script : Script) (session : Session) : Type 0 where
 
 -- a session to its end, with its summary written
 pub record IsSummedUp (summary : List ℕ) (script : Script) (sink : Stream) (session : Session) : Type 0 where
-  pub written : sink.new ≡ appended sink.old summary
+  pub written : sink.new ≡ after_append sink.old summary
   pub faultless : IsFaultless sink
   pub over : IsOver script session
   pub all : TellsAll script session

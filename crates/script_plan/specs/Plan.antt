@@ -8,7 +8,7 @@ use Rattle.script_plan.specs.Planned.{calls_of, halt_of, plan_of, takes_of, trac
 use Rattle.script_session.specs.declared.session.Session.{Session}
 use Rattle.script_session.specs.declared.session.SessionEnd.{SessionEnd}
 use Rattle.script_session.specs.declared.session.SessionEnd.TheVariants as end
-use Rattle.lwp_types.specs.Streams.{AppendsPrefix, appended}
+use Rattle.lwp_types.specs.Streams.{AppendsPrefix, after_append}
 use Rattle.trace_text.specs.Lines.{end_text}
 use Rattle.trace_text.specs.declared.ends.Halt.{Halt}
 use Rattle.trace_text.specs.declared.ends.Halt.TheVariants as halts
@@ -27,7 +27,7 @@ WantsNothing script turns = let plan = plan_of script turns in is_wanted plan.se
 -- and these lines were taken, as soon as they could be, each when it was due. The trace is that of a session with these takes and
 -- calls, with its end and how many lines of each client are left.
 pub record IsWhole (turns : ℕ) (script : Script) (old new : Option (List ℕ)) (takes : List Took) (calls : ℕ) (halt : Halt) : Type 0 where
-  pub trace : new ≡ appended old (trace_of script turns)
+  pub trace : new ≡ after_append old (trace_of script turns)
   pub halted : halt_of script turns ≡ Some halt
   pub made : calls ≡ calls_of script turns
   pub taken : takes ≡ takes_of script turns
@@ -50,7 +50,7 @@ pub record IsPart (turns : ℕ) (script : Script) (old new : Option (List ℕ)) 
 
 -- it stopped between two steps: what was written are the lines of the takes and calls made
 abbrev pub IsStopped : Script → Option (List ℕ) → Option (List ℕ) → List Took → ℕ → Type 0
-IsStopped script old new takes calls = new ≡ appended old (lines_after script takes calls)
+IsStopped script old new takes calls = new ≡ after_append old (lines_after script takes calls)
 
 -- it broke off behind all its steps, and not all of the trace was written
 pub record IsBrokenLast (turns : ℕ) (script : Script) (old new : Option (List ℕ)) (takes : List Took) (calls : ℕ) : Type 0 where

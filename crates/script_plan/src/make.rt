@@ -1,6 +1,6 @@
 // A script is made and run, and its session is summed up.
 ghost use Rattle.std.specs.Prelude.{◌≡◌, ◌≤◌, [], IfOk, OnOk, IsErrOf, length};
-ghost use Rattle.lwp_types.specs.Streams.{Rose, appended};
+ghost use Rattle.lwp_types.specs.Streams.{Rose, after_append};
 ghost use Rattle.script_plan.specs.Make.{IsMake, is_over, told_of};
 ghost use Rattle.script_maker.specs.Order.{IsAllowed};
 ghost use Rattle.script_maker.specs.Summary.{summary_text};
@@ -64,7 +64,7 @@ fn summary_of(script: &Script, text: u64, session: &Session, trace: u64) -> Summ
 // Writes a summary.
 fn tell<K: Sink>(alloc: Global, summary: &Summary, sink: &mut K) -> Result<(), RunErr>
     ensures whole { OnOk result
-        (K.written sink.new ≡ appended (K.written sink.old) (summary_text summary.now)) }
+        (K.written sink.new ≡ after_append (K.written sink.old) (summary_text summary.now)) }
     ensures faultless { OnOk result (K.faults sink.new ≡ K.faults sink.old) }
     ensures cut { IsErrOf result RunErr.WriteFault →
         AppendsPart (K.written sink.old) (K.written sink.new) (summary_text summary.now) }

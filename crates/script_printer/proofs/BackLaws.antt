@@ -20,7 +20,7 @@ use Rattle.script_lines.specs.Phrase.{Phrase}
 use Rattle.script_lines.specs.Words.{is_name}
 use Rattle.script_lines.specs.Table.{row_of, role_of, slots_of, says}
 use Rattle.script_lines.specs.Line.{WhoFits, SourceFits, BuiltFits, SlotFits, IsLine, blank, copy_slots}
-use Rattle.script_text.specs.Meaning.{enter, place, place_of, named, spoken, places_of, who_of, from_of, statement_of, native_kind, entered, added_at, added}
+use Rattle.script_text.specs.Meaning.{enter, place, place_of, after_name, with_text_of, places_of, who_of, from_of, statement_of, native_kind, after_enter, after_add_at, after_add}
 use Rattle.script_printer.specs.Building.{proc_line}
 use Rattle.script_printer.specs.Printing.{with_who, with_source, stmt_line, client_line, native_as}
 use Rattle.script_text.specs.Track.{name_at}
@@ -45,7 +45,7 @@ holds_entered names w = record { long = few_names names w; same = λ k h. name_s
 holds_pushed : (xs : List (List ℕ)) (x : List ℕ) → Holds xs (xs ++ x ∷ [])
 holds_pushed xs x = record { long = omega (arith, length-append xs (x ∷ [])); same = λ k h. get_or_append_left xs (x ∷ []) [] k h }
 
-holds_spoken : (texts : List (List ℕ)) (p : Phrase) → Holds texts (spoken texts p)
+holds_spoken : (texts : List (List ℕ)) (p : Phrase) → Holds texts (with_text_of texts p)
 holds_spoken texts p = elim (says p.op) as (λ v. Holds texts (cond v (texts ++ p.text ∷ []) texts)) [
   | true ↦ holds_pushed texts p.text
   | false ↦ holds_all texts
@@ -62,19 +62,19 @@ pub record Later (names : Names) (texts : List (List ℕ)) (N : Names) (T : List
 pub later_all : (names : Names) (texts : List (List ℕ)) → Later names texts names texts
 later_all names texts = record { in_procs = holds_all names.procs; in_threads = holds_all names.threads; in_mons = holds_all names.mons; in_conds = holds_all names.conds; in_texts = holds_all texts }
 
-pub later_entered : (names : Names) (texts : List (List ℕ)) (p : Phrase) (N : Names) (T : List (List ℕ)) → Later (named names p) (spoken texts p) N T → Later names texts N T
+pub later_entered : (names : Names) (texts : List (List ℕ)) (p : Phrase) (N : Names) (T : List (List ℕ)) → Later (after_name names p) (with_text_of texts p) N T → Later names texts N T
 later_entered names texts p N T h = record {
   in_procs = holds_on names.procs (enter names.procs p.procedure) N.procs (holds_entered names.procs p.procedure) h.in_procs;
   in_threads = holds_on names.threads (enter names.threads p.thread) N.threads (holds_entered names.threads p.thread) h.in_threads;
   in_mons = holds_on names.mons (enter names.mons p.monitor) N.mons (holds_entered names.mons p.monitor) h.in_mons;
   in_conds = holds_on names.conds (enter names.conds p.condition) N.conds (holds_entered names.conds p.condition) h.in_conds;
-  in_texts = holds_on texts (spoken texts p) T (holds_spoken texts p) h.in_texts;
+  in_texts = holds_on texts (with_text_of texts p) T (holds_spoken texts p) h.in_texts;
 }
 
-names_after : (d : Draft) (p : Phrase) → (added d p).script.names ≡ named d.script.names p
-names_after d p = by_role (role_of p.op) (places_of (named d.script.names p) d.script.texts p) (entered d p) p
+names_after : (d : Draft) (p : Phrase) → (after_add d p).script.names ≡ after_name d.script.names p
+names_after d p = by_role (role_of p.op) (places_of (after_name d.script.names p) d.script.texts p) (after_enter d p) p
   where
-    by_role : (r : Role) (at : Places) (d : Draft) (p : Phrase) → (added_at r at d p).script.names ≡ d.script.names
+    by_role : (r : Role) (at : Places) (d : Draft) (p : Phrase) → (after_add_at r at d p).script.names ≡ d.script.names
     by_role role.Header at d p = refl
     by_role role.Pod at d p = refl
     by_role role.Limit at d p = refl
@@ -86,10 +86,10 @@ names_after d p = by_role (role_of p.op) (places_of (named d.script.names p) d.s
     by_role role.Skip at d p = refl
     by_role role.Again at d p = refl
 
-texts_after : (d : Draft) (p : Phrase) → (added d p).script.texts ≡ spoken d.script.texts p
-texts_after d p = by_role (role_of p.op) (places_of (named d.script.names p) d.script.texts p) (entered d p) p
+texts_after : (d : Draft) (p : Phrase) → (after_add d p).script.texts ≡ with_text_of d.script.texts p
+texts_after d p = by_role (role_of p.op) (places_of (after_name d.script.names p) d.script.texts p) (after_enter d p) p
   where
-    by_role : (r : Role) (at : Places) (d : Draft) (p : Phrase) → (added_at r at d p).script.texts ≡ d.script.texts
+    by_role : (r : Role) (at : Places) (d : Draft) (p : Phrase) → (after_add_at r at d p).script.texts ≡ d.script.texts
     by_role role.Header at d p = refl
     by_role role.Pod at d p = refl
     by_role role.Limit at d p = refl
@@ -102,14 +102,14 @@ texts_after d p = by_role (role_of p.op) (places_of (named d.script.names p) d.s
     by_role role.Again at d p = refl
 
 -- behind one line, before all that follow
-pub later_step : (d : Draft) (p : Phrase) (N : Names) (T : List (List ℕ)) → Later (added d p).script.names (added d p).script.texts N T → Later (named d.script.names p) (spoken d.script.texts p) N T
+pub later_step : (d : Draft) (p : Phrase) (N : Names) (T : List (List ℕ)) → Later (after_add d p).script.names (after_add d p).script.texts N T → Later (after_name d.script.names p) (with_text_of d.script.texts p) N T
 later_step d p N T h =
-    subst (λ (n : Names). Later n (spoken d.script.texts p) N T) (names_after d p)
-    (subst (λ (t : List (List ℕ)). Later (added d p).script.names t N T) (texts_after d p) h)
+    subst (λ (n : Names). Later n (with_text_of d.script.texts p) N T) (names_after d p)
+    (subst (λ (t : List (List ℕ)). Later (after_add d p).script.names t N T) (texts_after d p) h)
 
-pub later_on : (ps : List Phrase) (d : Draft) → Later d.script.names d.script.texts (fold added d ps).script.names (fold added d ps).script.texts
+pub later_on : (ps : List Phrase) (d : Draft) → Later d.script.names d.script.texts (fold after_add d ps).script.names (fold after_add d ps).script.texts
 later_on [] d = later_all d.script.names d.script.texts
-later_on (p ∷ ps) d = later_entered d.script.names d.script.texts p (fold added (added d p) ps).script.names (fold added (added d p) ps).script.texts (later_step d p (fold added (added d p) ps).script.names (fold added (added d p) ps).script.texts (later_on ps (added d p)))
+later_on (p ∷ ps) d = later_entered d.script.names d.script.texts p (fold after_add (after_add d p) ps).script.names (fold after_add (after_add d p) ps).script.texts (later_step d p (fold after_add (after_add d p) ps).script.names (fold after_add (after_add d p) ps).script.texts (later_on ps (after_add d p)))
 
 -- ---- A line is given back by what it says.
 
@@ -130,12 +130,12 @@ pub record Backs (o : Op) (N : Names) (T : List (List ℕ)) (at : Places) (p : P
   condition : is_name p.condition ≡ true → name_at N.conds at.condition ≡ p.condition
   text : says o ≡ true → name_at T at.text ≡ p.text
 
-text_back : (texts T : List (List ℕ)) (p : Phrase) → says p.op ≡ true → Holds (spoken texts p) T → name_at T (length texts) ≡ p.text
+text_back : (texts T : List (List ℕ)) (p : Phrase) → says p.op ≡ true → Holds (with_text_of texts p) T → name_at T (length texts) ≡ p.text
 text_back texts T p s h =
     let k : Holds (texts ++ p.text ∷ []) T = subst (λ (b : Bool). Holds (cond b (texts ++ p.text ∷ []) texts) T) s h in
     k.same (length texts) (omega (arith, length-append texts (p.text ∷ []))) ∙ at_end texts p.text
 
-pub backs : (names : Names) (texts : List (List ℕ)) (p : Phrase) (N : Names) (T : List (List ℕ)) → Later (named names p) (spoken texts p) N T → Backs p.op N T (places_of (named names p) texts p) p
+pub backs : (names : Names) (texts : List (List ℕ)) (p : Phrase) (N : Names) (T : List (List ℕ)) → Later (after_name names p) (with_text_of texts p) N T → Backs p.op N T (places_of (after_name names p) texts p) p
 backs names texts p N T h = record {
   thread = λ i. name_back names.threads N.threads p.thread i h.in_threads;
   procedure = λ i. name_back names.procs N.procs p.procedure i h.in_procs;

@@ -156,5 +156,5 @@ abbrev pub lines_of : Script → List Phrase
 lines_of s = number_line op.Lwp 1 ∷ number_line op.Pod s.maxpri ∷ (limit_lines s.births ++ body_lines s.names s.texts s.clients s.natives s.procs s.posts)
 
 -- the text of a script
-unfoldable pub printed : Script → List ℕ
-printed s = spelling (lines_of s)
+unfoldable pub text_of_script : Script → List ℕ
+text_of_script s = spelling (lines_of s)

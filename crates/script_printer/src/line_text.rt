@@ -1,7 +1,7 @@
 // A line to bytes: by its row of the table.
 ghost use Rattle.std.specs.Prelude.{◌≡◌, ◌++◌, OnOk};
 ghost use Rattle.std.specs.List.{flat_map};
-ghost use Rattle.script_lines.specs.Line.{who_text, test_text, built_text, slot_text, phrase_text, ended};
+ghost use Rattle.script_lines.specs.Line.{who_text, test_text, built_text, slot_text, phrase_text, with_newline};
 
 use lwp_types::NoMemory;
 use script_lines::{Kind, Phrase, Test, Whom};
@@ -88,7 +88,7 @@ fn add_slots(out: &mut Vec<u8>, phrase: &Phrase<'_>, kinds: &[Kind]) -> Result<(
 
 /// A line with its end.
 pub(crate) fn add_line(out: &mut Vec<u8>, phrase: &Phrase<'_>) -> Result<(), NoMemory>
-    ensures { OnOk result (out.new.items ≡ out.old.items ++ ended (phrase_text phrase.now)) }
+    ensures { OnOk result (out.new.items ≡ out.old.items ++ with_newline (phrase_text phrase.now)) }
 {
     add_text(out, phrase.op.key())?;
     add_slots(out, phrase, phrase.op.slots())?;

@@ -2,9 +2,9 @@
 ghost use Rattle.std.specs.Prelude.{◌≡◌, ◌++◌, [], IfOk, OnOk, codes, map};
 ghost use Rattle.std.specs.Fmt.{decimal};
 ghost use Rattle.std.specs.List.{flat_map};
-ghost use Rattle.script_lines.specs.Line.{phrase_text, ended};
+ghost use Rattle.script_lines.specs.Line.{phrase_text, with_newline};
 ghost use Rattle.script_text.specs.Grammar.{spelling};
-ghost use Rattle.script_printer.specs.Printing.{with_who, with_source, exit_line, plain_line, lock_line, stmt_line, limit_lines, client_line, client_lines, native_line, proc_lines, post_line, printed};
+ghost use Rattle.script_printer.specs.Printing.{with_who, with_source, exit_line, plain_line, lock_line, stmt_line, limit_lines, client_line, client_lines, native_line, proc_lines, post_line, text_of_script};
 ghost use Rattle.script_text.specs.Track.{name_at};
 
 use crate::line_text::add_line;
@@ -197,7 +197,7 @@ fn add_limit(out: &mut Vec<u8>, births: u64) -> Result<(), NoMemory>
 #[tactic(auto, unfolding(script_lines::specs::Table::row_of))]
 fn add_client(out: &mut Vec<u8>, client: u64, event: u8) -> Result<(), NoMemory>
     ensures { OnOk result
-        (out.new.items ≡ out.old.items ++ ended (phrase_text (client_line client event))) }
+        (out.new.items ≡ out.old.items ++ with_newline (phrase_text (client_line client event))) }
 {
     add_text(out, b"client ")?;
     add_number(out, client)?;
@@ -288,9 +288,9 @@ fn add_posts(out: &mut Vec<u8>, texts: &TextList, posts: &[Post]) -> Result<(), 
 }
 
 /// The text of a script. Where some text spells the script, this one does too, so it is read as it was.
-#[tactic(auto, unfolding(crate::specs::Printing::printed))]
+#[tactic(auto, unfolding(crate::specs::Printing::text_of_script))]
 pub fn print_script(alloc: Global, s: &Script) -> Result<Vec<u8>, NoMemory>
-    ensures { IfOk result (λ text. text.items ≡ printed s.now) }
+    ensures { IfOk result (λ text. text.items ≡ text_of_script s.now) }
 {
     let mut out = Vec::new(alloc);
     add_line(&mut out, &number_line(Op::Lwp, 1))?;

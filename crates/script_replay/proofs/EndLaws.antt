@@ -1,6 +1,6 @@
 -- What a session says behind a verdict.
 use Rattle.batch.specs.declared.part.Part.{Part}
-use Rattle.lwp_types.specs.Streams.{appended}
+use Rattle.lwp_types.specs.Streams.{after_append}
 use Rattle.pod_runner.specs.declared.session.Took.{Took}
 use Rattle.replay.specs.declared.verdict.Verdict.{Verdict}
 use Rattle.replay.specs.declared.verdict.Verdict.TheVariants as verdict
@@ -45,7 +45,7 @@ written-by turns source sink session (verdict.Differs line want got ended) h = h
 
 -- all of it was written
 pub says-whole : (turns : ℕ) (source sink : Stream) (text : List ℕ) (part : Part) (e : SessionEnd) (said : List ℕ) (takes : List Took) (calls : ℕ) (session : Session) → session ≡ outcome_of e takes calls
-    → IsFaultless source → IsReadUp 268435457 source.old source.new → IsInput source.old text part → IsToldOf turns text part e said takes calls → IsFaultless sink → sink.new ≡ appended sink.old said → IsReplay turns source sink session
+    → IsFaultless source → IsReadUp 268435457 source.old source.new → IsInput source.old text part → IsToldOf turns text part e said takes calls → IsFaultless sink → sink.new ≡ after_append sink.old said → IsReplay turns source sink session
 says-whole turns source sink text part e said takes calls session is same up input h faultless written =
     let all : IsWritten turns source sink (outcome_of e takes calls) e = (faultless, (said, found-of turns source text part e e said takes calls same up input h, written)) in
     let so = written-by turns source sink (outcome_of e takes calls) h.told.verdict (subst (λ (x : SessionEnd). IsWritten turns source sink (outcome_of e takes calls) x) h.told.ended all) in

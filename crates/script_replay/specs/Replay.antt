@@ -1,7 +1,7 @@
 -- What `replay` comes to, with all that it meets outside.
 use Rattle.batch.specs.Parts.{content}
 use Rattle.batch.specs.declared.part.Part.{Part}
-use Rattle.lwp_types.specs.Streams.{appended}
+use Rattle.lwp_types.specs.Streams.{after_append}
 use Rattle.pod_runner.specs.declared.session.Took.{Took}
 use Rattle.replay.specs.Asked.{Asked}
 use Rattle.replay.specs.Replayed.{Says}
@@ -71,7 +71,7 @@ pub record IsFound (turns : ℕ) (source : Stream) (session : Session) (e : Sess
 
 -- all of it was written
 abbrev pub IsWritten : ℕ → Stream → Stream → Session → SessionEnd → Type 0
-IsWritten turns source sink session e = IsFaultless sink × ((text : List ℕ) × IsFound turns source session e text × (sink.new ≡ appended sink.old text))
+IsWritten turns source sink session e = IsFaultless sink × ((text : List ℕ) × IsFound turns source session e text × (sink.new ≡ after_append sink.old text))
 
 -- a write failed, and not all of it was written
 abbrev pub IsCut : ℕ → Stream → Stream → Session → Type 0

@@ -2,7 +2,7 @@
 use Rattle.event_gate.proofs.Lines.{cond_other, cond_same, of-append, same_or}
 use Rattle.event_gate.specs.History.{IsClientHistory, lines_of}
 use Rattle.event_gate.specs.Port.{IsNumbered, of}
-use Rattle.event_gate.specs.Shelves.{bare, event_of, first_left, full, lines_for, stocked}
+use Rattle.event_gate.specs.Shelves.{bare, event_of, first_left, full, full_shelves, lines_for}
 use Rattle.event_gate.specs.Texts.{lines_from}
 use Rattle.pod_events.specs.Events.{EventState, is_takeable}
 use Rattle.lwp_types.specs.Choice.{choice}
@@ -304,23 +304,23 @@ none-for clients e left none = by left none
             step false h = h
 
 -- no line that can be delivered is left, where of each event that waits none is
-pub wants-none : (s : EventState) (clients : List ℕ) (left : List Line) → ((e c : ℕ) → is_takeable s e ≡ true → event_of clients c ≡ e → of c left ≡ []) → is_wanted s (stocked clients left) ≡ false
+pub wants-none : (s : EventState) (clients : List ℕ) (left : List Line) → ((e c : ℕ) → is_takeable s e ≡ true → event_of clients c ≡ e → of c left ≡ []) → is_wanted s (full_shelves clients left) ≡ false
 unfolding events
 wants-none s clients left none = by 0 32 (omega arith)
   where
-    one : (e : ℕ) (b : Bool) → e < 256 → is_takeable s e ≡ b → b && is_some (first_left (stocked clients left) e) ≡ false
+    one : (e : ℕ) (b : Bool) → e < 256 → is_takeable s e ≡ b → b && is_some (first_left (full_shelves clients left) e) ≡ false
     one e false low is = refl
     one e true low is = ap (λ (ls : List Line). is_some (slice_get ls 0))
         (ap (λ shelf. shelf.left) (get_or-map-range_with_len (full clients left) 0 256 e e bare low (omega arith)) ∙ none-for clients e left (λ c at. none e c is at))
 
-    by : (a n : ℕ) → a + n ≤ 256 → list_any (λ e. can_take s (stocked clients left) e) (range_with_len a n) ≡ false
+    by : (a n : ℕ) → a + n ≤ 256 → list_any (λ e. can_take s (full_shelves clients left) e) (range_with_len a n) ≡ false
     by a zero low = refl
     by a (suc n) low = rw (one a (is_takeable s a) (omega (arith, low)) refl) (by (a + 1) n (omega (arith, low)))
 
 -- how a session has ended does not hang on the lines left, but where it is stuck
-pub over-with : (turns : ℕ) (s : EventState) (calls : ℕ) (left : List Line) (clients : List ℕ) (halt : Halt) → over turns s calls [] ≡ Some halt → (halt ≡ Stuck → is_wanted s (stocked clients left) ≡ false)
-    → over turns s calls (stocked clients left) ≡ Some halt
-over-with turns s calls left clients halt is none = by s.state.ended (is_wanted s []) (is_wanted s (stocked clients left)) (choice s.state) none is
+pub over-with : (turns : ℕ) (s : EventState) (calls : ℕ) (left : List Line) (clients : List ℕ) (halt : Halt) → over turns s calls [] ≡ Some halt → (halt ≡ Stuck → is_wanted s (full_shelves clients left) ≡ false)
+    → over turns s calls (full_shelves clients left) ≡ Some halt
+over-with turns s calls left clients halt is none = by s.state.ended (is_wanted s []) (is_wanted s (full_shelves clients left)) (choice s.state) none is
   where
     by : (b u w : Bool) (c : Option ℕ) → (halt ≡ Stuck → w ≡ false) → (if b then Some (Ended s.state.status) else halt_if turns calls u c) ≡ Some halt → (if b then Some (Ended s.state.status) else halt_if turns calls w c) ≡ Some halt
     by true u w c none h = h

@@ -2,7 +2,7 @@
 use Rattle.event_gate.proofs.Lines.{cond_other, cond_same, same_or}
 use Rattle.event_gate.specs.Inlet.{HasEvent, Intake, IsInletTaken}
 use Rattle.event_gate.specs.Port.{of}
-use Rattle.event_gate.specs.Shelves.{event_of, stocked}
+use Rattle.event_gate.specs.Shelves.{event_of, full_shelves}
 use Rattle.event_gate.specs.Texts.{lines_from}
 use Rattle.live_clients.specs.Inlets.{fresh}
 use Rattle.live_clients.specs.Served.{HasLines, IsServed, lines_in_all, texts_of}
@@ -27,7 +27,7 @@ use Rattle.script_session.specs.declared.session.Session.{Session}
 use Rattle.script_session.specs.declared.session.SessionEnd.{SessionEnd}
 use Rattle.script_session.specs.declared.session.SessionEnd.TheVariants as end
 use Rattle.pod_events.specs.Events.{is_takeable}
-use Rattle.lwp_types.specs.Streams.{appended}
+use Rattle.lwp_types.specs.Streams.{after_append}
 use Rattle.lwp_types.specs.declared.call.Line.{Line}
 use Rattle.lwp_types.specs.declared.text.Text.{Text}
 use Rattle.pod_runner.specs.Due.{IsDefined}
@@ -216,11 +216,11 @@ so-far-of script turns r inlets posted h = record {
 }
 
 -- what is told behind all its steps
-told-of : (script : Script) (turns : ℕ) (r : Played Script) (old new : Option (List ℕ)) → Plays script turns r → new ≡ appended old (run.trace_of body_next bodies_of proc_names r) → new ≡ appended old (lines_after script r.takes r.calls)
-told-of script turns r old new it h = h ∙ ap (appended old) (lines-is script turns r it)
+told-of : (script : Script) (turns : ℕ) (r : Played Script) (old new : Option (List ℕ)) → Plays script turns r → new ≡ after_append old (run.trace_of body_next bodies_of proc_names r) → new ≡ after_append old (lines_after script r.takes r.calls)
+told-of script turns r old new it h = h ∙ ap (after_append old) (lines-is script turns r it)
 
 pub live-stopped : (script : Script) (turns : ℕ) (r : Played Script) (inlets : List Intake) (old new : Option (List ℕ)) → IsPosted script → Ran script turns r inlets
-    → new ≡ appended old (run.trace_of body_next bodies_of proc_names r) → IsLiveStopped turns script old new r.takes r.calls
+    → new ≡ after_append old (run.trace_of body_next bodies_of proc_names r) → IsLiveStopped turns script old new r.takes r.calls
 live-stopped script turns r inlets old new posted h w = record { left = left_by script r; so_far = so-far-of script turns r inlets posted h; written = told-of script turns r old new h.plays_it w }
 
 pub live-broken : (script : Script) (turns : ℕ) (r : Played Script) (inlets : List Intake) (old new : Option (List ℕ)) → IsPosted script → Ran script turns r inlets
@@ -272,7 +272,7 @@ over-of script turns s o r before after texts x halt h opening new is posted bac
     none-of (x ∷ xs) e = absurd (omega (arith, e))
 
 stuck-wants : (script : Script) (turns : ℕ) (r : Played Script) (inlets : List Intake) (halt : Halt) → IsPosted script → Over script turns r inlets halt → halt ≡ halts.Stuck
-    → is_wanted (session_at script r.takes r.calls).live.pod (stocked script.clients (left_by script r)) ≡ false
+    → is_wanted (session_at script r.takes r.calls).live.pod (full_shelves script.clients (left_by script r)) ≡ false
 stuck-wants script turns r inlets halt posted h stuck =
     wants-none (session_at script r.takes r.calls).live.pod script.clients (left_by script r) (λ e c wanted at. by e c wanted at (cases_lt c (length script.clients)))
   where
@@ -299,17 +299,17 @@ pub tail-of : (script : Script) (turns : ℕ) (r : Played Script) (texts : List 
 tail-of script turns r texts halt last counts is n e = e ∙ ap (λ ns. end_text turns ns halt) (n ∙ ap (λ ts. counts_of 0 ts r.takes) is ∙ counts-same 0 script.clients (lines_posted script) r.takes ∙ counts-are script.clients (lines_posted script) r.takes)
 
 pub lived-of : (script : Script) (turns : ℕ) (r : Played Script) (inlets : List Intake) (halt : Halt) (old mid new : Option (List ℕ)) (last : List ℕ) → IsPosted script → Over script turns r inlets halt
-    → mid ≡ appended old (run.trace_of body_next bodies_of proc_names r) → last ≡ end_text turns (counts_from 0 script.clients (left_by script r)) halt → new ≡ appended mid last → IsLived turns script old new r.takes r.calls halt
+    → mid ≡ after_append old (run.trace_of body_next bodies_of proc_names r) → last ≡ end_text turns (counts_from 0 script.clients (left_by script r)) halt → new ≡ after_append mid last → IsLived turns script old new r.takes r.calls halt
 lived-of script turns r inlets halt old mid new last posted h g e n = record {
   left = left_by script r;
   so_far = so-far-of script turns r inlets posted h.ran;
   halted = ends-so script turns r inlets halt posted h;
-  written = n ∙ ap (λ w. appended w last) (told-of script turns r old mid h.ran.plays_it g) ∙ appended-append old (lines_after script r.takes r.calls) last ∙ ap (λ xs. appended old (lines_after script r.takes r.calls ++ xs)) e;
+  written = n ∙ ap (λ w. after_append w last) (told-of script turns r old mid h.ran.plays_it g) ∙ appended-append old (lines_after script r.takes r.calls) last ∙ ap (λ xs. after_append old (lines_after script r.takes r.calls ++ xs)) e;
   stuck = stuck-wants script turns r inlets halt posted h;
 }
 
 pub live-cut : (script : Script) (turns : ℕ) (r : Played Script) (inlets : List Intake) (halt : Halt) (old mid new : Option (List ℕ)) (last : List ℕ) → IsPosted script → Over script turns r inlets halt
-    → mid ≡ appended old (run.trace_of body_next bodies_of proc_names r) → last ≡ end_text turns (counts_from 0 script.clients (left_by script r)) halt → AppendsPart mid new last → IsLiveBroken turns script old new r.takes r.calls
+    → mid ≡ after_append old (run.trace_of body_next bodies_of proc_names r) → last ≡ end_text turns (counts_from 0 script.clients (left_by script r)) halt → AppendsPart mid new last → IsLiveBroken turns script old new r.takes r.calls
 live-cut script turns r inlets halt old mid new last posted h g e p =
     let all = lines_after script r.takes r.calls in
     let whole : bytes_to_end turns script r.takes r.calls (left_by script r) halt ≡ all ++ last = ap (λ xs. all ++ xs) (sym e) in
@@ -321,8 +321,8 @@ live-cut script turns r inlets halt old mid new last posted h g e p =
         halted = ends-so script turns r inlets halt posted h;
         cut = record {
           kept = length all + p.kept;
-          told = p.told ∙ ap (λ w. appended w (take p.kept last)) (told-of script turns r old mid h.ran.plays_it g) ∙ appended-append old all (take p.kept last)
-              ∙ ap (appended old) (sym (take-append-add all last p.kept) ∙ ap (take (length all + p.kept)) (sym whole));
+          told = p.told ∙ ap (λ w. after_append w (take p.kept last)) (told-of script turns r old mid h.ran.plays_it g) ∙ appended-append old all (take p.kept last)
+              ∙ ap (after_append old) (sym (take-append-add all last p.kept) ∙ ap (take (length all + p.kept)) (sym whole));
           some = omega arith;
           not_all = omega (arith, p.not_all, ap length whole, length-append all last);
         };

@@ -1,5 +1,5 @@
 -- What `run` comes to, with all that it meets outside: threads post the clients' lines while the session goes on.
-use Rattle.event_gate.specs.Shelves.{stocked}
+use Rattle.event_gate.specs.Shelves.{full_shelves}
 use Rattle.script_session.specs.History.{counts_from}
 use Rattle.script_session.specs.Outcome.{end_of, status_of}
 use Rattle.script_session.specs.SoFar.{AreDue, IsHistory, lines_after, lines_before, session_at}
@@ -8,7 +8,7 @@ use Rattle.whole_streams.specs.Streams.{IsFaultless, IsFaulty, Stream}
 use Rattle.script_session.specs.declared.session.Session.{Session}
 use Rattle.script_session.specs.declared.session.SessionEnd.{SessionEnd}
 use Rattle.script_session.specs.declared.session.SessionEnd.TheVariants as end
-use Rattle.lwp_types.specs.Streams.{appended}
+use Rattle.lwp_types.specs.Streams.{after_append}
 use Rattle.lwp_types.specs.declared.call.Line.{Line}
 use Rattle.pod_runner.specs.Over.{is_wanted, over}
 use Rattle.pod_runner.specs.Run.{AppendsCut}
@@ -32,11 +32,11 @@ pub record IsSoFar (turns : ℕ) (script : Script) (takes : List Took) (calls : 
 
 -- with these lines left it is over, and has ended so
 abbrev pub EndsSo : ℕ → Script → List Took → ℕ → List Line → Halt → Type 0
-EndsSo turns script takes calls left halt = over turns (session_at script takes calls).live.pod calls (stocked script.clients left) ≡ Some halt
+EndsSo turns script takes calls left halt = over turns (session_at script takes calls).live.pod calls (full_shelves script.clients left) ≡ Some halt
 
 -- no event that can be delivered has one of these lines
 abbrev pub WantsNoneOf : Script → List Took → ℕ → List Line → Type 0
-WantsNoneOf script takes calls left = is_wanted (session_at script takes calls).live.pod (stocked script.clients left) ≡ false
+WantsNoneOf script takes calls left = is_wanted (session_at script takes calls).live.pod (full_shelves script.clients left) ≡ false
 
 -- the lines of its takes and calls, and then its end, with how many lines of each client are left
 abbrev pub bytes_to_end : ℕ → Script → List Took → ℕ → List Line → Halt → List ℕ
@@ -49,14 +49,14 @@ pub record IsLived (turns : ℕ) (script : Script) (old new : Option (List ℕ))
   pub left : List Line
   pub so_far : IsSoFar turns script takes calls left
   pub halted : EndsSo turns script takes calls left halt
-  pub written : new ≡ appended old (bytes_to_end turns script takes calls left halt)
+  pub written : new ≡ after_append old (bytes_to_end turns script takes calls left halt)
   pub stuck : halt ≡ halts.Stuck → WantsNoneOf script takes calls left
 
 -- it stopped between two steps, or behind the last one: the lines of its takes and calls
 pub record IsLiveStopped (turns : ℕ) (script : Script) (old new : Option (List ℕ)) (takes : List Took) (calls : ℕ) : Type 0 where
   pub left : List Line
   pub so_far : IsSoFar turns script takes calls left
-  pub written : new ≡ appended old (lines_after script takes calls)
+  pub written : new ≡ after_append old (lines_after script takes calls)
 
 -- it was over, and not all that stands behind its steps was written
 pub record IsCutBehind (turns : ℕ) (script : Script) (old new : Option (List ℕ)) (takes : List Took) (calls : ℕ) (left : List Line) : Type 0 where

@@ -3,7 +3,7 @@ use Rattle.script_program.specs.Bodies.{bodies_of, body_next}
 use Rattle.script_program.specs.declared.body.ThreadBody.{ThreadBody}
 use Rattle.script_session.specs.SoFar.{lines_after, lines_before, opening_names, opening_run, session_at, setting_of}
 use Rattle.lwp_types.specs.Names.{Names}
-use Rattle.lwp_types.specs.Streams.{appended}
+use Rattle.lwp_types.specs.Streams.{after_append}
 use Rattle.lwp_types.specs.declared.call.PodParams.{PodParams}
 use Rattle.pod_runner.specs.Play.{play}
 use Rattle.pod_runner.specs.Run as run
@@ -15,7 +15,7 @@ use Rattle.script_text.specs.Script.{params_of, proc_names}
 use Rattle.script_text.specs.declared.script.Script.{Script}
 use Rattle.std.proofs.Common.{Err, List, None, Ok, OnErr, Option, Result, Some, [], ap, append-nil, refl, sym, ℕ, ◌∙◌, ◌≡◌}
 
-pub appended-nil : (w : Option (List ℕ)) → appended w [] ≡ w
+pub appended-nil : (w : Option (List ℕ)) → after_append w [] ≡ w
 appended-nil None = refl
 appended-nil (Some told) = ap (λ x. Some x) (append-nil told)
 
@@ -68,9 +68,9 @@ unfolding play
 no-lines procs s = refl
 
 -- what is told stands behind nothing of the trace
-pub told-before : (script : Script) (turns : ℕ) (o : Played Script) (old : Option (List ℕ)) → o ≡ opening_run script turns → old ≡ appended old (run.trace_of body_next bodies_of proc_names o)
+pub told-before : (script : Script) (turns : ℕ) (o : Played Script) (old : Option (List ℕ)) → o ≡ opening_run script turns → old ≡ after_append old (run.trace_of body_next bodies_of proc_names o)
 told-before script turns o old h =
-    sym (ap (λ x. appended old (run.trace_of body_next bodies_of proc_names x)) h ∙ ap (appended old) (no-lines (proc_names script) (setting_of script)) ∙ appended-nil old)
+    sym (ap (λ x. after_append old (run.trace_of body_next bodies_of proc_names x)) h ∙ ap (after_append old) (no-lines (proc_names script) (setting_of script)) ∙ appended-nil old)
 
 pub is-new : (script : Script) (turns : ℕ) (o : Played Script) → o ≡ opening_run script turns → IsNew o
 is-new script turns o h = (ap (λ (x : Played Script). x.calls) h, ap (λ (x : Played Script). x.takes) h)

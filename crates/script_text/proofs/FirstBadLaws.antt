@@ -14,7 +14,7 @@ use Rattle.script_lines.specs.Reading.{phrase_at}
 use Rattle.script_text.specs.Meaning.{script_of}
 use Rattle.script_lines.specs.Line.{phrase_text, IsLine}
 use Rattle.script_text.specs.Grammar.{may_stand, is_declared, AllStand}
-use Rattle.script_text.specs.Spelling.{cut, reason_at, judge_said, judge, at_line, read_on, declared_in, finish, verdict}
+use Rattle.script_text.specs.Spelling.{line_cut, reason_at, judge_said, judge, at_line, read_on, declared_in, finish, verdict}
 use Rattle.script_text.specs.Laws.{AreGood, IsBadLine, IsFirstBad, IsBlamed}
 use Rattle.script_text.proofs.ScriptLaws.{judge_again, judge_found, read_found, verdict_long, verdict_short}
 
@@ -151,7 +151,7 @@ blamed_in (Ok all) lines [] line why i f = elim (eqb (length (script_of all).pro
 ] refl f
 
 pub blamed : (text : List ℕ) → IsBlamed text
-blamed text line why e = elim (ltb 16777216 (length text)) as (λ v. ltb 16777216 (length text) ≡ v → (16777216 < length text) × (line ≡ 0) × (why ≡ reason.TooLarge) ⊎ Blames (cut text).0 (cut text).1 line why) [
+blamed text line why e = elim (ltb 16777216 (length text)) as (λ v. ltb 16777216 (length text) ≡ v → (16777216 < length text) × (line ≡ 0) × (why ≡ reason.TooLarge) ⊎ Blames (line_cut text).0 (line_cut text).1 line why) [
   | true ↦ λ t.
       let told = pair_of (verdict text) 0 line reason.TooLarge why (verdict_long text t) e in
       let at : 0 ≡ line = told.0 in
@@ -159,5 +159,5 @@ blamed text line why e = elim (ltb 16777216 (length text)) as (λ v. ltb 1677721
       inl (ltb-true 16777216 (length text) t, sym at, sym by)
   | false ↦ λ t.
       let short : length text ≤ 16777216 = ltb-false 16777216 (length text) t in
-      inr (blamed_in (read_on (declared_in ((cut text).0 ++ (cut text).1 ∷ [])) [] (cut text).0) (cut text).0 (cut text).1 line why refl (sym (verdict_short text short) ∙ e))
+      inr (blamed_in (read_on (declared_in ((line_cut text).0 ++ (line_cut text).1 ∷ [])) [] (line_cut text).0) (line_cut text).0 (line_cut text).1 line why refl (sym (verdict_short text short) ∙ e))
 ] refl

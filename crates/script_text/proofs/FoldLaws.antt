@@ -16,9 +16,9 @@ use Rattle.script_text.specs.declared.script.Script.{Script}
 use Rattle.script_lines.specs.Table.{role_of, starts, starts_any}
 use Rattle.script_lines.specs.Reading.{phrase_at}
 use Rattle.script_text.specs.Grammar.{follows, keeps_rule, declared_of, posted_of, nothing, has, stage_after, stage_of, may_stand, is_declared}
-use Rattle.script_text.specs.Meaning.{added}
-use Rattle.script_text.specs.Spelling.{reason_behind, reason_at, judge_said, judge, at_line, read_on, noted, declared_in, finish, verdict_by}
-use Rattle.script_text.specs.Track.{judge_told, judge_alone, mention_of, took, judged, knows, step, start, first_missing, answer_by, answer_at}
+use Rattle.script_text.specs.Meaning.{after_add}
+use Rattle.script_text.specs.Spelling.{reason_behind, reason_at, judge_said, judge, at_line, read_on, after_note, declared_in, finish, verdict_by}
+use Rattle.script_text.specs.Track.{judge_told, judge_alone, mention_of, after_verdict, after_judge, knows, step, start, first_missing, answer_by, answer_at}
 use Rattle.script_lines.proofs.WordLemmas.{both}
 use Rattle.script_lines.proofs.PhraseLaws.{phrase_found, start_is_statement}
 use Rattle.script_text.proofs.SaidLaws.{said_declares, starting_word}
@@ -98,14 +98,14 @@ settled d r tail = answer_by (first_missing d r.draft.script.names.procs r.menti
 
 -- behind a bad line only what is declared changes
 frozen : (d : Declared) (why : Reason) (count : ℕ) (stage : Stage) (declared : Declared) (mentions : List Mention) (draft : Draft) (lines : List (List ℕ)) (more tail : List ℕ) → settled d (knows (fold step (record { count = count; stage = stage; bad = Some why; declared = declared; mentions = mentions; draft = draft }) lines) more) tail ≡ answer_by (first_missing d draft.script.names.procs mentions) (Some why) (record { count = count; stage = stage; bad = Some why; declared = nothing; mentions = mentions; draft = draft }) tail
-frozen d why count stage declared mentions draft [] more tail = elim (first_missing d draft.script.names.procs mentions) as (λ o. answer_by o (Some why) (record { count = count; stage = stage; bad = Some why; declared = noted declared more; mentions = mentions; draft = draft }) tail ≡ answer_by o (Some why) (record { count = count; stage = stage; bad = Some why; declared = nothing; mentions = mentions; draft = draft }) tail) [
+frozen d why count stage declared mentions draft [] more tail = elim (first_missing d draft.script.names.procs mentions) as (λ o. answer_by o (Some why) (record { count = count; stage = stage; bad = Some why; declared = after_note declared more; mentions = mentions; draft = draft }) tail ≡ answer_by o (Some why) (record { count = count; stage = stage; bad = Some why; declared = nothing; mentions = mentions; draft = draft }) tail) [
   | None ↦ refl
   | Some k ↦ refl
 ]
-frozen d why count stage declared mentions draft (l ∷ ls) more tail = frozen d why count stage (noted declared l) mentions draft ls more tail
+frozen d why count stage declared mentions draft (l ∷ ls) more tail = frozen d why count stage (after_note declared l) mentions draft ls more tail
 
 -- a reader goes on as what it knows of the lines says
-goes_on : (count : ℕ) (stage : Stage) (declared : Declared) (mentions : List Mention) (draft : Draft) (before : List Phrase) (l : List ℕ) (p : Phrase) → Tracks count stage declared mentions draft before → judge_alone stage declared draft.posted l ≡ Ok p → Alone before l p × Tracks (count + 1) (stage_after stage (role_of p.op)) (noted declared l) (mentions ++ mention_of (count + 1) (added draft p).script.names.procs p) (added draft p) (before ++ p ∷ [])
+goes_on : (count : ℕ) (stage : Stage) (declared : Declared) (mentions : List Mention) (draft : Draft) (before : List Phrase) (l : List ℕ) (p : Phrase) → Tracks count stage declared mentions draft before → judge_alone stage declared draft.posted l ≡ Ok p → Alone before l p × Tracks (count + 1) (stage_after stage (role_of p.op)) (after_note declared l) (mentions ++ mention_of (count + 1) (after_add draft p).script.names.procs p) (after_add draft p) (before ++ p ∷ [])
 goes_on count stage declared mentions draft before l p k e =
     let same : judge_alone stage declared draft.posted l ≡ alone before l = rw (k.stage_is, k.declared_is, k.draft_is) refl in
     let a = alone_ok before l p (sym same ∙ e) in
@@ -114,8 +114,8 @@ goes_on count stage declared mentions draft before l p k e =
 -- a line that starts an undeclared procedure is the first bad line
 stays_missed : (d : Declared) (n : ℕ) (count : ℕ) (stage : Stage) (declared : Declared) (mentions : List Mention) (draft : Draft) (before : List Phrase) (lines : List (List ℕ)) (more tail : List ℕ) → Tracks count stage declared mentions draft before → first_undeclared d 1 before ≡ Some n → settled d (knows (fold step (good count stage declared mentions draft) lines) more) tail ≡ Err (n, reason.Statement)
 stays_missed d n count stage declared mentions draft before [] more tail k h = rw (k.mentions_tell d, h) refl
-stays_missed d n count stage declared mentions draft before (l ∷ ls) more tail k h = elim (judge_alone stage declared draft.posted l) as (λ j. judge_alone stage declared draft.posted l ≡ j → settled d (knows (fold step (knows (took (good count stage declared mentions draft) j) l) ls) more) tail ≡ Err (n, reason.Statement)) [
-  | Err why ↦ λ e. frozen d why count stage (noted declared l) mentions draft ls more tail ∙ rw (k.mentions_tell d, h) refl
+stays_missed d n count stage declared mentions draft before (l ∷ ls) more tail k h = elim (judge_alone stage declared draft.posted l) as (λ j. judge_alone stage declared draft.posted l ≡ j → settled d (knows (fold step (knows (after_verdict (good count stage declared mentions draft) j) l) ls) more) tail ≡ Err (n, reason.Statement)) [
+  | Err why ↦ λ e. frozen d why count stage (after_note declared l) mentions draft ls more tail ∙ rw (k.mentions_tell d, h) refl
   | Ok p ↦ λ e.
       let g = goes_on count stage declared mentions draft before l p k e in
       let missed : first_undeclared d 1 (before ++ p ∷ []) ≡ Some n = undeclared_push d 1 before p ∙ rw h refl in
@@ -134,15 +134,15 @@ all_ended d count stage declared mentions draft before [] k h =
 -- the answer behind lines that are good so far
 settles : (d : Declared) (count : ℕ) (stage : Stage) (declared : Declared) (mentions : List Mention) (draft : Draft) (before : List Phrase) (lines : List (List ℕ)) (tail : List ℕ) → Tracks count stage declared mentions draft before → first_undeclared d 1 before ≡ None → settled d (knows (fold step (good count stage declared mentions draft) lines) tail) tail ≡ finish (read_on d before lines) tail
 settles d count stage declared mentions draft before [] tail k h = all_ended d count stage declared mentions draft before tail k h
-settles d count stage declared mentions draft before (l ∷ ls) tail k h = elim (judge_alone stage declared draft.posted l) as (λ j. judge_alone stage declared draft.posted l ≡ j → settled d (knows (fold step (knows (took (good count stage declared mentions draft) j) l) ls) tail) tail ≡ finish (at_line (suc (length before)) (judge d before l) (λ p. read_on d (before ++ p ∷ []) ls)) tail) [
+settles d count stage declared mentions draft before (l ∷ ls) tail k h = elim (judge_alone stage declared draft.posted l) as (λ j. judge_alone stage declared draft.posted l ≡ j → settled d (knows (fold step (knows (after_verdict (good count stage declared mentions draft) j) l) ls) tail) tail ≡ finish (at_line (suc (length before)) (judge d before l) (λ p. read_on d (before ++ p ∷ []) ls)) tail) [
   | Err why ↦ λ e.
       let same : judge_alone stage declared draft.posted l ≡ alone before l = rw (k.stage_is, k.declared_is, k.draft_is) refl in
       let bad : judge d before l ≡ Err why = alone_err d before l why (sym same ∙ e) in
       let line : count + 1 ≡ suc (length before) = omega (arith, k.count_is) in
-      frozen d why count stage (noted declared l) mentions draft ls tail tail ∙ rw (k.mentions_tell d, h, bad, line) refl
+      frozen d why count stage (after_note declared l) mentions draft ls tail tail ∙ rw (k.mentions_tell d, h, bad, line) refl
   | Ok p ↦ λ e.
       let g = goes_on count stage declared mentions draft before l p k e in
-      elim (is_declared d p) as (λ v. is_declared d p ≡ v → settled d (knows (fold step (knows (took (good count stage declared mentions draft) (Ok p)) l) ls) tail) tail ≡ finish (at_line (suc (length before)) (judge d before l) (λ q. read_on d (before ++ q ∷ []) ls)) tail) [
+      elim (is_declared d p) as (λ v. is_declared d p ≡ v → settled d (knows (fold step (knows (after_verdict (good count stage declared mentions draft) (Ok p)) l) ls) tail) tail ≡ finish (at_line (suc (length before)) (judge d before l) (λ q. read_on d (before ++ q ∷ []) ls)) tail) [
         | true ↦ λ y.
             let none : first_undeclared d 1 (before ++ p ∷ []) ≡ None = undeclared_push d 1 before p ∙ rw (h, y) refl in
             settles d (count + 1) _ _ _ _ (before ++ p ∷ []) ls tail g.1 none ∙ rw (g.0.printable, g.0.said, g.0.stands, y) refl
@@ -155,17 +155,17 @@ settles d count stage declared mentions draft before (l ∷ ls) tail k h = elim 
 ] refl
 
 -- what the lines declare is kept
-took_declared : (r : Reader) (j : Result Phrase Reason) → (took r j).declared ≡ r.declared
+took_declared : (r : Reader) (j : Result Phrase Reason) → (after_verdict r j).declared ≡ r.declared
 took_declared r (Ok p) = refl
 took_declared r (Err why) = refl
 
-judged_declared : (b : Option Reason) (r : Reader) (l : List ℕ) → (judged b r l).declared ≡ r.declared
+judged_declared : (b : Option Reason) (r : Reader) (l : List ℕ) → (after_judge b r l).declared ≡ r.declared
 judged_declared (Some why) r l = refl
 judged_declared None r l = took_declared r (judge_alone r.stage r.declared r.draft.posted l)
 
-fold_declared : (r : Reader) (lines : List (List ℕ)) → (fold step r lines).declared ≡ fold noted r.declared lines
+fold_declared : (r : Reader) (lines : List (List ℕ)) → (fold step r lines).declared ≡ fold after_note r.declared lines
 fold_declared r [] = refl
-fold_declared r (l ∷ ls) = fold_declared (step r l) ls ∙ ap (λ (x : Declared). fold noted (noted x l) ls) (judged_declared r.bad r l)
+fold_declared r (l ∷ ls) = fold_declared (step r l) ls ∙ ap (λ (x : Declared). fold after_note (after_note x l) ls) (judged_declared r.bad r l)
 
 starts_well : Tracks 0 stages.Start nothing [] start.draft []
 starts_well = record { count_is = refl; stage_is = refl; declared_is = refl; draft_is = refl; are_named = tt; mentions_tell = λ d. refl }
@@ -174,15 +174,15 @@ starts_well = record { count_is = refl; stage_is = refl; declared_is = refl; dra
 pub verdict_folds : (lines : List (List ℕ)) (tail : List ℕ) → answer_at (fold step start lines) tail ≡ verdict_by (lines, tail)
 verdict_folds lines tail =
     let all = declared_in (lines ++ tail ∷ []) in
-    let d : noted (fold step start lines).declared tail ≡ all = ap (λ (x : Declared). noted x tail) (fold_declared start lines) ∙ sym (fold_push noted nothing lines tail) in
+    let d : after_note (fold step start lines).declared tail ≡ all = ap (λ (x : Declared). after_note x tail) (fold_declared start lines) ∙ sym (fold_push after_note nothing lines tail) in
     ap (λ (x : Declared). settled x (knows (fold step start lines) tail) tail) d ∙ settles all 0 stages.Start nothing [] start.draft [] lines tail starts_well refl
 
 -- a step takes one line
-took_count : (r : Reader) (j : Result Phrase Reason) → (took r j).count ≤ r.count + 1
+took_count : (r : Reader) (j : Result Phrase Reason) → (after_verdict r j).count ≤ r.count + 1
 took_count r (Ok p) = omega arith
 took_count r (Err why) = omega arith
 
-judged_count : (b : Option Reason) (r : Reader) (l : List ℕ) → (judged b r l).count ≤ r.count + 1
+judged_count : (b : Option Reason) (r : Reader) (l : List ℕ) → (after_judge b r l).count ≤ r.count + 1
 judged_count (Some why) r l = omega arith
 judged_count None r l = took_count r (judge_alone r.stage r.declared r.draft.posted l)
 

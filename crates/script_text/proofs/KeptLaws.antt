@@ -20,11 +20,11 @@ use Rattle.script_text.specs.declared.reason.Reason.TheVariants as reason
 use Rattle.script_text.specs.declared.stage.Stage.{Stage}
 use Rattle.script_text.specs.Declaring.{only_name, spaced_word, proc_on, native_on}
 use Rattle.script_text.specs.Grammar.{may_stand_at}
-use Rattle.script_text.specs.Kept.{marked, kept}
+use Rattle.script_text.specs.Kept.{bad_mark, kept_bytes}
 use Rattle.script_text.specs.Meaning.{enter}
 use Rattle.script_text.specs.Pieces.{IsTail}
-use Rattle.script_text.specs.Spelling.{cut, word_reason, reason_behind, reason_of, noted}
-use Rattle.script_text.specs.Track.{judge_told, judge_alone, took, judged, knows, step, first_missing, answer_by, answer, answer_at}
+use Rattle.script_text.specs.Spelling.{line_cut, word_reason, reason_behind, reason_of, after_note}
+use Rattle.script_text.specs.Track.{judge_told, judge_alone, after_verdict, after_judge, knows, step, first_missing, answer_by, answer, answer_at}
 use Rattle.script_text.proofs.CutLaws.{tail_inv, cut_push_line, cut_push_rest}
 
 -- ---- Words of two lines that begin alike.
@@ -141,20 +141,20 @@ long_alike front x y h e = record {
   natives = native_alike front x y h;
 }
 
-marked_is : (v : Bool) → is_printable (marked v) ≡ v
+marked_is : (v : Bool) → is_printable (bad_mark v) ≡ v
 marked_is true = refl
 marked_is false = refl
 
-kept_short : (line : List ℕ) → length line ≤ 1024 → kept line ≡ line
-unfolding kept
+kept_short : (line : List ℕ) → length line ≤ 1024 → kept_bytes line ≡ line
+unfolding kept_bytes
 kept_short line h = rw (take_all 1024 line h, drop_all 1024 line h) (append-nil line)
 
-kept_long : (front x : List ℕ) → length front ≡ 1024 → kept (front ++ x) ≡ front ++ marked (is_printable x)
-unfolding kept
+kept_long : (front x : List ℕ) → length front ≡ 1024 → kept_bytes (front ++ x) ≡ front ++ bad_mark (is_printable x)
+unfolding kept_bytes
 kept_long front x h = rw (take_at front x 1024 h, drop_at front x 1024 h) refl
 
 -- a long line is its first part and the rest
-kept_alike : (line : List ℕ) → Alike (kept line) line
+kept_alike : (line : List ℕ) → Alike (kept_bytes line) line
 kept_alike line = elim (cases_lt 1024 (length line)) [
   | inr le ↦ subst (λ l. Alike l line) (sym (kept_short line le)) (alike line)
   | inl lt ↦
@@ -162,29 +162,29 @@ kept_alike line = elim (cases_lt 1024 (length line)) [
       let rest = drop 1024 line in
       let long : length front ≡ 1024 = length-take-le 1024 line (omega (arith, lt)) in
       let whole : front ++ rest ≡ line = take-append-drop 1024 line in
-      let same : kept line ≡ front ++ marked (is_printable rest) = ap kept (sym whole) ∙ kept_long front rest long in
-      subst (λ l. Alike l line) (sym same) (subst (λ l. Alike (front ++ marked (is_printable rest)) l) whole (long_alike front (marked (is_printable rest)) rest (omega (arith, long)) (marked_is (is_printable rest))))
+      let same : kept_bytes line ≡ front ++ bad_mark (is_printable rest) = ap kept_bytes (sym whole) ∙ kept_long front rest long in
+      subst (λ l. Alike l line) (sym same) (subst (λ l. Alike (front ++ bad_mark (is_printable rest)) l) whole (long_alike front (bad_mark (is_printable rest)) rest (omega (arith, long)) (marked_is (is_printable rest))))
 ]
 
 -- what is kept of a line that goes on
-pub kept_on : (line more : List ℕ) → kept (kept line ++ more) ≡ kept (line ++ more)
+pub kept_on : (line more : List ℕ) → kept_bytes (kept_bytes line ++ more) ≡ kept_bytes (line ++ more)
 kept_on line more = elim (cases_lt 1024 (length line)) [
-  | inr le ↦ ap (λ l. kept (l ++ more)) (kept_short line le)
+  | inr le ↦ ap (λ l. kept_bytes (l ++ more)) (kept_short line le)
   | inl lt ↦
       let front = take 1024 line in
       let rest = drop 1024 line in
-      let mark = marked (is_printable rest) in
+      let mark = bad_mark (is_printable rest) in
       let long : length front ≡ 1024 = length-take-le 1024 line (omega (arith, lt)) in
       let whole : front ++ rest ≡ line = take-append-drop 1024 line in
-      let same : kept line ≡ front ++ mark = ap kept (sym whole) ∙ kept_long front rest long in
+      let same : kept_bytes line ≡ front ++ mark = ap kept_bytes (sym whole) ∙ kept_long front rest long in
       let clear : is_printable (mark ++ more) ≡ is_printable (rest ++ more) = printable_append mark more ∙ ap (λ v. v && is_printable more) (marked_is (is_printable rest)) ∙ sym (printable_append rest more) in
-      let left : kept (kept line ++ more) ≡ front ++ marked (is_printable (mark ++ more)) = ap (λ l. kept (l ++ more)) same ∙ ap kept (append_assoc front mark more) ∙ kept_long front (mark ++ more) long in
-      let right : kept (line ++ more) ≡ front ++ marked (is_printable (rest ++ more)) = ap (λ l. kept (l ++ more)) (sym whole) ∙ ap kept (append_assoc front rest more) ∙ kept_long front (rest ++ more) long in
-      left ∙ ap (λ v. front ++ marked v) clear ∙ sym right
+      let left : kept_bytes (kept_bytes line ++ more) ≡ front ++ bad_mark (is_printable (mark ++ more)) = ap (λ l. kept_bytes (l ++ more)) same ∙ ap kept_bytes (append_assoc front mark more) ∙ kept_long front (mark ++ more) long in
+      let right : kept_bytes (line ++ more) ≡ front ++ bad_mark (is_printable (rest ++ more)) = ap (λ l. kept_bytes (l ++ more)) (sym whole) ∙ ap kept_bytes (append_assoc front rest more) ∙ kept_long front (rest ++ more) long in
+      left ∙ ap (λ v. front ++ bad_mark v) clear ∙ sym right
 ]
 
-kept_cut : (t far : List ℕ) → 1024 ≤ length t ⊎ (far ≡ []) → kept (t ++ far) ≡ take (min (length t) 1024) t ++ marked (is_printable (drop (min (length t) 1024) t) && is_printable far)
-unfolding kept
+kept_cut : (t far : List ℕ) → 1024 ≤ length t ⊎ (far ≡ []) → kept_bytes (t ++ far) ≡ take (min (length t) 1024) t ++ bad_mark (is_printable (drop (min (length t) 1024) t) && is_printable far)
+unfolding kept_bytes
 kept_cut t far (inl ge) =
     let end : min (length t) 1024 ≡ 1024 = omega (arith, ge) in
     rw (end, take-append-le 1024 t far ge, drop-append-le 1024 t far ge, printable_append (drop 1024 t) far) refl
@@ -199,14 +199,14 @@ kept_cut t far (inr none) = elim (cases_lt (length t) 1024) [
 
 -- one more part of a line, of which as much is put to the rest as there is room for
 pub kept_parts : (tail part t new : List ℕ) (room end : ℕ) (clear : Bool) → room ≡ min (1024 - length tail) (length part) → t ≡ tail ++ take room part → end ≡ min (length t) 1024
-    → clear ≡ (is_printable (drop end t) && is_printable (drop room part)) → new ≡ take end t ++ marked clear → new ≡ kept (tail ++ part)
+    → clear ≡ (is_printable (drop end t) && is_printable (drop room part)) → new ≡ take end t ++ bad_mark clear → new ≡ kept_bytes (tail ++ part)
 kept_parts tail part t new room end clear r e n c k =
     let whole : t ++ drop room part ≡ tail ++ part = ap (λ l. l ++ drop room part) e ∙ append_assoc tail (take room part) (drop room part) ∙ ap (λ l. tail ++ l) (take-append-drop room part) in
     let cut : 1024 ≤ length t ⊎ (drop room part ≡ []) = elim (cases_lt (1024 - length tail) (length part)) [
       | inl lt ↦ inl (omega (arith, lt, r, ap length e, length-append tail (take room part), length-take-le room part (omega (arith, lt, r))))
       | inr ge ↦ inr (drop_all room part (omega (arith, ge, r)))
     ] in
-    k ∙ ap (λ v. take end t ++ marked v) c ∙ ap (λ m. take m t ++ marked (is_printable (drop m t) && is_printable (drop room part))) n ∙ sym (kept_cut t (drop room part) cut) ∙ ap kept whole
+    k ∙ ap (λ v. take end t ++ bad_mark v) c ∙ ap (λ m. take m t ++ bad_mark (is_printable (drop m t) && is_printable (drop room part))) n ∙ sym (kept_cut t (drop room part) cut) ∙ ap kept_bytes whole
 
 -- ---- A reader that takes one for the other.
 
@@ -223,35 +223,35 @@ judge_alike a b k s known posted =
     ∙ ap (λ o. cond (is_printable b) (judge_told s known posted a o) (Err reason.Bytes)) k.said
     ∙ ap (λ t. cond (is_printable b) t (Err reason.Bytes)) (told_alike a b k s known posted (phrase_at b))
 
-judged_alike : (a b : List ℕ) → Alike a b → (bad : Option Reason) (r : Reader) → judged bad r a ≡ judged bad r b
+judged_alike : (a b : List ℕ) → Alike a b → (bad : Option Reason) (r : Reader) → after_judge bad r a ≡ after_judge bad r b
 judged_alike a b k (Some why) r = refl
-judged_alike a b k None r = ap (took r) (judge_alike a b k r.stage r.declared r.draft.posted)
+judged_alike a b k None r = ap (after_verdict r) (judge_alike a b k r.stage r.declared r.draft.posted)
 
-noted_alike : (a b : List ℕ) → Alike a b → (d : Declared) → noted d a ≡ noted d b
+noted_alike : (a b : List ℕ) → Alike a b → (d : Declared) → after_note d a ≡ after_note d b
 noted_alike a b k d = λ i. record { procs = enter d.procs (k.procs i); natives = enter d.natives (k.natives i) }
 
 knows_alike : (a b : List ℕ) → Alike a b → (r : Reader) → knows r a ≡ knows r b
 knows_alike a b k r = ap (λ (d : Declared). record r { declared = d }) (noted_alike a b k r.declared)
 
 -- a line is as good as what is kept of it
-pub kept_step : (r : Reader) (line : List ℕ) → step r (kept line) ≡ step r line
+pub kept_step : (r : Reader) (line : List ℕ) → step r (kept_bytes line) ≡ step r line
 kept_step r line =
     let k = kept_alike line in
-    ap (λ q. knows q (kept line)) (judged_alike (kept line) line k r.bad r) ∙ knows_alike (kept line) line k (judged r.bad r line)
+    ap (λ q. knows q (kept_bytes line)) (judged_alike (kept_bytes line) line k r.bad r) ∙ knows_alike (kept_bytes line) line k (after_judge r.bad r line)
 
 -- nothing is kept of an empty line alone
-answer_kept : (r : Reader) (tail : List ℕ) → answer r (kept tail) ≡ answer r tail
-unfolding kept
+answer_kept : (r : Reader) (tail : List ℕ) → answer r (kept_bytes tail) ≡ answer r tail
+unfolding kept_bytes
 answer_kept r [] = refl
 answer_kept r (b ∷ bs) = by_cases (first_missing r.declared r.draft.script.names.procs r.mentions) r.bad
   where
-    by_cases : (o : Option ℕ) (bad : Option Reason) → answer_by o bad r (take 1024 (b ∷ bs) ++ marked (is_printable (drop 1024 (b ∷ bs)))) ≡ answer_by o bad r (b ∷ bs)
+    by_cases : (o : Option ℕ) (bad : Option Reason) → answer_by o bad r (take 1024 (b ∷ bs) ++ bad_mark (is_printable (drop 1024 (b ∷ bs)))) ≡ answer_by o bad r (b ∷ bs)
     by_cases (Some n) bad = refl
     by_cases None (Some why) = refl
     by_cases None None = refl
 
-pub kept_answer : (r : Reader) (tail : List ℕ) → answer_at r (kept tail) ≡ answer_at r tail
-kept_answer r tail = ap (λ q. answer q (kept tail)) (knows_alike (kept tail) tail (kept_alike tail) r) ∙ answer_kept (knows r tail) tail
+pub kept_answer : (r : Reader) (tail : List ℕ) → answer_at r (kept_bytes tail) ≡ answer_at r tail
+kept_answer r tail = ap (λ q. answer q (kept_bytes tail)) (knows_alike (kept_bytes tail) tail (kept_alike tail) r) ∙ answer_kept (knows r tail) tail
 
 -- ---- A piece behind what is kept.
 
@@ -260,29 +260,29 @@ take_tail zero t h = refl
 take_tail (suc n) [] h = refl
 take_tail (suc n) (b ∷ tl) h = let i = tail_inv b tl h in rw (i.0, take_tail n tl i.1) refl
 
-pub kept_tail : (t : List ℕ) → IsTail t → IsTail (kept t)
-unfolding kept
-kept_tail t h = cut_push_rest (take 1024 t) (marked (is_printable (drop 1024 t))) (take_tail 1024 t h) (mark_tail (is_printable (drop 1024 t)))
+pub kept_tail : (t : List ℕ) → IsTail t → IsTail (kept_bytes t)
+unfolding kept_bytes
+kept_tail t h = cut_push_rest (take 1024 t) (bad_mark (is_printable (drop 1024 t))) (take_tail 1024 t h) (mark_tail (is_printable (drop 1024 t)))
   where
-    mark_tail : (v : Bool) → IsTail (marked v)
+    mark_tail : (v : Bool) → IsTail (bad_mark v)
     mark_tail true = refl
     mark_tail false = refl
 
 -- the lines of a piece behind a tail, and what is kept behind them
 abbrev lines_on : Reader → List ℕ → List ℕ → Reader
-lines_on r t piece = fold step r (cut (t ++ piece)).0
+lines_on r t piece = fold step r (line_cut (t ++ piece)).0
 
 -- a piece with no end of a line
-cut_push : (tail rest t : List ℕ) → IsTail tail → cut rest ≡ ([], t) → cut (tail ++ rest) ≡ ([], tail ++ t)
+cut_push : (tail rest t : List ℕ) → IsTail tail → line_cut rest ≡ ([], t) → line_cut (tail ++ rest) ≡ ([], tail ++ t)
 cut_push [] rest t h e = e
 cut_push (b ∷ tl) rest t h e = let i = tail_inv b tl h in rw (i.0, cut_push tl rest t i.1 e) refl
 
-pub kept_piece : (r : Reader) (t piece : List ℕ) → IsTail t → (lines_on r (kept t) piece ≡ lines_on r t piece) × (kept (cut (kept t ++ piece)).1 ≡ kept (cut (t ++ piece)).1)
-kept_piece r t piece h = by_lines (cut piece).0 (cut piece).1 refl
+pub kept_piece : (r : Reader) (t piece : List ℕ) → IsTail t → (lines_on r (kept_bytes t) piece ≡ lines_on r t piece) × (kept_bytes (line_cut (kept_bytes t ++ piece)).1 ≡ kept_bytes (line_cut (t ++ piece)).1)
+kept_piece r t piece h = by_lines (line_cut piece).0 (line_cut piece).1 refl
   where
-    step_on : (line : List ℕ) → step r (kept t ++ line) ≡ step r (t ++ line)
-    step_on line = sym (kept_step r (kept t ++ line)) ∙ ap (step r) (kept_on t line) ∙ kept_step r (t ++ line)
+    step_on : (line : List ℕ) → step r (kept_bytes t ++ line) ≡ step r (t ++ line)
+    step_on line = sym (kept_step r (kept_bytes t ++ line)) ∙ ap (step r) (kept_on t line) ∙ kept_step r (t ++ line)
 
-    by_lines : (ls : List (List ℕ)) (tl : List ℕ) → cut piece ≡ (ls, tl) → (lines_on r (kept t) piece ≡ lines_on r t piece) × (kept (cut (kept t ++ piece)).1 ≡ kept (cut (t ++ piece)).1)
-    by_lines [] tl e = rw (cut_push (kept t) piece tl (kept_tail t h) e, cut_push t piece tl h e) (refl, kept_on t tl)
-    by_lines (l ∷ ls) tl e = rw (cut_push_line (kept t) piece l ls tl (kept_tail t h) e, cut_push_line t piece l ls tl h e) (ap (λ (q : Reader). fold step q ls) (step_on l), refl)
+    by_lines : (ls : List (List ℕ)) (tl : List ℕ) → line_cut piece ≡ (ls, tl) → (lines_on r (kept_bytes t) piece ≡ lines_on r t piece) × (kept_bytes (line_cut (kept_bytes t ++ piece)).1 ≡ kept_bytes (line_cut (t ++ piece)).1)
+    by_lines [] tl e = rw (cut_push (kept_bytes t) piece tl (kept_tail t h) e, cut_push t piece tl h e) (refl, kept_on t tl)
+    by_lines (l ∷ ls) tl e = rw (cut_push_line (kept_bytes t) piece l ls tl (kept_tail t h) e, cut_push_line t piece l ls tl h e) (ap (λ (q : Reader). fold step q ls) (step_on l), refl)

@@ -21,9 +21,9 @@ use Rattle.script_lines.specs.Phrase.{Phrase}
 use Rattle.script_lines.proofs.TableLaws.{only_of_role}
 use Rattle.script_lines.specs.Table.{row_of, role_of, slots_of}
 use Rattle.script_lines.specs.Line.{phrase_text, SlotFits, IsPhrase, IsLine}
-use Rattle.script_text.specs.Grammar.{declared_of, posted_of, opened, stage_after, stage_of, follows, keeps_rule, may_stand, AllStand, spelling, SpelledBy, Spells}
+use Rattle.script_text.specs.Grammar.{declared_of, posted_of, stage_behind_first, stage_after, stage_of, follows, keeps_rule, may_stand, AllStand, spelling, SpelledBy, Spells}
 use Rattle.script_text.specs.Limits.{IsWithinLimits}
-use Rattle.script_text.specs.Meaning.{contains_name, is_some_text, enter, statement_of, grown, pushed, native_kind, empty_draft, named, places_of, entered, added_at, added, draft_of, script_of}
+use Rattle.script_text.specs.Meaning.{contains_name, is_some_text, enter, statement_of, with_statement, after_push, native_kind, empty_draft, after_name, places_of, after_enter, after_add_at, after_add, draft_of, script_of}
 use Rattle.script_lines.proofs.WordLemmas.{both}
 use Rattle.script_text.proofs.TrackLaws.{fold_push, stage_push}
 
@@ -41,7 +41,7 @@ enter_short names w = elim (is_some_text w && not (contains_name names w)) as (�
   | false ↦ omega arith
 ]
 
-grown_alike : (o : Option Stmt) (current : Option Proc) → length (option_to_list (grown o current)) ≡ length (option_to_list current)
+grown_alike : (o : Option Stmt) (current : Option Proc) → length (option_to_list (with_statement o current)) ≡ length (option_to_list current)
 grown_alike None current = refl
 grown_alike (Some s) None = refl
 grown_alike (Some s) (Some p) = refl
@@ -58,7 +58,7 @@ record Few (n : ℕ) (d : Draft) : Type 0 where
   mons : length d.script.names.mons ≤ n
   conds : length d.script.names.conds ≤ n
 
-few_entered : (n : ℕ) (d : Draft) (p : Phrase) → Few n d → Few (suc n) (entered d p) × (procs_in (entered d p) ≤ n) × (length (entered d p).script.natives ≤ n)
+few_entered : (n : ℕ) (d : Draft) (p : Phrase) → Few n d → Few (suc n) (after_enter d p) × (procs_in (after_enter d p) ≤ n) × (length (after_enter d p).script.natives ≤ n)
 few_entered n d p h = (
   record {
     procs = omega (arith, h.procs);
@@ -71,14 +71,14 @@ few_entered n d p h = (
   h.natives,
 )
 
-few_pushed : (n : ℕ) (at : Places) (d : Draft) (p : Phrase) → Few n d → Few n (pushed at d p)
+few_pushed : (n : ℕ) (at : Places) (d : Draft) (p : Phrase) → Few n d → Few n (after_push at d p)
 few_pushed n at d p h = record { procs = omega (arith, h.procs, grown_alike (statement_of p.op at p) d.current); natives = h.natives; threads = h.threads; mons = h.mons; conds = h.conds }
 
 current_short : (o : Option Proc) → length (option_to_list o) ≤ 1
 current_short None = omega arith
 current_short (Some p) = omega arith
 
-few_more : (r : Role) (n : ℕ) (at : Places) (d : Draft) (p : Phrase) → Few (suc n) d → procs_in d ≤ n → length d.script.natives ≤ n → Few (suc n) (added_at r at d p)
+few_more : (r : Role) (n : ℕ) (at : Places) (d : Draft) (p : Phrase) → Few (suc n) d → procs_in d ≤ n → length d.script.natives ≤ n → Few (suc n) (after_add_at r at d p)
 few_more role.Header n at d p h procs natives = h
 few_more role.Pod n at d p h procs natives = record { procs = h.procs; natives = h.natives; threads = h.threads; mons = h.mons; conds = h.conds }
 few_more role.Limit n at d p h procs natives = record { procs = h.procs; natives = h.natives; threads = h.threads; mons = h.mons; conds = h.conds }
@@ -90,12 +90,12 @@ few_more role.Statement n at d p h procs natives = few_pushed (suc n) at d p h
 few_more role.Skip n at d p h procs natives = few_pushed (suc n) at d p h
 few_more role.Again n at d p h procs natives = few_pushed (suc n) at d p h
 
-few_on : (n : ℕ) (d : Draft) (lines : List Phrase) → Few n d → Few (n + length lines) (fold added d lines)
+few_on : (n : ℕ) (d : Draft) (lines : List Phrase) → Few n d → Few (n + length lines) (fold after_add d lines)
 few_on n d [] h = subst (λ (m : ℕ). Few m d) (omega arith) h
 few_on n d (p ∷ ps) h =
     let e = few_entered n d p h in
-    let one = few_more (role_of p.op) n (places_of (named d.script.names p) d.script.texts p) (entered d p) p e.0 e.1 e.2 in
-    subst (λ (m : ℕ). Few m (fold added (added d p) ps)) (omega arith) (few_on (suc n) (added d p) ps one)
+    let one = few_more (role_of p.op) n (places_of (after_name d.script.names p) d.script.texts p) (after_enter d p) p e.0 e.1 e.2 in
+    subst (λ (m : ℕ). Few m (fold after_add (after_add d p) ps)) (omega arith) (few_on (suc n) (after_add d p) ps one)
 
 few_start : Few 0 empty_draft
 few_start = record { procs = omega arith; natives = omega arith; threads = omega arith; mons = omega arith; conds = omega arith }
@@ -169,7 +169,7 @@ late_ranked s role.Proc m held l h f = h
 late_ranked s role.Post m held l h f = h
 late_ranked s role.Statement m held l h f = by_stage s f
   where
-    by_stage : (s : Stage) → follows s role.Statement ≡ true → Ranked (opened stages.Calling s) m held
+    by_stage : (s : Stage) → follows s role.Statement ≡ true → Ranked (stage_behind_first stages.Calling s) m held
     by_stage stages.Start f = absurd cc
     by_stage stages.Header f = absurd cc
     by_stage stages.Pod f = absurd cc
@@ -182,7 +182,7 @@ late_ranked s role.Statement m held l h f = by_stage s f
     by_stage stages.Posts f = absurd cc
 late_ranked s role.Skip m held l h f = by_stage s f
   where
-    by_stage : (s : Stage) → follows s role.Skip ≡ true → Ranked (opened stages.Skipping s) m held
+    by_stage : (s : Stage) → follows s role.Skip ≡ true → Ranked (stage_behind_first stages.Skipping s) m held
     by_stage stages.Start f = absurd cc
     by_stage stages.Header f = absurd cc
     by_stage stages.Pod f = absurd cc
@@ -208,7 +208,7 @@ header_first stages.Ended m held f h = absurd cc
 header_first stages.Posts m held f h = absurd cc
 
 -- only a line of the pod sets the priority
-priority_kept : (r : Role) (at : Places) (d : Draft) (p : Phrase) → comes_late r ≡ true → (added_at r at d p).script.maxpri ≡ d.script.maxpri
+priority_kept : (r : Role) (at : Places) (d : Draft) (p : Phrase) → comes_late r ≡ true → (after_add_at r at d p).script.maxpri ≡ d.script.maxpri
 priority_kept role.Header at d p l = absurd cc
 priority_kept role.Pod at d p l = absurd cc
 priority_kept role.Limit at d p l = refl
@@ -221,35 +221,35 @@ priority_kept role.Skip at d p l = refl
 priority_kept role.Again at d p l = refl
 
 -- one more line that may stand
-ranked_more : (r : Role) (s : Stage) (known : Declared) (posted : List ℕ) (at : Places) (d : Draft) (p : Phrase) → (follows s r && keeps_rule known posted r p) ≡ true → Ranked s d.script.maxpri (procs_in d) → Ranked (stage_after s r) (added_at r at d p).script.maxpri (procs_in (added_at r at d p))
+ranked_more : (r : Role) (s : Stage) (known : Declared) (posted : List ℕ) (at : Places) (d : Draft) (p : Phrase) → (follows s r && keeps_rule known posted r p) ≡ true → Ranked s d.script.maxpri (procs_in d) → Ranked (stage_after s r) (after_add_at r at d p).script.maxpri (procs_in (after_add_at r at d p))
 ranked_more role.Header s known posted at d p t h = header_first s d.script.maxpri (procs_in d) (both (follows s role.Header) (keeps_rule known posted role.Header p) t).0 h
 ranked_more role.Pod s known posted at d p t h =
     let u = both (leb 1 p.number) (leb p.number 255) (both (follows s role.Pod) (keeps_rule known posted role.Pod p) t).1 in
     (leb-true 1 p.number u.0, leb-true p.number 255 u.1)
 ranked_more role.Limit s known posted at d p t h =
     let f = (both (follows s role.Limit) (keeps_rule known posted role.Limit p) t).0 in
-    late_ranked s role.Limit d.script.maxpri (procs_in (added_at role.Limit at d p)) refl (behind_pod s role.Limit d.script.maxpri (procs_in d) refl f h) f
+    late_ranked s role.Limit d.script.maxpri (procs_in (after_add_at role.Limit at d p)) refl (behind_pod s role.Limit d.script.maxpri (procs_in d) refl f h) f
 ranked_more role.Client s known posted at d p t h =
     let f = (both (follows s role.Client) (keeps_rule known posted role.Client p) t).0 in
-    late_ranked s role.Client d.script.maxpri (procs_in (added_at role.Client at d p)) refl (behind_pod s role.Client d.script.maxpri (procs_in d) refl f h) f
+    late_ranked s role.Client d.script.maxpri (procs_in (after_add_at role.Client at d p)) refl (behind_pod s role.Client d.script.maxpri (procs_in d) refl f h) f
 ranked_more role.Native s known posted at d p t h =
     let f = (both (follows s role.Native) (keeps_rule known posted role.Native p) t).0 in
-    late_ranked s role.Native d.script.maxpri (procs_in (added_at role.Native at d p)) refl (behind_pod s role.Native d.script.maxpri (procs_in d) refl f h) f
+    late_ranked s role.Native d.script.maxpri (procs_in (after_add_at role.Native at d p)) refl (behind_pod s role.Native d.script.maxpri (procs_in d) refl f h) f
 ranked_more role.Proc s known posted at d p t h =
     let f = (both (follows s role.Proc) (keeps_rule known posted role.Proc p) t).0 in
-    late_ranked s role.Proc d.script.maxpri (procs_in (added_at role.Proc at d p)) refl (behind_pod s role.Proc d.script.maxpri (procs_in d) refl f h) f
+    late_ranked s role.Proc d.script.maxpri (procs_in (after_add_at role.Proc at d p)) refl (behind_pod s role.Proc d.script.maxpri (procs_in d) refl f h) f
 ranked_more role.Post s known posted at d p t h =
     let f = (both (follows s role.Post) (keeps_rule known posted role.Post p) t).0 in
-    late_ranked s role.Post d.script.maxpri (procs_in (added_at role.Post at d p)) refl (behind_pod s role.Post d.script.maxpri (procs_in d) refl f h) f
+    late_ranked s role.Post d.script.maxpri (procs_in (after_add_at role.Post at d p)) refl (behind_pod s role.Post d.script.maxpri (procs_in d) refl f h) f
 ranked_more role.Statement s known posted at d p t h =
     let f = (both (follows s role.Statement) (keeps_rule known posted role.Statement p) t).0 in
-    late_ranked s role.Statement d.script.maxpri (procs_in (added_at role.Statement at d p)) refl (behind_pod s role.Statement d.script.maxpri (procs_in d) refl f h) f
+    late_ranked s role.Statement d.script.maxpri (procs_in (after_add_at role.Statement at d p)) refl (behind_pod s role.Statement d.script.maxpri (procs_in d) refl f h) f
 ranked_more role.Skip s known posted at d p t h =
     let f = (both (follows s role.Skip) (keeps_rule known posted role.Skip p) t).0 in
-    late_ranked s role.Skip d.script.maxpri (procs_in (added_at role.Skip at d p)) refl (behind_pod s role.Skip d.script.maxpri (procs_in d) refl f h) f
+    late_ranked s role.Skip d.script.maxpri (procs_in (after_add_at role.Skip at d p)) refl (behind_pod s role.Skip d.script.maxpri (procs_in d) refl f h) f
 ranked_more role.Again s known posted at d p t h =
     let f = (both (follows s role.Again) (keeps_rule known posted role.Again p) t).0 in
-    late_ranked s role.Again d.script.maxpri (procs_in (added_at role.Again at d p)) refl (behind_pod s role.Again d.script.maxpri (procs_in d) refl f h) f
+    late_ranked s role.Again d.script.maxpri (procs_in (after_add_at role.Again at d p)) refl (behind_pod s role.Again d.script.maxpri (procs_in d) refl f h) f
 
 -- the same of lines
 abbrev AreRanked : List Phrase → Type 0
@@ -258,8 +258,8 @@ AreRanked lines = Ranked (stage_of lines) (draft_of lines).script.maxpri (procs_
 ranked_push : (before : List Phrase) (p : Phrase) → may_stand before p ≡ true → AreRanked before → AreRanked (before ++ p ∷ [])
 ranked_push before p s h =
     let d = draft_of before in
-    let more = ranked_more (role_of p.op) (stage_of before) (declared_of before) (posted_of before) (places_of (named d.script.names p) d.script.texts p) (entered d p) p s h in
-    rw (stage_push before p, fold_push added empty_draft before p) more
+    let more = ranked_more (role_of p.op) (stage_of before) (declared_of before) (posted_of before) (places_of (after_name d.script.names p) d.script.texts p) (after_enter d p) p s h in
+    rw (stage_push before p, fold_push after_add empty_draft before p) more
 
 ranked_on : (before ps : List Phrase) → AllStand before ps → AreRanked before → AreRanked (before ++ ps)
 ranked_on before [] s h = subst AreRanked (sym (append-nil before)) h
@@ -276,7 +276,7 @@ limit_fits : (o : Op) (p : Phrase) → role_of o ≡ role.Limit → AllByRecursi
 unfolding row_of
 limit_fits o p e h = (subst (λ x. AllByRecursion (SlotFits p) (slots_of x)) (only_of_role role.Limit op.Limit refl o e) h).0
 
-bears_more : (r : Role) (known : Declared) (posted : List ℕ) (at : Places) (d : Draft) (p : Phrase) → role_of p.op ≡ r → keeps_rule known posted r p ≡ true → IsPhrase p → Bears d → Bears (added_at r at d p)
+bears_more : (r : Role) (known : Declared) (posted : List ℕ) (at : Places) (d : Draft) (p : Phrase) → role_of p.op ≡ r → keeps_rule known posted r p ≡ true → IsPhrase p → Bears d → Bears (after_add_at r at d p)
 bears_more role.Header known posted at d p e k f h = h
 bears_more role.Pod known posted at d p e k f h = h
 bears_more role.Limit known posted at d p e k f h = (leb-true 1 p.number k, limit_fits p.op p e f)
@@ -294,8 +294,8 @@ bears_on before (p ∷ ps) s l h =
     let r = role_of p.op in
     let d = draft_of before in
     let k = (both (follows (stage_of before) r) (keeps_rule (declared_of before) (posted_of before) r p) s.0).1 in
-    let one = bears_more r (declared_of before) (posted_of before) (places_of (named d.script.names p) d.script.texts p) (entered d p) p refl k l.0.0 h in
-    let more : Bears (draft_of (before ++ p ∷ [])) = rw (fold_push added empty_draft before p) one in
+    let one = bears_more r (declared_of before) (posted_of before) (places_of (after_name d.script.names p) d.script.texts p) (after_enter d p) p refl k l.0.0 h in
+    let more : Bears (draft_of (before ++ p ∷ [])) = rw (fold_push after_add empty_draft before p) one in
     subst (λ (x : List Phrase). Bears (draft_of x)) (append_assoc before (p ∷ []) ps) (bears_on (before ++ p ∷ []) ps s.1 l.1 more)
 
 -- ---- A script.

@@ -6,10 +6,10 @@ use Rattle.script_text.specs.declared.reason.Reason.{Reason}
 use Rattle.script_text.specs.declared.reason.ReadErr.{ReadErr}
 use Rattle.script_text.specs.declared.script.Script.{Script}
 use Rattle.script_text.specs.Pieces.{IsTail, HasRead, SoFar, Standing, Standing.Reads, Standing.TooLong, so_far, standing}
-use Rattle.script_text.specs.Spelling.{cut, verdict, Gives}
+use Rattle.script_text.specs.Spelling.{line_cut, verdict, Gives}
 use Rattle.script_text.specs.Track.{start, step, answer_at}
 use Rattle.script_text.proofs.CutLaws.{tail_of_cut, piece_lines, piece_tail}
-use Rattle.script_text.specs.Kept.{kept}
+use Rattle.script_text.specs.Kept.{kept_bytes}
 use Rattle.script_text.proofs.FoldLaws.{verdict_folds}
 use Rattle.script_text.proofs.KeptLaws.{kept_tail, kept_piece, kept_answer}
 use Rattle.script_text.proofs.ScriptLaws.{verdict_long, verdict_short}
@@ -48,22 +48,22 @@ reads_large failed r text sound h = ap (λ v. standing v true r) sound ∙ h
 
 -- one more piece, all of which was read
 pub feeds : (old new : SoFar) (piece : List ℕ) → length piece ≤ 16777216 - old.total
-    → (IsTail old.tail → new.lines ≡ fold step old.lines (cut (old.tail ++ piece)).0)
-    → (IsTail old.tail → new.tail ≡ kept (cut (old.tail ++ piece)).1)
+    → (IsTail old.tail → new.lines ≡ fold step old.lines (line_cut (old.tail ++ piece)).0)
+    → (IsTail old.tail → new.tail ≡ kept_bytes (line_cut (old.tail ++ piece)).1)
     → new.total ≡ old.total + length piece
     → (text : List ℕ) → HasRead (Reads old) text → HasRead (Reads new) (text ++ piece)
 feeds old new piece within lines tail total text h =
     let k = short_read old text h in
     let was : old.total ≡ length text = ap (λ (r : SoFar). r.total) k.1 in
-    let lines_were : old.lines ≡ fold step start (cut text).0 = ap (λ (r : SoFar). r.lines) k.1 in
-    let tail_was : old.tail ≡ kept (cut text).1 = ap (λ (r : SoFar). r.tail) k.1 in
-    let t : IsTail old.tail = subst IsTail (sym tail_was) (kept_tail (cut text).1 (tail_of_cut text)) in
+    let lines_were : old.lines ≡ fold step start (line_cut text).0 = ap (λ (r : SoFar). r.lines) k.1 in
+    let tail_was : old.tail ≡ kept_bytes (line_cut text).1 = ap (λ (r : SoFar). r.tail) k.1 in
+    let t : IsTail old.tail = subst IsTail (sym tail_was) (kept_tail (line_cut text).1 (tail_of_cut text)) in
     let count : length (text ++ piece) ≡ length text + length piece = length-append text piece in
-    let behind = (cut text).1 in
+    let behind = (line_cut text).1 in
     let same = kept_piece old.lines behind piece (tail_of_cut text) in
     let total_is : new.total ≡ length (text ++ piece) = omega (arith, total, was, count) in
-    let lines_are : new.lines ≡ fold step start (cut (text ++ piece)).0 = lines t ∙ ap (λ (l : List ℕ). fold step old.lines (cut (l ++ piece)).0) tail_was ∙ same.0 ∙ piece_lines old.lines text behind piece lines_were refl in
-    let tail_is : new.tail ≡ kept (cut (text ++ piece)).1 = tail t ∙ ap (λ (l : List ℕ). kept (cut (l ++ piece)).1) tail_was ∙ same.1 ∙ ap kept (piece_tail text behind piece refl) in
+    let lines_are : new.lines ≡ fold step start (line_cut (text ++ piece)).0 = lines t ∙ ap (λ (l : List ℕ). fold step old.lines (line_cut (l ++ piece)).0) tail_was ∙ same.0 ∙ piece_lines old.lines text behind piece lines_were refl in
+    let tail_is : new.tail ≡ kept_bytes (line_cut (text ++ piece)).1 = tail t ∙ ap (λ (l : List ℕ). kept_bytes (line_cut (l ++ piece)).1) tail_was ∙ same.1 ∙ ap kept_bytes (piece_tail text behind piece refl) in
     reads_short new (text ++ piece) (omega (arith, count, was, within, k.0)) (λ i. record { total = total_is i; lines = lines_are i; tail = tail_is i })
 
 -- one more piece of a text that is too long
@@ -82,5 +82,5 @@ finish_large text h = verdict_long text (lt-ltb 16777216 (length text) (long_rea
 pub finish_gives : (r : SoFar) (text : List ℕ) (result : Result Script ReadErr) → HasRead (Reads r) text → Gives (answer_at r.lines r.tail) result → Gives (verdict text) result
 finish_gives r text result h given =
     let k = short_read r text h in
-    let same : answer_at r.lines r.tail ≡ verdict text = ap (λ (x : SoFar). answer_at x.lines x.tail) k.1 ∙ kept_answer (fold step start (cut text).0) (cut text).1 ∙ verdict_folds (cut text).0 (cut text).1 ∙ sym (verdict_short text k.0) in
+    let same : answer_at r.lines r.tail ≡ verdict text = ap (λ (x : SoFar). answer_at x.lines x.tail) k.1 ∙ kept_answer (fold step start (line_cut text).0) (line_cut text).1 ∙ verdict_folds (line_cut text).0 (line_cut text).1 ∙ sym (verdict_short text k.0) in
     subst (λ (v : Result Script (ℕ × Reason)). Gives v result) same given

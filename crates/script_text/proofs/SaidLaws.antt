@@ -13,7 +13,7 @@ use Rattle.script_lines.specs.Line.{built_text, slot_text, phrase_text, SlotFits
 use Rattle.script_text.specs.Grammar.{declares}
 use Rattle.script_lines.specs.Reading.{first_word, phrase_at}
 use Rattle.script_text.specs.Declaring.{spaced_word}
-use Rattle.script_text.specs.Spelling.{word_reason, noted}
+use Rattle.script_text.specs.Spelling.{word_reason, after_note}
 use Rattle.script_lines.proofs.WordLemmas.{reach-append}
 use Rattle.script_lines.proofs.TableLaws.{on_all}
 use Rattle.script_lines.proofs.PhraseLaws.{phrase_found, slots_stop, stops_there, name_is_whole}
@@ -26,16 +26,16 @@ spaced_name w rest h =
     let less : ltb (length w) (length (w ++ 32 ∷ rest)) ≡ true = lt-ltb _ _ (omega (arith, length-append w (32 ∷ rest))) in
     rw (n, less, take_at w (32 ∷ rest) (length w) refl) refl
 
-phrase_declares : (d : Declared) (p : Phrase) → IsPhrase p → noted d (phrase_text p) ≡ declares (role_of p.op) d p
+phrase_declares : (d : Declared) (p : Phrase) → IsPhrase p → after_note d (phrase_text p) ≡ declares (role_of p.op) d p
 unfolding row_of
-phrase_declares d p h = elim p.op as (λ o. AllByRecursion (SlotFits p) (slots_of o) → noted d (key_of o ++ flat_map (slot_text p) (slots_of o)) ≡ declares (role_of o) d p) [
+phrase_declares d p h = elim p.op as (λ o. AllByRecursion (SlotFits p) (slots_of o) → after_note d (key_of o ++ flat_map (slot_text p) (slots_of o)) ≡ declares (role_of o) d p) [
   | op.Native ↦ λ f. rw (append-nil (32 ∷ built_text p.event p.thread), spaced_name p.procedure (built_text p.event p.thread) f.0, f.0) refl
   | op.Proc ↦ λ f. rw (append-nil p.procedure, f.0) refl
   | _ ↦ λ f. refl
 ] h
 
-pub said_declares : (d : Declared) (line : List ℕ) (p : Phrase) → phrase_at line ≡ Some p → noted d line ≡ declares (role_of p.op) d p
-said_declares d line p e = let f = phrase_found line p e in ap (noted d) f.1 ∙ phrase_declares d p f.0
+pub said_declares : (d : Declared) (line : List ℕ) (p : Phrase) → phrase_at line ≡ Some p → after_note d line ≡ declares (role_of p.op) d p
+said_declares d line p e = let f = phrase_found line p e in ap (after_note d) f.1 ∙ phrase_declares d p f.0
 
 -- ---- Lines that start a procedure.
 

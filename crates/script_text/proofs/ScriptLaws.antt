@@ -15,9 +15,9 @@ use Rattle.script_text.specs.declared.script.Script.{Script}
 use Rattle.script_lines.specs.Table.{role_of}
 use Rattle.script_lines.specs.Reading.{phrase_at}
 use Rattle.script_text.specs.Meaning.{script_of}
-use Rattle.script_lines.specs.Line.{phrase_text, IsLine, ended}
+use Rattle.script_lines.specs.Line.{phrase_text, IsLine, with_newline}
 use Rattle.script_text.specs.Grammar.{declares, declared_of, nothing, may_stand, is_declared, AllStand, spelling, SpelledBy, Spells}
-use Rattle.script_text.specs.Spelling.{onto_first, cut, reason_at, judge_said, judge, at_line, read_on, noted, declared_in, finish, verdict_by, verdict, Gives, IsReadAs}
+use Rattle.script_text.specs.Spelling.{onto_first, line_cut, reason_at, judge_said, judge, at_line, read_on, after_note, declared_in, finish, verdict_by, verdict, Gives, IsReadAs}
 use Rattle.script_lines.proofs.WordLemmas.{both}
 use Rattle.script_lines.proofs.PhraseLaws.{phrase_found, phrase_again, phrase_needed}
 use Rattle.script_lines.proofs.PrintableLaws.{phrase_is_printable}
@@ -40,7 +40,7 @@ read_again d before [] h s a = rw append-nil refl
 read_again d before (p ∷ ps) h s a =
     rw (judge_again d before p h.0 s.0 a.0) (read_again d (before ++ p ∷ []) ps h.1 s.1 a.1 ∙ ap (λ (l : List Phrase). Ok l) (append_assoc before (p ∷ []) ps))
 
-cut_line : (l rest : List ℕ) → is_printable l ≡ true → cut (l ++ 10 ∷ rest) ≡ (l ∷ (cut rest).0, (cut rest).1)
+cut_line : (l rest : List ℕ) → is_printable l ≡ true → line_cut (l ++ 10 ∷ rest) ≡ (l ∷ (line_cut rest).0, (line_cut rest).1)
 cut_line [] rest h = refl
 cut_line (b ∷ l) rest h =
     let u = both (leb 32 b && leb b 126) (is_printable l) h in
@@ -48,33 +48,33 @@ cut_line (b ∷ l) rest h =
     let no : eqb b 10 ≡ false = ne_eqb b 10 (λ z. omega arith) in
     rw (no, cut_line l rest u.1) refl
 
-cut_again : (ps : List Phrase) → AllByRecursion IsLine ps → cut (spelling ps) ≡ (map phrase_text ps, [])
+cut_again : (ps : List Phrase) → AllByRecursion IsLine ps → line_cut (spelling ps) ≡ (map phrase_text ps, [])
 cut_again [] h = refl
 cut_again (p ∷ ps) h =
     rw (append_assoc (phrase_text p) (10 ∷ []) (spelling ps), cut_line (phrase_text p) (spelling ps) (phrase_is_printable p h.0.0), cut_again ps h.1) refl
 
 -- what the lines of a text declare is what its phrases declare
-declared_on : (d : Declared) (ps : List Phrase) → AllByRecursion IsLine ps → fold noted d (map phrase_text ps) ≡ fold (λ (x : Declared) (p : Phrase). declares (role_of p.op) x p) d ps
+declared_on : (d : Declared) (ps : List Phrase) → AllByRecursion IsLine ps → fold after_note d (map phrase_text ps) ≡ fold (λ (x : Declared) (p : Phrase). declares (role_of p.op) x p) d ps
 declared_on d [] h = refl
-declared_on d (p ∷ ps) h = ap (λ (x : Declared). fold noted x (map phrase_text ps)) (said_declares d (phrase_text p) p (line_again p h.0)) ∙ declared_on (declares (role_of p.op) d p) ps h.1
+declared_on d (p ∷ ps) h = ap (λ (x : Declared). fold after_note x (map phrase_text ps)) (said_declares d (phrase_text p) p (line_again p h.0)) ∙ declared_on (declares (role_of p.op) d p) ps h.1
 
-nothing_more : (d : Declared) → noted d [] ≡ d
+nothing_more : (d : Declared) → after_note d [] ≡ d
 nothing_more d = refl
 
 declared_again : (ps : List Phrase) → AllByRecursion IsLine ps → declared_in (map phrase_text ps ++ [] ∷ []) ≡ declared_of ps
-declared_again ps h = fold_push noted nothing (map phrase_text ps) [] ∙ declared_on nothing ps h
+declared_again ps h = fold_push after_note nothing (map phrase_text ps) [] ∙ declared_on nothing ps h
 
 pub verdict_long : (text : List ℕ) → ltb 16777216 (length text) ≡ true → verdict text ≡ Err (0, reason.TooLarge)
 unfolding verdict
 verdict_long text h = rw h refl
 
-pub verdict_short : (text : List ℕ) → length text ≤ 16777216 → verdict text ≡ verdict_by (cut text)
+pub verdict_short : (text : List ℕ) → length text ≤ 16777216 → verdict text ≡ verdict_by (line_cut text)
 unfolding verdict
 verdict_short text h = rw (le-ltb 16777216 (length text) h) refl
 
 pub verdict_again : (text : List ℕ) (s : Script) (ps : List Phrase) → SpelledBy text s ps → verdict text ≡ Ok s
 verdict_again text s ps h =
-    let c : cut text ≡ (map phrase_text ps, []) = ap cut h.text_is ∙ cut_again ps h.are_lines in
+    let c : line_cut text ≡ (map phrase_text ps, []) = ap line_cut h.text_is ∙ cut_again ps h.are_lines in
     let d = declared_again ps h.are_lines in
     let r : read_on (declared_of ps) [] (map phrase_text ps) ≡ Ok ps = read_again (declared_of ps) [] ps h.are_lines h.stand h.declared in
     let any : eqb (length (script_of ps).procs) 0 ≡ false = ne_eqb _ _ (λ z. let some = h.some in omega arith) in
@@ -132,22 +132,22 @@ read_found d before (l ∷ ls) all e = elim (judge d before l) as (λ r. judge d
 
 -- the text that was cut
 abbrev joined : List (List ℕ) × List ℕ → List ℕ
-joined c = flat_map ended c.0 ++ c.1
+joined c = flat_map with_newline c.0 ++ c.1
 
 onto_first_joined : (b : ℕ) (ls : List (List ℕ)) (tail : List ℕ) → b ∷ joined (ls, tail) ≡ joined (onto_first b (ls, tail))
 onto_first_joined b [] tail = refl
 onto_first_joined b (l ∷ ls) tail = refl
 
-cut_found : (text : List ℕ) → text ≡ joined (cut text)
+cut_found : (text : List ℕ) → text ≡ joined (line_cut text)
 cut_found [] = refl
-cut_found (b ∷ bs) = elim (eqb b 10) as (λ v. eqb b 10 ≡ v → b ∷ bs ≡ joined (cond v ([] ∷ (cut bs).0, (cut bs).1) (onto_first b (cut bs)))) [
+cut_found (b ∷ bs) = elim (eqb b 10) as (λ v. eqb b 10 ≡ v → b ∷ bs ≡ joined (cond v ([] ∷ (line_cut bs).0, (line_cut bs).1) (onto_first b (line_cut bs)))) [
   | true ↦ λ t. rw (eqb-true b 10 t) (ap (λ (l : List ℕ). 10 ∷ l) (cut_found bs))
-  | false ↦ λ t. ap (λ (l : List ℕ). b ∷ l) (cut_found bs) ∙ onto_first_joined b (cut bs).0 (cut bs).1
+  | false ↦ λ t. ap (λ (l : List ℕ). b ∷ l) (cut_found bs) ∙ onto_first_joined b (line_cut bs).0 (line_cut bs).1
 ] refl
 
-spelling_is : (ps : List Phrase) → flat_map ended (map phrase_text ps) ≡ spelling ps
+spelling_is : (ps : List Phrase) → flat_map with_newline (map phrase_text ps) ≡ spelling ps
 spelling_is [] = refl
-spelling_is (p ∷ ps) = ap (λ (l : List ℕ). ended (phrase_text p) ++ l) (spelling_is ps)
+spelling_is (p ∷ ps) = ap (λ (l : List ℕ). with_newline (phrase_text p) ++ l) (spelling_is ps)
 
 -- all lines of a text that is read
 record Finished (r : Result (List Phrase) (ℕ × Reason)) (tail : List ℕ) (s : Script) (ps : List Phrase) : Type 0 where
@@ -178,7 +178,7 @@ found_spells text ls tail s ps more text-is short none some script-is r =
     let d-is : declared_in (ls ++ tail ∷ []) ≡ declared_of ps = rw (texts, none) (declared_again ps lines) in
     let declared : AllDeclared (declared_in (ls ++ tail ∷ [])) ps = subst (AllDeclared (declared_in (ls ++ tail ∷ []))) (sym same) r.declared in
     record {
-      text_is = text-is ∙ rw (texts, none) (append-nil (flat_map ended (map phrase_text ps)) ∙ spelling_is ps);
+      text_is = text-is ∙ rw (texts, none) (append-nil (flat_map with_newline (map phrase_text ps)) ∙ spelling_is ps);
       short = short;
       are_lines = lines;
       stand = subst (AllStand []) (sym same) r.stand;
@@ -187,10 +187,10 @@ found_spells text ls tail s ps more text-is short none some script-is r =
       script_is = script-is;
     }
 
-pub verdict_found : (text : List ℕ) (s : Script) → length text ≤ 16777216 → verdict_by (cut text) ≡ Ok s → Spells text s
+pub verdict_found : (text : List ℕ) (s : Script) → length text ≤ 16777216 → verdict_by (line_cut text) ≡ Ok s → Spells text s
 verdict_found text s short e =
-    let ls = (cut text).0 in
-    let tail = (cut text).1 in
+    let ls = (line_cut text).0 in
+    let tail = (line_cut text).1 in
     let g = finish_ok (read_on (declared_in (ls ++ tail ∷ [])) [] ls) tail s e in
     let r = read_found (declared_in (ls ++ tail ∷ [])) [] ls g.0 g.1.were in
     (g.0, found_spells text ls tail s g.0 r.0 (cut_found text) short g.1.no_tail g.1.some g.1.script_is r.1)

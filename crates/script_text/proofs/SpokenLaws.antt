@@ -11,22 +11,22 @@ use Rattle.script_text.specs.declared.reader.Reader.{Reader}
 use Rattle.script_text.specs.declared.script.Stmt.TheVariants as stmt
 use Rattle.script_text.specs.declared.stage.Stage.{Stage}
 use Rattle.script_text.specs.Grammar.{follows, may_stand_at, stage_after}
-use Rattle.script_text.specs.Meaning.{added, grown, with_post, with_text}
-use Rattle.script_text.specs.Track.{taken}
+use Rattle.script_text.specs.Meaning.{after_add, with_post, with_statement, with_text}
+use Rattle.script_text.specs.Track.{after_take}
 
-pub added_said : (d : Draft) (text : List ℕ) → added d (saying text) ≡ record (with_text d text) { current = grown (Some (stmt.Say (length d.script.texts))) d.current }
+pub added_said : (d : Draft) (text : List ℕ) → after_add d (saying text) ≡ record (with_text d text) { current = with_statement (Some (stmt.Say (length d.script.texts))) d.current }
 unfolding row_of
 added_said d text = refl
 
-pub added_posted : (d : Draft) (client : ℕ) (text : List ℕ) → added d (posting client text) ≡ with_post client (length d.script.texts) (with_text d text)
+pub added_posted : (d : Draft) (client : ℕ) (text : List ℕ) → after_add d (posting client text) ≡ with_post client (length d.script.texts) (with_text d text)
 unfolding row_of
 added_posted d client text = refl
 
-pub taken_said : (r : Reader) (text : List ℕ) → taken r (saying text) ≡ record r { count = r.count + 1; stage = stage_after r.stage role.Statement; draft = added r.draft (saying text) }
+pub taken_said : (r : Reader) (text : List ℕ) → after_take r (saying text) ≡ record r { count = r.count + 1; stage = stage_after r.stage role.Statement; draft = after_add r.draft (saying text) }
 unfolding row_of
 taken_said r text = rw (append-nil r.mentions) refl
 
-pub taken_posted : (r : Reader) (client : ℕ) (text : List ℕ) → taken r (posting client text) ≡ record r { count = r.count + 1; stage = stage_after r.stage role.Post; draft = added r.draft (posting client text) }
+pub taken_posted : (r : Reader) (client : ℕ) (text : List ℕ) → after_take r (posting client text) ≡ record r { count = r.count + 1; stage = stage_after r.stage role.Post; draft = after_add r.draft (posting client text) }
 unfolding row_of
 taken_posted r client text = rw (append-nil r.mentions) refl
 

@@ -19,7 +19,7 @@ use Rattle.script_lines.proofs.PhraseLaws.{start_is_named}
 use Rattle.script_lines.specs.Table.{role_of, starts, starts_any}
 use Rattle.script_lines.specs.Line.{IsPhrase}
 use Rattle.script_text.specs.Grammar.{stage_after, stage_of, declares, declared_of, nothing, has, is_declared}
-use Rattle.script_text.specs.Meaning.{contains_name, is_some_text, place, place_of, places_of, named, enter, added_at, added, entered, empty_draft, draft_of}
+use Rattle.script_text.specs.Meaning.{contains_name, is_some_text, place, place_of, places_of, after_name, enter, after_add_at, after_add, after_enter, empty_draft, draft_of}
 use Rattle.script_text.specs.Track.{name_at, mention_of, first_missing}
 
 -- ---- One more of a list.
@@ -142,10 +142,10 @@ pub record Tracks (count : ℕ) (stage : Stage) (declared : Declared) (mentions 
   pub are_named : AreNamed draft.script.names.procs mentions
   pub mentions_tell : (d : Declared) → first_missing d draft.script.names.procs mentions ≡ first_undeclared d 1 before
 
-procs_after : (d : Draft) (p : Phrase) → (added d p).script.names.procs ≡ enter d.script.names.procs p.procedure
-procs_after d p = by_role (role_of p.op) (places_of (named d.script.names p) d.script.texts p) (entered d p) p
+procs_after : (d : Draft) (p : Phrase) → (after_add d p).script.names.procs ≡ enter d.script.names.procs p.procedure
+procs_after d p = by_role (role_of p.op) (places_of (after_name d.script.names p) d.script.texts p) (after_enter d p) p
   where
-    by_role : (r : Role) (at : Places) (d : Draft) (p : Phrase) → (added_at r at d p).script.names.procs ≡ d.script.names.procs
+    by_role : (r : Role) (at : Places) (d : Draft) (p : Phrase) → (after_add_at r at d p).script.names.procs ≡ d.script.names.procs
     by_role role.Header at d p = refl
     by_role role.Pod at d p = refl
     by_role role.Limit at d p = refl
@@ -158,17 +158,17 @@ procs_after d p = by_role (role_of p.op) (places_of (named d.script.names p) d.s
     by_role role.Again at d p = refl
 
 -- one more line
-pub tracks_more : (count : ℕ) (stage : Stage) (declared : Declared) (mentions : List Mention) (draft : Draft) (before : List Phrase) (p : Phrase) → Tracks count stage declared mentions draft before → IsPhrase p → Tracks (count + 1) (stage_after stage (role_of p.op)) (declares (role_of p.op) declared p) (mentions ++ mention_of (count + 1) (added draft p).script.names.procs p) (added draft p) (before ++ p ∷ [])
+pub tracks_more : (count : ℕ) (stage : Stage) (declared : Declared) (mentions : List Mention) (draft : Draft) (before : List Phrase) (p : Phrase) → Tracks count stage declared mentions draft before → IsPhrase p → Tracks (count + 1) (stage_after stage (role_of p.op)) (declares (role_of p.op) declared p) (mentions ++ mention_of (count + 1) (after_add draft p).script.names.procs p) (after_add draft p) (before ++ p ∷ [])
 tracks_more count stage declared mentions draft before p k h =
     let names = draft.script.names.procs in
     let grown = enter names p.procedure in
-    let same : (added draft p).script.names.procs ≡ grown = procs_after draft p in
+    let same : (after_add draft p).script.names.procs ≡ grown = procs_after draft p in
     let line : count + 1 ≡ 1 + length before = omega (arith, k.count_is) in
     record {
       count_is = omega (arith, k.count_is, length-append before (p ∷ []));
       stage_is = ap (λ (s : Stage). stage_after s (role_of p.op)) k.stage_is ∙ sym (stage_push before p);
       declared_is = ap (λ (d : Declared). declares (role_of p.op) d p) k.declared_is ∙ sym (declared_push before p);
-      draft_is = ap (λ (d : Draft). added d p) k.draft_is ∙ sym (fold_push added empty_draft before p);
+      draft_is = ap (λ (d : Draft). after_add d p) k.draft_is ∙ sym (fold_push after_add empty_draft before p);
       are_named = rw same (all_push _ mentions (mention_of (count + 1) grown p) (named_still names p.procedure mentions k.are_named) (mention_tells nothing names (count + 1) p h).0);
       mentions_tell = λ d. rw same (missing_push d grown mentions (mention_of (count + 1) grown p) ∙ rw (missing_still d names p.procedure mentions k.are_named, k.mentions_tell d, (mention_tells d names (count + 1) p h).1) (ap (λ (n : ℕ). or_else (first_undeclared d 1 before) (cond (is_declared d p) None (Some n))) line ∙ sym (undeclared_push d 1 before p)));
     }

@@ -8,16 +8,16 @@ use Rattle.script_text.specs.declared.stage.Stage.TheVariants as stage
 use Rattle.script_text.specs.declared.reader.Declared.{Declared}
 use Rattle.script_text.specs.declared.script.Script.{Script}
 use Rattle.script_lines.specs.Phrase.{Phrase}
-use Rattle.script_lines.specs.Line.{phrase_text, IsLine, ended}
+use Rattle.script_lines.specs.Line.{phrase_text, IsLine, with_newline}
 use Rattle.script_lines.specs.Table.{role_of, starts, starts_any}
 use Rattle.script_text.specs.Meaning.{contains_name, enter, draft_of, script_of}
 
 -- ---- The order of lines.
 
 -- the first statement of a procedure says how it goes on; those behind it change nothing
-abbrev pub opened : Stage → Stage → Stage
-opened first stage.Proc = first
-opened first s = s
+abbrev pub stage_behind_first : Stage → Stage → Stage
+stage_behind_first first stage.Proc = first
+stage_behind_first first s = s
 
 -- what may come behind a line of this role
 abbrev pub stage_after : Stage → Role → Stage
@@ -28,8 +28,8 @@ stage_after s role.Client = stage.Clients
 stage_after s role.Native = stage.Natives
 stage_after s role.Proc = stage.Proc
 stage_after s role.Post = stage.Posts
-stage_after s role.Statement = opened stage.Calling s
-stage_after s role.Skip = opened stage.Skipping s
+stage_after s role.Statement = stage_behind_first stage.Calling s
+stage_after s role.Skip = stage_behind_first stage.Skipping s
 stage_after s role.Again = stage.Ended
 
 -- what may come behind these lines
@@ -123,7 +123,7 @@ is_declared d p = if starts p.op then has d (starts_any p.op) p.procedure else t
 
 -- lines one behind the other
 abbrev pub spelling : List Phrase → List ℕ
-spelling lines = flat_map (λ p. ended (phrase_text p)) lines
+spelling lines = flat_map (λ p. with_newline (phrase_text p)) lines
 
 -- The text is these lines, which keep every rule, and the script is what they say. A procedure may be declared behind the
 -- line that starts it.

@@ -6,7 +6,7 @@ use Rattle.script_lines.specs.Phrase.{Phrase}
 use Rattle.script_lines.specs.Line.{phrase_text, IsLine}
 use Rattle.script_text.specs.Grammar.{AllStand, may_stand, is_declared, Spells}
 use Rattle.script_text.specs.Meaning.{script_of}
-use Rattle.script_text.specs.Spelling.{cut, declared_in, reason_at, verdict}
+use Rattle.script_text.specs.Spelling.{declared_in, line_cut, reason_at, verdict}
 use Rattle.script_text.specs.declared.reader.Declared.{Declared}
 use Rattle.script_text.specs.declared.reason.Reason.{Reason}
 use Rattle.script_text.specs.declared.reason.Reason.TheVariants as reason
@@ -50,4 +50,4 @@ pub record IsFirstBad (lines : List (List ℕ)) (tail : List ℕ) (line : ℕ) (
 abbrev pub IsBlamed : List ℕ → Type 0
 IsBlamed text = (line : ℕ) (why : Reason) → verdict text ≡ Err (line, why)
     → (16777216 < length text) × (line ≡ 0) × (why ≡ reason.TooLarge)
-    ⊎ (before : List Phrase) × (behind : List (List ℕ)) × IsFirstBad (cut text).0 (cut text).1 line why before behind
+    ⊎ (before : List Phrase) × (behind : List (List ℕ)) × IsFirstBad (line_cut text).0 (line_cut text).1 line why before behind

@@ -51,12 +51,12 @@ place_of names [] = 0
 place_of names (b ∷ bs) = place names (b ∷ bs)
 
 -- the names, and those of one more line
-abbrev pub named : Names → Phrase → Names
-named names p = record { procs = enter names.procs p.procedure; threads = enter names.threads p.thread; mons = enter names.mons p.monitor; conds = enter names.conds p.condition }
+abbrev pub after_name : Names → Phrase → Names
+after_name names p = record { procs = enter names.procs p.procedure; threads = enter names.threads p.thread; mons = enter names.mons p.monitor; conds = enter names.conds p.condition }
 
 -- the texts, and that of one more line
-abbrev pub spoken : List (List ℕ) → Phrase → List (List ℕ)
-spoken texts p = if says p.op then texts ++ p.text ∷ [] else texts
+abbrev pub with_text_of : List (List ℕ) → Phrase → List (List ℕ)
+with_text_of texts p = if says p.op then texts ++ p.text ∷ [] else texts
 
 -- where the names of a line stand, once they are entered, and where its text will stand behind these
 abbrev pub places_of : Names → List (List ℕ) → Phrase → Places
@@ -164,10 +164,10 @@ statement_of op.Agent at p = Some (stmt.Agent at.thread p.number)
 statement_of o at p = lock_statement o at p
 
 -- the procedure with one more statement
-abbrev pub grown : Option Stmt → Option Proc → Option Proc
-grown None current = current
-grown (Some s) None = None
-grown (Some s) (Some p) = Some (record p { stmts = p.stmts ++ s ∷ [] })
+abbrev pub with_statement : Option Stmt → Option Proc → Option Proc
+with_statement None current = current
+with_statement (Some s) None = None
+with_statement (Some s) (Some p) = Some (record p { stmts = p.stmts ++ s ∷ [] })
 
 -- ---- Lines.
 
@@ -188,22 +188,22 @@ abbrev pub with_last_procedure : Draft → Script
 with_last_procedure d = record d.script { procs = d.script.procs ++ option_to_list d.current }
 
 -- the names and the text of a line are entered before it is added
-abbrev pub entered : Draft → Phrase → Draft
-entered d p = record d { script = record d.script { names = named d.script.names p; texts = spoken d.script.texts p } }
+abbrev pub after_enter : Draft → Phrase → Draft
+after_enter d p = record d { script = record d.script { names = after_name d.script.names p; texts = with_text_of d.script.texts p } }
 
 -- one more statement of the procedure
-abbrev pub pushed : Places → Draft → Phrase → Draft
-pushed at d p = record d { current = grown (statement_of p.op at p) d.current }
+abbrev pub after_push : Places → Draft → Phrase → Draft
+after_push at d p = record d { current = with_statement (statement_of p.op at p) d.current }
 
 -- what a built-in procedure is: a session has an event, and its store is the thread of this number
 abbrev pub native_kind : ℕ → ℕ → NativeKind
 native_kind event store = if event == 0 then native.Store else native.Session event store
 
 -- one line more of this client
-abbrev pub raised : ℕ → List ℕ → List ℕ
-raised c [] = []
-raised zero (n ∷ ns) = suc n ∷ ns
-raised (suc c) (n ∷ ns) = n ∷ raised c ns
+abbrev pub after_raise : ℕ → List ℕ → List ℕ
+after_raise c [] = []
+after_raise zero (n ∷ ns) = suc n ∷ ns
+after_raise (suc c) (n ∷ ns) = n ∷ after_raise c ns
 
 -- one more text
 abbrev pub with_text : Draft → List ℕ → Draft
@@ -211,28 +211,28 @@ with_text d text = record d { script = record d.script { texts = d.script.texts 
 
 -- one more line of this client, whose text stands there
 abbrev pub with_post : ℕ → ℕ → Draft → Draft
-with_post client text d = record d { script = record d.script { posts = d.script.posts ++ record { client = client; seq = slice_index_or d.posted client 0; text = text } ∷ [] }; posted = raised client d.posted }
+with_post client text d = record d { script = record d.script { posts = d.script.posts ++ record { client = client; seq = slice_index_or d.posted client 0; text = text } ∷ [] }; posted = after_raise client d.posted }
 
 -- a line by the part it plays: a procedure ends where the next one begins
-abbrev pub added_at : Role → Places → Draft → Phrase → Draft
-added_at role.Header at d p = d
-added_at role.Pod at d p = record d { script = record d.script { maxpri = p.number } }
-added_at role.Limit at d p = record d { script = record d.script { births = p.number } }
-added_at role.Client at d p = record d { script = record d.script { clients = d.script.clients ++ p.event ∷ [] }; posted = d.posted ++ 0 ∷ [] }
-added_at role.Native at d p = record d { script = record d.script { natives = d.script.natives ++ record { name = at.procedure; kind = native_kind p.event at.thread } ∷ [] } }
-added_at role.Proc at d p = record d { script = with_last_procedure d; current = Some (record { name = at.procedure; stmts = [] }) }
-added_at role.Post at d p = with_post p.client at.text d
-added_at role.Statement at d p = pushed at d p
-added_at role.Skip at d p = pushed at d p
-added_at role.Again at d p = pushed at d p
+abbrev pub after_add_at : Role → Places → Draft → Phrase → Draft
+after_add_at role.Header at d p = d
+after_add_at role.Pod at d p = record d { script = record d.script { maxpri = p.number } }
+after_add_at role.Limit at d p = record d { script = record d.script { births = p.number } }
+after_add_at role.Client at d p = record d { script = record d.script { clients = d.script.clients ++ p.event ∷ [] }; posted = d.posted ++ 0 ∷ [] }
+after_add_at role.Native at d p = record d { script = record d.script { natives = d.script.natives ++ record { name = at.procedure; kind = native_kind p.event at.thread } ∷ [] } }
+after_add_at role.Proc at d p = record d { script = with_last_procedure d; current = Some (record { name = at.procedure; stmts = [] }) }
+after_add_at role.Post at d p = with_post p.client at.text d
+after_add_at role.Statement at d p = after_push at d p
+after_add_at role.Skip at d p = after_push at d p
+after_add_at role.Again at d p = after_push at d p
 
 -- one more line
-abbrev pub added : Draft → Phrase → Draft
-added d p = added_at (role_of p.op) (places_of (named d.script.names p) d.script.texts p) (entered d p) p
+abbrev pub after_add : Draft → Phrase → Draft
+after_add d p = after_add_at (role_of p.op) (places_of (after_name d.script.names p) d.script.texts p) (after_enter d p) p
 
 -- what these lines have made
 abbrev pub draft_of : List Phrase → Draft
-draft_of lines = fold added empty_draft lines
+draft_of lines = fold after_add empty_draft lines
 
 -- the script that these lines say
 abbrev pub script_of : List Phrase → Script

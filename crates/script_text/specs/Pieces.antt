@@ -1,13 +1,13 @@
 -- What a reader of pieces has read.
 use Rattle.std.specs.Prelude.{◌≡◌, ℕ, Bool, true, false, List, [], fold, length, nat_lt, if◌then◌else◌}
-use Rattle.script_text.specs.Kept.{kept}
-use Rattle.script_text.specs.Spelling.{cut}
+use Rattle.script_text.specs.Kept.{kept_bytes}
+use Rattle.script_text.specs.Spelling.{line_cut}
 use Rattle.script_text.specs.Track.{start, step}
 use Rattle.script_text.specs.declared.reader.Reader.{Reader}
 
 -- the text has no end of a line in it
 abbrev pub IsTail : List ℕ → Type 0
-IsTail t = cut t ≡ ([], t)
+IsTail t = line_cut t ≡ ([], t)
 
 -- all that is left of a text whose pieces are gone
 pub record SoFar : Type 0 where
@@ -32,7 +32,7 @@ standing false false so_far = Reads so_far
 
 -- of a line that hasn't ended no more than 1,025 bytes are kept
 abbrev pub so_far : List ℕ → SoFar
-so_far text = record { total = length text; lines = fold step start (cut text).0; tail = kept (cut text).1 }
+so_far text = record { total = length text; lines = fold step start (line_cut text).0; tail = kept_bytes (line_cut text).1 }
 
 -- how a reader stands once it was fed this text
 abbrev pub standing_after : List ℕ → Standing

@@ -30,9 +30,9 @@ onto_first b c = onto c.0 c.1
     onto (l ∷ ls) tail = ((b ∷ l) ∷ ls, tail)
 
 -- the lines that have ended, and what stands behind the last newline
-abbrev pub cut : List ℕ → List (List ℕ) × List ℕ
-cut [] = ([], [])
-cut (b ∷ bs) = if b == 10 then ([] ∷ (cut bs).0, (cut bs).1) else onto_first b (cut bs)
+abbrev pub line_cut : List ℕ → List (List ℕ) × List ℕ
+line_cut [] = ([], [])
+line_cut (b ∷ bs) = if b == 10 then ([] ∷ (line_cut bs).0, (line_cut bs).1) else onto_first b (line_cut bs)
 
 -- ---- Why a line is bad.
 
@@ -101,12 +101,12 @@ read_on declared before [] = Ok before
 read_on declared before (line ∷ lines) = at_line (suc (length before)) (judge declared before line) (λ p. read_on declared (before ++ p ∷ []) lines)
 
 -- the procedures declared so far, and those of one more line
-abbrev pub noted : Declared → List ℕ → Declared
-noted d line = record { procs = enter d.procs (proc_on line); natives = enter d.natives (native_on line) }
+abbrev pub after_note : Declared → List ℕ → Declared
+after_note d line = record { procs = enter d.procs (proc_on line); natives = enter d.natives (native_on line) }
 
 -- the procedures that these lines declare, wherever they stand
 abbrev pub declared_in : List (List ℕ) → Declared
-declared_in lines = fold noted nothing lines
+declared_in lines = fold after_note nothing lines
 
 -- ---- The whole text.
 
@@ -126,7 +126,7 @@ verdict_by c = finish (read_on (declared_in (c.0 ++ c.1 ∷ [])) [] c.0) c.1
 
 -- the script of the text, or the number of its first bad line and why
 unfoldable pub verdict : List ℕ → Result Script (ℕ × Reason)
-verdict text = if nat_lt 16777216 (length text) then Err (0, reason.TooLarge) else verdict_by (cut text)
+verdict text = if nat_lt 16777216 (length text) then Err (0, reason.TooLarge) else verdict_by (line_cut text)
 
 -- ---- What a reader answers.
 

@@ -13,8 +13,8 @@ use Rattle.script_lines.specs.Phrase.{Phrase}
 use Rattle.script_lines.specs.Table.{role_of, starts, starts_any}
 use Rattle.script_lines.specs.Reading.{phrase_at}
 use Rattle.script_text.specs.Grammar.{has, nothing, stage_after, may_stand_at}
-use Rattle.script_text.specs.Meaning.{place_of, added, empty_draft, with_last_procedure}
-use Rattle.script_text.specs.Spelling.{reason_of, noted, whole}
+use Rattle.script_text.specs.Meaning.{place_of, after_add, empty_draft, with_last_procedure}
+use Rattle.script_text.specs.Spelling.{reason_of, after_note, whole}
 
 -- ---- One line.
 
@@ -32,9 +32,9 @@ abbrev pub mention_of : ℕ → List (List ℕ) → Phrase → List Mention
 mention_of line names p = if starts p.op then record { line = line; name = place_of names p.procedure; any = starts_any p.op } ∷ [] else []
 
 -- a reader with one more line that may stand
-abbrev pub taken : Reader → Phrase → Reader
-taken r p =
-    let d = added r.draft p in
+abbrev pub after_take : Reader → Phrase → Reader
+after_take r p =
+    let d = after_add r.draft p in
     record r {
       count = r.count + 1;
       stage = stage_after r.stage (role_of p.op);
@@ -43,22 +43,22 @@ taken r p =
     }
 
 -- a reader with one more line that was judged
-abbrev pub took : Reader → Result Phrase Reason → Reader
-took r (Ok p) = taken r p
-took r (Err why) = record r { bad = Some why }
+abbrev pub after_verdict : Reader → Result Phrase Reason → Reader
+after_verdict r (Ok p) = after_take r p
+after_verdict r (Err why) = record r { bad = Some why }
 
 -- behind a bad line no more lines are judged
-abbrev pub judged : Option Reason → Reader → List ℕ → Reader
-judged (Some why) r line = r
-judged None r line = took r (judge_alone r.stage r.declared r.draft.posted line)
+abbrev pub after_judge : Option Reason → Reader → List ℕ → Reader
+after_judge (Some why) r line = r
+after_judge None r line = after_verdict r (judge_alone r.stage r.declared r.draft.posted line)
 
 -- a reader that knows what one more line declares
 abbrev pub knows : Reader → List ℕ → Reader
-knows r line = record r { declared = noted r.declared line }
+knows r line = record r { declared = after_note r.declared line }
 
 -- one more line: it is judged, and what it declares is noted
 abbrev pub step : Reader → List ℕ → Reader
-step r line = knows (judged r.bad r line) line
+step r line = knows (after_judge r.bad r line) line
 
 -- a reader that has read nothing
 abbrev pub start : Reader

@@ -21,7 +21,7 @@ impl Model for Counts {
 
 impl Counts {
     ghost use Rattle.std.specs.Prelude.{◌≡◌, [], ◌∷◌, ◌++◌, length, slice_index_or, ◌≤◌, OnOk, OnErr, IfOk};
-    ghost use Rattle.script_text.specs.Meaning.{raised};
+    ghost use Rattle.script_text.specs.Meaning.{after_raise};
 
     /// No clients.
     pub fn new(alloc: Global) -> Counts
@@ -59,7 +59,7 @@ impl Counts {
 
     /// One line more of a client, if there is such a client. No memory holds more lines than a `u32` counts.
     pub fn raise(&mut self, client: u8) -> Result<(), NoMemory>
-        ensures ok { OnOk result (self.new ≡ raised client self.old) }
+        ensures ok { OnOk result (self.new ≡ after_raise client self.old) }
         ensures err { OnErr result (4294967295 ≤ slice_index_or self.old client 0) }
     {
         let place = usize::from(client);

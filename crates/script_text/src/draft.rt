@@ -1,6 +1,6 @@
 // A script that grows line by line.
 ghost use Rattle.std.specs.Prelude.{◌≡◌, ◌++◌, ◌∷◌, [], Some, IfOk, OnOk, option_map, option_to_list};
-ghost use Rattle.script_text.specs.Meaning.{named, spoken, places_of, who_of, from_of, exit_statement, plain_statement, lock_statement, statement_of, grown, native_kind};
+ghost use Rattle.script_text.specs.Meaning.{after_name, with_text_of, places_of, who_of, from_of, exit_statement, plain_statement, lock_statement, statement_of, with_statement, native_kind};
 ghost use Rattle.script_text.specs.declared.script.Stmt.TheVariants as stmt;
 
 use crate::counts::Counts;
@@ -41,9 +41,9 @@ pub struct Places {
 
 // Enters the names of a line. They stand at these places then, and its text will stand behind those before.
 fn name(names: &mut Names, texts: &TextList, phrase: &Phrase<'_>) -> Result<Places, NoMemory>
-    ensures entered { OnOk result (names.new ≡ named names.old phrase.now) }
+    ensures entered { OnOk result (names.new ≡ after_name names.old phrase.now) }
     ensures places { IfOk result
-        (λ at. at ≡ places_of (named names.old phrase.now) texts.now phrase.now) }
+        (λ at. at ≡ places_of (after_name names.old phrase.now) texts.now phrase.now) }
 {
     let text = texts.len();
     if text > 0xffff_ffff {
@@ -64,7 +64,7 @@ fn name(names: &mut Names, texts: &TextList, phrase: &Phrase<'_>) -> Result<Plac
 
 // Enters the text of a line that has one.
 fn speak(texts: &mut TextList, phrase: &Phrase<'_>) -> Result<(), NoMemory>
-    ensures { OnOk result (texts.new ≡ spoken texts.old phrase.now) }
+    ensures { OnOk result (texts.new ≡ with_text_of texts.old phrase.now) }
 {
     if phrase.op.says() {
         texts.push(phrase.text)?;
@@ -260,7 +260,7 @@ fn statement_of(at: Places, phrase: &Phrase<'_>) -> Option<Stmt>
 
 // Puts a statement at the end of the procedure.
 fn grow(current: &mut Option<Proc>, stmt: Option<Stmt>) -> Result<(), NoMemory>
-    ensures { OnOk result (current.new ≡ grown stmt current.old) }
+    ensures { OnOk result (current.new ≡ with_statement stmt current.old) }
 {
     match (current, stmt) {
         (Some(proc), Some(stmt)) => proc.stmts.push(stmt),
@@ -293,7 +293,7 @@ impl Draft {
     ghost use Rattle.std.specs.Prelude.{IfOk, IsTrue, length};
     ghost use Rattle.lwp_types.specs.TextFields.{is_text};
     ghost use Rattle.script_lines.specs.Line.{posting, saying};
-    ghost use Rattle.script_text.specs.Meaning.{empty_draft, added_at, added, entered, with_last_procedure, named, places_of, with_post, with_text};
+    ghost use Rattle.script_text.specs.Meaning.{empty_draft, after_add_at, after_add, after_enter, with_last_procedure, after_name, places_of, with_post, with_text};
 
     /// No lines.
     pub fn new(alloc: Global) -> Draft
@@ -322,7 +322,7 @@ impl Draft {
 
     // The next client.
     fn open(&mut self, phrase: &Phrase<'_>, at: Places) -> Result<(), NoMemory>
-        ensures { OnOk result (self.new ≡ added_at Role.Client at self.old phrase.now) }
+        ensures { OnOk result (self.new ≡ after_add_at Role.Client at self.old phrase.now) }
     {
         self.script.clients.push(phrase.event)?;
         self.posted.open()
@@ -330,7 +330,7 @@ impl Draft {
 
     // The next built-in procedure.
     fn build(&mut self, phrase: &Phrase<'_>, at: Places) -> Result<(), NoMemory>
-        ensures { OnOk result (self.new ≡ added_at Role.Native at self.old phrase.now) }
+        ensures { OnOk result (self.new ≡ after_add_at Role.Native at self.old phrase.now) }
     {
         self.script.natives.push(Native {
             name: at.procedure,
@@ -340,7 +340,7 @@ impl Draft {
 
     // The next procedure.
     fn begin(&mut self, alloc: Global, phrase: &Phrase<'_>, at: Places) -> Result<(), NoMemory>
-        ensures { OnOk result (self.new ≡ added_at Role.Proc at self.old phrase.now) }
+        ensures { OnOk result (self.new ≡ after_add_at Role.Proc at self.old phrase.now) }
     {
         let next = Proc {
             name: at.procedure,
@@ -363,7 +363,8 @@ impl Draft {
 
     // A line whose names and text have been entered.
     fn add_at(&mut self, alloc: Global, phrase: &Phrase<'_>, at: Places) -> Result<(), NoMemory>
-        ensures { OnOk result (self.new ≡ added_at (role_of phrase.now.op) at self.old phrase.now) }
+        ensures { OnOk result
+            (self.new ≡ after_add_at (role_of phrase.now.op) at self.old phrase.now) }
     {
         match phrase.op.role() {
             Role::Header => Ok(()),
@@ -403,7 +404,7 @@ impl Draft {
     #[tactic(auto, using(crate::proofs::SpokenLaws::added_said))]
     pub fn say(&mut self, text: &[u8]) -> Result<(), NoMemory>
         requires { IsTrue (is_text text.now) }
-        ensures { OnOk result (self.new ≡ added self.old (saying text.now)) }
+        ensures { OnOk result (self.new ≡ after_add self.old (saying text.now)) }
     {
         let place = self.enter(text)?;
         grow(&mut self.current, Some(Stmt::Say { text: place }))
@@ -413,7 +414,7 @@ impl Draft {
     #[tactic(auto, using(crate::proofs::SpokenLaws::added_posted))]
     pub fn post_text(&mut self, client: u8, text: &[u8]) -> Result<(), NoMemory>
         requires { IsTrue (is_text text.now) }
-        ensures { OnOk result (self.new ≡ added self.old (posting client text.now)) }
+        ensures { OnOk result (self.new ≡ after_add self.old (posting client text.now)) }
     {
         let place = self.enter(text)?;
         self.post(client, place)
@@ -421,11 +422,11 @@ impl Draft {
 
     /// One more line, and where its names stand.
     pub fn add(&mut self, alloc: Global, phrase: &Phrase<'_>) -> Result<Places, NoMemory>
-        ensures draft { OnOk result (self.new ≡ added self.old phrase.now) }
+        ensures draft { OnOk result (self.new ≡ after_add self.old phrase.now) }
         ensures places { IfOk result
             (λ at.
             at
-            ≡ places_of (named self.old.script.names phrase.now) self.old.script.texts
+            ≡ places_of (after_name self.old.script.names phrase.now) self.old.script.texts
             phrase.now) }
     {
         let at = name(&mut self.script.names, &self.script.texts, phrase)?;

@@ -1,9 +1,9 @@
 // The lines of a text that comes in pieces.
 ghost use Rattle.std.specs.Prelude.{◌≡◌, ◌≤◌, ◌<◌, ◌+◌, ◌∷◌, ◌++◌, ◌&&◌, [], fold, length, IfSome, IfNone, OnOk};
 ghost use Rattle.lwp_types.specs.TextFields.{is_printable};
-ghost use Rattle.script_text.specs.Kept.{kept};
+ghost use Rattle.script_text.specs.Kept.{kept_bytes};
 ghost use Rattle.script_text.specs.Pieces.{IsTail};
-ghost use Rattle.script_text.specs.Spelling.{cut, Gives};
+ghost use Rattle.script_text.specs.Spelling.{Gives, line_cut};
 ghost use Rattle.script_text.specs.Track.{start, step, answer_at};
 
 use crate::Script;
@@ -37,9 +37,10 @@ impl Drop for Lines {
 
 // The first line and what stands behind its end.
 fn first_line(text: &[u8]) -> Option<(&[u8], &[u8])>
-    ensures some { IfSome result (λ x. cut text.now ≡ (x.0.now ∷ (cut x.1.now).0, (cut x.1.now).1)) }
+    ensures some { IfSome result
+        (λ x. line_cut text.now ≡ (x.0.now ∷ (line_cut x.1.now).0, (line_cut x.1.now).1)) }
     ensures shorter { IfSome result (λ x. length x.0.now + (length x.1.now + 1) ≡ length text.now) }
-    ensures none { IfNone result (cut text.now ≡ ([], text.now)) }
+    ensures none { IfNone result (line_cut text.now ≡ ([], text.now)) }
 {
     match memchr(b'\n', text) {
         None => None,
@@ -55,7 +56,7 @@ fn are_printable(front: &[u8], back: &[u8]) -> bool
 
 // One more part of a line: what is kept of the line.
 fn keep(tail: &mut Vec<u8>, part: &[u8]) -> Result<(), NoMemory>
-    ensures { OnOk result (tail.new.items ≡ kept (tail.old.items ++ part.now)) }
+    ensures { OnOk result (tail.new.items ≡ kept_bytes (tail.old.items ++ part.now)) }
 {
     let room = KEPT.saturating_sub(tail.len()).min(part.len());
     let (near, far) = part.split_at(room);
@@ -102,10 +103,10 @@ impl Lines {
         ensures reader { OnOk result
             (IsTail self.old.tail.items →
             self.new.reader
-            ≡ fold step self.old.reader (cut (self.old.tail.items ++ piece.now)).0) }
+            ≡ fold step self.old.reader (line_cut (self.old.tail.items ++ piece.now)).0) }
         ensures tail { OnOk result
             (IsTail self.old.tail.items →
-            self.new.tail.items ≡ kept (cut (self.old.tail.items ++ piece.now)).1) }
+            self.new.tail.items ≡ kept_bytes (line_cut (self.old.tail.items ++ piece.now)).1) }
     {
         let mut rest = piece;
         while let Some((line, after)) = first_line(rest) {

@@ -48,7 +48,7 @@ impl Model for ScriptReader {
 
 impl ScriptReader {
     /// Nothing read.
-    #[tactic(auto, unfolding(crate::specs::Kept::kept))]
+    #[tactic(auto, unfolding(crate::specs::Kept::kept_bytes))]
     pub fn new(alloc: Global) -> ScriptReader
         ensures { HasRead result [] }
     {

@@ -6,7 +6,7 @@ ghost use Rattle.script_lines.specs.Table.{role_of};
 ghost use Rattle.script_lines.specs.Reading.{phrase_at};
 ghost use Rattle.script_text.specs.Declaring.{only_name, spaced_word, proc_on, native_on};
 ghost use Rattle.script_text.specs.Grammar.{has, keeps_rule, may_stand_at};
-ghost use Rattle.script_text.specs.Spelling.{Gives, word_reason, reason_behind, reason_of, noted, whole};
+ghost use Rattle.script_text.specs.Spelling.{Gives, word_reason, reason_behind, reason_of, after_note, whole};
 ghost use Rattle.script_text.specs.Meaning.{enter, with_last_procedure};
 ghost use Rattle.script_text.specs.Track.{first_missing, mention_of, name_at};
 
@@ -164,7 +164,7 @@ impl Declared {
     /// Notes what a line declares.
     #[inline(always)]
     pub fn note(&mut self, line: &[u8]) -> Result<(), NoMemory>
-        ensures { OnOk result (self.new ≡ noted self.old line.now) }
+        ensures { OnOk result (self.new ≡ after_note self.old line.now) }
     {
         match line {
             [b'p', ..] => self.note_proc(line),
@@ -235,7 +235,7 @@ impl Reader {
     ghost use Rattle.script_text.specs.Grammar.{follows};
     ghost use Rattle.script_text.specs.Meaning.{place_of, with_last_procedure};
     ghost use Rattle.script_text.specs.Spelling.{Gives, whole};
-    ghost use Rattle.script_text.specs.Track.{start, taken, judge_alone, took, judged, step, answer, answer_at};
+    ghost use Rattle.script_text.specs.Track.{start, after_take, judge_alone, after_verdict, after_judge, step, answer, answer_at};
 
     /// Nothing read.
     pub fn new(alloc: Global) -> Reader
@@ -276,7 +276,7 @@ impl Reader {
 
     // One more line that may stand. No text that isn't too large has more lines than a `u32` counts.
     fn take(&mut self, alloc: Global, phrase: &Phrase<'_>) -> Result<(), NoMemory>
-        ensures { OnOk result (self.new ≡ taken self.old phrase.now) }
+        ensures { OnOk result (self.new ≡ after_take self.old phrase.now) }
     {
         let Some(count) = self.count.checked_add(1) else {
             return Err(NoMemory);
@@ -300,7 +300,7 @@ impl Reader {
     fn blame_unsaid(&mut self, line: &[u8])
         requires { phrase_at line.now ≡ None }
         ensures { self.new
-            ≡ took self.old
+            ≡ after_verdict self.old
             (judge_alone self.old.stage self.old.declared self.old.draft.posted line.now) }
     {
         if is_printable(line) {
@@ -314,7 +314,7 @@ impl Reader {
     #[tactic(auto, using(crate::proofs::SpokenLaws::taken_said))]
     fn say(&mut self, text: &[u8]) -> Result<(), NoMemory>
         requires { IsTrue (is_text text.now) }
-        ensures { OnOk result (self.new ≡ taken self.old (saying text.now)) }
+        ensures { OnOk result (self.new ≡ after_take self.old (saying text.now)) }
     {
         let Some(count) = self.count.checked_add(1) else {
             return Err(NoMemory);
@@ -329,7 +329,7 @@ impl Reader {
     #[tactic(auto, using(crate::proofs::SpokenLaws::taken_posted))]
     fn post(&mut self, client: u8, text: &[u8]) -> Result<(), NoMemory>
         requires { IsTrue (is_text text.now) }
-        ensures { OnOk result (self.new ≡ taken self.old (posting client text.now)) }
+        ensures { OnOk result (self.new ≡ after_take self.old (posting client text.now)) }
     {
         let Some(count) = self.count.checked_add(1) else {
             return Err(NoMemory);
@@ -353,7 +353,7 @@ impl Reader {
     #[inline(never)]
     fn judge_next(&mut self, alloc: Global, line: &[u8]) -> Result<(), NoMemory>
         requires { self.old.bad ≡ None }
-        ensures { OnOk result (self.new ≡ judged None self.old line.now) }
+        ensures { OnOk result (self.new ≡ after_judge None self.old line.now) }
     {
         if let Some(text) = said_at(line) {
             if self.stage.allows(Role::Statement) {
@@ -372,7 +372,7 @@ impl Reader {
     #[inline(never)]
     fn judge_by_table(&mut self, alloc: Global, line: &[u8]) -> Result<(), NoMemory>
         requires { self.old.bad ≡ None }
-        ensures { OnOk result (self.new ≡ judged None self.old line.now) }
+        ensures { OnOk result (self.new ≡ after_judge None self.old line.now) }
     {
         match phrase_at(line) {
             Some(phrase) => {
@@ -389,7 +389,7 @@ impl Reader {
     // One more line, which is judged unless an earlier one is bad.
     #[inline(always)]
     fn judge(&mut self, alloc: Global, line: &[u8]) -> Result<(), NoMemory>
-        ensures { OnOk result (self.new ≡ judged self.old.bad self.old line.now) }
+        ensures { OnOk result (self.new ≡ after_judge self.old.bad self.old line.now) }
     {
         match self.bad {
             Some(_) => Ok(()),

@@ -1,6 +1,6 @@
 // Where the next line of a script will stand.
 ghost use Rattle.std.specs.Prelude.{◌≡◌};
-ghost use Rattle.script_text.specs.Grammar.{opened, stage_after, follows};
+ghost use Rattle.script_text.specs.Grammar.{stage_behind_first, stage_after, follows};
 ghost use Rattle.script_text.specs.Spelling.{breaks_again};
 
 use script_lines::Role;
@@ -32,7 +32,7 @@ pub enum Stage {
 
 // The stage in a procedure, by what its first statement leads to.
 fn opened(first: Stage, stage: Stage) -> Stage
-    ensures { result ≡ opened first stage }
+    ensures { result ≡ stage_behind_first first stage }
 {
     match stage {
         Stage::Proc => first,

@@ -4,12 +4,12 @@ use Rattle.pod_events.proofs.ReportLaws.{every_death_is_reported}
 use Rattle.pod_events.proofs.TrapLaws.{traps_are_raised_once}
 use Rattle.pod_events.specs.Events.{EventState, quiet_events}
 use Rattle.pod_events.specs.Laws.{is_raised, pends, told_in}
-use Rattle.pod_events.specs.Moves.{EventMove, event_move, moved_on}
+use Rattle.pod_events.specs.Moves.{EventMove, after_moves, event_move}
 use Rattle.pod_runner.proofs.Moving.{sessions_are_moves}
 use Rattle.session_laws.specs.Events.{PodEventsAreExact}
 use Rattle.std.proofs.Common.{List, [], ap, arith, count_by, refl, sym, ◌++◌, ◌∙◌, ◌∷◌, ◌≡◌}
 
-moved-append : (before later : List EventMove) (es : EventState) → moved_on (before ++ later) es ≡ moved_on later (moved_on before es)
+moved-append : (before later : List EventMove) (es : EventState) → after_moves (before ++ later) es ≡ after_moves later (after_moves before es)
 moved-append [] later es = refl
 moved-append (move ∷ before) later es = moved-append before later (event_move es move).after
 
@@ -23,8 +23,8 @@ pod_events_are_exact B setting low high takes n h =
       pod_is = moved.pod_is;
       effects_are = moved.effects_are;
       reports = λ before later is heard.
-          every_death_is_reported later (moved_on before start) heard
-          ∙ ap (λ (es : EventState). told_in later (moved_on before start) ++ es.reports) (sym (moved.pod_is ∙ ap (λ moves. moved_on moves start) is ∙ moved-append before later start));
+          every_death_is_reported later (after_moves before start) heard
+          ∙ ap (λ (es : EventState). told_in later (after_moves before start) ++ es.reports) (sym (moved.pod_is ∙ ap (λ moves. after_moves moves start) is ∙ moved-append before later start));
       traps = λ e.
           let none : pends e start ≡ 0 = refl in
           omega (arith, traps_are_raised_once e moved.moves start moved.can, ap (count_by (is_raised e)) moved.effects_are, ap (pends e) moved.pod_is, none);

@@ -1,19 +1,19 @@
 -- What gives the next exit procedure its number: an OnExit that isn't refused, and nothing else. What makes the clock tick: a line of its
 -- event, and nothing else. Which calls give a number to a thread or an agent: Create and Agent, and no other.
 use Rattle.lwp_types.specs.Agents.{deliver, deliver_to, end_agent, event_agents, message}
-use Rattle.lwp_types.specs.Case.{Case, Check, refused, unanswered, unless, valued, with_zero}
+use Rattle.lwp_types.specs.Case.{Case, Check, refusal_case, silent_case, unless, value_case, with_zero}
 use Rattle.lwp_types.specs.Choice.{choice}
-use Rattle.lwp_types.specs.Conditions.{condition_of, waited, woken, woken_all}
-use Rattle.lwp_types.specs.Death.{answer_joiners, bury, death, destroyed, end_agents, refuse_receivers, refuse_sender, refuse_senders, release_all, run_all_exits, withdraw}
-use Rattle.lwp_types.specs.Exceptions.{caught_marks, exits_of, first_frames, found, frames, later_frames, on_exit, with_match}
-use Rattle.lwp_types.specs.Exits.{caught, exit_case, leave_frame, notified_by, run_exit, unwind}
-use Rattle.lwp_types.specs.Messages.{as_answer, as_received, post, receive_by, receivers_of, replied, takes_from, unreceived, with_holding, without_letter}
+use Rattle.lwp_types.specs.Conditions.{after_wait, after_wake, after_wake_all, condition_of}
+use Rattle.lwp_types.specs.Death.{answer_joiners, bury, death, destroy_case, end_agents, refuse_receivers, refuse_sender, refuse_senders, release_all, run_all_exits, withdraw}
+use Rattle.lwp_types.specs.Exceptions.{caught_marks, exits_of, first_frames, frames, handler_of, later_frames, on_exit, with_match}
+use Rattle.lwp_types.specs.Exits.{catch_case, exit_case, leave_frame, notified_by, run_exit, unwind}
+use Rattle.lwp_types.specs.Messages.{after_reply, as_answer, as_received, next_letter, post, receive_by, receivers_of, takes_from, with_holding, without_letter}
 use Rattle.lwp_types.specs.MonitorRelease.{grant, last_lock, next_owner, release, without_lock}
-use Rattle.lwp_types.specs.Monitors.{depth_in, entered, exited, is_owned_by_other, requested, with_depth}
-use Rattle.lwp_types.specs.State.{Outcome, State, ThreadRow, and_then, for_each, in_order, is_agent, marked, marks_in, passes, still, thread_of, with_marks}
+use Rattle.lwp_types.specs.Monitors.{after_exit, after_request, depth_in, enter_case, is_owned_by_other, with_depth}
+use Rattle.lwp_types.specs.State.{Outcome, State, ThreadRow, and_then, for_each, in_order, is_agent, marks_in, passes, still, thread_of, with_marks, with_marks_of}
 use Rattle.lwp_types.specs.Step.{case_of, step, step_by, step_if}
-use Rattle.lwp_types.specs.Time.{due_threads, tick, ticked, time_out}
-use Rattle.lwp_types.specs.Unblock.{blocked, blocked_for, nonexist, unblock, zero_answer}
+use Rattle.lwp_types.specs.Time.{after_tick, due_threads, tick, time_out}
+use Rattle.lwp_types.specs.Unblock.{after_block, after_block_for, nonexist, unblock, zero_answer}
 use Rattle.lwp_types.specs.declared.call.Call.{Call}
 use Rattle.lwp_types.specs.declared.call.ExitCall.{ExitCall}
 use Rattle.lwp_types.specs.declared.call.Func.{Func}
@@ -58,7 +58,7 @@ none_granted (Some r) s = refl
 none_released : (m : ℕ) (s : State) → NoneGiven s (release m s).after
 none_released m s = none_granted (next_owner s m) (record s { locks = without_lock m s.locks })
 
-none_exited : (m : ℕ) (s : State) → NoneGiven s (exited m s).after
+none_exited : (m : ℕ) (s : State) → NoneGiven s (after_exit m s).after
 none_exited m s = by_depth (nat_le (depth_in s.locks m) 1)
   where
     by_depth : (b : Bool) → NoneGiven s (cond b (release m s) (still (record s { locks = with_depth m (depth_in s.locks m - 1) s.locks }))).after
@@ -72,24 +72,24 @@ none_posted letter s = by_test (passes (λ (row : ThreadRow). takes_from letter.
     by_test true = refl
     by_test false = refl
 
-none_replied : (u : ℕ) (text : List ℕ) (s : State) → NoneGiven s (replied u text s).after
+none_replied : (u : ℕ) (text : List ℕ) (s : State) → NoneGiven s (after_reply u text s).after
 none_replied u text s = by_agent (is_agent s u)
   where
     by_agent : (b : Bool) → NoneGiven s (cond b (still (record s { letters = without_letter u s.letters; agents = with_holding u false s.agents })) (unblock (answer.Reply text) u (record s { letters = without_letter u s.letters }))).after
     by_agent true = refl
     by_agent false = refl
 
-none_woken : (m : ℕ) (ws : List WaitRow) (s : State) → NoneGiven s (fold (λ now w. woken m w now) s ws)
+none_woken : (m : ℕ) (ws : List WaitRow) (s : State) → NoneGiven s (fold (λ now w. after_wake m w now) s ws)
 none_woken m [] s = refl
-none_woken m (w ∷ ws) s = none_woken m ws (woken m w s)
+none_woken m (w ∷ ws) s = none_woken m ws (after_wake m w s)
 
-none_woken_all : (o : Option CondRow) (ws : List WaitRow) (s : State) → NoneGiven s (woken_all o ws s)
+none_woken_all : (o : Option CondRow) (ws : List WaitRow) (s : State) → NoneGiven s (after_wake_all o ws s)
 none_woken_all None ws s = refl
 none_woken_all (Some row) ws s = none_woken row.mon ws s
 
-none_waited : (t c : ℕ) (o : Option Lock) (s : State) → NoneGiven s (waited t c o s).after
+none_waited : (t c : ℕ) (o : Option Lock) (s : State) → NoneGiven s (after_wait t c o s).after
 none_waited t c None s = refl
-none_waited t c (Some lock) s = none_released lock.mon (blocked (record s { waits = s.waits ++ record { cond = c; tid = t; depth = lock.depth } ∷ [] }) t (block.Waiting c))
+none_waited t c (Some lock) s = none_released lock.mon (after_block (record s { waits = s.waits ++ record { cond = c; tid = t; depth = lock.depth } ∷ [] }) t (block.Waiting c))
 
 none_each : {A : Type 0} (change : A → State → Outcome) → ((x : A) (s : State) → NoneGiven s (change x s).after) → (xs : List A) (s : State) → NoneGiven s (for_each change xs s).after
 unfolding for_each and_then
@@ -114,7 +114,7 @@ none_run s t (exit.SetExit code) = none_unless s _ _ refl
 none_run s t (exit.Note text) = refl
 
 none_unwound : (t : ℕ) (kept gone : List Mark) (s : State) → NoneGiven s (unwind t kept gone s).after
-none_unwound t kept gone s = none_each (run_exit t) (λ x s. none_run s t x.call) (exits_of gone) (marked s t kept)
+none_unwound t kept gone s = none_each (run_exit t) (λ x s. none_run s t x.call) (exits_of gone) (with_marks_of s t kept)
 
 -- ---- a death
 
@@ -148,14 +148,14 @@ none_received s t from mode.Poll None = refl
 none_received s t from mode.Poll (Some letter) = refl
 none_received s t from mode.Block None = refl
 none_received s t from mode.Block (Some letter) = refl
-none_received s t from (mode.Until ticks) None = none_cond s (eqb ticks 0) (refused s error.Timeout) (unanswered (still (blocked_for s t (block.Receiving from) ticks))) refl refl
+none_received s t from (mode.Until ticks) None = none_cond s (eqb ticks 0) (refusal_case s error.Timeout) (silent_case (still (after_block_for s t (block.Receiving from) ticks))) refl refl
 none_received s t from (mode.Until ticks) (Some letter) = refl
 
 none_matched : (s : State) (on_match : Found → Case) (o : Option Found) → ((f : Found) → NoneGiven s (on_match f).after) → NoneGiven s (with_match s on_match o).after
 none_matched s on_match None fine = refl
 none_matched s on_match (Some f) fine = fine f
 
-none_caught : (s : State) (t p : ℕ) (f : Found) → NoneGiven s (caught s t p f).after
+none_caught : (s : State) (t p : ℕ) (f : Found) → NoneGiven s (catch_case s t p f).after
 none_caught s t p f = none_unwound t (caught_marks f (marks_in s t)) (later_frames f.depth (marks_in s t)) s
 
 none_notified : (s : State) (t p : ℕ) (f : Found) (h : Func) → NoneGiven s (notified_by s t p f h).after
@@ -163,9 +163,9 @@ none_notified s t p f func.Give = refl
 none_notified s t p f func.Sum = refl
 none_notified s t p f func.Nothing = none_caught s t p f
 
-none_destroyed : (s : State) (t u : ℕ) → NoneGiven s (destroyed s t u).after
+none_destroyed : (s : State) (t u : ℕ) → NoneGiven s (destroy_case s t u).after
 none_destroyed s t u = none_cond s (is_agent s u) (with_zero (end_agent u s)) _ (none_ended u s)
-    (none_cond s (eqb t u) (unanswered (death u s)) (with_zero (death u s)) (none_died u s) (none_died u s))
+    (none_cond s (eqb t u) (silent_case (death u s)) (with_zero (death u s)) (none_died u s) (none_died u s))
 
 -- the one call that gives a number, unless it is refused
 exit_numbered : (s : State) (t : ℕ) (x : ExitCall) → (on_exit s t x).after.next_registration ≡ s.next_registration + set_by any_exit s t (call.OnExit x)
@@ -173,7 +173,7 @@ unfolding unless
 exit_numbered s t x = by_tests (nat_le 256 (length (marks_in s t))) (nat_le 4294967295 s.next_registration)
   where
     by_tests : (a b : Bool)
-        → (cond a (refused s error.NoRoom) (cond b (refused s error.NoRoom) (valued (record s { threads = with_marks t (marks_in s t ++ mark.Exit s.next_registration x ∷ []) s.threads; next_registration = s.next_registration + 1 }) s.next_registration))).after.next_registration
+        → (cond a (refusal_case s error.NoRoom) (cond b (refusal_case s error.NoRoom) (value_case (record s { threads = with_marks t (marks_in s t ++ mark.Exit s.next_registration x ∷ []) s.threads; next_registration = s.next_registration + 1 }) s.next_registration))).after.next_registration
         ≡ s.next_registration + cond (a || b) 0 1
     by_tests true b = omega arith
     by_tests false true = omega arith
@@ -209,16 +209,16 @@ bearing s t c checks otherwise never is number clock count = record {
 case_numbers : (s : State) (t : ℕ) (c : Call) → Numbers s t c (case_of s t c)
 case_numbers s t (call.Create number prio flags) = bearing s t _ _ _ refl refl refl refl refl
 case_numbers s t (call.Destroy u) = plain s t _ _ refl (none_unless s _ _ (none_destroyed s t u))
-case_numbers s t (call.Sleep ticks) = plain s t _ _ refl (none_cond s (eqb ticks 0) (valued s 0) (unanswered (still (blocked_for s t block.Sleeping ticks))) refl refl)
+case_numbers s t (call.Sleep ticks) = plain s t _ _ refl (none_cond s (eqb ticks 0) (value_case s 0) (silent_case (still (after_block_for s t block.Sleeping ticks))) refl refl)
 case_numbers s t call.Me = plain s t _ _ refl refl
 case_numbers s t call.GetExit = plain s t _ _ refl refl
 case_numbers s t call.Threads = plain s t _ _ refl refl
-case_numbers s t (call.Send u room text) = plain s t _ _ refl (none_unless s _ _ (none_posted (record { from = t; to = u; text = text; room = room; received = false }) (blocked s t block.Sending)))
-case_numbers s t (call.Recv from how) = plain s t _ _ refl (none_unless s _ _ (none_received s t from how (unreceived s.letters t from)))
+case_numbers s t (call.Send u room text) = plain s t _ _ refl (none_unless s _ _ (none_posted (record { from = t; to = u; text = text; room = room; received = false }) (after_block s t block.Sending)))
+case_numbers s t (call.Recv from how) = plain s t _ _ refl (none_unless s _ _ (none_received s t from how (next_letter s.letters t from)))
 case_numbers s t (call.Reply u text) = plain s t _ _ refl (none_unless s _ _ (none_replied u text s))
 case_numbers s t call.Senders = plain s t _ _ refl refl
 case_numbers s t call.Receivers = plain s t _ _ refl refl
-case_numbers s t (call.Enter m) = plain s t _ _ refl (none_unless s _ _ (none_cond s (is_owned_by_other s.locks t m) (unanswered (still (requested s t m))) (entered s t m) refl refl))
+case_numbers s t (call.Enter m) = plain s t _ _ refl (none_unless s _ _ (none_cond s (is_owned_by_other s.locks t m) (silent_case (still (after_request s t m))) (enter_case s t m) refl refl))
 case_numbers s t (call.MonExit m) = plain s t _ _ refl (none_unless s _ _ (none_exited m s))
 case_numbers s t (call.MonBreak m) = plain s t _ _ refl (none_unless s _ _ (none_released m s))
 case_numbers s t call.Monitors = plain s t _ _ refl refl
@@ -227,16 +227,16 @@ case_numbers s t (call.Notify c) = plain s t _ _ refl (none_unless s _ _ (none_w
 case_numbers s t (call.Broadcast c) = plain s t _ _ refl (none_unless s _ _ (none_woken_all (condition_of s.conditions c) _ s))
 case_numbers s t (call.CvSend c u) = plain s t _ _ refl (none_unless s _ _ (none_woken_all (condition_of s.conditions c) _ s))
 case_numbers s t call.Conditions = plain s t _ _ refl refl
-case_numbers s t call.Return = plain s t _ _ refl (none_cond s (nat_le 2 (frames (marks_in s t))) (leave_frame s t) (unanswered (death t s)) (none_unwound t (first_frames (frames (marks_in s t) - 1) (marks_in s t)) (later_frames (frames (marks_in s t) - 1) (marks_in s t)) s) (none_died t s))
+case_numbers s t call.Return = plain s t _ _ refl (none_cond s (nat_le 2 (frames (marks_in s t))) (leave_frame s t) (silent_case (death t s)) (none_unwound t (first_frames (frames (marks_in s t) - 1) (marks_in s t)) (later_frames (frames (marks_in s t) - 1) (marks_in s t)) s) (none_died t s))
 case_numbers s t (call.OnExit x) = record {
   next = exit_numbered s t x;
   still = unless_keeps (λ (after : State). after.now ≡ s.now) s _ _ refl (λ passed. refl);
   procs = unless_keeps (λ (after : State). after.procs ≡ s.procs) s _ _ refl (λ passed. refl);
   born = λ is. unless_keeps (λ (after : State). after.births ≡ s.births) s _ _ refl (λ passed. refl);
 }
-case_numbers s t (call.Raise q) = plain s t _ _ refl (none_unless s _ _ (none_matched s (caught s t q) (found s t q) (λ f. none_caught s t q f)))
-case_numbers s t (call.ExcNotify q) = plain s t _ _ refl (none_unless s _ _ (none_matched s (λ f. notified_by s t q f f.func) (found s t q) (λ f. none_notified s t q f f.func)))
-case_numbers s t (call.Bound q) = plain s t _ _ refl (none_unless s _ _ (none_matched s _ (found s t q) (λ f. refl)))
+case_numbers s t (call.Raise q) = plain s t _ _ refl (none_unless s _ _ (none_matched s (catch_case s t q) (handler_of s t q) (λ f. none_caught s t q f)))
+case_numbers s t (call.ExcNotify q) = plain s t _ _ refl (none_unless s _ _ (none_matched s (λ f. notified_by s t q f f.func) (handler_of s t q) (λ f. none_notified s t q f f.func)))
+case_numbers s t (call.Bound q) = plain s t _ _ refl (none_unless s _ _ (none_matched s _ (handler_of s t q) (λ f. refl)))
 case_numbers s t (call.Agent e) = bearing s t _ _ _ refl refl refl refl refl
 case_numbers s t call.Agents = plain s t _ _ refl refl
 case_numbers s t (call.Trap e) = plain s t _ _ refl refl
@@ -284,7 +284,7 @@ unfolding deliver and_then
 delivered_so s e text = by_clock (eqb e 0)
   where
     by_clock : (b : Bool) → counters (cond b (tick s) (for_each (deliver_to text) (event_agents s.agents e) s)).after ≡ (s.next_registration, cond b (s.now + 1) s.now, s.births, s.procs)
-    by_clock true = none_each time_out (λ u now. refl) (due_threads (ticked s)) (ticked s)
+    by_clock true = none_each time_out (λ u now. refl) (due_threads (after_tick s)) (after_tick s)
     by_clock false = none_each (deliver_to text) (λ row now. none_posted (message text row) (record now { agents = with_holding row.number true now.agents })) (event_agents s.agents e) s
 
 pub deliveries_number_none : DeliveriesNumberNone

@@ -1,6 +1,6 @@
 -- What a call or a take of a pod with its own events does to exit procedures and to the dead: what one step of the machine does at
 -- most, with a delivery behind it.
-use Rattle.lwp_types.specs.Agents.{armed, deliver}
+use Rattle.lwp_types.specs.Agents.{deliver, is_event_armed}
 use Rattle.lwp_types.specs.Case.{Case}
 use Rattle.lwp_types.specs.Choice.{choice}
 use Rattle.lwp_types.specs.CountLaws.{count-append, count-cons, count_never, one, one-le}
@@ -17,11 +17,11 @@ use Rattle.lwp_types.specs.declared.call.LwpErr.{LwpErr}
 use Rattle.lwp_types.specs.declared.rows.Mark.{Mark}
 use Rattle.pod_events.proofs.Mild.{mild_deliver}
 use Rattle.pod_events.proofs.MildCalls.{case_toll, is_tame, mild_tame}
-use Rattle.pod_events.specs.Events.{EventState, is_takeable, is_trapped, may_trap, passed_on, rites_event, take_event, trap_taken}
+use Rattle.pod_events.specs.Events.{EventState, after_pass_on, after_take_trap, is_takeable, is_trapped, may_trap, rites_event, take_event}
 use Rattle.pod_events.specs.Laws.{AsksForFates}
-use Rattle.pod_events.specs.Rites.{as_rites, first_reported, report_text, rites_said}
+use Rattle.pod_events.specs.Rites.{after_first_report, as_rites, report_text, rites_said}
 use Rattle.pod_events.specs.Step.{event_step, event_step_by, event_step_if}
-use Rattle.pod_events.specs.Traps.{agent_event_of, but_call, called, is_catch, is_given, made, made_as, notice, refused_by, stepped, trap_made, trap_of, trap_refusal}
+use Rattle.pod_events.specs.Traps.{after_call, after_call_as, after_machine_step, after_trap, after_trap_and_call, agent_event_of, but_call, is_catch, is_given, notice, refused_by, trap_of, trap_refusal}
 use Rattle.pod_laws.proofs.Absent.{deliveries_are_quiet}
 use Rattle.pod_laws.proofs.Chosen.{chosen}
 use Rattle.pod_laws.proofs.Died.{case_died, death_died, finished_died, the_dead_are_forgotten}
@@ -320,14 +320,14 @@ calls_quiet s was t c a never = record {
     by_sets p rest (Nothing none untold) = untold p t (effect.Answered t a ∷ rest)
     by_sets p rest (Exit x e) = absurd (never x e)
 
-calls_made : (s : State) → Lawful s None → (trapped : List Bool) (t : ℕ) (c : Call) → choice s ≡ Some t → Calls s (made s trapped t c).state (made s trapped t c).effects
+calls_made : (s : State) → Lawful s None → (trapped : List Bool) (t : ℕ) (c : Call) → choice s ≡ Some t → Calls s (after_call s trapped t c).state (after_call s trapped t c).effects
 calls_made s was trapped t c turn = by_trap (trap_of c) refl
   where
-    by_refusal : (e : ℕ) → trap_of c ≡ Some e → (o : Option LwpErr) → Calls s (trap_made s trapped t c e o).state (trap_made s trapped t c e o).effects
+    by_refusal : (e : ℕ) → trap_of c ≡ Some e → (o : Option LwpErr) → Calls s (after_trap s trapped t c e o).state (after_trap s trapped t c e o).effects
     by_refusal e is None = calls_quiet s was t c _ (λ x same. let no : Some e ≡ None = sym is ∙ ap trap_of same in absurd (cc))
     by_refusal e is (Some why) = calls_quiet s was t c _ (λ x same. let no : Some e ≡ None = sym is ∙ ap trap_of same in absurd (cc))
 
-    by_agent : (b : Bool) → passes (is_trapped trapped) (agent_event_of c) ≡ b → Calls s (cond b (refused_by s trapped t c error.InUse) (stepped trapped (step s c))).state (cond b (refused_by s trapped t c error.InUse) (stepped trapped (step s c))).effects
+    by_agent : (b : Bool) → passes (is_trapped trapped) (agent_event_of c) ≡ b → Calls s (cond b (refused_by s trapped t c error.InUse) (after_machine_step trapped (step s c))).state (cond b (refused_by s trapped t c error.InUse) (after_machine_step trapped (step s c))).effects
     by_agent true is = calls_quiet s was t c _ (λ x same. let no : false ≡ true = sym (ap (λ d. passes (is_trapped trapped) (agent_event_of d)) same) ∙ is in absurd (cc))
     by_agent false is = record {
       sets = λ p. set_now p s (choice s) c;
@@ -336,7 +336,7 @@ calls_made s was trapped t c turn = by_trap (trap_of c) refl
       lawful = Lawful-step s was c;
     }
 
-    by_trap : (o : Option ℕ) → trap_of c ≡ o → Calls s (made_as s trapped t c o).state (made_as s trapped t c o).effects
+    by_trap : (o : Option ℕ) → trap_of c ≡ o → Calls s (after_call_as s trapped t c o).state (after_call_as s trapped t c o).effects
     by_trap None is = by_agent (passes (is_trapped trapped) (agent_event_of c)) refl
     by_trap (Some e) is = by_refusal e is (trap_refusal s trapped e)
 
@@ -367,13 +367,13 @@ calls_trapped s after es t e calls = record {
   lawful = calls.lawful;
 }
 
-calls_called : (s : State) → Lawful s None → (trapped : List Bool) (t : ℕ) (c : Call) (pending : Option ℕ) → choice s ≡ Some t → Calls s (called s trapped t c pending).state (called s trapped t c pending).effects
+calls_called : (s : State) → Lawful s None → (trapped : List Bool) (t : ℕ) (c : Call) (pending : Option ℕ) → choice s ≡ Some t → Calls s (after_trap_and_call s trapped t c pending).state (after_trap_and_call s trapped t c pending).effects
 calls_called s was trapped t c None turn = calls_made s was trapped t c turn
 calls_called s was trapped t c (Some e) turn = by_given (passes is_given (notice s t e)) (passes is_catch (notice s t e))
   where
     by_given : (b d : Bool) → Calls s
-        (cond b (made s trapped t c) (cond d (stepped trapped (but_call (step s (call.ExcNotify e)))) (stepped trapped (but_call (step s (call.Destroy t)))))).state
-        (effect.Trapped t e ∷ (cond b (made s trapped t c) (cond d (stepped trapped (but_call (step s (call.ExcNotify e)))) (stepped trapped (but_call (step s (call.Destroy t)))))).effects)
+        (cond b (after_call s trapped t c) (cond d (after_machine_step trapped (but_call (step s (call.ExcNotify e)))) (after_machine_step trapped (but_call (step s (call.Destroy t)))))).state
+        (effect.Trapped t e ∷ (cond b (after_call s trapped t c) (cond d (after_machine_step trapped (but_call (step s (call.ExcNotify e)))) (after_machine_step trapped (but_call (step s (call.Destroy t)))))).effects)
     by_given true d = calls_trapped s _ _ t e (calls_made s was trapped t c turn)
     by_given false true = calls_trapped s _ _ t e (calls_unasked s was t (call.ExcNotify e) turn (λ p. refl))
     by_given false false = calls_trapped s _ _ t e (calls_unasked s was t (call.Destroy t) turn (λ p. refl))
@@ -408,12 +408,12 @@ rites-same q asks dead (x ∷ xs) = omega (arith, count-cons q (as_rites dead x)
 
 -- with the report behind it
 said_moved : (from s : State) (es : List Effect) (reports : List ℕ) → Calls from s es → Moved from (rites_said s es reports).state (rites_said s es reports).effects
-said_moved from s es reports calls = by_armed (armed s rites_event) refl reports
+said_moved from s es reports calls = by_armed (is_event_armed s rites_event) refl reports
   where
     silent : Moved from s es
     silent = record { sets = calls.sets; does = calls.does; told = λ p. sym (ap (exits_set_in p) (append-nil es)) ∙ calls.told p [] refl; lawful = calls.lawful }
 
-    by_armed : (b : Bool) → armed s rites_event ≡ b → (rs : List ℕ) → Moved from (cond b (first_reported s es rs) (record { state = s; reports = rs; effects = es })).state (cond b (first_reported s es rs) (record { state = s; reports = rs; effects = es })).effects
+    by_armed : (b : Bool) → is_event_armed s rites_event ≡ b → (rs : List ℕ) → Moved from (cond b (after_first_report s es rs) (record { state = s; reports = rs; effects = es })).state (cond b (after_first_report s es rs) (record { state = s; reports = rs; effects = es })).effects
     by_armed true arms [] = silent
     by_armed true arms (dead ∷ later) =
         let sent = (deliver s rites_event (report_text dead)).effects in
@@ -438,7 +438,7 @@ pub take_moved : (es : EventState) → Lawful es.state None → (e : ℕ) (text 
 unfolding take_event
 take_moved es was e text may = by_trapped (is_trapped es.trapped e) may
   where
-    by_trapped : (b : Bool) → cond b (may_trap es) (nat_lt e rites_event && armed es.state e) ≡ true → Moved es.state (cond b (trap_taken es e) (passed_on es (deliver es.state e text))).after.state (cond b (trap_taken es e) (passed_on es (deliver es.state e text))).effects
+    by_trapped : (b : Bool) → cond b (may_trap es) (nat_lt e rites_event && is_event_armed es.state e) ≡ true → Moved es.state (cond b (after_take_trap es e) (after_pass_on es (deliver es.state e text))).after.state (cond b (after_take_trap es e) (after_pass_on es (deliver es.state e text))).effects
     by_trapped true h = record {
       sets = λ p. 0;
       does = does_none es.state _ (λ q asks. omega (arith, count-cons q (effect.Delivered null_id e) [], ap one (asks.no_delivery null_id e)));

@@ -1,5 +1,5 @@
 -- What the effects of a step tell of the exit procedure that it sets.
-use Rattle.lwp_types.specs.Case.{Case, refused, unless, valued}
+use Rattle.lwp_types.specs.Case.{Case, refusal_case, unless, value_case}
 use Rattle.lwp_types.specs.Choice.{choice}
 use Rattle.lwp_types.specs.Exceptions.{on_exit}
 use Rattle.lwp_types.specs.State.{State, marks_in, with_marks}
@@ -42,7 +42,7 @@ module _ (p : ExitTest) where
       refusal false = refl
 
       by_tests : (a b : Bool)
-          → set_if p t x (answered_in t (cond a (refused s error.NoRoom) (cond b (refused s error.NoRoom) (valued (record s { threads = with_marks t (marks_in s t ++ mark.Exit s.next_registration x ∷ []) s.threads; next_registration = s.next_registration + 1 }) s.next_registration))) rest)
+          → set_if p t x (answered_in t (cond a (refusal_case s error.NoRoom) (cond b (refusal_case s error.NoRoom) (value_case (record s { threads = with_marks t (marks_in s t ++ mark.Exit s.next_registration x ∷ []) s.threads; next_registration = s.next_registration + 1 }) s.next_registration))) rest)
           ≡ cond (a || b) 0 (cond (p t s.next_registration x) 1 0)
       by_tests true b = refusal (eqb t t)
       by_tests false true = refusal (eqb t t)

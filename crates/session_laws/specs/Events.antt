@@ -2,7 +2,7 @@
 use Rattle.lwp_types.specs.State.{opening}
 use Rattle.pod_events.specs.Events.{EventState, quiet_events}
 use Rattle.pod_events.specs.Laws.{AlwaysHeard, CanMove, is_raised, mourned_in, pends, told_in, traps_in}
-use Rattle.pod_events.specs.Moves.{EventMove, effects_of, moved_on}
+use Rattle.pod_events.specs.Moves.{EventMove, after_moves, effects_of}
 use Rattle.pod_runner.specs.Due.{IsDefined}
 use Rattle.pod_runner.specs.Play.{play}
 use Rattle.pod_runner.specs.Session.{Made, Setting}
@@ -15,12 +15,12 @@ use Rattle.std.specs.Prelude.{List, ℕ, ◌++◌, ◌+◌, ◌≡◌, ◌≤◌
 pub record IsExact (start pod : EventState) (steps : List Made) : Type 0 where
   pub moves : List EventMove
   pub can : CanMove moves start
-  pub pod_is : pod ≡ moved_on moves start
+  pub pod_is : pod ≡ after_moves moves start
   pub effects_are : effects_in steps ≡ effects_of moves start
   -- As long as event 32 has an agent, each death of an unmarked thread is reported once, in the order of deaths, or waits: from any
   -- point on, what waited then and who died since are who was reported since, and what waits now.
-  pub reports : (before later : List EventMove) → moves ≡ before ++ later → AlwaysHeard later (moved_on before start)
-      → (moved_on before start).reports ++ mourned_in later (moved_on before start) ≡ told_in later (moved_on before start) ++ pod.reports
+  pub reports : (before later : List EventMove) → moves ≡ before ++ later → AlwaysHeard later (after_moves before start)
+      → (after_moves before start).reports ++ mourned_in later (after_moves before start) ≡ told_in later (after_moves before start) ++ pod.reports
   -- Of each event: each line of it that was taken as a trap was raised once, or is to be.
   pub traps : (e : ℕ) → count_by (is_raised e) (effects_in steps) + pends e pod ≡ traps_in e moves start
 

@@ -51,17 +51,17 @@ module _ {T : Type 0} where
   empty_register limit = record { live = []; births = 0; limit = limit; places = 0 }
 
   -- there are n places at least
-  abbrev pub reserved : Register T → ℕ → Register T
-  reserved r n = record r { places = max r.places n }
+  abbrev pub after_reserve : Register T → ℕ → Register T
+  after_reserve r n = record r { places = max r.places n }
 
   -- the value is born
-  abbrev pub inserted : Register T → T → Register T
-  inserted r value = record r { live = r.live ++ (r.births, value) ∷ []; births = r.births + 1 }
+  abbrev pub after_insert : Register T → T → Register T
+  after_insert r value = record r { live = r.live ++ (r.births, value) ∷ []; births = r.births + 1 }
 
   -- what lived under n goes
-  abbrev pub removed : Register T → ℕ → Register T
-  removed r n = record r { live = without n r.live }
+  abbrev pub after_remove : Register T → ℕ → Register T
+  after_remove r n = record r { live = without n r.live }
 
   -- what lives under n becomes another value
-  abbrev pub written : Register T → ℕ → T → Register T
-  written r n value = record r { live = with_value n value r.live }
+  abbrev pub after_write : Register T → ℕ → T → Register T
+  after_write r n value = record r { live = with_value n value r.live }

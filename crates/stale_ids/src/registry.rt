@@ -2,7 +2,7 @@
 ghost use Rattle.std.specs.Prelude.{◌≡◌, ◌<◌, ◌≤◌, ◌↔◌, length, IsTrue, IsOk, IsErr, IsSome, IfOk, IfErr, OnOk, OnErr, None, Some, option_copied, slice_index};
 ghost use Rattle.std.specs.Option.{option_copied_mut};
 ghost use Rattle.std.specs.Borrow.{sem};
-ghost use Rattle.stale_ids.specs.Register.{AreBorn, AreRising, empty_register, inserted, numbers, removed, reserved, value_of};
+ghost use Rattle.stale_ids.specs.Register.{AreBorn, AreRising, after_insert, after_remove, after_reserve, empty_register, numbers, value_of};
 
 use crate::index::{Place, place_of};
 use lwp_types::NoMemory;
@@ -64,7 +64,7 @@ impl<T> Registry<T> {
 
     /// Makes places for `n` of the living in all; to insert so many then takes no memory.
     pub fn reserve(&mut self, n: usize) -> Result<(), NoMemory>
-        ensures ok { OnOk result (self.new ≡ reserved self.old n) }
+        ensures ok { OnOk result (self.new ≡ after_reserve self.old n) }
         ensures err { OnErr result (self.new ≡ self.old) }
         ensures has_room { n ≤ self.old.places → IsOk result }
     {
@@ -81,7 +81,7 @@ impl<T> Registry<T> {
     /// A birth: the value lives under the next number. Past the last birth the value comes back.
     pub fn insert(&mut self, value: T) -> Result<u64, T>
         requires { length self.old.live < self.old.places }
-        ensures ok { OnOk result (self.new ≡ inserted self.old value) }
+        ensures ok { OnOk result (self.new ≡ after_insert self.old value) }
         ensures number { IfOk result (λ number. number ≡ self.old.births) }
         ensures fresh { value_of self.old.births self.old.live ≡ None }
         ensures at_limit { IsErr result ↔ (self.old.births ≡ self.old.limit) }
@@ -142,7 +142,7 @@ impl<T> Registry<T> {
     /// The end of a life: the value goes, and its number finds nobody from then on.
     pub fn remove(&mut self, n: u64) -> Option<T>
         ensures value { result ≡ value_of n self.old.live }
-        ensures rest { self.new ≡ removed self.old n }
+        ensures rest { self.new ≡ after_remove self.old n }
         ensures gone { value_of n self.new.live ≡ None }
     {
         let at = place_of(&self.index, n)?;

@@ -10,16 +10,16 @@ abbrev pub read_faults : StdSource → ℕ
 read_faults source = source.faults
 
 -- a writer that is given no byte any more
-abbrev pub closed : {W : Type 0} → UntilFault W → UntilFault W
-closed writer = record writer { is_closed = true }
+abbrev pub after_close : {W : Type 0} → UntilFault W → UntilFault W
+after_close writer = record writer { is_closed = true }
 
 -- how many writes have failed
 abbrev pub write_faults : {W : Type 0} → GatheringSink W → ℕ
 write_faults sink = sink.faults
 
 -- the bytes that were taken and aren't written yet
-abbrev pub gathered : {W : Type 0} → GatheringSink W → List ℕ
-gathered sink = writer_buffer sink.out
+abbrev pub gathered_bytes : {W : Type 0} → GatheringSink W → List ℕ
+gathered_bytes sink = writer_buffer sink.out
 
 -- a write has failed, so none comes any more
 abbrev pub is_closed : {W : Type 0} → GatheringSink W → Bool

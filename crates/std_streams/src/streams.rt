@@ -41,12 +41,12 @@ impl StdSource {
 
 impl<W: Write + Drop> GatheringSink<W> {
     ghost use Rattle.lwp_types.specs.Streams.{HasCause};
-    ghost use Rattle.std_streams.specs.Streams.{IsLeft, gathered, is_closed, write_faults};
+    ghost use Rattle.std_streams.specs.Streams.{IsLeft, gathered_bytes, is_closed, write_faults};
 
     /// Takes the memory for all that it will ever gather, which is `most`. Where that is 0, each write goes out at once.
     pub fn new(alloc: Global, out: W, most: usize) -> io::Result<GatheringSink<W>>
         ensures faults { IfOk result (λ sink. write_faults sink ≡ 0) }
-        ensures empty { IfOk result (λ sink. gathered sink ≡ []) }
+        ensures empty { IfOk result (λ sink. gathered_bytes sink ≡ []) }
         ensures open { IfOk result (λ sink. is_closed sink ≡ false) }
     {
         let out = BufWriter::with_capacity(alloc, most, UntilFault::new(out))?;
@@ -56,7 +56,7 @@ impl<W: Write + Drop> GatheringSink<W> {
     /// Writes what is gathered.
     pub fn finish(&mut self) -> Result<(), Failed>
         ensures cause { HasCause (write_faults self.old) (write_faults self.new) result }
-        ensures rest { OnOk result (gathered self.new ≡ []) }
+        ensures rest { OnOk result (gathered_bytes self.new ≡ []) }
         ensures closed { IsTrue (is_closed self.old) → IsErr result × IsLeft self.old self.new }
     {
         if self.out.get_ref().is_closed() {
@@ -113,7 +113,7 @@ impl Source for StdSource {
 impl<W: Write + Drop> Sink for GatheringSink<W> {
     ghost use Rattle.std.specs.Prelude.{None};
     ghost use Rattle.lwp_types.specs.Streams.{HasCause};
-    ghost use Rattle.std_streams.specs.Streams.{IsLeft, gathered, is_closed, write_faults};
+    ghost use Rattle.std_streams.specs.Streams.{IsLeft, gathered_bytes, is_closed, write_faults};
 
     ghost written = { λ s. None };
 
@@ -138,7 +138,7 @@ impl<W: Write + Drop> Sink for GatheringSink<W> {
     // What can't be written is lost, and every later write fails.
     fn hand_on(&mut self)
         ensures cause { write_faults self.new ≡ write_faults self.old }
-        ensures handed { is_closed self.new ≡ false → gathered self.new ≡ [] }
+        ensures handed { is_closed self.new ≡ false → gathered_bytes self.new ≡ [] }
         ensures closed { IsTrue (is_closed self.old) → IsLeft self.old self.new }
     {
         if self.out.get_ref().is_closed() {

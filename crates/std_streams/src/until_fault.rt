@@ -1,7 +1,7 @@
 // A writer up to its first failure.
 ghost use Rattle.std.specs.Prelude.{◌≡◌, ◌<◌, ◌≤◌, false, true, IfOk, IsErr, IsTrue, OnErr, length};
 ghost use Rattle.std.specs.Io.KnownBytes.{Keeps, WriteAppends};
-ghost use Rattle.std_streams.specs.Streams.{closed};
+ghost use Rattle.std_streams.specs.Streams.{after_close};
 
 use std::io;
 use std::io::{ErrorKind, Write};
@@ -34,7 +34,7 @@ impl<W: Write + Drop> UntilFault<W> {
 
     /// From now on no byte is handed on.
     pub fn close(&mut self)
-        ensures { self.new ≡ closed self.old }
+        ensures { self.new ≡ after_close self.old }
     {
         self.is_closed = true;
     }

@@ -4,6 +4,6 @@ use Rattle.stored_rows.specs.declared.damage.Damage.{Damage}
 use Rattle.stored_rows.specs.declared.damage.Damage.TheVariants as damage
 
 -- it ends early, or one byte of it is zero
-abbrev pub damaged : Damage → List ℕ → List ℕ
-damaged (damage.Cut n) file = take n file
-damaged (damage.Zero n) file = slice_set file n 0
+abbrev pub after_damage : Damage → List ℕ → List ℕ
+after_damage (damage.Cut n) file = take n file
+after_damage (damage.Zero n) file = slice_set file n 0

@@ -1,6 +1,6 @@
 // Files with one thing wrong.
 ghost use Rattle.std.specs.Prelude.{◌≡◌, IfOk};
-ghost use Rattle.stored_rows.specs.Damages.{damaged};
+ghost use Rattle.stored_rows.specs.Damages.{after_damage};
 
 use lwp_types::NoMemory;
 use std::alloc::Global;
@@ -24,7 +24,7 @@ impl fmt::Display for Damage {
 
 /// A copy of the file, so damaged. Past its end nothing is done.
 pub fn damaged(alloc: Global, file: &[u8], damage: Damage) -> Result<Vec<u8>, NoMemory>
-    ensures { IfOk result (λ bytes. bytes.items ≡ damaged damage file.now) }
+    ensures { IfOk result (λ bytes. bytes.items ≡ after_damage damage file.now) }
 {
     let mut bytes = file.to_vec(alloc)?;
     match damage {

@@ -6,7 +6,7 @@ ghost use Rattle.death_cleanup.specs.Ties.{LawfulParts};
 ghost use Rattle.tests_of_pods.specs.Living.{register_as};
 ghost use Rattle.exceptions.specs.Stack.{one_frame};
 ghost use Rattle.monitors.specs.MonitorTable.{empty_table};
-ghost use Rattle.stale_ids.specs.Register.{inserted};
+ghost use Rattle.stale_ids.specs.Register.{after_insert};
 
 use agents::Agents;
 use conditions::{Conditions, WaitRec};
@@ -39,7 +39,7 @@ const AGENT: Tid = Tid { number: 8 };
 fn bear_with<'s>(ids: &mut Registry<Kind<'s>>, block: Block, stack: ExceptionStack<'s>)
     requires room { length ids.old.live < ids.old.places }
     requires more { ids.old.births < ids.old.limit }
-    ensures { ids.new ≡ inserted ids.old (thread block stack.entry) }
+    ensures { ids.new ≡ after_insert ids.old (thread block stack.entry) }
 {
     let _ = ids.insert(Kind::Thread(ThreadRec {
         flags: PLAIN,
@@ -52,7 +52,7 @@ fn bear_with<'s>(ids: &mut Registry<Kind<'s>>, block: Block, stack: ExceptionSta
 fn bear(ids: &mut Registry<Kind>, alloc: Global, block: Block) -> Result<(), NoMemory>
     requires room { length ids.old.live < ids.old.places }
     requires more { ids.old.births < ids.old.limit }
-    ensures { OnOk result (ids.new ≡ inserted ids.old (thread block one_frame)) }
+    ensures { OnOk result (ids.new ≡ after_insert ids.old (thread block one_frame)) }
 {
     let stack = ExceptionStack::new(alloc)?;
     bear_with(ids, block, stack);

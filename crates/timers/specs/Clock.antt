@@ -34,21 +34,21 @@ abbrev pub first_clock : Clock
 first_clock = record { timers = []; now = 0; places = 0 }
 
 -- places for n timers at least
-abbrev pub reserved : Clock → ℕ → Clock
-reserved c n = record c { places = max c.places n }
+abbrev pub after_reserve : Clock → ℕ → Clock
+after_reserve c n = record c { places = max c.places n }
 
 -- it has ticked once more
-abbrev pub ticked : Clock → Clock
-ticked c = record c { now = c.now + 1 }
+abbrev pub after_tick : Clock → Clock
+after_tick c = record c { now = c.now + 1 }
 
 -- one timer more
-abbrev pub set : Clock → ℕ → ℕ → Clock
-set c t due = record c { timers = c.timers ++ record { tid = t; due = due } ∷ [] }
+abbrev pub after_set : Clock → ℕ → ℕ → Clock
+after_set c t due = record c { timers = c.timers ++ record { tid = t; due = due } ∷ [] }
 
 -- the thread's timer is gone, if it has one
-abbrev pub dropped : Clock → ℕ → Clock
-dropped c t = record c { timers = without_timer t c.timers }
+abbrev pub after_drop : Clock → ℕ → Clock
+after_drop c t = record c { timers = without_timer t c.timers }
 
 -- the first timer that is due is gone
-abbrev pub popped : Clock → Clock
-popped c = record c { timers = without_found (first_due c.timers c.now) c.timers }
+abbrev pub after_pop : Clock → Clock
+after_pop c = record c { timers = without_found (first_due c.timers c.now) c.timers }

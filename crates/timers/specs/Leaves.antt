@@ -47,9 +47,9 @@ abbrev pub with_leaf : Shelved → ℕ → ℕ → Shelved
 with_leaf s t due = record s { leaves = s.leaves ++ timer_leaf t due ∷ [] }
 
 -- the leaf is empty
-abbrev pub emptied : Shelved → ℕ → Shelved
-emptied s i = record s { leaves = slice_set s.leaves i None }
+abbrev pub after_take : Shelved → ℕ → Shelved
+after_take s i = record s { leaves = slice_set s.leaves i None }
 
 -- the empty leaves are gone
-abbrev pub packed : Shelved → Shelved
-packed s = record s { leaves = filter is_some s.leaves }
+abbrev pub after_pack : Shelved → Shelved
+after_pack s = record s { leaves = filter is_some s.leaves }

@@ -5,7 +5,7 @@ ghost use Rattle.lwp_types.specs.Time.{is_due};
 ghost use Rattle.lwp_types.specs.Unblock.{is_timer_of};
 ghost use Rattle.thread_index.specs.Index.{IsEmpty, width_of};
 ghost use Rattle.timers.specs.Kept.{IsFiled};
-ghost use Rattle.timers.specs.Leaves.{IsOnce, bare, emptied, first_of, leaf_at, never, packed, timer_leaf, with_leaf};
+ghost use Rattle.timers.specs.Leaves.{IsOnce, after_pack, after_take, bare, first_of, leaf_at, never, timer_leaf, with_leaf};
 ghost use Rattle.thread_index.specs.Living.{living};
 
 use crate::minima::{Minima, NEVER};
@@ -139,7 +139,7 @@ impl Shelf {
     pub fn take(&mut self, leaf: usize) -> Option<TimerRow>
         requires { leaf < length self.old.leaves }
         ensures value { result ≡ leaf_at self.old.leaves leaf }
-        ensures after { self.new ≡ emptied self.old leaf }
+        ensures after { self.new ≡ after_take self.old leaf }
         ensures once { IsOnce self.old.leaves }
     {
         let row = leaf_at(&self.leaves, leaf)?;
@@ -175,7 +175,7 @@ impl Shelf {
 
     // The empty leaves go; the others keep their order.
     fn pack(&mut self)
-        ensures { self.new ≡ packed self.old }
+        ensures { self.new ≡ after_pack self.old }
     {
         close_up(&mut self.leaves);
         self.dues.clear();

@@ -1,6 +1,6 @@
 // The clock, and the threads that wait for it.
 ghost use Rattle.std.specs.Prelude.{◌≡◌, ◌<◌, ◌≤◌, false, length, option_map, IsOk, OnOk, OnErr};
-ghost use Rattle.timers.specs.Clock.{dropped, first_clock, first_due, has_timer, popped, reserved, set, ticked};
+ghost use Rattle.timers.specs.Clock.{after_drop, after_pop, after_reserve, after_set, after_tick, first_clock, first_due, has_timer};
 
 use crate::shelf::Shelf;
 use lwp_types::{NoMemory, Tid};
@@ -55,7 +55,7 @@ impl Timers {
 
     /// Makes places for `n` timers in all; so many can then be set with no more memory.
     pub fn reserve(&mut self, n: usize) -> Result<(), NoMemory>
-        ensures ok { OnOk result (self.new ≡ reserved self.old n) }
+        ensures ok { OnOk result (self.new ≡ after_reserve self.old n) }
         ensures err { OnErr result (self.new ≡ self.old) }
         ensures has_room { n ≤ self.old.places → IsOk result }
     {
@@ -85,7 +85,7 @@ impl Timers {
     /// The clock ticks.
     pub fn tick(&mut self)
         requires { self.old.now < 4294967295 }
-        ensures { self.new ≡ ticked self.old }
+        ensures { self.new ≡ after_tick self.old }
     {
         self.now += 1;
     }
@@ -94,7 +94,7 @@ impl Timers {
     pub fn set(&mut self, tid: Tid, due: u64)
         requires new { has_timer self.old tid ≡ false }
         requires room { length self.old.timers < self.old.places }
-        ensures { self.new ≡ set self.old tid due }
+        ensures { self.new ≡ after_set self.old tid due }
     {
         self.shelf.make_room();
         self.shelf.add(tid, due);
@@ -102,7 +102,7 @@ impl Timers {
 
     /// The thread's timer goes. Where there is none, nothing happens.
     pub fn drop_of(&mut self, tid: Tid)
-        ensures { self.new ≡ dropped self.old tid }
+        ensures { self.new ≡ after_drop self.old tid }
     {
         if let Some(leaf) = self.shelf.leaf_of(tid) {
             self.shelf.take(leaf);
@@ -113,7 +113,7 @@ impl Timers {
     pub fn pop(&mut self) -> Option<Tid>
         ensures value { result
             ≡ option_map (λ row. row.tid) (first_due self.old.timers self.old.now) }
-        ensures after { self.new ≡ popped self.old }
+        ensures after { self.new ≡ after_pop self.old }
     {
         let leaf = self.shelf.first_due(self.now)?;
         let row = self.shelf.take(leaf)?;

@@ -17,13 +17,13 @@ use Rattle.std.specs.Fmt.{decimal, digits}
 use Rattle.std.specs.Prelude.{IsTrue, bytes_eq, negsuc, not, pos}
 use Rattle.script_lines.specs.Table.{op_at, row_of}
 use Rattle.trace_lines.proofs.WordLaws.{EndsDigits, behind_again, id_again, id_alone, not_number, not_number_on, number_again, number_alone, number_is_word, rest_again, who_again, who_alone, whole_alone}
-use Rattle.trace_lines.specs.Entries.{also_told, call_entry, entry_of, event_told, exited, gain_of, id_of, is_suspended, posted, rites_told, target_of, thread_entry, tick_told, trap_told, verb_of, who_of}
+use Rattle.trace_lines.specs.Entries.{also_told, call_entry, entry_of, event_told, exit_entry_by, gain_of, id_of, is_suspended, rites_told, taken_post, target_of, thread_entry, tick_told, trap_told, verb_of, who_of}
 use Rattle.trace_lines.specs.Told.{AlsoIsRead, AnswersAreRead, CallsAreRead, DeathsAreRead, EndsAreRead, EventsAreRead, ExitsAreRead, IsAnswer, IsPrinted, RitesAreRead, TicksAreRead, TrapsAreRead, exit_target, exit_verb, gain_told, is_outcome, is_refused, suspended_told, target_told, verb_told}
 use Rattle.trace_lines.specs.Words.{ends, reach, rest, starts, word}
 use Rattle.trace_lines.specs.declared.entry.Entry.TheVariants as entry
 use Rattle.trace_lines.specs.declared.entry.Gain.TheVariants as gain
 use Rattle.trace_lines.specs.declared.entry.Verb.TheVariants as verb
-use Rattle.trace_text.specs.Lines.{answer_text, call_text, exit_text, flags_text, id_text, posted_text, proc_text, spaced, thread_text}
+use Rattle.trace_text.specs.Lines.{answer_text, call_text, exit_text, flags_text, id_text, posted_text, proc_text, thread_text, with_space}
 
 -- a line that begins with a thread
 thread_line : (t : ℕ) (r : List ℕ) → t < null_id → EndsDigits r → entry_of (thread_text t ++ r) ≡ thread_entry (Some t) r
@@ -48,7 +48,7 @@ created : (procs : List (List ℕ)) (number prio : ℕ) (flags : Flags) → reac
 created procs number prio flags one lt =
     rw (rest_again (proc_text procs number) (decimal prio ++ (codes " " ++ flags_text flags)) one, rest_again (decimal prio) (flags_text flags) (number_is_word prio (omega (arith, lt)))) (flags_again flags.suspended flags.nolastrites flags.server)
 
-said : (t : ℕ) (text : List ℕ) → call_entry t (codes "say" ++ spaced text) ≡ Some (entry.Called t verb.Say null_id false)
+said : (t : ℕ) (text : List ℕ) → call_entry t (codes "say" ++ with_space text) ≡ Some (entry.Called t verb.Say null_id false)
 unfolding op_at row_of
 said t [] = refl
 said t (b ∷ bs) = refl
@@ -71,7 +71,7 @@ asked procs t (call.Destroy u) h = ap (λ n. Some (entry.Called t verb.Destroy n
 asked procs t (call.Suspend u) h = ap (λ n. Some (entry.Called t verb.Suspend n false)) (who_alone t u h)
 asked procs t (call.Resume u) h = ap (λ n. Some (entry.Called t verb.Resume n false)) (who_alone t u h)
 asked procs t (call.Join u) h = ap (λ n. Some (entry.Called t verb.Join n false)) (who_alone t u h)
-asked procs t (call.Send u room text) h = ap (λ n. Some (entry.Called t verb.Send n false)) (who_again t u (codes " " ++ (decimal room ++ spaced text)) h refl)
+asked procs t (call.Send u room text) h = ap (λ n. Some (entry.Called t verb.Send n false)) (who_again t u (codes " " ++ (decimal room ++ with_space text)) h refl)
 asked procs t (call.Recv from mode) h = received procs t from mode h
 asked procs t (call.Reply u text) h = replied procs t u text
 asked procs t (call.Enter m) h = ap (λ n. Some (entry.Called t verb.Enter n false)) (id_alone 109 m h)
@@ -115,7 +115,7 @@ answered t (answer.Value (negsuc n)) h = refl
 answered t (answer.Thread u) h = ap (λ g. Some (entry.Answered t g)) (born u h)
 answered t (answer.Monitor m) h = ap (λ g. Some (entry.Answered t g)) (other_id m (eqb m null_id))
 answered t (answer.Condition c) h = ap (λ g. Some (entry.Answered t g)) (other_condition c (eqb c null_id))
-answered t (answer.Letter from text room) h = ap (λ n. Some (entry.Answered t (gain.Letter n))) (id_again 116 from (codes " " ++ (decimal room ++ spaced text)) h refl)
+answered t (answer.Letter from text room) h = ap (λ n. Some (entry.Answered t (gain.Letter n))) (id_again 116 from (codes " " ++ (decimal room ++ with_space text)) h refl)
 answered t (answer.Reply text) h = refl
 answered t (answer.Bound func arg) h = refl
 answered t (answer.Caught depth mark p) h = refl
@@ -146,13 +146,13 @@ died_again procs took t lt = thread_line t (codes " dies") lt refl
 
 -- ---- deliveries
 
-ends_spaced : (text : List ℕ) → EndsDigits (spaced text)
+ends_spaced : (text : List ℕ) → EndsDigits (with_space text)
 ends_spaced [] = tt
 ends_spaced (b ∷ bs) = refl
 
-posted_again : (line : Line) → line.client < 2 ^ 8 → line.seq < 2 ^ 32 → posted (posted_text line) ≡ Some (line.client, line.seq)
+posted_again : (line : Line) → line.client < 2 ^ 8 → line.seq < 2 ^ 32 → taken_post (posted_text line) ≡ Some (line.client, line.seq)
 posted_again line hc hs =
-    let tail = spaced line.text in
+    let tail = with_space line.text in
     let third = decimal line.seq ++ tail in
     rw (
       number_again line.client (codes " seq " ++ third) (omega (arith, hc)) refl,
@@ -273,7 +273,7 @@ named_who m l le e = by_null (eqb m null_id) refl
     by_null true h = sym (eqb-true m null_id h)
     by_null false h = let fits : m < 2 ^ 64 = omega (arith, eqb-false m null_id h) in rw (number_again m l fits e) refl
 
-noted : (text : List ℕ) (a : Answer) → verb_of (word ((codes "note" ++ spaced text) ++ answer_text a)) ≡ Some verb.Other
+noted : (text : List ℕ) (a : Answer) → verb_of (word ((codes "note" ++ with_space text) ++ answer_text a)) ≡ Some verb.Other
 noted [] a = rw (headed a) refl
 noted (b ∷ bs) a = refl
 
@@ -299,9 +299,9 @@ exit_targets (exit.SetExit code) a h = refl
 exit_targets (exit.Note text) a h = refl
 
 ran : (reg : ℕ) (x : ExitCall) (a : Answer) → exit_target x ≤ null_id → IsTrue (is_outcome a)
-    → exited reg (exit_text None x ++ answer_text a) (verb_of (word (exit_text None x ++ answer_text a))) ≡ Some (entry.Exited reg (exit_verb x) (exit_target x) (is_refused a))
+    → exit_entry_by reg (exit_text None x ++ answer_text a) (verb_of (word (exit_text None x ++ answer_text a))) ≡ Some (entry.Exited reg (exit_verb x) (exit_target x) (is_refused a))
 ran reg x a h o =
-    ap (exited reg (exit_text None x ++ answer_text a)) (exit_named x a)
+    ap (exit_entry_by reg (exit_text None x ++ answer_text a)) (exit_named x a)
     ∙ ap (λ n. Some (entry.Exited reg (exit_verb x) n (not (ends (codes " = 0") (exit_text None x ++ answer_text a))))) (exit_targets x a h)
     ∙ ap (λ r. Some (entry.Exited reg (exit_verb x) (exit_target x) r)) (outcome (exit_text None x) a o)
 

@@ -83,13 +83,13 @@ abbrev pub is_suspended : Verb → List ℕ → Bool
 is_suspended verb.Create text = starts (codes "s") (rest (rest text))
 is_suspended _ text = false
 
-abbrev pub called : ℕ → List ℕ → Option Verb → Option Entry
-called tid text None = None
-called tid text (Some v) = Some (entry.Called tid v (target_of v tid text) (is_suspended v text))
+abbrev pub call_entry_by : ℕ → List ℕ → Option Verb → Option Entry
+call_entry_by tid text None = None
+call_entry_by tid text (Some v) = Some (entry.Called tid v (target_of v tid text) (is_suspended v text))
 
 -- the line of a call, behind the thread
 abbrev pub call_entry : ℕ → List ℕ → Option Entry
-call_entry tid text = called tid (rest text) (verb_of (word text))
+call_entry tid text = call_entry_by tid (rest text) (verb_of (word text))
 
 abbrev pub value_gain : Option ℕ → Gain
 value_gain None = gain.Other
@@ -127,26 +127,26 @@ thread_entry None text = None
 thread_entry (Some tid) text = if starts (codes ": ") text then call_entry tid (drop 2 text) else answer_entry tid text
 
 -- an exit procedure, and what became of it: it was refused, unless its line ends with a 0
-abbrev pub exited : ℕ → List ℕ → Option Verb → Option Entry
-exited reg text None = None
-exited reg text (Some v) = Some (entry.Exited reg v (target_of v null_id (rest text)) (not (ends (codes " = 0") text)))
+abbrev pub exit_entry_by : ℕ → List ℕ → Option Verb → Option Entry
+exit_entry_by reg text None = None
+exit_entry_by reg text (Some v) = Some (entry.Exited reg v (target_of v null_id (rest text)) (not (ends (codes " = 0") text)))
 
 -- the line of an exit procedure, behind its number
 abbrev pub exit_entry : Option ℕ → List ℕ → Option Entry
 exit_entry None text = None
-exit_entry (Some reg) text = if starts (codes " ") text then exited reg (drop 1 text) (verb_of (word (drop 1 text))) else None
+exit_entry (Some reg) text = if starts (codes " ") text then exit_entry_by reg (drop 1 text) (verb_of (word (drop 1 text))) else None
 
-abbrev pub numbered : ℕ → Option ℕ → Option (ℕ × ℕ)
-numbered client None = None
-numbered client (Some seq) = Some (client, seq)
+abbrev pub client_and_number : ℕ → Option ℕ → Option (ℕ × ℕ)
+client_and_number client None = None
+client_and_number client (Some seq) = Some (client, seq)
 
-abbrev pub posted_by : Option ℕ → List ℕ → Option (ℕ × ℕ)
-posted_by None text = None
-posted_by (Some client) text = if starts (codes " seq ") text then numbered client (number (drop 5 text)) else None
+abbrev pub taken_post_of : Option ℕ → List ℕ → Option (ℕ × ℕ)
+taken_post_of None text = None
+taken_post_of (Some client) text = if starts (codes " seq ") text then client_and_number client (number (drop 5 text)) else None
 
 -- whose line was taken, and its number
-abbrev pub posted : List ℕ → Option (ℕ × ℕ)
-posted text = if starts (codes " client ") text then posted_by (number (drop 8 text)) (behind (drop 8 text)) else None
+abbrev pub taken_post : List ℕ → Option (ℕ × ℕ)
+taken_post text = if starts (codes " client ") text then taken_post_of (number (drop 8 text)) (behind (drop 8 text)) else None
 
 abbrev pub event_told : ℕ → Option (ℕ × ℕ) → Option Entry
 event_told event None = None
@@ -155,7 +155,7 @@ event_told event (Some line) = Some (entry.Event event line.0 line.1)
 -- the line of a delivery, behind its event
 abbrev pub event_entry : Option ℕ → List ℕ → Option Entry
 event_entry None text = None
-event_entry (Some event) text = event_told event (posted text)
+event_entry (Some event) text = event_told event (taken_post text)
 
 abbrev pub also_told : Option ℕ → Option Entry
 also_told None = None
@@ -181,7 +181,7 @@ tick_told now (Some line) = Some (entry.Tick now line.0 line.1)
 -- the line of a tick, behind its number
 abbrev pub tick_entry : Option ℕ → List ℕ → Option Entry
 tick_entry None text = None
-tick_entry (Some now) text = tick_told now (posted text)
+tick_entry (Some now) text = tick_told now (taken_post text)
 
 -- whether the line stands behind the last step
 abbrev pub is_closing : List ℕ → Bool

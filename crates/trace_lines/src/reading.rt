@@ -1,6 +1,6 @@
 // What a line tells.
 ghost use Rattle.std.specs.Prelude.{◌≡◌, ◌&&◌, bytes_eq};
-ghost use Rattle.trace_lines.specs.Entries.{also_entry, answer_entry, call_entry, entry_of, event_entry, exit_entry, exited, gain_of, id_of, is_closing, is_suspended, line_verb, posted, posted_by, rites_entry, statement_verb, target_of, thread_entry, tick_entry, trap_entry, verb_of, who_of};
+ghost use Rattle.trace_lines.specs.Entries.{also_entry, answer_entry, call_entry, entry_of, event_entry, exit_entry, exit_entry_by, gain_of, id_of, is_closing, is_suspended, line_verb, rites_entry, statement_verb, taken_post, taken_post_of, target_of, thread_entry, tick_entry, trap_entry, verb_of, who_of};
 ghost use Rattle.trace_lines.specs.Words.{behind, number, rest, word};
 
 use crate::entry::{Entry, Gain, NOBODY, Verb};
@@ -185,7 +185,7 @@ fn thread_entry(text: &[u8]) -> Option<Entry>
 
 // What an exit procedure has done: it was refused, unless its line ends with a 0.
 fn exit_call(reg: u64, text: &[u8]) -> Option<Entry>
-    ensures { result ≡ exited reg text.now (verb_of (word text.now)) }
+    ensures { result ≡ exit_entry_by reg text.now (verb_of (word text.now)) }
 {
     let verb = verb_of(word(text))?;
     let names = rest(text);
@@ -210,7 +210,7 @@ fn exit_entry(text: &[u8]) -> Option<Entry>
 }
 
 fn posted_by(text: &[u8]) -> Option<(u64, u64)>
-    ensures { result ≡ posted_by (number text.now) (behind text.now) }
+    ensures { result ≡ taken_post_of (number text.now) (behind text.now) }
 {
     let client = number(text)?;
     let behind = behind(text);
@@ -223,7 +223,7 @@ fn posted_by(text: &[u8]) -> Option<(u64, u64)>
 
 // Whose line was taken, and its number.
 fn posted(text: &[u8]) -> Option<(u64, u64)>
-    ensures { result ≡ posted text.now }
+    ensures { result ≡ taken_post text.now }
 {
     if !starts(b" client ", text) {
         return None;

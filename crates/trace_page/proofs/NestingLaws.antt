@@ -10,11 +10,11 @@ use Rattle.trace_page.proofs.Readings.{Brings, Keeps, Plain, both, in_value, kee
 use Rattle.trace_page.proofs.TitleLaws.{texts_are_plain}
 use Rattle.trace_page.specs.Frame.{around, beyond, colours, each_text, end_text, event_open, event_words, head, head_key, head_style, height_of, height_open, key_marks, key_waits, layout, marks, more_closed, more_open, more_text, name_closed, name_text, name_words, names_closed, names_open, names_text, number_text, numbers_closed, numbers_open, numbers_text, page_closed, paper_open, patterns, procedure_of, procedure_words, script, sheet_closed, sheet_open, sheet_text, sheet_turned, signs, size_closed, size_open, size_text, strip_closed, strip_open, strip_text, tail, tenth, tenths, waits, ways, width_of}
 use Rattle.trace_page.specs.Frame as frame
-use Rattle.trace_page.specs.Nesting.{Outside, Quoted, at, is_closed, is_nested, read, read_on}
-use Rattle.trace_page.specs.Page.{groups, page, shown, told_all, told_line}
+use Rattle.trace_page.specs.Nesting.{Outside, Quoted, after_byte, at, is_closed, is_nested, read_on}
+use Rattle.trace_page.specs.Page.{after_line, after_lines, group_if_shown, groups, page}
 use Rattle.trace_page.specs.Scene.{Seen, need_of, opening}
-use Rattle.trace_page.specs.Shapes.{arrow_text, band_text, bar_text, class_text, clock_text, closing_text, due_text, element_closed, escaped, event_text, group_closed, group_open, group_text, held_text, label_closed, label_text, letter_text, line_text, move_text, named_text, path_text, posted_text, rect_text, rule_text, said_text, shape_text, shapes_text, sign_of, sign_open, tag_text, tick_text, title_text, trap_text, use_open, use_text, value_text, wait_class, wait_text, waits_text, wanted_text, way_class, x_of, y_of}
-use Rattle.trace_page.specs.Steps.{finished, is_shown}
+use Rattle.trace_page.specs.Shapes.{arrow_text, band_text, bar_text, class_text, clock_text, closing_text, due_text, element_closed, escaped_text, event_text, group_closed, group_open, group_text, held_text, label_closed, label_text, letter_text, line_text, move_text, named_text, path_text, posted_text, rect_text, rule_text, said_text, shape_text, shapes_text, sign_of, sign_open, tag_text, tick_text, title_text, trap_text, use_open, use_text, value_text, wait_class, wait_text, waits_text, wanted_text, way_class, x_of, y_of}
+use Rattle.trace_page.specs.Steps.{after_finish, is_shown}
 use Rattle.trace_page.specs.Titles.{is_plain}
 use Rattle.trace_page.specs.declared.scene.Kind.{Kind}
 use Rattle.trace_page.specs.declared.scene.Kind.TheVariants as kind
@@ -48,50 +48,50 @@ further : {front back : List ℕ} → Goes front → Goes back → Goes (front +
 further h k = record { goes = λ names. on (h.goes names) (k.goes names) }
 
 sign_begins : {sign : List ℕ} → Plain sign → Begins (codes "use") (sign_open sign)
-unfolding read read_on sign_open use_open
+unfolding after_byte read_on sign_open use_open
 sign_begins plain = behind_front {front = codes "<use href='"} (record { begins = λ names. record { so = refl } }) plain
 
 rect_begins : {class : List ℕ} → Plain class → Begins (codes "rect") (class_text (codes "rect") class)
-unfolding read read_on class_text
+unfolding after_byte read_on class_text
 rect_begins plain = behind_front {front = codes "<rect class='"} (record { begins = λ names. record { so = refl } }) plain
 
 path_begins : {class : List ℕ} → Plain class → Begins (codes "path") (class_text (codes "path") class)
-unfolding read read_on class_text
+unfolding after_byte read_on class_text
 path_begins plain = behind_front {front = codes "<path class='"} (record { begins = λ names. record { so = refl } }) plain
 
 label_begins : {class : List ℕ} → Plain class → Begins (codes "text") (class_text (codes "text") class)
-unfolding read read_on class_text
+unfolding after_byte read_on class_text
 label_begins plain = behind_front {front = codes "<text class='"} (record { begins = λ names. record { so = refl } }) plain
 
 x_goes : (x : ℕ) → Goes (value_text (codes "x") x)
-unfolding read read_on value_text
+unfolding after_byte read_on value_text
 x_goes x = behind_name {front = codes "' x='"} (record { goes = λ names. record { so = refl } }) (number x)
 
 y_goes : (y : ℕ) → Goes (value_text (codes "y") y)
-unfolding read read_on value_text
+unfolding after_byte read_on value_text
 y_goes y = behind_name {front = codes "' y='"} (record { goes = λ names. record { so = refl } }) (number y)
 
 width_goes : (width : ℕ) → Goes (value_text (codes "width") width)
-unfolding read read_on value_text
+unfolding after_byte read_on value_text
 width_goes width = behind_name {front = codes "' width='"} (record { goes = λ names. record { so = refl } }) (number width)
 
 height_goes : (height : ℕ) → Goes (value_text (codes "height") height)
-unfolding read read_on value_text
+unfolding after_byte read_on value_text
 height_goes height = behind_name {front = codes "' height='"} (record { goes = λ names. record { so = refl } }) (number height)
 
 digits_go : (n : ℕ) → Goes (decimal n)
 digits_go n = record { goes = λ names. in_value (number n) }
 
 move_goes : (x y : ℕ) → Goes (move_text x y)
-unfolding read read_on move_text
+unfolding after_byte read_on move_text
 move_goes x y = further {front = codes "' d='M"} (record { goes = λ names. record { so = refl } }) (further (digits_go x) (further {front = codes " "} (record { goes = λ names. record { so = refl } }) (digits_go y)))
 
 line_goes : (x y : ℕ) → Goes (line_text x y)
-unfolding read read_on line_text
+unfolding after_byte read_on line_text
 line_goes x y = further {front = codes "L"} (record { goes = λ names. record { so = refl } }) (further (digits_go x) (further {front = codes " "} (record { goes = λ names. record { so = refl } }) (digits_go y)))
 
 closes : (name : List ℕ) (names : List (List ℕ)) → Brings (at (Quoted 39) (name ∷ names)) element_closed (at Outside names)
-unfolding read read_on element_closed
+unfolding after_byte read_on element_closed
 closes name names = record { so = refl }
 
 -- ---- elements
@@ -122,13 +122,13 @@ path_keeps plain x y to_x to_y = record {
 
 -- a label is open behind its front
 label_opens : {class : List ℕ} → Plain class → (x y : ℕ) (names : List (List ℕ)) → Brings (at Outside names) (label_text class x y) (at Outside (codes "text" ∷ names))
-unfolding read read_on label_text
+unfolding after_byte read_on label_text
 label_opens plain x y names =
     let inside : List (List ℕ) = codes "text" ∷ names in
     on ((label_begins plain).begins names) (on ((x_goes x).goes inside) (on ((y_goes y).goes inside) (record { so = refl })))
 
 label_closes : (names : List (List ℕ)) → Brings (at Outside (codes "text" ∷ names)) label_closed (at Outside names)
-unfolding read read_on label_closed
+unfolding after_byte read_on label_closed
 label_closes names = record { so = refl }
 
 label_keeps : {class words : List ℕ} → Plain class → (x y : ℕ) → Keeps words → Keeps (label_text class x y ++ (words ++ label_closed))
@@ -140,7 +140,7 @@ label_keeps plain x y words = record { keeps = λ names. on (label_opens plain x
 words : (text : List ℕ) → list_all is_plain text ≡ true → Keeps text
 words text h = text_keeps (record { plain = h })
 
-line_keeps : (text : List ℕ) → Keeps (escaped text)
+line_keeps : (text : List ℕ) → Keeps (escaped_text text)
 line_keeps text = text_keeps (record { plain = texts_are_plain text })
 
 number_keeps : (n : ℕ) → Keeps (decimal n)
@@ -292,31 +292,31 @@ shapes_keep s line xs = keeps_each (λ x. shape_text s line x) (shape_keeps s li
 -- ---- groups
 
 title_keeps : (line : List ℕ) → Keeps (title_text line)
-unfolding read read_on title_text
+unfolding after_byte read_on title_text
 title_keeps line = record {
   keeps = λ names.
       on {via = at Outside (codes "title" ∷ names)} {xs = codes "<title>"} (record { so = refl }) (on {ys = codes "</title>"} ((line_keeps line).keeps _) (record { so = refl }));
 }
 
 group_opens : (names : List (List ℕ)) → Brings (at Outside names) group_open (at Outside (codes "g" ∷ names))
-unfolding read read_on group_open
+unfolding after_byte read_on group_open
 group_opens names = record { so = refl }
 
 group_closes : (names : List (List ℕ)) → Brings (at Outside (codes "g" ∷ names)) group_closed (at Outside names)
-unfolding read read_on group_closed
+unfolding after_byte read_on group_closed
 group_closes names = record { so = refl }
 
 group_keeps : (s : Seen) (line : List ℕ) → Keeps (group_text s line)
 unfolding group_text
 group_keeps s line = record { keeps = λ names. on (group_opens names) (on ((title_keeps line).keeps _) (on ((shapes_keep s line s.shapes).keeps _) (group_closes names))) }
 
-shown_keeps : (s : Seen) (line : List ℕ) → Keeps (shown s line)
-unfolding shown
+shown_keeps : (s : Seen) (line : List ℕ) → Keeps (group_if_shown s line)
+unfolding group_if_shown
 shown_keeps s line = keeps_either (is_shown s) (group_keeps s line) none
 
 groups_keep : (s : Seen) (lines : List (List ℕ)) → Keeps (groups s lines)
 groups_keep s [] = none
-groups_keep s (l ∷ ls) = both (shown_keeps (told_line l s) l) (groups_keep (told_line l s) ls)
+groups_keep s (l ∷ ls) = both (shown_keeps (after_line l s) l) (groups_keep (after_line l s) ls)
 
 -- ---- around the picture
 
@@ -334,7 +334,7 @@ abbrev in_picture : List (List ℕ)
 in_picture = codes "g" ∷ codes "svg" ∷ in_page
 
 opening_brings : Brings (at Outside []) frame.opening (at Outside in_style)
-unfolding read read_on frame.opening
+unfolding after_byte read_on frame.opening
 opening_brings = record { so = refl }
 
 colours_keep : Keeps colours
@@ -354,7 +354,7 @@ unfolding waits
 waits_style_keeps = text_keeps (record { plain = refl })
 
 ways_bring : Brings (at Outside in_style) ways (at Outside in_body)
-unfolding read read_on ways
+unfolding after_byte read_on ways
 ways_bring = record { so = refl }
 
 -- the legend, and the definitions in it
@@ -362,19 +362,19 @@ abbrev in_key : List (List ℕ)
 in_key = codes "svg" ∷ in_body
 
 patterns_bring : Brings (at Outside in_body) patterns (at Outside (codes "defs" ∷ in_key))
-unfolding read read_on patterns
+unfolding after_byte read_on patterns
 patterns_bring = record { so = refl }
 
 signs_bring : Brings (at Outside (codes "defs" ∷ in_key)) signs (at Outside in_key)
-unfolding read read_on signs
+unfolding after_byte read_on signs
 signs_bring = record { so = refl }
 
 key_waits_bring : Brings (at Outside in_key) key_waits (at Outside in_key)
-unfolding read read_on key_waits
+unfolding after_byte read_on key_waits
 key_waits_bring = record { so = refl }
 
 key_marks_bring : Brings (at Outside in_key) key_marks (at Outside in_picture)
-unfolding read read_on key_marks
+unfolding after_byte read_on key_marks
 key_marks_bring = record { so = refl }
 
 head_brings : Brings (at Outside []) head (at Outside in_picture)
@@ -401,7 +401,7 @@ unfolding name_words
 name_words_keep s lane = both (words (codes "t") refl) (both (number_keeps lane.id) (both (event_words_keep lane.event) (procedure_words_keep (procedure_of lane.id s.names))))
 
 name_closes : (names : List (List ℕ)) → Brings (at Outside (codes "text" ∷ names)) name_closed (at Outside names)
-unfolding read read_on name_closed
+unfolding after_byte read_on name_closed
 name_closes names = record { so = refl }
 
 name_keeps : (s : Seen) (lane : Lane) → Keeps (name_text s lane)
@@ -409,11 +409,11 @@ unfolding name_text
 name_keeps s lane = record { keeps = λ names. on (label_opens (record { plain = refl }) _ _ names) (on ((name_words_keep s lane).keeps _) (name_closes names)) }
 
 names_open_brings : Brings (at Outside in_picture) names_open (at Outside in_picture)
-unfolding read read_on names_open
+unfolding after_byte read_on names_open
 names_open_brings = record { so = refl }
 
 names_closed_brings : Brings (at Outside in_picture) names_closed (at Outside in_page)
-unfolding read read_on names_closed
+unfolding after_byte read_on names_closed
 names_closed_brings = record { so = refl }
 
 names_bring : (s : Seen) → Brings (at Outside in_picture) (names_text s) (at Outside in_page)
@@ -429,11 +429,11 @@ unfolding number_text
 call_number_keeps s n = record { keeps = λ names. on (label_opens (record { plain = refl }) _ _ names) (on ((number_keeps (tenth s n)).keeps _) (name_closes names)) }
 
 numbers_open_brings : Brings (at Outside in_page) numbers_open (at Outside in_picture)
-unfolding read read_on numbers_open
+unfolding after_byte read_on numbers_open
 numbers_open_brings = record { so = refl }
 
 numbers_closed_brings : Brings (at Outside in_picture) numbers_closed (at Outside in_body)
-unfolding read read_on numbers_closed
+unfolding after_byte read_on numbers_closed
 numbers_closed_brings = record { so = refl }
 
 numbers_bring : (s : Seen) → Brings (at Outside in_page) (numbers_text s) (at Outside in_body)
@@ -442,15 +442,15 @@ numbers_bring s = on numbers_open_brings (on ((each_keeps (number_text s) (call_
 
 -- the strip
 strip_opens : (names : List (List ℕ)) → Brings (at Outside names) strip_open (at (Quoted 39) (codes "svg" ∷ names))
-unfolding read read_on strip_open
+unfolding after_byte read_on strip_open
 strip_opens names = record { so = refl }
 
 strip_closes : (names : List (List ℕ)) → Brings (at (Quoted 39) (codes "svg" ∷ names)) strip_closed (at Outside names)
-unfolding read read_on strip_closed
+unfolding after_byte read_on strip_closed
 strip_closes names = record { so = refl }
 
 space_goes : Goes (codes " ")
-unfolding read read_on
+unfolding after_byte read_on
 space_goes = record { goes = λ names. record { so = refl } }
 
 strip_keeps : (s : Seen) → Keeps (strip_text s)
@@ -463,15 +463,15 @@ strip_keeps s = record {
 
 -- the sheet
 sheet_opens : (names : List (List ℕ)) → Brings (at Outside names) sheet_open (at (Quoted 39) (codes "svg" ∷ names))
-unfolding read read_on sheet_open
+unfolding after_byte read_on sheet_open
 sheet_opens names = record { so = refl }
 
 sheet_turns : (names : List (List ℕ)) → Brings (at (Quoted 39) (codes "svg" ∷ names)) sheet_turned (at (Quoted 39) (codes "g" ∷ codes "svg" ∷ names))
-unfolding read read_on sheet_turned
+unfolding after_byte read_on sheet_turned
 sheet_turns names = record { so = refl }
 
 sheet_closes : (names : List (List ℕ)) → Brings (at (Quoted 39) (codes "g" ∷ codes "svg" ∷ names)) sheet_closed (at Outside names)
-unfolding read read_on sheet_closed
+unfolding after_byte read_on sheet_closed
 sheet_closes names = record { so = refl }
 
 sheet_keeps : (s : Seen) → Keeps (sheet_text s)
@@ -485,12 +485,12 @@ sheet_keeps s = record {
 
 -- the script
 script_keeps : (names : List (List ℕ)) → Brings (at Outside names) script (at Outside names)
-unfolding read read_on script
+unfolding after_byte read_on script
 script_keeps names = record { so = refl }
 
 -- the size stands in a style of its own
 size_opens : Brings (at Outside in_body) size_open (at Outside (codes "style" ∷ in_body))
-unfolding read read_on size_open
+unfolding after_byte read_on size_open
 size_opens = record { so = refl }
 
 height_open_keeps : Keeps height_open
@@ -502,7 +502,7 @@ unfolding paper_open
 paper_open_keeps = text_keeps (record { plain = refl })
 
 size_closes : Brings (at Outside (codes "style" ∷ in_body)) size_closed (at Outside in_body)
-unfolding read read_on size_closed
+unfolding after_byte read_on size_closed
 size_closes = record { so = refl }
 
 size_brings : (s : Seen) → Brings (at Outside in_body) (size_text s) (at Outside in_body)
@@ -510,11 +510,11 @@ unfolding size_text
 size_brings s = on size_opens (on ((number_keeps _).keeps _) (on (height_open_keeps.keeps _) (on ((number_keeps _).keeps _) (on (paper_open_keeps.keeps _) (on ((number_keeps _).keeps _) size_closes)))))
 
 more_opens : (names : List (List ℕ)) → Brings (at Outside names) more_open (at Outside (codes "p" ∷ names))
-unfolding read read_on more_open
+unfolding after_byte read_on more_open
 more_opens names = record { so = refl }
 
 more_closes : (names : List (List ℕ)) → Brings (at Outside (codes "p" ∷ names)) more_closed (at Outside names)
-unfolding read read_on more_closed
+unfolding after_byte read_on more_closed
 more_closes names = record { so = refl }
 
 more_keeps : (s : Seen) → Keeps (more_text s)
@@ -526,7 +526,7 @@ unfolding end_text
 end_keeps s = record { keeps = λ names. on (group_opens names) (on ((shapes_keep s [] s.shapes).keeps _) (group_closes names)) }
 
 page_closes : Brings (at Outside in_body) page_closed (at Outside [])
-unfolding read read_on page_closed
+unfolding after_byte read_on page_closed
 page_closes = record { so = refl }
 
 around_brings : (s : Seen) → Brings (at Outside in_picture) (around s) (at Outside in_body)
@@ -542,7 +542,7 @@ unfolding tail
 tail_brings s = on (around_brings s) (on (beyond_brings s) page_closes)
 
 page_brings : (base last : ℕ) (lines : List (List ℕ)) → Brings (at Outside []) (page base last lines) (at Outside [])
-page_brings base last lines = on head_brings (on ((groups_keep (opening base last) lines).keeps _) (tail_brings (finished (told_all (opening base last) lines))))
+page_brings base last lines = on head_brings (on ((groups_keep (opening base last) lines).keeps _) (tail_brings (after_finish (after_lines (opening base last) lines))))
 
 pub elements_are_closed : (base last : ℕ) (lines : List (List ℕ)) → IsTrue (is_nested (page base last lines))
 unfolding is_nested

@@ -3,7 +3,7 @@ use Rattle.std.proofs.Common.{Bool, List, None, Some, [], ap, append_assoc, arit
 use Rattle.std.specs.Prelude.{is_some}
 use Rattle.trace_lines.specs.Entries.{entry_of}
 use Rattle.trace_lines.specs.Words.{reach}
-use Rattle.trace_page.specs.Page.{bad_from, bad_line, groups, is_whole, onto_first, shown, told_all, told_line, whole_lines}
+use Rattle.trace_page.specs.Page.{after_line, after_lines, bad_from, bad_line, group_if_shown, groups, is_whole, onto_first, whole_lines}
 use Rattle.trace_page.specs.Scene.{Seen}
 
 -- the first line, where there is a newline
@@ -77,15 +77,15 @@ module _ (rest left : List ℕ) (k : ℕ) (at : k ≡ reach 10 rest) (lt : k < l
   first : whole_lines rest ≡ take k rest ∷ whole_lines left
   first = first_at rest k at lt ∙ ap (λ l. take k rest ∷ whole_lines l) (sym behind)
 
-  pub told_on : (s next end : Seen) → next ≡ told_line (take k rest) s → told_all s (whole_lines rest) ≡ end → told_all next (whole_lines left) ≡ end
-  told_on s next end e all = ap (λ x. told_all x (whole_lines left)) e ∙ (sym (ap (told_all s) first) ∙ all)
+  pub told_on : (s next end : Seen) → next ≡ after_line (take k rest) s → after_lines s (whole_lines rest) ≡ end → after_lines next (whole_lines left) ≡ end
+  told_on s next end e all = ap (λ x. after_lines x (whole_lines left)) e ∙ (sym (ap (after_lines s) first) ∙ all)
 
-  pub drawn_on : (s next : Seen) (out more end : List ℕ) → next ≡ told_line (take k rest) s → more ≡ out ++ shown (told_line (take k rest) s) (take k rest)
+  pub drawn_on : (s next : Seen) (out more end : List ℕ) → next ≡ after_line (take k rest) s → more ≡ out ++ group_if_shown (after_line (take k rest) s) (take k rest)
       → out ++ groups s (whole_lines rest) ≡ end → more ++ groups next (whole_lines left) ≡ end
   drawn_on s next out more end e m all =
       let l : List ℕ = take k rest in
       let ls : List (List ℕ) = whole_lines left in
-      ap (λ x. more ++ groups x ls) e ∙ (ap (λ x. x ++ groups (told_line l s) ls) m ∙ (append_assoc out (shown (told_line l s) l) (groups (told_line l s) ls) ∙ (sym (ap (λ x. out ++ groups s x) first) ∙ all)))
+      ap (λ x. more ++ groups x ls) e ∙ (ap (λ x. x ++ groups (after_line l s) ls) m ∙ (append_assoc out (group_if_shown (after_line l s) l) (groups (after_line l s) ls) ∙ (sym (ap (λ x. out ++ groups s x) first) ∙ all)))
 
   pub bad_on : (number : ℕ) (text : List ℕ) → is_some (entry_of (take k rest)) ≡ true → bad_from number (is_whole rest) (whole_lines rest) ≡ bad_line text
       → bad_from (number + 1) (is_whole left) (whole_lines left) ≡ bad_line text

@@ -4,7 +4,7 @@ use Rattle.std.proofs.lemmas.Bool.{lt-ltb, ne_eqb}
 use Rattle.std.proofs.lemmas.List.Sums.{fold-append}
 use Rattle.std.specs.Fmt.{decimal, digit_glyph, digits, digits_onto}
 use Rattle.std.specs.List.{flat_map, list_all}
-use Rattle.trace_page.specs.Nesting.{Place, Outside, Quoted, Reader, at, read, read_on}
+use Rattle.trace_page.specs.Nesting.{Place, Outside, Quoted, Reader, at, after_byte, read_on}
 use Rattle.trace_page.specs.Titles.{is_plain}
 
 -- these bytes bring a reader from here to there
@@ -14,7 +14,7 @@ pub record Brings (from : Reader) (bytes : List ℕ) (to : Reader) : Type 0 wher
 -- and these bring it on
 pub on : {from via to : Reader} {xs ys : List ℕ} → Brings from xs via → Brings via ys to → Brings from (xs ++ ys) to
 unfolding read_on
-on {from} {via} {to} {xs} {ys} h k = record { so = fold-append (λ (r : Reader) (b : ℕ). read r.place r.names b) from xs ys ∙ (ap (λ r. read_on r ys) h.so ∙ k.so) }
+on {from} {via} {to} {xs} {ys} h k = record { so = fold-append (λ (r : Reader) (b : ℕ). after_byte r.place r.names b) from xs ys ∙ (ap (λ r. read_on r ys) h.so ∙ k.so) }
 
 pub nothing : {r : Reader} → Brings r [] r
 unfolding read_on
@@ -56,14 +56,14 @@ first_passes : (a b : Bool) → (a && b) ≡ true → (a ≡ true) × (b ≡ tru
 first_passes true b h = (refl, h)
 first_passes false b h = absurd (cc)
 
-text_read : (names : List (List ℕ)) (b : ℕ) → is_plain b ≡ true → read Outside names b ≡ at Outside names
-unfolding read
+text_read : (names : List (List ℕ)) (b : ℕ) → is_plain b ≡ true → after_byte Outside names b ≡ at Outside names
+unfolding after_byte
 text_read names b h =
     let marks = not_marks (eqb b 60) (eqb b 62) (eqb b 34) (eqb b 39) h in
     rw (marks.0, marks.1) refl
 
-value_read : (names : List (List ℕ)) (b : ℕ) → is_plain b ≡ true → read (Quoted 39) names b ≡ at (Quoted 39) names
-unfolding read
+value_read : (names : List (List ℕ)) (b : ℕ) → is_plain b ≡ true → after_byte (Quoted 39) names b ≡ at (Quoted 39) names
+unfolding after_byte
 value_read names b h =
     let marks = not_marks (eqb b 60) (eqb b 62) (eqb b 34) (eqb b 39) h in
     rw marks.2 refl

@@ -9,28 +9,28 @@ use Rattle.trace_lines.specs.declared.entry.Gain.{Gain}
 use Rattle.trace_lines.specs.declared.entry.Gain.TheVariants as gain
 use Rattle.trace_lines.specs.declared.entry.Verb.{Verb}
 use Rattle.trace_lines.specs.declared.entry.Verb.TheVariants as verb
-use Rattle.trace_page.specs.Page.{noted_by, told_all, told_by, told_line}
-use Rattle.trace_page.specs.Scene.{Seen, drawn, lane_of, opening, place, put, with_lane}
-use Rattle.trace_page.specs.Shapes.{escaped, escaped_byte}
-use Rattle.trace_page.specs.Steps.{carried, created, done, exited, given_up, granted, is_past, is_shown, met, met_thread, named, noted, parked, room, said, set, settled, spoken, told_entry, with_agent}
+use Rattle.trace_page.specs.Page.{after_entry_by, after_line, after_lines, after_note_by}
+use Rattle.trace_page.specs.Scene.{Seen, after_draw, after_put, lane_of, opening, place, with_lane}
+use Rattle.trace_page.specs.Shapes.{escaped_byte, escaped_text}
+use Rattle.trace_page.specs.Steps.{after_act, after_carry_out, after_create, after_entry, after_exit, after_give_up, after_grant, after_meet, after_meet_thread, after_name, after_note, after_park, after_say, after_set, after_settle, after_speak, is_past, is_shown, room, with_agent}
 use Rattle.trace_page.specs.Titles.{LinesAreTitles, TextsArePlain, is_plain, titles}
 use Rattle.trace_page.specs.declared.scene.Lane.{Lane}
 use Rattle.trace_page.specs.declared.scene.Shape.TheVariants as shape
 
 -- ---- the first call that is drawn stays
 
-base_met : (id event owner : ℕ) (s : Seen) → (met id event owner s).base ≡ s.base
+base_met : (id event owner : ℕ) (s : Seen) → (after_meet id event owner s).base ≡ s.base
 base_met id event owner s = by (ltb (place id s.lanes) (length s.lanes))
   where
     by : (b : Bool) → (cond b s (with_lane id event owner s)).base ≡ s.base
     by true = refl
     by false = refl
 
-base_parked : (b : Bool) (id : ℕ) (s : Seen) → (parked b id s).base ≡ s.base
+base_parked : (b : Bool) (id : ℕ) (s : Seen) → (after_park b id s).base ≡ s.base
 base_parked true id s = refl
 base_parked false id s = refl
 
-base_given : (tid : ℕ) (v : Verb) (s : Seen) → (given_up tid v s).base ≡ s.base
+base_given : (tid : ℕ) (v : Verb) (s : Seen) → (after_give_up tid v s).base ≡ s.base
 base_given tid verb.Wait s = refl
 base_given tid verb.Create s = refl
 base_given tid verb.Destroy s = refl
@@ -49,8 +49,8 @@ base_given tid verb.OnExit s = refl
 base_given tid verb.Say s = refl
 base_given tid verb.Other s = refl
 
-base_created : (lane : Lane) (g : Gain) (s : Seen) → (created lane g s).base ≡ s.base
-base_created lane (gain.Thread u) s = base_parked lane.suspended u _ ∙ base_met u 0 _ (named u s)
+base_created : (lane : Lane) (g : Gain) (s : Seen) → (after_create lane g s).base ≡ s.base
+base_created lane (gain.Thread u) s = base_parked lane.suspended u _ ∙ base_met u 0 _ (after_name u s)
 base_created lane (gain.Value n) s = refl
 base_created lane (gain.Letter n) s = refl
 base_created lane gain.Reply s = refl
@@ -67,7 +67,7 @@ base_agent lane gain.Caught s = refl
 base_agent lane gain.Refused s = refl
 base_agent lane gain.Other s = refl
 
-base_set : (lane : Lane) (g : Gain) (s : Seen) → (set lane g s).base ≡ s.base
+base_set : (lane : Lane) (g : Gain) (s : Seen) → (after_set lane g s).base ≡ s.base
 base_set lane (gain.Value n) s = refl
 base_set lane (gain.Thread u) s = refl
 base_set lane (gain.Letter n) s = refl
@@ -76,7 +76,7 @@ base_set lane gain.Caught s = refl
 base_set lane gain.Refused s = refl
 base_set lane gain.Other s = refl
 
-base_granted : (lane : Lane) (v : Verb) (g : Gain) (s : Seen) → (granted lane v g s).base ≡ s.base
+base_granted : (lane : Lane) (v : Verb) (g : Gain) (s : Seen) → (after_grant lane v g s).base ≡ s.base
 base_granted lane verb.Create g s = base_created lane g s
 base_granted lane verb.Agent g s = base_agent lane g s
 base_granted lane verb.OnExit g s = base_set lane g s
@@ -95,7 +95,7 @@ base_granted lane verb.Receive g s = refl
 base_granted lane verb.Say g s = refl
 base_granted lane verb.Other g s = refl
 
-base_settled : (lane : Lane) (g : Gain) (s : Seen) → (settled lane g s).base ≡ s.base
+base_settled : (lane : Lane) (g : Gain) (s : Seen) → (after_settle lane g s).base ≡ s.base
 base_settled lane gain.Refused s = refl
 base_settled lane (gain.Value n) s = base_granted lane lane.verb (gain.Value n) s
 base_settled lane (gain.Thread n) s = base_granted lane lane.verb (gain.Thread n) s
@@ -104,7 +104,7 @@ base_settled lane gain.Reply s = base_granted lane lane.verb gain.Reply s
 base_settled lane gain.Caught s = base_granted lane lane.verb gain.Caught s
 base_settled lane gain.Other s = base_granted lane lane.verb gain.Other s
 
-base_carried : (tid : ℕ) (v : Verb) (target : ℕ) (s : Seen) → (carried tid v target s).base ≡ s.base
+base_carried : (tid : ℕ) (v : Verb) (target : ℕ) (s : Seen) → (after_carry_out tid v target s).base ≡ s.base
 base_carried tid verb.MonExit target s = refl
 base_carried tid verb.MonBreak target s = refl
 base_carried tid verb.Resume target s = refl
@@ -123,18 +123,18 @@ base_carried tid verb.OnExit target s = refl
 base_carried tid verb.Say target s = refl
 base_carried tid verb.Other target s = refl
 
-base_exited : (reg : ℕ) (v : Verb) (target : ℕ) (refused : Bool) (s : Seen) → (exited reg v target refused s).base ≡ s.base
+base_exited : (reg : ℕ) (v : Verb) (target : ℕ) (refused : Bool) (s : Seen) → (after_exit reg v target refused s).base ≡ s.base
 base_exited reg v target true s = refl
 base_exited reg v target false s = base_carried _ v target _
 
-base_said : (tid : ℕ) (s : Seen) → (said tid s).base ≡ s.base
+base_said : (tid : ℕ) (s : Seen) → (after_say tid s).base ≡ s.base
 base_said tid s = by (ltb s.time.call (lane_of s tid).clear)
   where
-    by : (b : Bool) → (cond b s (drawn (shape.Said tid s.time) (put (record (lane_of s tid) { clear = room s }) s))).base ≡ s.base
+    by : (b : Bool) → (cond b s (after_draw (shape.Said tid s.time) (after_put (record (lane_of s tid) { clear = room s }) s))).base ≡ s.base
     by true = refl
     by false = refl
 
-base_spoken : (tid : ℕ) (v : Verb) (s : Seen) → (spoken tid v s).base ≡ s.base
+base_spoken : (tid : ℕ) (v : Verb) (s : Seen) → (after_speak tid v s).base ≡ s.base
 base_spoken tid verb.Say s = base_said tid s
 base_spoken tid verb.Wait s = refl
 base_spoken tid verb.Create s = refl
@@ -153,10 +153,10 @@ base_spoken tid verb.Agent s = refl
 base_spoken tid verb.OnExit s = refl
 base_spoken tid verb.Other s = refl
 
-base_done : (e : Entry) (s : Seen) → (done e s).base ≡ s.base
-unfolding done
+base_done : (e : Entry) (s : Seen) → (after_act e s).base ≡ s.base
+unfolding after_act
 base_done (entry.Called tid v target suspended) s = base_given tid v _ ∙ base_spoken tid v _ ∙ base_met tid 0 _ _
-base_done (entry.Answered tid g) s = base_settled (lane_of (met_thread tid s) tid) g _ ∙ base_met tid 0 _ s
+base_done (entry.Answered tid g) s = base_settled (lane_of (after_meet_thread tid s) tid) g _ ∙ base_met tid 0 _ s
 base_done (entry.Exited reg v target refused) s = base_exited reg v target refused s
 base_done (entry.Died tid) s = base_met tid 0 _ s
 base_done (entry.Event event client seq) s = refl
@@ -166,15 +166,15 @@ base_done (entry.Trapped tid event) s = base_met tid 0 _ _
 base_done (entry.Rites agent dead) s = refl
 base_done entry.Closing s = refl
 
-base_told : (e : Entry) (s : Seen) → (told_entry e s).base ≡ s.base
-unfolding told_entry
+base_told : (e : Entry) (s : Seen) → (after_entry e s).base ≡ s.base
+unfolding after_entry
 base_told e s = by (is_past e s)
   where
-    by : (b : Bool) → (cond b (record s { more = true; shapes = [] }) (done e (record s { shapes = [] }))).base ≡ s.base
+    by : (b : Bool) → (cond b (record s { more = true; shapes = [] }) (after_act e (record s { shapes = [] }))).base ≡ s.base
     by true = refl
     by false = base_done e (record s { shapes = [] })
 
-base_noted : (e : Entry) (l : List ℕ) (s : Seen) → (noted e l s).base ≡ s.base
+base_noted : (e : Entry) (l : List ℕ) (s : Seen) → (after_note e l s).base ≡ s.base
 base_noted (entry.Called tid v target suspended) l s = refl
 base_noted (entry.Answered tid g) l s = refl
 base_noted (entry.Exited reg v target refused) l s = refl
@@ -186,25 +186,25 @@ base_noted (entry.Trapped tid event) l s = refl
 base_noted (entry.Rites agent dead) l s = refl
 base_noted entry.Closing l s = refl
 
-base_line : (l : List ℕ) (s : Seen) → (told_line l s).base ≡ s.base
-unfolding told_line
+base_line : (l : List ℕ) (s : Seen) → (after_line l s).base ≡ s.base
+unfolding after_line
 base_line l s = by (entry_of l)
   where
-    by : (o : Option Entry) → (told_by o (noted_by o l s)).base ≡ s.base
+    by : (o : Option Entry) → (after_entry_by o (after_note_by o l s)).base ≡ s.base
     by None = refl
-    by (Some e) = base_told e (noted e l s) ∙ base_noted e l s
+    by (Some e) = base_told e (after_note e l s) ∙ base_noted e l s
 
 -- ---- once there is more, there is
 
-more_told : (e : Entry) (s : Seen) → (told_entry e s).more ≡ false → s.more ≡ false
-unfolding told_entry
+more_told : (e : Entry) (s : Seen) → (after_entry e s).more ≡ false → s.more ≡ false
+unfolding after_entry
 more_told e s h = by s.more refl
   where
     by : (b : Bool) → s.more ≡ b → b ≡ false
     by false g = refl
     by true g = (rw g at h)
 
-more_noted : (e : Entry) (l : List ℕ) (s : Seen) → (noted e l s).more ≡ s.more
+more_noted : (e : Entry) (l : List ℕ) (s : Seen) → (after_note e l s).more ≡ s.more
 more_noted (entry.Called tid v target suspended) l s = refl
 more_noted (entry.Answered tid g) l s = refl
 more_noted (entry.Exited reg v target refused) l s = refl
@@ -216,17 +216,17 @@ more_noted (entry.Trapped tid event) l s = refl
 more_noted (entry.Rites agent dead) l s = refl
 more_noted entry.Closing l s = refl
 
-more_line : (l : List ℕ) (s : Seen) → (told_line l s).more ≡ false → s.more ≡ false
-unfolding told_line
+more_line : (l : List ℕ) (s : Seen) → (after_line l s).more ≡ false → s.more ≡ false
+unfolding after_line
 more_line l s h = by (entry_of l) h
   where
-    by : (o : Option Entry) → (told_by o (noted_by o l s)).more ≡ false → s.more ≡ false
+    by : (o : Option Entry) → (after_entry_by o (after_note_by o l s)).more ≡ false → s.more ≡ false
     by None g = g
-    by (Some e) g = sym (more_noted e l s) ∙ more_told e (noted e l s) g
+    by (Some e) g = sym (more_noted e l s) ∙ more_told e (after_note e l s) g
 
-more_all : (s : Seen) (ls : List (List ℕ)) → (told_all s ls).more ≡ false → s.more ≡ false
+more_all : (s : Seen) (ls : List (List ℕ)) → (after_lines s ls).more ≡ false → s.more ≡ false
 more_all s [] m = m
-more_all s (l ∷ ls) m = more_line l s (more_all (told_line l s) ls m)
+more_all s (l ∷ ls) m = more_line l s (more_all (after_line l s) ls m)
 
 -- ---- titles
 
@@ -234,11 +234,11 @@ is_shown_from_0 : (s : Seen) → s.base ≡ 0 → s.more ≡ false → is_shown 
 unfolding is_shown
 is_shown_from_0 s b m = rw (b, m) refl
 
-all_titles : (s : Seen) (ls : List (List ℕ)) → s.base ≡ 0 → (told_all s ls).more ≡ false → titles s ls ≡ ls
+all_titles : (s : Seen) (ls : List (List ℕ)) → s.base ≡ 0 → (after_lines s ls).more ≡ false → titles s ls ≡ ls
 all_titles s [] b m = refl
 all_titles s (l ∷ ls) b m =
-    let then : (told_line l s).base ≡ 0 = base_line l s ∙ b in
-    rw (is_shown_from_0 (told_line l s) then (more_all (told_line l s) ls m)) (ap (λ x. l ∷ x) (all_titles (told_line l s) ls then m))
+    let then : (after_line l s).base ≡ 0 = base_line l s ∙ b in
+    rw (is_shown_from_0 (after_line l s) then (more_all (after_line l s) ls m)) (ap (λ x. l ∷ x) (all_titles (after_line l s) ls then m))
 
 pub lines_are_titles : (last : ℕ) (ls : List (List ℕ)) → LinesAreTitles last ls
 lines_are_titles last ls m = all_titles (opening 0 last) ls refl m
@@ -259,4 +259,4 @@ plain_byte b = by (eqb b 38) (eqb b 60) (eqb b 62) (eqb b 34) (eqb b 39) refl re
 
 pub texts_are_plain : (text : List ℕ) → TextsArePlain text
 texts_are_plain [] = refl
-texts_are_plain (b ∷ bs) = list_all-append is_plain (escaped_byte b) (escaped bs) ∙ rw (plain_byte b, texts_are_plain bs) refl
+texts_are_plain (b ∷ bs) = list_all-append is_plain (escaped_byte b) (escaped_text bs) ∙ rw (plain_byte b, texts_are_plain bs) refl

@@ -5,7 +5,7 @@ use Rattle.std.specs.List.{flat_map}
 use Rattle.std.specs.Prelude.{List, [], codes, false, if◌then◌else◌, min, suc, zero, ℕ, ◌*◌, ◌++◌, ◌+◌, ◌-◌, ◌/◌, ◌==◌, ◌^◌, ◌∷◌}
 use Rattle.trace_page.specs.Scene.{Seen}
 use Rattle.trace_page.specs.Measures.{end_width, foot, most_tenths, names_width}
-use Rattle.trace_page.specs.Shapes.{escaped, group_closed, group_open, label_text, shapes_text, x_of, y_of}
+use Rattle.trace_page.specs.Shapes.{escaped_text, group_closed, group_open, label_text, shapes_text, x_of, y_of}
 use Rattle.trace_page.specs.declared.scene.Lane.{Lane}
 use Rattle.trace_page.specs.declared.scene.Naming.{Naming}
 
@@ -128,7 +128,7 @@ procedure_of id (naming ∷ namings) = if naming.tid == id then naming.name else
 
 unfoldable pub procedure_words : List ℕ → List ℕ
 procedure_words [] = []
-procedure_words (b ∷ bs) = codes " " ++ escaped (b ∷ bs)
+procedure_words (b ∷ bs) = codes " " ++ escaped_text (b ∷ bs)
 
 -- the name of a lane
 unfoldable pub name_words : Seen → Lane → List ℕ

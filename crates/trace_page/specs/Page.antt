@@ -5,7 +5,7 @@ use Rattle.trace_lines.specs.declared.entry.Entry.{Entry}
 use Rattle.trace_page.specs.Frame.{head, tail}
 use Rattle.trace_page.specs.Scene.{Seen, opening}
 use Rattle.trace_page.specs.Shapes.{group_text}
-use Rattle.trace_page.specs.Steps.{finished, is_shown, noted, told_entry}
+use Rattle.trace_page.specs.Steps.{after_entry, after_finish, after_note, is_shown}
 
 -- a byte in front of the first of these lines, if there is any
 abbrev pub onto_first : ℕ → List (List ℕ) → List (List ℕ)
@@ -33,31 +33,31 @@ abbrev pub bad_line : List ℕ → Option ℕ
 bad_line text = bad_from 1 (is_whole text) (whole_lines text)
 
 -- what is known behind a line
-abbrev pub told_by : Option Entry → Seen → Seen
-told_by None s = s
-told_by (Some e) s = told_entry e s
+abbrev pub after_entry_by : Option Entry → Seen → Seen
+after_entry_by None s = s
+after_entry_by (Some e) s = after_entry e s
 
 -- the words of a line are known
-abbrev pub noted_by : Option Entry → List ℕ → Seen → Seen
-noted_by None l s = s
-noted_by (Some e) l s = noted e l s
+abbrev pub after_note_by : Option Entry → List ℕ → Seen → Seen
+after_note_by None l s = s
+after_note_by (Some e) l s = after_note e l s
 
-unfoldable pub told_line : List ℕ → Seen → Seen
-told_line l s = told_by (entry_of l) (noted_by (entry_of l) l s)
+unfoldable pub after_line : List ℕ → Seen → Seen
+after_line l s = after_entry_by (entry_of l) (after_note_by (entry_of l) l s)
 
 -- behind these lines
-abbrev pub told_all : Seen → List (List ℕ) → Seen
-told_all s [] = s
-told_all s (l ∷ ls) = told_all (told_line l s) ls
+abbrev pub after_lines : Seen → List (List ℕ) → Seen
+after_lines s [] = s
+after_lines s (l ∷ ls) = after_lines (after_line l s) ls
 
 -- what is drawn for a line, if it is drawn at all
-unfoldable pub shown : Seen → List ℕ → List ℕ
-shown s l = if is_shown s then group_text s l else []
+unfoldable pub group_if_shown : Seen → List ℕ → List ℕ
+group_if_shown s l = if is_shown s then group_text s l else []
 
 abbrev pub groups : Seen → List (List ℕ) → List ℕ
 groups s [] = []
-groups s (l ∷ ls) = shown (told_line l s) l ++ groups (told_line l s) ls
+groups s (l ∷ ls) = group_if_shown (after_line l s) l ++ groups (after_line l s) ls
 
 -- the page of the calls behind `base`, up to `last`
 abbrev pub page : ℕ → ℕ → List (List ℕ) → List ℕ
-page base last lines = head ++ (groups (opening base last) lines ++ tail (finished (told_all (opening base last) lines)))
+page base last lines = head ++ (groups (opening base last) lines ++ tail (after_finish (after_lines (opening base last) lines)))

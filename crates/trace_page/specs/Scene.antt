@@ -99,17 +99,17 @@ abbrev pub lane_of : Seen → ℕ → Lane
 lane_of s id = slice_index_or s.lanes (place id s.lanes) (blank id 0 s.time)
 
 -- the lane has changed to this
-abbrev pub put : Lane → Seen → Seen
-put lane s = record s { lanes = slice_set s.lanes (place lane.id s.lanes) lane }
+abbrev pub after_put : Lane → Seen → Seen
+after_put lane s = record s { lanes = slice_set s.lanes (place lane.id s.lanes) lane }
 
 -- something more is drawn
-abbrev pub drawn : Shape → Seen → Seen
-drawn shape s = record s { shapes = s.shapes ++ shape ∷ [] }
+abbrev pub after_draw : Shape → Seen → Seen
+after_draw shape s = record s { shapes = s.shapes ++ shape ∷ [] }
 
 -- something more goes on
-abbrev pub begun : Span → Seen → Seen
-begun span s = record s { spans = s.spans ++ span ∷ [] }
+abbrev pub after_begin : Span → Seen → Seen
+after_begin span s = record s { spans = s.spans ++ span ∷ [] }
 
 -- a lane more, which lives from now on
 abbrev pub with_lane : ℕ → ℕ → ℕ → Seen → Seen
-with_lane id event owner s = begun (record { tid = id; kind = kind.Life; of = owner; since = s.time; level = 0; event = event }) (record s { lanes = s.lanes ++ blank id event s.time ∷ [] })
+with_lane id event owner s = after_begin (record { tid = id; kind = kind.Life; of = owner; since = s.time; level = 0; event = event }) (record s { lanes = s.lanes ++ blank id event s.time ∷ [] })

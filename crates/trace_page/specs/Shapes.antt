@@ -26,8 +26,8 @@ abbrev pub escaped_byte : ℕ → List ℕ
 escaped_byte b = if b == 38 then codes "&amp;" else if b == 60 then codes "&lt;" else if b == 62 then codes "&gt;" else if b == 34 then codes "&quot;" else if b == 39 then codes "&#39;" else b ∷ []
 
 -- a text of the trace, as it stands in the page
-abbrev pub escaped : List ℕ → List ℕ
-escaped text = flat_map (λ b. escaped_byte b) text
+abbrev pub escaped_text : List ℕ → List ℕ
+escaped_text text = flat_map (λ b. escaped_byte b) text
 
 -- ---- places
 
@@ -108,7 +108,7 @@ sign_of gain.Reply = codes "#answer"
 sign_of gain.Other = codes "#answer"
 
 unfoldable pub said_text : Seen → ℕ → Moment → List ℕ
-said_text s tid at = label_text (codes "said") (x_of s at) (y_of s tid) ++ (escaped s.words ++ label_closed)
+said_text s tid at = label_text (codes "said") (x_of s at) (y_of s tid) ++ (escaped_text s.words ++ label_closed)
 
 -- what a call waits for
 unfoldable pub wait_class : Need → List ℕ
@@ -170,7 +170,7 @@ unfoldable pub clock_text : Seen → ℕ → ℕ → Moment → List ℕ
 clock_text s now nth at = label_text (codes "clock") (x_of s at) (outside_row nth) ++ (decimal now ++ (label_closed ++ use_text (codes "#clock") (x_of s at) tick_spot))
 
 unfoldable pub closing_text : Seen → List ℕ → ℕ → Moment → List ℕ
-closing_text s line nth at = label_text (codes "end") (x_of s at + 24) (end_row nth) ++ (escaped line ++ label_closed)
+closing_text s line nth at = label_text (codes "end") (x_of s at + 24) (end_row nth) ++ (escaped_text line ++ label_closed)
 
 -- what it waits for, in words
 unfoldable pub wanted_text : Need → List ℕ
@@ -223,7 +223,7 @@ shapes_text s line shapes = flat_map (λ shape. shape_text s line shape) shapes
 
 -- a line as a title
 unfoldable pub title_text : List ℕ → List ℕ
-title_text line = codes "<title>" ++ (escaped line ++ codes "</title>")
+title_text line = codes "<title>" ++ (escaped_text line ++ codes "</title>")
 
 unfoldable pub group_open : List ℕ
 group_open = codes "<g>"

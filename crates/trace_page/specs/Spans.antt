@@ -52,19 +52,19 @@ abbrev pub is_drawn : Change → Span → Bool
 is_drawn c span = touches c span && not (is_given span.kind)
 
 -- what becomes of what is touched
-abbrev pub turned : Change → Span → List Span
-turned (change.Dies t) span = []
-turned (change.Resumes t) span = []
-turned (change.Breaks m) span = []
-turned (change.Leaves t level) span = []
-turned (change.GivesUp t m) span = record span { kind = kind.Given } ∷ []
-turned (change.Wakes t now) span = record span { kind = kind.Held; since = now } ∷ []
-turned (change.Stays t) span = record span { kind = kind.Held } ∷ []
-turned change.Ends span = []
+abbrev pub turned_spans : Change → Span → List Span
+turned_spans (change.Dies t) span = []
+turned_spans (change.Resumes t) span = []
+turned_spans (change.Breaks m) span = []
+turned_spans (change.Leaves t level) span = []
+turned_spans (change.GivesUp t m) span = record span { kind = kind.Given } ∷ []
+turned_spans (change.Wakes t now) span = record span { kind = kind.Held; since = now } ∷ []
+turned_spans (change.Stays t) span = record span { kind = kind.Held } ∷ []
+turned_spans change.Ends span = []
 
 -- what goes on behind a change
 abbrev pub after : Change → Span → List Span
-after c span = if touches c span then turned c span else span ∷ []
+after c span = if touches c span then turned_spans c span else span ∷ []
 
 -- what is drawn at a change
 abbrev pub bar : Change → Moment → Span → List Shape
@@ -74,12 +74,12 @@ bar c to span = if is_drawn c span then shape.Bar span to ∷ [] else []
 abbrev pub bars : Change → Moment → List Span → List Shape
 bars c to spans = flat_map (λ span. bar c to span) spans
 
-abbrev pub kept : Change → List Span → List Span
-kept c spans = flat_map (λ span. after c span) spans
+abbrev pub spans_after : Change → List Span → List Span
+spans_after c spans = flat_map (λ span. after c span) spans
 
 -- a change, and what is drawn for it
-abbrev pub changed : Change → Seen → Seen
-changed c s = record s { spans = kept c s.spans; shapes = s.shapes ++ bars c s.time s.spans }
+abbrev pub after_change : Change → Seen → Seen
+after_change c s = record s { spans = spans_after c s.spans; shapes = s.shapes ++ bars c s.time s.spans }
 
 -- a monitor that a thread holds or has given up
 abbrev pub is_owned : ℕ → Span → Bool
@@ -95,18 +95,18 @@ agent_of event [] = null_id
 agent_of event (span ∷ spans) = if is_agent event span then span.tid else agent_of event spans
 
 -- the greater of a level and that of this
-abbrev pub raised : Bool → ℕ → Span → ℕ
-raised counts level span = if counts && nat_lt level span.level then span.level else level
+abbrev pub greater_level : Bool → ℕ → Span → ℕ
+greater_level counts level span = if counts && nat_lt level span.level then span.level else level
 
 -- the greatest level of the monitors of a thread, from this on
 abbrev pub top_from : ℕ → ℕ → List Span → ℕ
 top_from level t [] = level
-top_from level t (span ∷ spans) = top_from (raised (is_owned t span) level span) t spans
+top_from level t (span ∷ spans) = top_from (greater_level (is_owned t span) level span) t spans
 
 -- the greatest level at which it holds this monitor
 abbrev pub level_from : ℕ → ℕ → ℕ → List Span → ℕ
 level_from level t m [] = level
-level_from level t m (span ∷ spans) = level_from (raised (is_owned t span && (span.of == m)) level span) t m spans
+level_from level t m (span ∷ spans) = level_from (greater_level (is_owned t span && (span.of == m)) level span) t m spans
 
 -- the monitor that a thread has acquired last
 abbrev pub last_from : ℕ → ℕ → ℕ → List Span → ℕ
@@ -114,5 +114,5 @@ last_from found t level [] = found
 last_from found t level (span ∷ spans) = last_from (if is_owned t span && (span.level == level) then span.of else found) t level spans
 
 -- a thread holds a monitor from now on, above those that it holds
-abbrev pub held_more : ℕ → ℕ → Seen → Span
-held_more t m s = record { tid = t; kind = kind.Held; of = m; since = s.time; level = one_more (top_from 0 t s.spans); event = 0 }
+abbrev pub next_hold : ℕ → ℕ → Seen → Span
+next_hold t m s = record { tid = t; kind = kind.Held; of = m; since = s.time; level = one_more (top_from 0 t s.spans); event = 0 }

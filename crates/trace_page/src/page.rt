@@ -2,9 +2,9 @@
 ghost use Rattle.std.specs.Prelude.{◌≡◌, ◌++◌, true, ℕ, is_some, None, Some, OnOk, IfErr};
 ghost use Rattle.trace_lines.specs.Entries.{entry_of};
 ghost use Rattle.trace_page.specs.Frame.{tail};
-ghost use Rattle.trace_page.specs.Page.{bad_line, groups, page, shown, told_all, told_line, whole_lines};
+ghost use Rattle.trace_page.specs.Page.{after_line, after_lines, bad_line, group_if_shown, groups, page, whole_lines};
 ghost use Rattle.trace_page.specs.Scene.{opening};
-ghost use Rattle.trace_page.specs.Steps.{finished};
+ghost use Rattle.trace_page.specs.Steps.{after_finish};
 
 use crate::frame::add_head;
 use crate::scene::Scene;
@@ -32,9 +32,9 @@ impl From<NoMemory> for PageErr {
 }
 
 impl<'t> Scene<'t> {
-    #[tactic(auto, unfolding(crate::specs::Page::shown))]
+    #[tactic(auto, unfolding(crate::specs::Page::group_if_shown))]
     fn add_shown(&self, out: &mut Vec<u8>, line: &[u8]) -> Result<(), NoMemory>
-        ensures { OnOk result (out.new.items ≡ out.old.items ++ shown self.now line.now) }
+        ensures { OnOk result (out.new.items ≡ out.old.items ++ group_if_shown self.now line.now) }
     {
         if self.is_shown() {
             self.add_group(out, line)
@@ -45,16 +45,16 @@ impl<'t> Scene<'t> {
 }
 
 // A line is told and drawn, if it is one.
-#[tactic(auto, unfolding(crate::specs::Page::told_line))]
+#[tactic(auto, unfolding(crate::specs::Page::after_line))]
 fn add_line<'t>(
     scene: &mut Scene<'t>,
     out: &mut Vec<u8>,
     line: &'t [u8],
     number: u64,
 ) -> Result<(), PageErr>
-    ensures told { OnOk result (scene.new ≡ told_line line.now scene.old) }
+    ensures told { OnOk result (scene.new ≡ after_line line.now scene.old) }
     ensures drawn { OnOk result
-        (out.new.items ≡ out.old.items ++ shown (told_line line.now scene.old) line.now) }
+        (out.new.items ≡ out.old.items ++ group_if_shown (after_line line.now scene.old) line.now) }
     ensures good { OnOk result (is_some (entry_of line.now) ≡ true) }
     ensures bad { IfErr result
         (λ e. (n : ℕ) → e ≡ PageErr.Line n → (n ≡ number) × (entry_of line.now ≡ None)) }
@@ -70,7 +70,7 @@ fn add_line<'t>(
 
 // The lines of a text, which are told and drawn one by one.
 fn add_lines<'t>(scene: &mut Scene<'t>, out: &mut Vec<u8>, text: &'t [u8]) -> Result<(), PageErr>
-    ensures told { OnOk result (scene.new ≡ told_all scene.old (whole_lines text.now)) }
+    ensures told { OnOk result (scene.new ≡ after_lines scene.old (whole_lines text.now)) }
     ensures drawn { OnOk result
         (out.new.items ≡ out.old.items ++ groups scene.old (whole_lines text.now)) }
     ensures good { OnOk result (bad_line text.now ≡ None) }

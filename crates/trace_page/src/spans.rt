@@ -1,6 +1,6 @@
 // What goes on, and what ends it.
 ghost use Rattle.std.specs.Prelude.{◌≡◌, ◌++◌, ◌&&◌, ◌==◌, OnOk};
-ghost use Rattle.trace_page.specs.Spans.{after, agent_of, bars, is_agent, is_drawn, is_given, is_held, is_life, is_owned, is_parked, kept, last_from, level_from, raised, top_from, touches, turned};
+ghost use Rattle.trace_page.specs.Spans.{after, agent_of, bars, greater_level, is_agent, is_drawn, is_given, is_held, is_life, is_owned, is_parked, last_from, level_from, spans_after, top_from, touches, turned_spans};
 
 use crate::scene::{Kind, Moment, Shape, Span};
 use lwp_types::NoMemory;
@@ -91,7 +91,7 @@ fn is_drawn(change: Change, span: Span) -> bool
 }
 
 fn add_turned(out: &mut Vec<Span>, change: Change, span: Span) -> Result<(), NoMemory>
-    ensures { OnOk result (out.new.items ≡ out.old.items ++ turned change span) }
+    ensures { OnOk result (out.new.items ≡ out.old.items ++ turned_spans change span) }
 {
     let next = match change {
         Change::GivesUp { tid: _, mon: _ } => Span {
@@ -129,7 +129,7 @@ fn add_after(out: &mut Vec<Span>, change: Change, span: Span) -> Result<(), NoMe
 
 /// What goes on behind a change.
 pub fn add_kept(out: &mut Vec<Span>, change: Change, spans: &[Span]) -> Result<(), NoMemory>
-    ensures { OnOk result (out.new.items ≡ out.old.items ++ kept change spans.now) }
+    ensures { OnOk result (out.new.items ≡ out.old.items ++ spans_after change spans.now) }
 {
     for span in spans {
         add_after(out, change, *span)?;
@@ -179,7 +179,7 @@ pub fn agent_of(event: u64, spans: &[Span]) -> u64
 }
 
 fn raised(counts: bool, level: u64, span: Span) -> u64
-    ensures { result ≡ raised counts level span }
+    ensures { result ≡ greater_level counts level span }
 {
     if counts && level < span.level {
         span.level

@@ -1,8 +1,8 @@
 // What a line makes of all that is known, and what is drawn for it.
 ghost use Rattle.std.specs.Prelude.{◌≡◌, ◌++◌, ◌&&◌, OnOk};
-ghost use Rattle.trace_page.specs.Scene.{begun, blank, drawn, lane_of, need_of, one_more, opening, place, put, same_bool, together, with_lane};
-ghost use Rattle.trace_page.specs.Spans.{changed, held_more};
-ghost use Rattle.trace_page.specs.Steps.{all_due, also_sent, answered, asking, called, came, carried, counted, created, died, done, drawable, due, event_taken, exited, finished, given_up, granted, has_waited, is_call, is_past, is_shown, left, may_wait, met, met_thread, named, noted, owner_of, parked, reported, room, said, sent, set, settled, shown_answer, spoken, ticked, told_entry, trapped, waited, with_agent, with_closing, woken, words_of};
+ghost use Rattle.trace_page.specs.Scene.{after_begin, after_draw, after_put, blank, lane_of, need_of, one_more, opening, place, same_bool, together, with_lane};
+ghost use Rattle.trace_page.specs.Spans.{after_change, next_hold};
+ghost use Rattle.trace_page.specs.Steps.{after_act, after_also, after_answer, after_call, after_carry_out, after_count, after_create, after_die, after_entry, after_event, after_exit, after_finish, after_give_up, after_grant, after_leave, after_meet, after_meet_thread, after_name, after_note, after_park, after_report, after_say, after_send, after_set, after_settle, after_show_answer, after_speak, after_tick, after_trap, all_due, arrival_shapes, asking, drawable, due, has_waited, is_call, is_past, is_shown, may_wait, owner_of, room, wait_shapes, wake_shapes, with_agent, with_closing, words_of};
 
 use crate::scene::{Kind, Lane, Moment, Naming, Need, Scene, Setting, Shape, Span, Way, Words};
 use crate::spans::{Change, add_bars, add_kept, agent_of, level_of, monitor_at, top_level};
@@ -104,7 +104,7 @@ fn has_waited(lane: Lane, now: Moment) -> bool
 }
 
 fn add_waited(out: &mut Vec<Shape>, lane: Lane, now: Moment) -> Result<(), NoMemory>
-    ensures { OnOk result (out.new.items ≡ out.old.items ++ waited lane now) }
+    ensures { OnOk result (out.new.items ≡ out.old.items ++ wait_shapes lane now) }
 {
     if has_waited(lane, now) && may_wait(need_of(lane.verb)) {
         out.push(Shape::Wait { lane, to: now })?;
@@ -113,7 +113,7 @@ fn add_waited(out: &mut Vec<Shape>, lane: Lane, now: Moment) -> Result<(), NoMem
 }
 
 fn add_woken(out: &mut Vec<Shape>, lane: Lane, caller: u64, now: Moment) -> Result<(), NoMemory>
-    ensures { OnOk result (out.new.items ≡ out.old.items ++ woken lane caller now) }
+    ensures { OnOk result (out.new.items ≡ out.old.items ++ wake_shapes lane caller now) }
 {
     if has_waited(lane, now) && !(caller == lane.id || caller == NOBODY) {
         out.push(Shape::Arrow {
@@ -235,7 +235,7 @@ impl<'t> Scene<'t> {
     }
 
     fn put(&mut self, lane: Lane)
-        ensures { self.new ≡ put lane self.old }
+        ensures { self.new ≡ after_put lane self.old }
     {
         let i = place(lane.id, &self.lanes);
         if i < self.lanes.len() {
@@ -244,14 +244,14 @@ impl<'t> Scene<'t> {
     }
 
     fn draw(&mut self, shape: Shape) -> Result<(), NoMemory>
-        ensures { OnOk result (self.new ≡ drawn shape self.old) }
+        ensures { OnOk result (self.new ≡ after_draw shape self.old) }
     {
         self.shapes.push(shape)?;
         Ok(())
     }
 
     fn begin(&mut self, span: Span) -> Result<(), NoMemory>
-        ensures { OnOk result (self.new ≡ begun span self.old) }
+        ensures { OnOk result (self.new ≡ after_begin span self.old) }
     {
         self.spans.push(span)?;
         Ok(())
@@ -273,7 +273,7 @@ impl<'t> Scene<'t> {
     }
 
     fn meet(&mut self, id: u64, event: u64, owner: u64) -> Result<(), NoMemory>
-        ensures { OnOk result (self.new ≡ met id event owner self.old) }
+        ensures { OnOk result (self.new ≡ after_meet id event owner self.old) }
     {
         if place(id, &self.lanes) < self.lanes.len() {
             return Ok(());
@@ -282,7 +282,7 @@ impl<'t> Scene<'t> {
     }
 
     fn change(&mut self, change: Change) -> Result<(), NoMemory>
-        ensures { OnOk result (self.new ≡ changed change self.old) }
+        ensures { OnOk result (self.new ≡ after_change change self.old) }
     {
         add_bars(&mut self.shapes, change, self.time, &self.spans)?;
         let mut kept = Vec::new(*self.spans.allocator());
@@ -292,7 +292,7 @@ impl<'t> Scene<'t> {
     }
 
     fn count(&mut self, tid: u64)
-        ensures { self.new ≡ counted tid self.old }
+        ensures { self.new ≡ after_count tid self.old }
     {
         self.time = Moment {
             call: one_more(self.time.call),
@@ -316,7 +316,7 @@ impl<'t> Scene<'t> {
     }
 
     fn give_up(&mut self, tid: u64, verb: Verb) -> Result<(), NoMemory>
-        ensures { OnOk result (self.new ≡ given_up tid verb self.old) }
+        ensures { OnOk result (self.new ≡ after_give_up tid verb self.old) }
     {
         match verb {
             Verb::Wait => {
@@ -353,7 +353,7 @@ impl<'t> Scene<'t> {
 
     // Words are drawn where those before leave room.
     fn say(&mut self, tid: u64) -> Result<(), NoMemory>
-        ensures { OnOk result (self.new ≡ said tid self.old) }
+        ensures { OnOk result (self.new ≡ after_say tid self.old) }
     {
         let lane = self.lane_of(tid);
         if self.time.call < lane.clear {
@@ -366,7 +366,7 @@ impl<'t> Scene<'t> {
     }
 
     fn speak(&mut self, tid: u64, verb: Verb) -> Result<(), NoMemory>
-        ensures { OnOk result (self.new ≡ spoken tid verb self.old) }
+        ensures { OnOk result (self.new ≡ after_speak tid verb self.old) }
     {
         match verb {
             Verb::Say => self.say(tid),
@@ -390,7 +390,7 @@ impl<'t> Scene<'t> {
     }
 
     fn call(&mut self, tid: u64, verb: Verb, target: u64, suspended: bool) -> Result<(), NoMemory>
-        ensures { OnOk result (self.new ≡ called tid verb target suspended self.old) }
+        ensures { OnOk result (self.new ≡ after_call tid verb target suspended self.old) }
     {
         self.count(tid);
         self.meet(tid, 0, NOBODY)?;
@@ -404,7 +404,8 @@ impl<'t> Scene<'t> {
     // What comes to a lane with its answer.
     fn show_coming(&mut self, lane: Lane, gain: Gain) -> Result<(), NoMemory>
         ensures { OnOk result
-            (self.new ≡ record self.old { shapes = self.old.shapes ++ came lane gain self.old }) }
+            (self.new
+                ≡ record self.old { shapes = self.old.shapes ++ arrival_shapes lane gain self.old }) }
     {
         let now = self.time;
         match gain {
@@ -432,7 +433,7 @@ impl<'t> Scene<'t> {
     }
 
     fn show_answer(&mut self, lane: Lane, gain: Gain) -> Result<(), NoMemory>
-        ensures { OnOk result (self.new ≡ shown_answer lane gain self.old) }
+        ensures { OnOk result (self.new ≡ after_show_answer lane gain self.old) }
     {
         add_waited(&mut self.shapes, lane, self.time)?;
         self.show_coming(lane, gain)?;
@@ -445,7 +446,7 @@ impl<'t> Scene<'t> {
     }
 
     fn park(&mut self, suspended: bool, id: u64) -> Result<(), NoMemory>
-        ensures { OnOk result (self.new ≡ parked suspended id self.old) }
+        ensures { OnOk result (self.new ≡ after_park suspended id self.old) }
     {
         if !suspended {
             return Ok(());
@@ -462,7 +463,7 @@ impl<'t> Scene<'t> {
 
     // A thread has its procedure's name.
     fn name(&mut self, tid: u64) -> Result<(), NoMemory>
-        ensures { OnOk result (self.new ≡ named tid self.old) }
+        ensures { OnOk result (self.new ≡ after_name tid self.old) }
     {
         let name = self.words.again();
         self.names.push(Naming { tid, name })?;
@@ -470,7 +471,7 @@ impl<'t> Scene<'t> {
     }
 
     fn create(&mut self, lane: Lane, gain: Gain) -> Result<(), NoMemory>
-        ensures { OnOk result (self.new ≡ created lane gain self.old) }
+        ensures { OnOk result (self.new ≡ after_create lane gain self.old) }
     {
         match gain {
             Gain::Thread(id) => {
@@ -502,7 +503,7 @@ impl<'t> Scene<'t> {
     }
 
     fn set(&mut self, lane: Lane, gain: Gain) -> Result<(), NoMemory>
-        ensures { OnOk result (self.new ≡ set lane gain self.old) }
+        ensures { OnOk result (self.new ≡ after_set lane gain self.old) }
     {
         match gain {
             Gain::Value(reg) => {
@@ -519,14 +520,14 @@ impl<'t> Scene<'t> {
     }
 
     fn leave(&mut self, tid: u64, mon: u64) -> Result<(), NoMemory>
-        ensures { OnOk result (self.new ≡ left tid mon self.old) }
+        ensures { OnOk result (self.new ≡ after_leave tid mon self.old) }
     {
         let level = level_of(tid, mon, &self.spans);
         self.change(Change::Leaves { tid, level })
     }
 
     fn hold(&mut self, tid: u64, mon: u64) -> Result<(), NoMemory>
-        ensures { OnOk result (self.new ≡ begun (held_more tid mon self.old) self.old) }
+        ensures { OnOk result (self.new ≡ after_begin (next_hold tid mon self.old) self.old) }
     {
         let level = one_more(top_level(tid, &self.spans));
         self.begin(Span {
@@ -540,7 +541,7 @@ impl<'t> Scene<'t> {
     }
 
     fn grant(&mut self, lane: Lane, verb: Verb, gain: Gain) -> Result<(), NoMemory>
-        ensures { OnOk result (self.new ≡ granted lane verb gain self.old) }
+        ensures { OnOk result (self.new ≡ after_grant lane verb gain self.old) }
     {
         match verb {
             Verb::Create => self.create(lane, gain),
@@ -563,7 +564,7 @@ impl<'t> Scene<'t> {
     }
 
     fn settle(&mut self, lane: Lane, gain: Gain) -> Result<(), NoMemory>
-        ensures { OnOk result (self.new ≡ settled lane gain self.old) }
+        ensures { OnOk result (self.new ≡ after_settle lane gain self.old) }
     {
         match gain {
             Gain::Refused => self.change(Change::Stays { tid: lane.id }),
@@ -577,7 +578,7 @@ impl<'t> Scene<'t> {
     }
 
     fn answer(&mut self, tid: u64, gain: Gain) -> Result<(), NoMemory>
-        ensures { OnOk result (self.new ≡ answered tid gain self.old) }
+        ensures { OnOk result (self.new ≡ after_answer tid gain self.old) }
     {
         self.meet(tid, 0, NOBODY)?;
         let lane = self.lane_of(tid);
@@ -590,7 +591,7 @@ impl<'t> Scene<'t> {
     }
 
     fn carry_out(&mut self, tid: u64, verb: Verb, target: u64) -> Result<(), NoMemory>
-        ensures { OnOk result (self.new ≡ carried tid verb target self.old) }
+        ensures { OnOk result (self.new ≡ after_carry_out tid verb target self.old) }
     {
         match verb {
             Verb::MonExit => self.leave(tid, target),
@@ -614,7 +615,7 @@ impl<'t> Scene<'t> {
     }
 
     fn exit(&mut self, reg: u64, verb: Verb, target: u64, refused: bool) -> Result<(), NoMemory>
-        ensures { OnOk result (self.new ≡ exited reg verb target refused self.old) }
+        ensures { OnOk result (self.new ≡ after_exit reg verb target refused self.old) }
     {
         let tid = owner_of(reg, &self.settings);
         let at = self.time;
@@ -627,7 +628,7 @@ impl<'t> Scene<'t> {
     }
 
     fn die(&mut self, tid: u64) -> Result<(), NoMemory>
-        ensures { OnOk result (self.new ≡ died tid self.old) }
+        ensures { OnOk result (self.new ≡ after_die tid self.old) }
     {
         self.meet(tid, 0, NOBODY)?;
         let lane = self.lane_of(tid);
@@ -642,7 +643,7 @@ impl<'t> Scene<'t> {
     }
 
     fn send(&mut self, id: u64)
-        ensures { self.new ≡ sent id self.old }
+        ensures { self.new ≡ after_send id self.old }
     {
         let lane = Lane {
             since: self.time,
@@ -653,7 +654,7 @@ impl<'t> Scene<'t> {
     }
 
     fn take(&mut self, event: u64, client: u64, seq: u64) -> Result<(), NoMemory>
-        ensures { OnOk result (self.new ≡ event_taken event client seq self.old) }
+        ensures { OnOk result (self.new ≡ after_event event client seq self.old) }
     {
         let agent = agent_of(event, &self.spans);
         let nth = self.events;
@@ -676,7 +677,7 @@ impl<'t> Scene<'t> {
 
     // A later agent of the event has the letter too.
     fn also(&mut self, agent: u64) -> Result<(), NoMemory>
-        ensures { OnOk result (self.new ≡ also_sent agent self.old) }
+        ensures { OnOk result (self.new ≡ after_also agent self.old) }
     {
         self.time = Moment {
             late: true,
@@ -696,7 +697,7 @@ impl<'t> Scene<'t> {
 
     // The clock ticks.
     fn tick(&mut self, now: u64) -> Result<(), NoMemory>
-        ensures { OnOk result (self.new ≡ ticked now self.old) }
+        ensures { OnOk result (self.new ≡ after_tick now self.old) }
     {
         let nth = self.events;
         self.time = Moment {
@@ -711,7 +712,7 @@ impl<'t> Scene<'t> {
 
     // A trap is raised in a thread.
     fn trap(&mut self, tid: u64) -> Result<(), NoMemory>
-        ensures { OnOk result (self.new ≡ trapped tid self.old) }
+        ensures { OnOk result (self.new ≡ after_trap tid self.old) }
     {
         self.time = Moment {
             late: true,
@@ -726,7 +727,7 @@ impl<'t> Scene<'t> {
 
     // A death is told to an agent.
     fn report(&mut self, agent: u64, dead: u64) -> Result<(), NoMemory>
-        ensures { OnOk result (self.new ≡ reported agent dead self.old) }
+        ensures { OnOk result (self.new ≡ after_report agent dead self.old) }
     {
         let at = self.time;
         self.draw(Shape::Arrow {
@@ -749,9 +750,9 @@ impl<'t> Scene<'t> {
         self.draw(Shape::Closing { nth, at })
     }
 
-    #[tactic(auto, unfolding(crate::specs::Steps::done))]
+    #[tactic(auto, unfolding(crate::specs::Steps::after_act))]
     fn act(&mut self, entry: Entry) -> Result<(), NoMemory>
-        ensures { OnOk result (self.new ≡ done entry self.old) }
+        ensures { OnOk result (self.new ≡ after_act entry self.old) }
     {
         match entry {
             Entry::Called {
@@ -789,7 +790,7 @@ impl<'t> Scene<'t> {
 
     /// The words of a line are known.
     pub fn note(&mut self, entry: Entry, line: &'t [u8])
-        ensures { self.new ≡ noted entry line.now self.old }
+        ensures { self.new ≡ after_note entry line.now self.old }
     {
         if let Entry::Called {
             tid: _,
@@ -803,9 +804,9 @@ impl<'t> Scene<'t> {
     }
 
     /// What a line tells is known now.
-    #[tactic(auto, unfolding(crate::specs::Steps::told_entry))]
+    #[tactic(auto, unfolding(crate::specs::Steps::after_entry))]
     pub fn tell(&mut self, entry: Entry) -> Result<(), NoMemory>
-        ensures { OnOk result (self.new ≡ told_entry entry self.old) }
+        ensures { OnOk result (self.new ≡ after_entry entry self.old) }
     {
         self.shapes.clear();
         if self.is_past(entry) {
@@ -824,9 +825,9 @@ impl<'t> Scene<'t> {
     }
 
     /// All is told: what goes on still is to be drawn.
-    #[tactic(auto, unfolding(crate::specs::Steps::finished))]
+    #[tactic(auto, unfolding(crate::specs::Steps::after_finish))]
     pub fn finish(&mut self) -> Result<(), NoMemory>
-        ensures { OnOk result (self.new ≡ finished self.old) }
+        ensures { OnOk result (self.new ≡ after_finish self.old) }
     {
         self.time = Moment {
             call: one_more(self.time.call),

@@ -28,9 +28,9 @@ use Rattle.lwp_types.specs.declared.call.Call.TheVariants as call
 use Rattle.lwp_types.specs.declared.call.Effect.TheVariants as effect
 
 -- a text with a space before it; the empty text isn't printed, and neither is the space
-abbrev pub spaced : List ℕ → List ℕ
-spaced [] = []
-spaced (b ∷ bs) = 32 ∷ b ∷ bs
+abbrev pub with_space : List ℕ → List ℕ
+with_space [] = []
+with_space (b ∷ bs) = 32 ∷ b ∷ bs
 
 -- a number behind the letter of its kind, or `none`
 abbrev pub id_text : List ℕ → ℕ → List ℕ
@@ -94,10 +94,10 @@ exit_text me (exit.MonExit m) = codes "monexit " ++ monitor_text m
 exit_text me (exit.MonBreak m) = codes "monbreak " ++ monitor_text m
 exit_text me (exit.Notify c) = codes "notify " ++ condition_text c
 exit_text me (exit.Broadcast c) = codes "broadcast " ++ condition_text c
-exit_text me (exit.Reply to text) = codes "reply " ++ (who_text me to ++ spaced text)
+exit_text me (exit.Reply to text) = codes "reply " ++ (who_text me to ++ with_space text)
 exit_text me (exit.Resume t) = codes "resume " ++ who_text me t
 exit_text me (exit.SetExit code) = codes "setexit " ++ decimal code
-exit_text me (exit.Note text) = codes "note" ++ spaced text
+exit_text me (exit.Note text) = codes "note" ++ with_space text
 
 -- a call, written like its statement, but with numbers for names and without the name that it sets
 abbrev pub call_text : List (List ℕ) → Option ℕ → Call → List ℕ
@@ -117,9 +117,9 @@ call_text procs me (call.SetExit code) = codes "setexit " ++ decimal code
 call_text procs me call.GetExit = codes "getexit"
 call_text procs me (call.PodExit code) = codes "podexit " ++ decimal code
 call_text procs me call.Threads = codes "threads"
-call_text procs me (call.Send t room text) = codes "send " ++ (who_text me t ++ (codes " " ++ (decimal room ++ spaced text)))
+call_text procs me (call.Send t room text) = codes "send " ++ (who_text me t ++ (codes " " ++ (decimal room ++ with_space text)))
 call_text procs me (call.Recv from mode) = codes "recv " ++ (source_text me from ++ (codes " " ++ mode_text mode))
-call_text procs me (call.Reply t text) = codes "reply " ++ (who_text me t ++ spaced text)
+call_text procs me (call.Reply t text) = codes "reply " ++ (who_text me t ++ with_space text)
 call_text procs me call.Senders = codes "senders"
 call_text procs me call.Receivers = codes "receivers"
 call_text procs me call.MonCreate = codes "moncreate"
@@ -150,7 +150,7 @@ call_text procs me call.UniqPatt = codes "uniqpatt"
 call_text procs me (call.Agent e) = codes "agent " ++ decimal e
 call_text procs me call.Agents = codes "agents"
 call_text procs me (call.Trap e) = codes "trap " ++ decimal e
-call_text procs me (call.Say text) = codes "say" ++ spaced text
+call_text procs me (call.Say text) = codes "say" ++ with_space text
 
 -- an error by its name
 abbrev pub error_text : LwpErr → List ℕ
@@ -176,8 +176,8 @@ answer_text (answer.Value v) = codes " = " ++ signed_decimal v
 answer_text (answer.Thread t) = codes " = " ++ thread_text t
 answer_text (answer.Monitor m) = codes " = " ++ monitor_text m
 answer_text (answer.Condition c) = codes " = " ++ condition_text c
-answer_text (answer.Letter from text room) = codes " = letter " ++ (thread_text from ++ (codes " " ++ (decimal room ++ spaced text)))
-answer_text (answer.Reply text) = codes " = reply" ++ spaced text
+answer_text (answer.Letter from text room) = codes " = letter " ++ (thread_text from ++ (codes " " ++ (decimal room ++ with_space text)))
+answer_text (answer.Reply text) = codes " = reply" ++ with_space text
 answer_text (answer.Bound func arg) = codes " = bound " ++ (func_text func ++ (codes " " ++ decimal arg))
 answer_text (answer.Caught depth mark p) = codes " caught " ++ decimal p
 answer_text (answer.Ids kind ids) = codes " = ids" ++ ids_text kind ids
@@ -185,7 +185,7 @@ answer_text (answer.Refused e) = codes " ! " ++ error_text e
 
 -- a line that a client has posted
 abbrev pub posted_text : Line → List ℕ
-posted_text line = codes " client " ++ (decimal line.client ++ (codes " seq " ++ (decimal line.seq ++ spaced line.text)))
+posted_text line = codes " client " ++ (decimal line.client ++ (codes " seq " ++ (decimal line.seq ++ with_space line.text)))
 
 -- the same, at its event
 abbrev pub taken_text : ℕ → Line → List ℕ

@@ -2,7 +2,7 @@
 ghost use Rattle.std.specs.Prelude.{◌≡◌, ◌≤◌, ◌+◌, ◌++◌, ◌∷◌, [], Some, None, length, take};
 ghost use Rattle.std.specs.Fmt.{decimal};
 ghost use Rattle.lwp_types.specs.Families.{agent_call, condition_call, exception_call, message_call, monitor_call, pod_call, thread_call, turn_call};
-ghost use Rattle.trace_text.specs.Lines.{spaced, exit_text, call_text, id_text, who_text};
+ghost use Rattle.trace_text.specs.Lines.{with_space, exit_text, call_text, id_text, who_text};
 
 use crate::rows::{
     put_flags, put_func, put_id, put_mode, put_number, put_pattern, put_proc, put_source,
@@ -62,7 +62,7 @@ pub(crate) fn put_word_text(row: &mut [u8], at: usize, word: &[u8], text: &Text)
     requires { at + (length word.now + 241) ≤ length row.old }
     ensures len { length row.new ≡ length row.old }
     ensures end { result ≤ at + (length word.now + 241) }
-    ensures text { take result row.new ≡ take at row.old ++ (word.now ++ spaced text.now) }
+    ensures text { take result row.new ≡ take at row.old ++ (word.now ++ with_space text.now) }
 {
     let next = put_word(row, at, word);
     put_spaced(row, next, text)
@@ -82,7 +82,7 @@ fn put_word_who_text(
     ensures len { length row.new ≡ length row.old }
     ensures end { result ≤ at + (length word.now + 262) }
     ensures text { take result row.new
-        ≡ take at row.old ++ (word.now ++ (who_text me tid ++ spaced text.now)) }
+        ≡ take at row.old ++ (word.now ++ (who_text me tid ++ with_space text.now)) }
 {
     let next = put_word_who(row, at, word, me, tid);
     put_spaced(row, next, text)

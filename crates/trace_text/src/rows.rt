@@ -2,7 +2,7 @@
 ghost use Rattle.std.specs.Prelude.{◌≡◌, ◌≤◌, ◌+◌, ◌/◌, ◌%◌, ◌<◌, ◌++◌, ◌∷◌, [], length, take};
 ghost use Rattle.std.specs.Fmt.{decimal};
 ghost use Rattle.trace_text.specs.Pairs.{pair_of, pairs_from};
-ghost use Rattle.trace_text.specs.Lines.{spaced, id_text, who_text, proc_text, letter_if, flags_text, source_text, mode_text, pattern_text, func_text, error_text};
+ghost use Rattle.trace_text.specs.Lines.{with_space, id_text, who_text, proc_text, letter_if, flags_text, source_text, mode_text, pattern_text, func_text, error_text};
 
 use itoa::Buffer;
 use lwp_types::{Flags, Func, LwpErr, Mode, Pattern, Text, Tid};
@@ -79,7 +79,7 @@ pub(crate) fn put_spaced(row: &mut [u8], at: usize, text: &Text) -> usize
     requires { at + 241 ≤ length row.old }
     ensures len { length row.new ≡ length row.old }
     ensures end { result ≤ at + 241 }
-    ensures text { take result row.new ≡ take at row.old ++ spaced text.now }
+    ensures text { take result row.new ≡ take at row.old ++ with_space text.now }
 {
     let (lead, rest) = text.parts();
     if lead.is_empty() && rest.is_empty() {

@@ -1,7 +1,7 @@
 // The words that lines are made of. Each function but those that answer a word puts its part at the end of the bytes so far.
 ghost use Rattle.std.specs.Prelude.{◌≡◌, ◌≤◌, ◌+◌, ◌++◌, IfOk, OnOk, length, take};
 ghost use Rattle.std.specs.Fmt.{decimal};
-ghost use Rattle.trace_text.specs.Lines.{spaced, flags_text, mode_text, pattern_text, func_text};
+ghost use Rattle.trace_text.specs.Lines.{with_space, flags_text, mode_text, pattern_text, func_text};
 
 use crate::rows::{put_flags, put_mode, put_number, put_pattern};
 use lwp_types::{Flags, Func, Mode, NoMemory, Pattern, Text};
@@ -28,7 +28,7 @@ pub(crate) fn add_word(out: &mut Vec<u8>, word: &[u8]) -> Result<(), NoMemory>
 
 /// A text behind a space; nothing, where it is empty.
 pub fn add_spaced(out: &mut Vec<u8>, text: &[u8]) -> Result<(), NoMemory>
-    ensures { OnOk result (out.new.items ≡ out.old.items ++ spaced text.now) }
+    ensures { OnOk result (out.new.items ≡ out.old.items ++ with_space text.now) }
 {
     if !text.is_empty() {
         add_word(out, b" ")?;
@@ -39,7 +39,7 @@ pub fn add_spaced(out: &mut Vec<u8>, text: &[u8]) -> Result<(), NoMemory>
 
 /// The same of a text that is lent.
 pub fn add_spaced_text(out: &mut Vec<u8>, text: &Text) -> Result<(), NoMemory>
-    ensures { OnOk result (out.new.items ≡ out.old.items ++ spaced text.now) }
+    ensures { OnOk result (out.new.items ≡ out.old.items ++ with_space text.now) }
 {
     let (lead, rest) = text.parts();
     if lead.is_empty() {

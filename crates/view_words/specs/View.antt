@@ -1,5 +1,5 @@
 -- What the program comes to, with all that it meets outside.
-use Rattle.lwp_types.specs.Streams.{appended}
+use Rattle.lwp_types.specs.Streams.{after_append}
 use Rattle.std.specs.Fmt.{decimal}
 use Rattle.std.specs.Prelude.{List, None, Option, Some, [], codes, ℕ, ◌++◌, ◌≡◌}
 use Rattle.trace_page.specs.Page.{bad_line, page, whole_lines}
@@ -17,7 +17,7 @@ Says source says = IsFaultless source × ((text : List ℕ) × HasRead source.ol
 -- the page of a trace was written
 abbrev pub IsShown : Window → Stream → List ℕ → Type 0
 IsShown window sink text =
-    (bad_line text ≡ None) × (sink.new ≡ appended sink.old (page window.base window.last (whole_lines text))) × IsFaultless sink
+    (bad_line text ≡ None) × (sink.new ≡ after_append sink.old (page window.base window.last (whole_lines text))) × IsFaultless sink
 
 -- the first bytes of the page were written, and a write failed before the last
 abbrev pub IsCut : Window → Stream → List ℕ → Type 0

@@ -8,7 +8,7 @@ use Rattle.std.proofs.lemmas.List.{length-set, length_push}
 use Rattle.std.specs.List.{AllByRecursion, remove}
 use Rattle.waiting_list.proofs.EntryLaws.{never_falls, no_entry}
 use Rattle.waiting_list.proofs.KeyLaws.{key_itself}
-use Rattle.waiting_list.specs.Entries.{AreRising, IsFiled, IsIndexed, IsSortedOut, arrivals, numbered, waiting_of}
+use Rattle.waiting_list.specs.Entries.{AreRising, IsFiled, IsIndexed, IsSortedOut, arrivals, waiting_of, with_arrivals}
 use Rattle.waiting_list.specs.Keys.{IsSorted, is_key}
 use Rattle.waiting_list.specs.declared.keys.Key.{Key}
 use Rattle.waiting_list.specs.declared.rows.Entry.{Entry}
@@ -98,32 +98,32 @@ last_is_most es i e rising end here = all_from (λ n. n < e.arrival + 1) es (λ 
 
 -- ---- numbered anew
 
-pub length-numbered : (n : ℕ) (es : List Entry) → length (numbered n es) ≡ length es
+pub length-numbered : (n : ℕ) (es : List Entry) → length (with_arrivals n es) ≡ length es
 length-numbered n [] = refl
 length-numbered n (e ∷ es) = ap suc (length-numbered (suc n) es)
 
-pub waits-numbered : (n : ℕ) (es : List Entry) → map waiting_of (numbered n es) ≡ map waiting_of es
+pub waits-numbered : (n : ℕ) (es : List Entry) → map waiting_of (with_arrivals n es) ≡ map waiting_of es
 waits-numbered n [] = refl
 waits-numbered n (e ∷ es) = ap (λ ws. waiting_of e ∷ ws) (waits-numbered (suc n) es)
 
-above-numbered : (k n : ℕ) (es : List Entry) → k < n → AllByRecursion (λ m. k < m) (arrivals (numbered n es))
+above-numbered : (k n : ℕ) (es : List Entry) → k < n → AllByRecursion (λ m. k < m) (arrivals (with_arrivals n es))
 above-numbered k n [] less = tt
 above-numbered k n (e ∷ es) less = (less, above-numbered k (suc n) es (omega (arith, less)))
 
-pub rising-numbered : (n : ℕ) (es : List Entry) → AreRising (arrivals (numbered n es))
+pub rising-numbered : (n : ℕ) (es : List Entry) → AreRising (arrivals (with_arrivals n es))
 rising-numbered n [] = tt
 rising-numbered n (e ∷ es) = (above-numbered n (suc n) es (omega arith), rising-numbered (suc n) es)
 
-pub below-numbered : (m n : ℕ) (es : List Entry) → n + length es ≤ m → AllByRecursion (λ k. k < m) (arrivals (numbered n es))
+pub below-numbered : (m n : ℕ) (es : List Entry) → n + length es ≤ m → AllByRecursion (λ k. k < m) (arrivals (with_arrivals n es))
 below-numbered m n [] fits = tt
 below-numbered m n (e ∷ es) fits = (omega (arith, fits), below-numbered m (suc n) es (omega (arith, fits)))
 
-pub partly_long : (n i : ℕ) (es : List Entry) → i ≤ length es → length (numbered n (take i es) ++ drop i es) ≡ length es
+pub partly_long : (n i : ℕ) (es : List Entry) → i ≤ length es → length (with_arrivals n (take i es) ++ drop i es) ≡ length es
 partly_long n zero es fits = refl
 partly_long n (suc i) [] fits = absurd (omega (arith, fits))
 partly_long n (suc i) (e ∷ es) fits = ap suc (partly_long (suc n) i es (omega (arith, fits)))
 
-pub numbered_more : (n i m next : ℕ) (es : List Entry) (x : Entry) → m ≡ n + i → next ≡ suc i → i < length es → x ≡ get_or (numbered n (take i es) ++ drop i es) i x → set (numbered n (take i es) ++ drop i es) i (record x { arrival = m }) ≡ numbered n (take next es) ++ drop next es
+pub numbered_more : (n i m next : ℕ) (es : List Entry) (x : Entry) → m ≡ n + i → next ≡ suc i → i < length es → x ≡ get_or (with_arrivals n (take i es) ++ drop i es) i x → set (with_arrivals n (take i es) ++ drop i es) i (record x { arrival = m }) ≡ with_arrivals n (take next es) ++ drop next es
 numbered_more n i m next [] x is then within here = absurd (omega (arith, within))
 numbered_more n zero m next (e ∷ es) x is then within here =
     let same : m ≡ n = omega (arith, is) in

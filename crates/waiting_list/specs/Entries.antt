@@ -35,9 +35,9 @@ AreRising [] = Unit {0}
 AreRising (n ∷ ns) = AllByRecursion (λ m. n < m) ns × AreRising ns
 
 -- each with its place for its arrival, counted from n
-abbrev pub numbered : ℕ → List Entry → List Entry
-numbered n [] = []
-numbered n (e ∷ es) = record e { arrival = n } ∷ numbered (suc n) es
+abbrev pub with_arrivals : ℕ → List Entry → List Entry
+with_arrivals n [] = []
+with_arrivals n (e ∷ es) = record e { arrival = n } ∷ with_arrivals (suc n) es
 
 -- it came n-th
 abbrev pub has_arrival : ℕ → Entry → Bool

@@ -50,17 +50,17 @@ abbrev pub empty_line : Line
 empty_line = record { waiting = []; places = 0 }
 
 -- places for n at least
-abbrev pub reserved : Line → ℕ → Line
-reserved s n = record s { places = max s.places n }
+abbrev pub after_reserve : Line → ℕ → Line
+after_reserve s n = record s { places = max s.places n }
 
 -- one more, behind all others
-abbrev pub joined : Line → Waiting → Line
-joined s w = record s { waiting = s.waiting ++ w ∷ [] }
+abbrev pub after_join : Line → Waiting → Line
+after_join s w = record s { waiting = s.waiting ++ w ∷ [] }
 
 -- thread t waits no more
-abbrev pub left : Line → ℕ → Line
-left s t = record s { waiting = filter (λ w. not (is_thread t w)) s.waiting }
+abbrev pub after_leave : Line → ℕ → Line
+after_leave s t = record s { waiting = filter (λ w. not (is_thread t w)) s.waiting }
 
 -- the priority of thread t is p from now on; it keeps its place
-abbrev pub prioritized : Line → ℕ → ℕ → Line
-prioritized s t p = record s { waiting = map (priority_set t p) s.waiting }
+abbrev pub after_set_priority : Line → ℕ → ℕ → Line
+after_set_priority s t p = record s { waiting = map (priority_set t p) s.waiting }

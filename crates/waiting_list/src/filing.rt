@@ -3,7 +3,7 @@ ghost use Rattle.std.specs.Prelude.{None, [], ◌∷◌, ◌++◌, ◌+◌, ◌�
 ghost use Rattle.std.specs.List.{AllByRecursion, remove};
 ghost use Rattle.std.specs.VecDeque.{deque_capacity};
 ghost use Rattle.thread_index.specs.Index.{IsEmpty, Puts, count_of, place_of, width_of};
-ghost use Rattle.waiting_list.specs.Entries.{AreRising, IsFiled, IsIndexed, IsKnown, IsLike, IsOnce, IsPrioritized, IsSortedOut, arrival_key, arrivals, numbered, rank_of, waiting_of};
+ghost use Rattle.waiting_list.specs.Entries.{AreRising, IsFiled, IsIndexed, IsKnown, IsLike, IsOnce, IsPrioritized, IsSortedOut, arrival_key, arrivals, rank_of, waiting_of, with_arrivals};
 
 use crate::keys::{self, Key};
 use crate::rows::{Entry, arrival_key, rank_of, take_out};
@@ -13,7 +13,7 @@ use thread_index::Index;
 
 // Each is numbered by its place.
 fn renumber(entries: &mut VecDeque<Entry>)
-    ensures items { entries.new.items ≡ numbered 0 entries.old.items }
+    ensures items { entries.new.items ≡ with_arrivals 0 entries.old.items }
     ensures capacity { deque_capacity entries.new ≡ deque_capacity entries.old }
 {
     for at in 0..entries.len() {

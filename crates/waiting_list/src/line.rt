@@ -1,7 +1,7 @@
 // The line of those that wait.
 ghost use Rattle.std.specs.Prelude.{◌≡◌, ◌<◌, ◌≤◌, false, length, map, IsOk, IfOk, OnOk, OnErr};
 ghost use Rattle.std.specs.List.{list_any};
-ghost use Rattle.waiting_list.specs.Line.{best_for, empty_line, first_for, found_for, has_thread, is_for, joined, left, prioritized, reserved, waiting_for};
+ghost use Rattle.waiting_list.specs.Line.{after_join, after_leave, after_reserve, after_set_priority, best_for, empty_line, first_for, found_for, has_thread, is_for, waiting_for};
 
 use crate::Waiting;
 use crate::filing::{dismiss, file_next, next_arrival, prioritize, widen};
@@ -71,7 +71,7 @@ impl WaitingList {
 
     /// Makes places for `n` in all; so many may then wait with no more memory.
     pub fn reserve(&mut self, n: usize) -> Result<(), NoMemory>
-        ensures ok { OnOk result (self.new ≡ reserved self.old n) }
+        ensures ok { OnOk result (self.new ≡ after_reserve self.old n) }
         ensures err { OnErr result (self.new ≡ self.old) }
         ensures has_room { n ≤ self.old.places → IsOk result }
     {
@@ -90,7 +90,7 @@ impl WaitingList {
     pub fn join(&mut self, next: Waiting)
         requires waits_nowhere { has_thread self.old next.tid ≡ false }
         requires room { length self.old.waiting < self.old.places }
-        ensures { self.new ≡ joined self.old next }
+        ensures { self.new ≡ after_join self.old next }
     {
         let arrival = next_arrival(
             &mut self.entries,
@@ -142,7 +142,7 @@ impl WaitingList {
     /// The thread waits no more, if it did.
     #[inline(always)]
     pub fn leave(&mut self, tid: Tid)
-        ensures { self.new ≡ left self.old tid }
+        ensures { self.new ≡ after_leave self.old tid }
     {
         let Some(at) = place_of_thread(&self.entries, &self.index, tid) else {
             return;
@@ -160,7 +160,7 @@ impl WaitingList {
     /// Gives the thread a priority, if it waits. It keeps its place.
     #[inline(always)]
     pub fn set_prio(&mut self, tid: Tid, prio: u32)
-        ensures { self.new ≡ prioritized self.old tid prio }
+        ensures { self.new ≡ after_set_priority self.old tid prio }
     {
         let Some(at) = place_of_thread(&self.entries, &self.index, tid) else {
             return;

@@ -1,6 +1,6 @@
 // A sink that counts what it takes.
 ghost use Rattle.std.specs.Prelude.{◌≡◌, ◌<◌, ◌≤◌, ◌++◌, [], IfOk, OnErr, length, take};
-ghost use Rattle.lwp_types.specs.Streams.{appended, HasCause};
+ghost use Rattle.lwp_types.specs.Streams.{after_append, HasCause};
 
 use crate::told::{More, Told};
 use lwp_types::{Failed, Sink};
@@ -57,7 +57,7 @@ impl Sink for CountSink {
         ensures bound { IfOk result (λ n. n ≤ length bytes.now) }
         ensures some { IfOk result (λ n. 0 < length bytes.now → 0 < n) }
         ensures ok { IfOk result
-            (λ n. Some self.new.bytes ≡ appended (Some self.old.bytes) (take n bytes.now)) }
+            (λ n. Some self.new.bytes ≡ after_append (Some self.old.bytes) (take n bytes.now)) }
         ensures err { OnErr result (Some self.new.bytes ≡ Some self.old.bytes) }
         ensures cause { HasCause self.old.faults self.new.faults result }
         // It takes all that it is given.

@@ -4,7 +4,7 @@ use Rattle.std.proofs.lemmas.Bool.{lt-ltb, ltb-true}
 use Rattle.std.proofs.lemmas.List.{drop_more, length-drop}
 use Rattle.std.specs.Cmp.{first_so, second_so}
 use Rattle.std.specs.Prelude.{◌&&◌, nat_lt, nat_le}
-use Rattle.word_index.specs.Packed.{is_digit, is_full, of_digits, packed}
+use Rattle.word_index.specs.Packed.{is_digit, is_full, of_digits, word_number}
 
 pub record InDigits (b : ℕ) : Type 0 where
   pub some : 0 < b
@@ -28,7 +28,7 @@ same_word (b ∷ bs) (c ∷ cs) hv hw e =
     let rest : bs ≡ cs = same_word bs cs (second_so (is_digit b) (is_full bs) hv) (second_so (is_digit c) (is_full cs) hw) (omega (arith, x.few, y.few, e)) in
     λ i. first i ∷ rest i
 
-packed-full : (w : List ℕ) (n : ℕ) → packed w ≡ Some n → (is_full w ≡ true) × (of_digits w ≡ n)
+packed-full : (w : List ℕ) (n : ℕ) → word_number w ≡ Some n → (is_full w ≡ true) × (of_digits w ≡ n)
 packed-full w n e = by (nat_le (length w) 16) (is_full w) refl e
   where
     by : (a b : Bool) → is_full w ≡ b → cond (a && b) (Some (of_digits w)) None ≡ Some n → (is_full w ≡ true) × (of_digits w ≡ n)
@@ -36,7 +36,7 @@ packed-full w n e = by (nat_le (length w) 16) (is_full w) refl e
     by true false h e = absurd cc
     by false b h e = absurd cc
 
-pub same_packed : (v w : List ℕ) (n : ℕ) → packed v ≡ Some n → packed w ≡ Some n → v ≡ w
+pub same_packed : (v w : List ℕ) (n : ℕ) → word_number v ≡ Some n → word_number w ≡ Some n → v ≡ w
 same_packed v w n ev ew =
     let x = packed-full v n ev in
     let y = packed-full w n ew in

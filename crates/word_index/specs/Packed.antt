@@ -16,5 +16,5 @@ abbrev pub is_full : List ℕ → Bool
 is_full word = list_all is_digit word
 
 -- the word's number, if it is short enough
-abbrev pub packed : List ℕ → Option ℕ
-packed word = if nat_le (length word) 16 && is_full word then Some (of_digits word) else None
+abbrev pub word_number : List ℕ → Option ℕ
+word_number word = if nat_le (length word) 16 && is_full word then Some (of_digits word) else None

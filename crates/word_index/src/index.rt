@@ -36,11 +36,11 @@ impl Drop for WordIndex {
 }
 
 impl Model for WordIndex {
-    ghost use Rattle.word_index.specs.Index.{Numbered, keyed};
+    ghost use Rattle.word_index.specs.Index.{Numbered, entries_by_key};
 
     ghost Value = { Numbered };
 
-    ghost view = { λ i. record { short = i.short.entries; wide = i.wide.entries; long = keyed i.long.entries } };
+    ghost view = { λ i. record { short = i.short.entries; wide = i.wide.entries; long = entries_by_key i.long.entries } };
 }
 
 impl WordIndex {

@@ -1,13 +1,13 @@
 // Short words as numbers.
 ghost use Rattle.std.specs.Prelude.{◌≡◌};
-ghost use Rattle.word_index.specs.Packed.{packed};
+ghost use Rattle.word_index.specs.Packed.{word_number};
 
 /// How many digits a number has room for.
 const DIGITS: usize = 16;
 
 /// The number whose digits are the word's bytes, if there are at most 16 and none is 0. Other words have other numbers.
 pub fn packed(word: &[u8]) -> Option<u128>
-    ensures { result ≡ packed word.now }
+    ensures { result ≡ word_number word.now }
 {
     if word.len() > DIGITS {
         return None;

@@ -1,7 +1,7 @@
 -- Pods at their limits: scripts that come there by themselves, and states that stand right before and at a limit.
 use Rattle.lwp_types.specs.State.{State, opening, opening_thread}
 use Rattle.lwp_types.specs.Step.{step}
-use Rattle.lwp_types.specs.Threads.{born}
+use Rattle.lwp_types.specs.Threads.{new_thread}
 use Rattle.lwp_types.specs.declared.call.Answer.{Answer}
 use Rattle.lwp_types.specs.declared.call.Call.{Call}
 use Rattle.lwp_types.specs.declared.call.LwpErr.{LwpErr}
@@ -108,7 +108,7 @@ alone = opening (record { maxpri = 1; births = 4294967295; procs = 1 })
 
 -- it has so many threads, all but the first suspended
 abbrev pub with_threads : ℕ → State
-with_threads n = record alone { threads = opening_thread 1 ∷ map (λ k. born (k + 1) 1 asleep) (counted_to (n - 1)); births = n }
+with_threads n = record alone { threads = opening_thread 1 ∷ map (λ k. new_thread (k + 1) 1 asleep) (counted_to (n - 1)); births = n }
 
 -- so many monitors are live
 abbrev pub with_monitors : ℕ → State

@@ -2,7 +2,7 @@
 -- no script can bring them.
 use Rattle.line_server.specs.Sessions.{SessionBody}
 use Rattle.line_server.specs.Stores.{StoreBody}
-use Rattle.line_server.specs.Tables.{Table, shown}
+use Rattle.line_server.specs.Tables.{Table, value_reply}
 use Rattle.line_server.specs.declared.session.SessionPlace.{SessionPlace}
 use Rattle.line_server.specs.declared.store.StorePlace.{StorePlace}
 use Rattle.lwp_types.specs.Names.{Names, null_names}
@@ -61,4 +61,4 @@ store place = record { tables = []; client = 1; place = place }
 
 -- a table with the keys `k0` to `k99`, each of the value `v`
 abbrev pub hundred : Table
-hundred = map (λ n. (codes "k" ++ decimal n, shown (codes "v"))) (counted_to 100)
+hundred = map (λ n. (codes "k" ++ decimal n, value_reply (codes "v"))) (counted_to 100)

@@ -1,6 +1,6 @@
 // Several agents of one event: whom a line reaches, and when the next one is taken.
 ghost use Rattle.std.specs.Prelude.{[], codes, false, true, ◌≡◌, ◌∷◌};
-ghost use Rattle.lwp_types.specs.Agents.{armed, deliver};
+ghost use Rattle.lwp_types.specs.Agents.{deliver, is_event_armed};
 ghost use Rattle.lwp_types.specs.Messages.{senders_to};
 ghost use Rattle.lwp_types.specs.declared.call.Answer.TheVariants as answer;
 ghost use Rattle.lwp_types.specs.declared.call.Call.TheVariants as call;
@@ -23,8 +23,8 @@ pub fn letters()
 pub fn waiting_for_anybody()
     ensures effects { (deliver (waiting_with_agents 3) 7 (codes "x")).effects ≡ effect.Delivered 1 7 ∷ effect.Answered 0 (answer.Letter 1 (codes "x") 240) ∷ effect.Delivered 2 7 ∷ effect.Delivered 3 7 ∷ [] }
     ensures mailbox { senders_to (deliver (waiting_with_agents 3) 7 (codes "x")).after.letters 0 ≡ 1 ∷ 2 ∷ 3 ∷ [] }
-    ensures unarmed { armed (deliver (waiting_with_agents 3) 7 (codes "x")).after 7 ≡ false }
-    ensures armed_before { armed (waiting_with_agents 3) 7 ≡ true }
+    ensures unarmed { is_event_armed (deliver (waiting_with_agents 3) 7 (codes "x")).after 7 ≡ false }
+    ensures armed_before { is_event_armed (waiting_with_agents 3) 7 ≡ true }
 {}
 
 /// What the end of an agent, or of its owner, means for the others of its event.

@@ -1,6 +1,6 @@
 // Sleepers, and receives that wait for so many ticks, among all else that goes on.
 ghost use Rattle.std.specs.Prelude.{[], codes, false, true, ◌≡◌, ◌∷◌};
-ghost use Rattle.lwp_types.specs.Agents.{armed, deliver};
+ghost use Rattle.lwp_types.specs.Agents.{deliver, is_event_armed};
 ghost use Rattle.lwp_types.specs.Step.{step};
 ghost use Rattle.lwp_types.specs.Unblock.{zero_answer};
 ghost use Rattle.lwp_types.specs.declared.call.Call.TheVariants as call;
@@ -54,14 +54,14 @@ pub fn ends()
 
 /// The last tick of a clock, and what comes of it.
 pub fn last_tick()
-    ensures goes_on { armed (at_time 4294967294) 0 ≡ true }
+    ensures goes_on { is_event_armed (at_time 4294967294) 0 ≡ true }
     ensures is_told { (deliver (at_time 4294967294) 0 (codes "x")).effects ≡ effect.Ticked 4294967295 ∷ [] }
     ensures changes_nothing_else { (deliver (at_time 4294967294) 0 (codes "x")).after ≡ at_time 4294967295 }
     ensures wakes { (deliver (asleep_until 4294967295 4294967294) 0 (codes "x")).effects ≡ effect.Ticked 4294967295 ∷ effect.Answered 0 zero_answer ∷ [] }
     ensures wakes_to_run { (deliver (asleep_until 4294967295 4294967294) 0 (codes "x")).after ≡ at_time 4294967295 }
     ensures wakes_nobody_early { (deliver (asleep_until 4294967296 4294967294) 0 (codes "x")).after ≡ asleep_until 4294967296 4294967295 }
-    ensures no_more { armed (at_time 4294967295) 0 ≡ false }
+    ensures no_more { is_event_armed (at_time 4294967295) 0 ≡ false }
     ensures sleeps_for_ever { (step (at_time 4294967295) (call.Sleep 1)).after ≡ asleep_until 4294967296 4294967295 }
     ensures sleeps_the_longest { (step (at_time 4294967295) (call.Sleep 4294967295)).after ≡ asleep_until 8589934590 4294967295 }
-    ensures none_once_ended { armed (record alone { ended = true }) 0 ≡ false }
+    ensures none_once_ended { is_event_armed (record alone { ended = true }) 0 ≡ false }
 {}

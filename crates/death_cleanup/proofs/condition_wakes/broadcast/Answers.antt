@@ -1,10 +1,10 @@
-use Rattle.conditions.specs.ConditionTable.{first_wait, waits_on, woken}
+use Rattle.conditions.specs.ConditionTable.{after_wake, first_wait, waits_on}
 use Rattle.death_cleanup.proofs.Asking.{may-ask}
 use Rattle.death_cleanup.proofs.Notices.{Broadcasting-next, all-woken, begins-all, fewer-wait, now, row-is, row-none, waking-absent, waking-made, waking-other}
 use Rattle.death_cleanup.proofs.Outcomes.{answers_quietly, answers_refused}
 use Rattle.death_cleanup.proofs.condition_wakes.broadcast.Goals as goal
 use Rattle.death_cleanup.specs.View.{state_of}
-use Rattle.lwp_types.specs.Case.{unless, valued}
+use Rattle.lwp_types.specs.Case.{unless, value_case}
 use Rattle.lwp_types.specs.Conditions.{condition_of}
 use Rattle.lwp_types.specs.Unblock.{zero_answer}
 use Rattle.lwp_types.specs.declared.call.LwpErr.TheVariants as error
@@ -27,7 +27,7 @@ loop-wait-init c =
 pub ask_again-requires : goal.ask_again-requires
 ask_again-requires c =
     let first : first_wait c.loop-wait.parts.conds c.args.cond ≡ Some c.in-Some-broadcast.wait = sym c.broadcast.ensures.value ∙ c.in-Some-broadcast.is in
-    may-ask c.loop-wait.parts c.loop-wait.invariant.caller c.args.cond c.in-Some.mon c.in-Some-broadcast.wait (waits_on (woken c.loop-wait.parts.conds (Some c.in-Some-broadcast.wait)) c.args.cond)
+    may-ask c.loop-wait.parts c.loop-wait.invariant.caller c.args.cond c.in-Some.mon c.in-Some-broadcast.wait (waits_on (after_wake c.loop-wait.parts.conds (Some c.in-Some-broadcast.wait)) c.args.cond)
     (now c.args.cond c.in-Some.mon c.args.parts.now c.loop-wait.parts c.loop-wait.invariant c.in-Some-broadcast.wait first)
 
 pub loop-wait-smaller : goal.loop-wait-smaller
@@ -48,5 +48,5 @@ returns c =
     record {
       answers = rw (c.broadcast.ensures.after, c.in_default-broadcast.is) (answers_quietly c.args.parts.now c.loop-wait.parts [] _ zero_answer c.loop-wait.invariant.left.step c.loop-wait.invariant.dying
           (waking-made (state_of c.args.parts.now) c.args.tid c.args.cond [] _ c.in-Some.mon found (sym c.if-not-is_last.ensures)
-          ∙ ap (λ s. valued s 0) (all-woken c.args.cond c.in-Some.mon c.args.parts.now c.loop-wait.parts c.loop-wait.invariant none)));
+          ∙ ap (λ s. value_case s 0) (all-woken c.args.cond c.in-Some.mon c.args.parts.now c.loop-wait.parts c.loop-wait.invariant none)));
     }

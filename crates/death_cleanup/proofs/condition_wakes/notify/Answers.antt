@@ -2,7 +2,7 @@ use Rattle.death_cleanup.proofs.Asking.{InStep-signalled, may-ask}
 use Rattle.death_cleanup.proofs.Notices.{begins-best, best-ranked, notify-none, notify-one, row-is, row-none, waking-absent, waking-other}
 use Rattle.death_cleanup.proofs.Outcomes.{answers_quietly, answers_refused}
 use Rattle.death_cleanup.proofs.condition_wakes.notify.Goals as goal
-use Rattle.death_cleanup.specs.Moves.{signalled}
+use Rattle.death_cleanup.specs.Moves.{after_signal}
 use Rattle.death_cleanup.specs.View.{state_of}
 use Rattle.lwp_types.specs.Conditions.{condition_of}
 use Rattle.lwp_types.specs.Unblock.{zero_answer}
@@ -37,7 +37,7 @@ returns c =
     let found : condition_of c.args.parts.now.conds.conditions c.args.cond ≡ Some (record { number = c.args.cond; mon = c.in-Some.mon }) = row-is c.args.parts.now.conds.conditions c.args.cond c.in-Some.mon (sym c.monitor_of.ensures ∙ c.in-Some.is) in
     let next = sym c.in-Some-notify.is ∙ c.notify.ensures.value in
     record {
-      answers = rw (c.ask_again.ensures, c.notify.ensures.after, c.in-Some-notify.is) (answers_quietly c.args.parts.now (signalled c.args.parts.now c.in-Some.mon c.in-Some-notify.wait) [] _ zero_answer
+      answers = rw (c.ask_again.ensures, c.notify.ensures.after, c.in-Some-notify.is) (answers_quietly c.args.parts.now (after_signal c.args.parts.now c.in-Some.mon c.in-Some-notify.wait) [] _ zero_answer
           (InStep-signalled c.args.parts.now c.args.tid c.args.cond c.in-Some.mon c.in-Some-notify.wait []
           (begins-best c.args.parts.now c.requires.lawful c.args.tid c.args.cond c.in-Some.mon found (sym c.if-not-is_last.ensures) (Some c.in-Some-notify.wait) next)
           (best-ranked c.args.parts.now c.requires.lawful.step c.args.cond c.in-Some-notify.wait next)) refl

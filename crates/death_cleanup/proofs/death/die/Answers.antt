@@ -1,6 +1,6 @@
 use Rattle.death_cleanup.proofs.Dying.{died, died_lawful, died_most, forgotten7, lawful1, lawful2, lonely4, room1, room2, room3, room4, room5, room6, room7, threads5, threads6, unowning3}
 use Rattle.death_cleanup.proofs.death.die.Goals as goal
-use Rattle.death_cleanup.specs.Named.{run}
+use Rattle.death_cleanup.specs.Named.{run_number}
 use Rattle.death_cleanup.specs.declared.rows.Awaited.TheVariants as awaited
 use Rattle.std.proofs.Common.{arith, ◌+◌, ◌≡◌}
 
@@ -36,7 +36,7 @@ dismiss-requires-clause-room c = room5 c.args.parts.now c.args.tid c.requires.la
 
 pub dismiss-requires-2-clause-start : goal.dismiss-requires-2-clause-start
 dismiss-requires-2-clause-start c =
-    let next : run awaited.Letter c.args.tid + 1 ≡ run awaited.Death c.args.tid = omega arith in
+    let next : run_number awaited.Letter c.args.tid + 1 ≡ run_number awaited.Death c.args.tid = omega arith in
     rw next at c.dismiss.ensures.next
 
 pub dismiss-requires-2-clause-threads : goal.dismiss-requires-2-clause-threads

@@ -2,7 +2,7 @@ use Rattle.death_cleanup.proofs.Outcomes.{answers_refused, answers_zero, came_as
 use Rattle.death_cleanup.proofs.Replying.{InStep-lighter, InStep-rearmed, agent-left, rearmed, replied-agent, replied-thread, reply-absent, reply-made, reply-refused, reply-some, sender-waits, thread-apart}
 use Rattle.death_cleanup.proofs.exits.reply.Goals as goal
 use Rattle.death_cleanup.specs.View.{state_of}
-use Rattle.lwp_types.specs.Messages.{received_from, replied}
+use Rattle.lwp_types.specs.Messages.{after_reply, received_from}
 use Rattle.lwp_types.specs.Unblock.{unblock}
 use Rattle.lwp_types.specs.declared.call.Answer.TheVariants as answer
 use Rattle.lwp_types.specs.declared.call.LwpErr.TheVariants as error
@@ -34,10 +34,10 @@ pub returns-then-is_one : goal.returns-then-is_one
 returns-then-is_one c =
     let fine : refusal (received_from c.args.parts.now.messages.letters c.args.tid c.args.to) (length c.args.text.now) ≡ None = rw (← c.len-len.ensures) (sym c.reply.ensures.cause ∙ ap result_err c.in_default.is) in
     let no_agent = thread-apart (state_of c.args.parts.now) c.args.to (c.requires.lawful.nine.numbers.2 c.args.to) (sym c.is_thread-is_one.ensures ∙ c.if-is_one.true) in
-    let is : replied c.args.to c.args.text.now (state_of c.args.parts.now) ≡ unblock (answer.Reply c.args.text.now) c.args.to (state_of (record c.args.parts.now { messages = c.reply.new.self })) =
+    let is : after_reply c.args.to c.args.text.now (state_of c.args.parts.now) ≡ unblock (answer.Reply c.args.text.now) c.args.to (state_of (record c.args.parts.now { messages = c.reply.new.self })) =
     rw c.in_default.ensures.ok (replied-thread c.args.parts.now c.args.to c.args.text.now no_agent) in
     record {
-      answers = answers_zero _ _ _ _ (replied c.args.to c.args.text.now (state_of c.args.parts.now)) _ (came_as _ _ _ _ _ _ _ c.wake_replied.ensures.came refl is)
+      answers = answers_zero _ _ _ _ (after_reply c.args.to c.args.text.now (state_of c.args.parts.now)) _ (came_as _ _ _ _ _ _ _ c.wake_replied.ensures.came refl is)
           (reply-made (state_of c.args.parts.now) c.args.tid c.args.to c.args.text.now (sym c.if-not-lives.ensures) fine);
     }
 
@@ -46,7 +46,7 @@ returns c =
     let fine : refusal (received_from c.args.parts.now.messages.letters c.args.tid c.args.to) (length c.args.text.now) ≡ None = rw (← c.len-len.ensures) (sym c.reply.ensures.cause ∙ ap result_err c.in_default.is) in
     let agent = agent-left (state_of c.args.parts.now) c.args.to (sym c.if-not-lives.ensures) (sym c.is_thread-is_one.ensures ∙ c.if-is_one.false) in
     record {
-      answers = rw (c.release.ensures, c.in_default.ensures.ok) (answers_zero c.args.parts.now (rearmed c.args.parts.now c.args.to) c.args.effects.now c.args.effects.now (replied c.args.to c.args.text.now (state_of c.args.parts.now)) _
+      answers = rw (c.release.ensures, c.in_default.ensures.ok) (answers_zero c.args.parts.now (rearmed c.args.parts.now c.args.to) c.args.effects.now c.args.effects.now (after_reply c.args.to c.args.text.now (state_of c.args.parts.now)) _
           (came_quietly c.args.parts.now (rearmed c.args.parts.now c.args.to) c.args.effects.now _ (InStep-rearmed c.args.parts.now c.args.to c.requires.lawful.step) refl (replied-agent c.args.parts.now c.args.to c.args.text.now agent))
           (reply-made (state_of c.args.parts.now) c.args.tid c.args.to c.args.text.now (sym c.if-not-lives.ensures) fine));
     }

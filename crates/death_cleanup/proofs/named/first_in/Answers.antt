@@ -1,7 +1,7 @@
 use Rattle.death_cleanup.proofs.Firsts.{reached-first, reached-less, reached-none}
 use Rattle.death_cleanup.proofs.Orders.{gap-next}
 use Rattle.death_cleanup.proofs.named.first_in.Goals as goal
-use Rattle.death_cleanup.specs.Named.{run}
+use Rattle.death_cleanup.specs.Named.{run_number}
 use Rattle.std.proofs.Common.{refl, sym, ◌∙◌}
 
 pub loop-wait-init : goal.loop-wait-init
@@ -24,4 +24,4 @@ returns-clause-value c =
     reached-none c.args.what c.args.tid c.args.ids.now.live c.len-living.ensures.rising c.loop-wait.waits.items c.args.at c.loop-wait.invariant.reached c.in_default.ensures.none
 
 pub returns-clause-next : goal.returns-clause-next
-returns-clause-next c = gap-next c.loop-wait.waits.items (run c.args.what c.args.tid) c.args.at c.loop-wait.invariant.reached.ordered c.loop-wait.invariant.reached.gap c.in_default.ensures.none
+returns-clause-next c = gap-next c.loop-wait.waits.items (run_number c.args.what c.args.tid) c.args.at c.loop-wait.invariant.reached.ordered c.loop-wait.invariant.reached.gap c.in_default.ensures.none

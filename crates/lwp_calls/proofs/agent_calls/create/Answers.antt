@@ -4,7 +4,7 @@ use Rattle.lwp_calls.proofs.Compare.{a_priority, le-false, le-true, no_priority,
 use Rattle.lwp_calls.proofs.Made.{Answers-is, told-alone, came_after}
 use Rattle.lwp_calls.proofs.agent_calls.create.Goals as goal
 use Rattle.lwp_calls.proofs.agent_calls.create.Goals.{then-len-ge-MOST_AGENTS-via-else-len-ge-MOST_AGENTS+then-births-limit, then-len-ge-MOST_AGENTS-via-then-len-ge-MOST_AGENTS, then-event-eq0-via-else-event-eq0+then-event-gt-MOST_EVENT, then-event-eq0-via-then-event-eq0}
-use Rattle.lwp_types.specs.Agents.{agent_born, make_agent}
+use Rattle.lwp_types.specs.Agents.{after_agent_birth, make_agent}
 use Rattle.lwp_types.specs.Case.{unless}
 use Rattle.lwp_types.specs.State.{still}
 use Rattle.lwp_types.specs.declared.call.Answer.TheVariants as answer
@@ -39,5 +39,5 @@ returns-clause-ok c =
     let under = le-false c.args.parts.now.ids.limit c.args.parts.now.ids.births (omega (arith, c.births.ensures.value, c.limit.ensures, c.if-births-limit.false)) in
     let made : Answers c.args.parts.now c.begin-agent.new.parts [] [] (make_agent (state_of c.args.parts.now) c.args.caller c.args.event) (answer.Thread c.begin-agent.result) =
     rw (fine, few, under, c.begin-agent.ensures.number, c.make_places.ensures.births)
-    (record { came = came_after c.make_places.ensures.as_before (λ s. still (agent_born s c.args.caller c.args.event)) c.begin-agent.ensures.came; own = refl }) in
+    (record { came = came_after c.make_places.ensures.as_before (λ s. still (after_agent_birth s c.args.caller c.args.event)) c.begin-agent.ensures.came; own = refl }) in
     told-alone made c.args.caller c.answered.ensures

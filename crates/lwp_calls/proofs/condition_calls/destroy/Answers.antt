@@ -21,5 +21,5 @@ pub returns : goal.returns
 returns c = rw c.destroy.ensures (Answers-is
     (destroy-idle (state_of c.args.parts.now) c.args.cond (there c.args.parts.now.conds.conditions c.args.cond c.monitor_of.result true c.monitor_of.ensures c.if-is_none.ensures)
     (waited_agrees c.args.parts.now.conds (state_of c.args.parts.now) c.args.cond ∙ sym c.if-waited.ensures))
-    (InStep-conditions c.args.parts.now c.requires.step (table.destroyed c.args.parts.now.conds c.args.cond) c.requires.step.ranked.waits refl refl)
+    (InStep-conditions c.args.parts.now c.requires.step (table.after_destroy c.args.parts.now.conds c.args.cond) c.requires.step.ranked.waits refl refl)
     refl)

@@ -3,8 +3,8 @@ use Rattle.death_cleanup.specs.View.{state_of}
 use Rattle.lwp_calls.proofs.Made.{told-alone}
 use Rattle.lwp_calls.proofs.Stacks.{searching-bad, searching-none, searching-some}
 use Rattle.lwp_calls.proofs.exception_calls.notify.Goals as goal
-use Rattle.lwp_types.specs.Case.{valued}
-use Rattle.lwp_types.specs.Exits.{caught, exc_notify, notified_by}
+use Rattle.lwp_types.specs.Case.{value_case}
+use Rattle.lwp_types.specs.Exits.{catch_case, exc_notify, notified_by}
 use Rattle.lwp_types.specs.declared.call.LwpErr.TheVariants as error
 use Rattle.std.proofs.Common.{[], ap, of_z, pos, refl, rules, sym, to_z, w64, ◌+ℤ◌, ◌+◌, ◌∙◌, ◌≡◌}
 
@@ -17,19 +17,19 @@ returns-in_default-clause-told c = told-alone (answers_refused c.args.parts.now 
 pub returns-in-Give-clause-told : goal.returns-in-Give-clause-told
 returns-in-Give-clause-told c =
     let same : to_z w64 (of_z w64 c.from-arg.result) ≡ pos c.in-Some.handler.arg = search rules in
-    let is : exc_notify (state_of c.args.parts.now) c.args.tid c.args.pattern ≡ valued (state_of c.args.parts.now) c.in-Some.handler.arg = searching-some (state_of c.args.parts.now) c.args.tid c.args.pattern _ (sym c.if-is_no_pattern.ensures) c.in-Some.handler (sym c.found.ensures.value ∙ c.in-Some.is)
+    let is : exc_notify (state_of c.args.parts.now) c.args.tid c.args.pattern ≡ value_case (state_of c.args.parts.now) c.in-Some.handler.arg = searching-some (state_of c.args.parts.now) c.args.tid c.args.pattern _ (sym c.if-is_no_pattern.ensures) c.in-Some.handler (sym c.found.ensures.value ∙ c.in-Some.is)
     ∙ ap (notified_by (state_of c.args.parts.now) c.args.tid c.args.pattern c.in-Some.handler) c.in-Give.is in
     told-alone (answers_quietly c.args.parts.now c.args.parts.now [] _ _ c.requires.lawful.step refl is) c.args.tid (rw same at c.done-in-Give.ensures)
 
 pub returns-in-Sum-clause-told : goal.returns-in-Sum-clause-told
 returns-in-Sum-clause-told c =
-    let is : exc_notify (state_of c.args.parts.now) c.args.tid c.args.pattern ≡ valued (state_of c.args.parts.now) (c.in-Some.handler.arg + c.args.pattern) = searching-some (state_of c.args.parts.now) c.args.tid c.args.pattern _ (sym c.if-is_no_pattern.ensures) c.in-Some.handler (sym c.found.ensures.value ∙ c.in-Some.is)
+    let is : exc_notify (state_of c.args.parts.now) c.args.tid c.args.pattern ≡ value_case (state_of c.args.parts.now) (c.in-Some.handler.arg + c.args.pattern) = searching-some (state_of c.args.parts.now) c.args.tid c.args.pattern _ (sym c.if-is_no_pattern.ensures) c.in-Some.handler (sym c.found.ensures.value ∙ c.in-Some.is)
     ∙ ap (notified_by (state_of c.args.parts.now) c.args.tid c.args.pattern c.in-Some.handler) c.in-Sum.is in
     let same : to_z w64 (of_z w64 (to_z w64 (of_z w64 c.from-arg.result) +ℤ to_z w64 (of_z w64 c.from.result))) ≡ pos (c.in-Some.handler.arg + c.args.pattern) = search rules in
     told-alone (answers_quietly c.args.parts.now c.args.parts.now [] _ _ c.requires.lawful.step refl is) c.args.tid (rw same at c.done-in-Sum.ensures)
 
 pub returns-in-Nothing-clause-told : goal.returns-in-Nothing-clause-told
 returns-in-Nothing-clause-told c =
-    let is : exc_notify (state_of c.args.parts.now) c.args.tid c.args.pattern ≡ caught (state_of c.args.parts.now) c.args.tid c.args.pattern c.in-Some.handler = searching-some (state_of c.args.parts.now) c.args.tid c.args.pattern _ (sym c.if-is_no_pattern.ensures) c.in-Some.handler (sym c.found.ensures.value ∙ c.in-Some.is)
+    let is : exc_notify (state_of c.args.parts.now) c.args.tid c.args.pattern ≡ catch_case (state_of c.args.parts.now) c.args.tid c.args.pattern c.in-Some.handler = searching-some (state_of c.args.parts.now) c.args.tid c.args.pattern _ (sym c.if-is_no_pattern.ensures) c.in-Some.handler (sym c.found.ensures.value ∙ c.in-Some.is)
     ∙ ap (notified_by (state_of c.args.parts.now) c.args.tid c.args.pattern c.in-Some.handler) c.in-Nothing.is in
     rw is c.catch.ensures.told

@@ -31,7 +31,7 @@ pub returns : goal.returns
 returns c = rw (c.destroy.ensures, c.destroy_of.ensures) (Answers-is
     (destroy-idle (state_of c.args.parts.now) c.args.mon (sym c.if-not-is_live.ensures) (lock-some (lock_of c.args.parts.now.mons.locks c.args.mon) false c.owner.result c.owner.ensures (sym c.if-is_some.ensures))
     (has_waits_agrees c.args.parts.now.conds (state_of c.args.parts.now) c.args.mon ∙ sym c.if-waited_of.ensures))
-    (InStep-conditions (record c.args.parts.now { mons = mon.destroyed c.args.parts.now.mons c.args.mon })
-    (InStep-monitors c.args.parts.now c.requires.lawful.step (mon.destroyed c.args.parts.now.mons c.args.mon) c.requires.lawful.step.ranked.requests refl refl)
-    (cond.destroyed_of c.args.parts.now.conds c.args.mon) c.requires.lawful.step.ranked.waits refl refl)
+    (InStep-conditions (record c.args.parts.now { mons = mon.after_destroy c.args.parts.now.mons c.args.mon })
+    (InStep-monitors c.args.parts.now c.requires.lawful.step (mon.after_destroy c.args.parts.now.mons c.args.mon) c.requires.lawful.step.ranked.requests refl refl)
+    (cond.after_destroy_of c.args.parts.now.conds c.args.mon) c.requires.lawful.step.ranked.waits refl refl)
     refl)

@@ -18,4 +18,4 @@ pub returns : goal.returns
 returns c =
     let same : to_z w64 (of_z w64 c.from.result) ≡ pos (depth_in c.args.parts.now.mons.locks c.args.mon) = search rules in
     rw (c.enter.ensures.after, same) (Answers-is (in-once (state_of c.args.parts.now) c.args.tid c.args.mon (deepest-is (state_of c.args.parts.now) c.args.tid c.args.mon c.requires.open ∙ le-false 65535 (depth_in c.args.parts.now.mons.locks c.args.mon) (omega (arith, c.depth.ensures, c.if-depth-ge-MOST_DEPTH.false))))
-    (InStep-monitors c.args.parts.now c.requires.step (mon.entered c.args.parts.now.mons c.args.tid c.args.mon) c.requires.step.ranked.requests refl refl) refl)
+    (InStep-monitors c.args.parts.now c.requires.step (mon.after_enter c.args.parts.now.mons c.args.tid c.args.mon) c.requires.step.ranked.requests refl refl) refl)

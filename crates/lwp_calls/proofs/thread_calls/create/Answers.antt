@@ -4,7 +4,7 @@ use Rattle.lwp_calls.proofs.Made.{Answers-is, came_after, lawful_after, told-alo
 use Rattle.lwp_calls.proofs.Messaging.{unless_passed, unless_struck}
 use Rattle.lwp_calls.proofs.thread_calls.create.Goals as goal
 use Rattle.lwp_types.specs.State.{still}
-use Rattle.lwp_types.specs.Threads.{create, created}
+use Rattle.lwp_types.specs.Threads.{after_create, create}
 use Rattle.lwp_types.specs.declared.call.Answer.TheVariants as answer
 use Rattle.std.proofs.Common.{[], refl, sym, ◌∙◌}
 
@@ -18,5 +18,5 @@ pub returns-clause-ok : goal.returns-clause-ok
 returns-clause-ok c =
     let made : Answers c.args.parts.now c.begin-tid.new.parts [] [] (create (state_of c.args.parts.now) c.args.number c.args.prio c.args.flags) (answer.Thread c.begin-tid.result) =
     rw (unless_passed (state_of c.args.parts.now) _ _ (sym c.create_refusal.ensures.value ∙ c.in_default.is), c.begin-tid.ensures.number, c.make_places.ensures.births)
-    (record { came = came_after c.make_places.ensures.as_before (λ s. still (created s c.args.prio c.args.flags)) c.begin-tid.ensures.came; own = refl }) in
+    (record { came = came_after c.make_places.ensures.as_before (λ s. still (after_create s c.args.prio c.args.flags)) c.begin-tid.ensures.came; own = refl }) in
     told-alone made c.args.caller c.answered.ensures

@@ -5,7 +5,7 @@ use Rattle.lwp_calls.proofs.Made.{Answers-is}
 use Rattle.lwp_calls.proofs.turn_calls.resched.Goals as goal
 use Rattle.lwp_calls.proofs.turn_calls.resched.Goals.{then-prio-eq0-via-then-prio-eq0, then-prio-eq0-via-else-prio-eq0+then-prio-maxpri}
 use Rattle.lwp_types.specs.Case.{unless}
-use Rattle.pod_sched.specs.Schedule.{rescheduled}
+use Rattle.pod_sched.specs.Schedule.{after_resched}
 use Rattle.std.proofs.Common.{arith, refl, sym}
 
 pub returns-then-prio-eq0 : goal.returns-then-prio-eq0
@@ -22,4 +22,4 @@ returns-then-prio-prio_of c = Answers-is (rw (a_priority c.args.prio c.args.part
 pub returns : goal.returns
 unfolding unless
 returns c = rw c.resched.ensures (Answers-is (rw (a_priority c.args.prio c.args.parts.now.sched.maxpri (omega arith) (omega (arith, c.maxpri.ensures, c.if-prio-maxpri.false)), sym c.prio_of.ensures, lt-false c.prio_of.result c.args.prio (omega (arith, c.if-prio-prio_of.false)), first-same c.args.parts.now c.requires.step.tied c.requires.alone c.args.prio c.args.parts.now.sched.order) refl)
-    (InStep-levels c.args.parts.now c.requires.step (rescheduled c.args.parts.now.sched c.args.prio).order c.args.parts.now.sched.maxpri c.args.parts.now.exit c.args.parts.now.ended) refl)
+    (InStep-levels c.args.parts.now c.requires.step (after_resched c.args.parts.now.sched c.args.prio).order c.args.parts.now.sched.maxpri c.args.parts.now.exit c.args.parts.now.ended) refl)

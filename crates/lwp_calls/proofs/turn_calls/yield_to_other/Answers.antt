@@ -4,7 +4,7 @@ use Rattle.lwp_calls.proofs.Levels.{InStep-levels}
 use Rattle.lwp_calls.proofs.Made.{Answers-is}
 use Rattle.lwp_calls.proofs.turn_calls.yield_to_other.Goals as goal
 use Rattle.lwp_types.specs.Case.{unless}
-use Rattle.pod_sched.specs.Schedule.{yielded}
+use Rattle.pod_sched.specs.Schedule.{after_yield}
 use Rattle.std.proofs.Common.{refl, sym, ◌∙◌}
 use Rattle.std.proofs.lemmas.Bool.{eq-eqb}
 
@@ -34,4 +34,4 @@ yield_to-requires-clause-same_prio c =
 pub returns : goal.returns
 unfolding unless
 returns c = rw c.yield_to.ensures (Answers-is (rw (sym c.if-not-is_thread.ensures, sym c.prio_of.ensures, sym c.prio_of-2.ensures, eq-eqb c.prio_of.result c.prio_of-2.result c.if-prio_of.false, sym c.if-not-may_run.ensures) refl)
-    (InStep-levels c.args.parts.now c.requires.step (yielded c.args.parts.now.sched c.args.caller c.args.to).order c.args.parts.now.sched.maxpri c.args.parts.now.exit c.args.parts.now.ended) refl)
+    (InStep-levels c.args.parts.now c.requires.step (after_yield c.args.parts.now.sched c.args.caller c.args.to).order c.args.parts.now.sched.maxpri c.args.parts.now.exit c.args.parts.now.ended) refl)

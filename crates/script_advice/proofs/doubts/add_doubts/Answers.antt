@@ -1,14 +1,14 @@
 use Rattle.std.proofs.Common.{◌∙◌, ap}
 use Rattle.script_lines.specs.Reading.{phrase_at}
-use Rattle.script_text.specs.Spelling.{cut}
+use Rattle.script_text.specs.Spelling.{line_cut}
 use Rattle.script_advice.specs.Doubts.{ahead_of, keeping, keeps, no_ahead}
 use Rattle.script_advice.proofs.AheadLaws.{lines_are, walk_any, walk_told}
 use Rattle.script_advice.proofs.doubts.add_doubts.Goals as goal
 
 pub loop-line-preserved : goal.loop-line-preserved
 loop-line-preserved c =
-    let lines = (cut c.in-Some.after.now).0 in
-    let e = lines_are (cut c.loop-line.rest.now) c.in-Some.line.now lines (cut c.in-Some.after.now).1 c.in-Some.ensures.some in
+    let lines = (line_cut c.in-Some.after.now).0 in
+    let e = lines_are (line_cut c.loop-line.rest.now) c.in-Some.line.now lines (line_cut c.in-Some.after.now).1 c.in-Some.ensures.some in
     let k = c.loop-line.invariant.kept ∙ ap (keeping no_ahead) e in
     let m = c.last_kept-keeps.ensures.last (keeping no_ahead lines) (keeps (ahead_of no_ahead lines) (phrase_at c.in-Some.line.now)) k in
     record {

@@ -1,10 +1,10 @@
 use Rattle.std.proofs.Common.{drop, take, ◌++◌, ◌≡◌}
 use Rattle.std.specs.VecDeque.{deque_capacity}
 use Rattle.waiting_list.proofs.filing.renumber.Given as goal
-use Rattle.waiting_list.specs.Entries.{numbered}
+use Rattle.waiting_list.specs.Entries.{with_arrivals}
 
 abbrev pub invariant-loop-at : goal.invariant-loop-at
 invariant-loop-at l = record {
-  items : l.entries.items ≡ numbered 0 (take l.at l.fn.entries.items) ++ drop l.at l.fn.entries.items;
+  items : l.entries.items ≡ with_arrivals 0 (take l.at l.fn.entries.items) ++ drop l.at l.fn.entries.items;
   capacity : deque_capacity l.entries ≡ deque_capacity l.fn.entries;
 }

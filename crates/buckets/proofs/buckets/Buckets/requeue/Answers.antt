@@ -1,5 +1,5 @@
 use Rattle.buckets.proofs.KeptLemmas.{IsKept-again, view_again}
-use Rattle.buckets.specs.Order.{put_last}
+use Rattle.buckets.specs.Order.{after_put_last}
 use Rattle.buckets.proofs.buckets.Buckets.requeue.Goals as goal
 use Rattle.std.proofs.Common.{ap, ◌∙◌}
 
@@ -12,4 +12,4 @@ pub returns : goal.returns
 returns c =
     rw c.move_to_back.ensures
     (view_again c.self.inside.order c.self.inside.ready c.self.inside.prios.items c.self.inside.marks c.self.inside.levels c.self.invariant c.args.key (rw (← c.self.view_is) at c.requires.is_key) c.args.prio (rw (← c.self.view_is) at c.requires.low) (rw (← c.self.view_is) at c.requires.same)
-    ∙ ap (λ v. put_last v c.args.key c.args.prio) c.self.view_is)
+    ∙ ap (λ v. after_put_last v c.args.key c.args.prio) c.self.view_is)

@@ -1,6 +1,6 @@
 use Rattle.std.proofs.Common.{◌<◌, ◌∙◌, ap, arith, length-set, set, slice_get, subst, sym}
 use Rattle.event_gate.proofs.ShelfLaws.{found_shelf, marks_put}
-use Rattle.event_gate.specs.Shelves.{first_left, moved, taken_from}
+use Rattle.event_gate.specs.Shelves.{after_next, after_take_from, first_left}
 use Rattle.event_marks.specs.Marks.{is_marked}
 use Rattle.event_gate.proofs.rack.Rack.next.Goals as goal
 
@@ -18,4 +18,4 @@ returns-clause-item g c =
 pub returns-clause-after : goal.returns-clause-after
 returns-clause-after g c =
     let there = found_shelf c.self.inside.shelves.items c.from.result c.index_mut-shelf.result.now (omega (arith, c.self.invariant.0)) c.index_mut-shelf.ensures.value in
-    ap (set c.self.inside.shelves.items c.from.result) (c.next-item.ensures.after ∙ ap moved there) ∙ (λ k. taken_from (c.self.view_is k) (c.from.ensures k))
+    ap (set c.self.inside.shelves.items c.from.result) (c.next-item.ensures.after ∙ ap after_next there) ∙ (λ k. after_take_from (c.self.view_is k) (c.from.ensures k))

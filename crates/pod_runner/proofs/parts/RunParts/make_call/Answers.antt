@@ -6,7 +6,7 @@ use Rattle.pod_events.specs.Step.{event_step, leads, leads_if}
 use Rattle.pod_events.specs.Traps.{lead}
 use Rattle.pod_runner.specs.Calls.{caller_of, with_call_by}
 use Rattle.pod_runner.specs.RunParts.{live_of}
-use Rattle.pod_runner.specs.Session.{settled}
+use Rattle.pod_runner.specs.Session.{after_settle}
 use Rattle.pod_runner.specs.declared.session.Row.{Row}
 use Rattle.pod_runner.proofs.Moves.{chosen_from, moves_at}
 use Rattle.pod_runner.proofs.parts.RunParts.make_call.Goals as goal
@@ -17,7 +17,7 @@ first_told : (es : EventState) (t : ℕ) (call : Call) (effects : List Effect) �
 first_told es t call effects turn told = subst (λ (who : Option ℕ). leads_if es.pending call who ++ effects ≡ (event_step es call).effects) turn told
 
 -- the call itself settles nothing
-settled-lead : {B : Type 0} (bodies : List B) (born : Option ℕ) (pending : Option ℕ) (t : ℕ) (call : Call) (effects : List Effect) (rows : List (Row B)) → settled bodies born effects rows ≡ settled bodies born (lead pending t call ++ effects) rows
+settled-lead : {B : Type 0} (bodies : List B) (born : Option ℕ) (pending : Option ℕ) (t : ℕ) (call : Call) (effects : List Effect) (rows : List (Row B)) → after_settle bodies born effects rows ≡ after_settle bodies born (lead pending t call ++ effects) rows
 settled-lead bodies born None t call effects rows = refl
 settled-lead bodies born (Some e) t call effects rows = refl
 

@@ -1,6 +1,6 @@
 use Rattle.std.proofs.Common.{Some, ap, arith, length, length-set, sym, ◌∙◌}
 use Rattle.script_gate.proofs.PlaceLaws.{after-is, first-is, line_taken, none_taken}
-use Rattle.event_gate.specs.Shelves.{first_left, taken_from}
+use Rattle.event_gate.specs.Shelves.{after_take_from, first_left}
 use Rattle.script_gate.specs.Places.{line_at, shelves_by}
 use Rattle.script_text.specs.Script.{lines_posted}
 use Rattle.std.specs.Prelude.{option_map}
@@ -24,7 +24,7 @@ invariant_of-self-2 c = (
 
 pub returns-clause-after : goal.returns-clause-after
 returns-clause-after c =
-    ap (shelves_by (lines_posted c.self.inside.script.now)) c.next.ensures.after ∙ after-is (lines_posted c.self.inside.script.now) c.self.inside.places c.args.event (omega (arith, c.self.invariant.0)) ∙ ap (λ s. taken_from s c.args.event) c.self.view_is
+    ap (shelves_by (lines_posted c.self.inside.script.now)) c.next.ensures.after ∙ after-is (lines_posted c.self.inside.script.now) c.self.inside.places c.args.event (omega (arith, c.self.invariant.0)) ∙ ap (λ s. after_take_from s c.args.event) c.self.view_is
 
 pub returns-clause-line : goal.returns-clause-line
 returns-clause-line c =

@@ -1,5 +1,5 @@
 use Rattle.std.proofs.Common.{refl, sym, ap, ◌∙◌}
-use Rattle.script_text.specs.Kept.{kept}
+use Rattle.script_text.specs.Kept.{kept_bytes}
 use Rattle.script_text.proofs.CutLaws.{line_lines, line_tail, end_lines, end_tail}
 use Rattle.script_text.proofs.lines.Lines.feed.Goals as goal
 
@@ -22,4 +22,4 @@ pub returns-clause-tail : goal.returns-clause-tail
 returns-clause-tail c = λ t.
     let k = c.loop-line.invariant t in
     let r = c.loop-line.self in
-    c.in_ok-keep.ensures ∙ ap kept (end_tail r.tail.items c.loop-line.rest.now k.0 c.in_default.ensures.none ∙ k.2)
+    c.in_ok-keep.ensures ∙ ap kept_bytes (end_tail r.tail.items c.loop-line.rest.now k.0 c.in_default.ensures.none ∙ k.2)
