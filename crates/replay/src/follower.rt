@@ -126,7 +126,7 @@ impl<'b> Sink for Follower<'b> {
         ensures some { IfOk result (λ n. 0 < length bytes.now → 0 < n) }
         ensures ok { IfOk result
             (λ n.
-                Some (told_in self.new) ≡ after_append (Some (told_in self.old)) (take n bytes.now)) }
+            Some (told_in self.new) ≡ after_append (Some (told_in self.old)) (take n bytes.now)) }
         ensures err { OnErr result (Some (told_in self.new) ≡ Some (told_in self.old)) }
         ensures cause { HasCause self.old.faults self.new.faults result }
         // It only makes the step longer.

@@ -14,7 +14,8 @@ fn kind_text(kind: Kind) -> &'static [u8]
             b"no name: 1 to 16 of a to z, digits and _, a letter first, and none of self, first, sender, none and any",
         Kind::Who => b"no thread: a name, self, first, sender or none",
         Kind::Source => b"no thread: a name, self, first, sender, none or any",
-        Kind::Number | Kind::Priority => b"no number: decimal, no zeros in front, at most 4294967295",
+        Kind::Number | Kind::Priority =>
+            b"no number: decimal, no zeros in front, at most 4294967295",
         Kind::Room => b"no room: a number of at most 240",
         Kind::Client => b"no client: a number of at most 15",
         Kind::Event => b"no event: a number of at most 31",

@@ -5,8 +5,8 @@ ghost use Rattle.trace_page.specs.Measures.{lane_height, most_down, most_right};
 ghost use Rattle.trace_page.specs.Shapes.{class_text, element_closed, group_closed, group_open, label_closed, posted_text, sign_open, tag_text, title_text, use_open, value_text, waits_text, arrow_text, band_text, bar_text, clock_text, closing_text, deep, due_text, escaped_text, escaped_byte, event_text, group_text, half, held_text, label_text, letter_text, named_text, path_text, rect_text, rule_text, said_text, shape_text, shapes_text, sign_of, tick_text, trap_text, use_text, wait_class, wait_text, wanted_text, way_class, x_of, y_of};
 
 use crate::measures::{
-    BELOW_ROWS, CALL_WIDTH, FIRST_CALL, FIRST_LANE, FOOT, HALF_CALL, LANE_HEIGHT, MIDDLE, MOST_CALLS,
-    MOST_LANES, TICK_SPOT, end_row, outside_row,
+    BELOW_ROWS, CALL_WIDTH, FIRST_CALL, FIRST_LANE, FOOT, HALF_CALL, LANE_HEIGHT, MIDDLE,
+    MOST_CALLS, MOST_LANES, TICK_SPOT, end_row, outside_row,
 };
 use crate::scene::{Kind, Lane, Moment, Need, Scene, Shape, Span, Way};
 use crate::steps::{need_of, place};

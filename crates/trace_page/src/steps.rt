@@ -405,7 +405,7 @@ impl<'t> Scene<'t> {
     fn show_coming(&mut self, lane: Lane, gain: Gain) -> Result<(), NoMemory>
         ensures { OnOk result
             (self.new
-                ≡ record self.old { shapes = self.old.shapes ++ arrival_shapes lane gain self.old }) }
+            ≡ record self.old { shapes = self.old.shapes ++ arrival_shapes lane gain self.old }) }
     {
         let now = self.time;
         match gain {

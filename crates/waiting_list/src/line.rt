@@ -6,7 +6,9 @@ ghost use Rattle.waiting_list.specs.Line.{after_join, after_leave, after_reserve
 use crate::Waiting;
 use crate::filing::{dismiss, file_next, next_arrival, prioritize, widen};
 use crate::keys::Key;
-use crate::rows::{Entry, best_place, entry_of, first_place, place_of_thread, tids_for, waiting_of};
+use crate::rows::{
+    Entry, best_place, entry_of, first_place, place_of_thread, tids_for, waiting_of,
+};
 use lwp_types::{IdList, NoMemory, Tid};
 use std::alloc::Global;
 use std::collections::VecDeque;
