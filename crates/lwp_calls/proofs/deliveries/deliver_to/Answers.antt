@@ -1,5 +1,5 @@
 use Rattle.death_cleanup.specs.View.{state_of}
-use Rattle.lwp_calls.proofs.Delivering.{came_found, own, owned, who}
+use Rattle.lwp_calls.proofs.Delivering.{came_found, own, owned, unowned, who}
 use Rattle.lwp_calls.proofs.Messaging.{agent-place, agent_no_letter}
 use Rattle.lwp_calls.proofs.Places.{nine}
 use Rattle.lwp_calls.proofs.deliveries.deliver_to.Goals as goal
@@ -24,3 +24,6 @@ returns c =
     let parts = c.args.parts.now in
     let owner = owned parts c.args.event c.args.agent c.args.text.now c.requires.waits c.in-Some.owner c.owner_of.result c.owner_of.ensures c.in-Some.is in
     came_found parts c.args.event c.args.agent c.args.text.now c.requires.waits c.post.new.parts c.args.effects.now c.push.new.self c.post.new.effects c.in-Some.owner owner c.push.ensures (rw (c.hold.ensures, c.again.ensures) at c.post.ensures)
+
+pub unreachable-requires : goal.unreachable-requires
+unreachable-requires c = unowned c.args.parts.now c.args.event c.args.agent c.args.text.now c.requires.waits c.owner_of.result c.owner_of.ensures c.in_default.is
