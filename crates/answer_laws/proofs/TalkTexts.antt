@@ -130,7 +130,7 @@ only_a a AwaitsLetter n other = ne_eqb a n (λ e. other (sym e))
 only_a a AwaitsReply n other = refl
 only_a a IsOver n other = refl
 
-module _ (s k a : ℕ) (st : State) (was : Lawful st None) (talk : Talk) (waiting : List (List ℕ)) (h : Stands s k a st talk waiting) (e : ℕ) (text : List ℕ) (arms : armed st e ≡ true) where
+module _ (s k a : ℕ) (st : State) (was : Lawful st None) (talk : Talk) (waiting : List (List ℕ)) (h : Stands s k a st talk waiting) (e : ℕ) (text : List ℕ) (arms : is_event_armed st e ≡ true) where
   abbrev out : Outcome
   out = deliver st e text
 

@@ -107,7 +107,7 @@ module _ (parts : Parts) (a : ℕ) (no_thread : is_thread (state_of parts) a ≡
     dying = refl;
   }
 
-module _ (a : ℕ) (parts mid : Parts) (before now : List Effect) (no_thread : is_thread (state_of parts) a ≡ false) (came : CameTo parts mid before now (dismissed awaited.Letter a (state_of parts))) where
+module _ (a : ℕ) (parts mid : Parts) (before now : List Effect) (no_thread : is_thread (state_of parts) a ≡ false) (came : CameTo parts mid before now (after_dismiss awaited.Letter a (state_of parts))) where
   pub came_over : CameTo parts (cleared mid a (ap (λ s. is_thread s a) came.state ∙ threads-kept nonexist a (receivers_of (state_of parts) a) (state_of parts) ∙ no_thread)) before now (agent_over a (state_of parts))
   came_over = came_then parts mid _ before now now (after_dismiss awaited.Letter a (state_of parts)) (λ after. still (record after { letters = without_letter a after.letters })) came
       (came_cleared mid a (ap (λ s. is_thread s a) came.state ∙ threads-kept nonexist a (receivers_of (state_of parts) a) (state_of parts) ∙ no_thread) now came.step)

@@ -56,7 +56,7 @@ module _ (s : State) (t : ℕ) (row : ThreadRow) (known : thread_of s t ≡ Some
       by_test false e = refl
 
 -- the timer is set, and the thread waits for no more than so many ticks
-module _ (old mid new : Parts) (t : ℕ) (why : Block) (ticks due : ℕ) (came : CameTo old mid [] [] (still (blocked (state_of old) t why))) where
+module _ (old mid new : Parts) (t : ℕ) (why : Block) (ticks due : ℕ) (came : CameTo old mid [] [] (still (after_block (state_of old) t why))) where
   pub came_timed : new ≡ record mid { sched = sched.after_set_timer mid.sched t due } → due ≡ (state_of old).now + ticks → CameTo old new [] [] (still (after_block_for (state_of old) t why ticks))
   came_timed is later = rw is (record {
     state = ap (λ (s : State). record s { timers = s.timers ++ record { tid = t; due = due } ∷ [] }) came.state

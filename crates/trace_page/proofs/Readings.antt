@@ -68,7 +68,7 @@ value_read names b h =
     let marks = not_marks (eqb b 60) (eqb b 62) (eqb b 34) (eqb b 39) h in
     rw marks.2 refl
 
-module _ (place : Place) (names : List (List ℕ)) (one : (b : ℕ) → is_plain b ≡ true → read place names b ≡ at place names) where
+module _ (place : Place) (names : List (List ℕ)) (one : (b : ℕ) → is_plain b ≡ true → after_byte place names b ≡ at place names) where
   stays : (text : List ℕ) → list_all is_plain text ≡ true → read_on (at place names) text ≡ at place names
   unfolding read_on
   stays [] h = refl
