@@ -5,7 +5,6 @@
 //! step for each call, deaths, the clock, agents, and what holds of every state. They compute. The crate stands on nothing but std.
 #![tactic(auto)]
 
-mod again;
 mod body;
 mod call;
 mod effects;
