@@ -26,13 +26,14 @@ pub fn carry_out<'s>(parts: &mut Parts<'s>, tid: Tid, call: TurnCall, effects: &
         (case_of (state_of parts.old) tid (turn_call call)) }
     ensures most { length effects.new ≤ most_of_a_call }
 {
-    match call {
-        TurnCall::Yield(to) => effects.done(tid, yield_to(parts, tid, to)),
-        TurnCall::Resched(prio) => effects.done(tid, resched(parts, tid, prio)),
-        TurnCall::SetPri(other, prio) => effects.done(tid, set_priority(parts, other, prio)),
-        TurnCall::Suspend(other) => effects.done(tid, suspend(parts, other)),
-        TurnCall::Resume(other) => effects.done(tid, resume(parts, other)),
-    }
+    let done = match call {
+        TurnCall::Yield(to) => yield_to(parts, tid, to),
+        TurnCall::Resched(prio) => resched(parts, tid, prio),
+        TurnCall::SetPri(other, prio) => set_priority(parts, other, prio),
+        TurnCall::Suspend(other) => suspend(parts, other),
+        TurnCall::Resume(other) => resume(parts, other),
+    };
+    effects.done(tid, done);
 }
 
 // Another goes ahead of the caller, or all others of its priority do.
