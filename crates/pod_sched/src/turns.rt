@@ -1,5 +1,5 @@
 // Who is known, and whose turn it is: the scheduler but for its clock.
-ghost use Rattle.std.specs.Prelude.{[], ◌≡◌, ◌+◌, ◌<◌, ◌≤◌, ◌==◌, Some, false, length, true, IsTrue, IsOk, IfOk, OnOk, OnErr};
+ghost use Rattle.std.specs.Prelude.{[], ◌≡◌, ◌+◌, ◌<◌, ◌≤◌, ◌==◌, Some, false, length, true, IsTrue, IsOk, IfOk, IfSome, OnOk, OnErr};
 ghost use Rattle.lwp_types.specs.First.{FindsBest};
 ghost use Rattle.pod_sched.specs.Schedule.{IsOrdered, after_admit, after_block, after_leave, after_resched, after_reserve, after_resume, after_set_priority, after_suspend, after_unblock, after_yield, choice, empty_schedule, first_of, is_blocked_in, is_eligible, is_eligible_in, knows, prio_in, priority_in, thread_of, with_maxpri};
 
@@ -242,8 +242,7 @@ impl Turns {
         ensures { self.new ≡ after_resched self.old prio }
     {
         if let Some(tid) = self.first_of(prio) {
-            let row = self.row(tid);
-            self.put_back(tid, row);
+            self.requeue(tid);
         }
     }
 
@@ -367,10 +366,10 @@ impl Turns {
         row_at(&self.rows, slot)
     }
 
-    // The first of this priority.
+    // The first of this priority. Whoever stands in the order may run.
     fn first_of(&self, prio: u32) -> Option<Tid>
         ensures value { result ≡ first_of self.now prio }
-        ensures ordered { IsOrdered self.now.threads self.now.order }
+        ensures runs { IfSome result (λ t. IsTrue (is_eligible_in self.now t)) }
     {
         let slot = self.order.first_of(prio)?;
         Some(row_at(&self.rows, slot).tid)
