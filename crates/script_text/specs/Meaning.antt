@@ -1,6 +1,7 @@
 -- The script that lines say.
 use Rattle.std.specs.Prelude.{ℕ, zero, suc, Bool, false, not, ◌&&◌, ◌==◌, List, [], ◌∷◌, ◌++◌, length, Option, Some, None, fold, if◌then◌else◌, option_map, option_to_list, slice_index_or}
 use Rattle.std.specs.List.{list_any}
+use Rattle.std.specs.Option.{option_or}
 use Rattle.std.specs.Str.{bytes_eq}
 use Rattle.lwp_types.specs.TextFields.{is_text}
 use Rattle.script_lines.specs.Phrase.{Phrase}
@@ -100,34 +101,34 @@ exit_statement op.ExitSetExit at p = Some (exit.SetExit p.number)
 exit_statement op.ExitNote at p = Some (exit.Note at.text)
 exit_statement _ at p = None
 
--- a statement that names nothing, or one that sets an exit procedure
-abbrev pub plain_statement : Op → Places → Phrase → Option Stmt
-plain_statement op.Resched at p = Some (stmt.Resched p.number)
-plain_statement op.Sleep at p = Some (stmt.Sleep p.number)
-plain_statement op.SetMaxPri at p = Some (stmt.SetMaxPri p.number)
-plain_statement op.Me at p = Some stmt.Me
-plain_statement op.SetExit at p = Some (stmt.SetExit p.number)
-plain_statement op.GetExit at p = Some stmt.GetExit
-plain_statement op.PodExit at p = Some (stmt.PodExit p.number)
-plain_statement op.Threads at p = Some stmt.Threads
-plain_statement op.Senders at p = Some stmt.Senders
-plain_statement op.Receivers at p = Some stmt.Receivers
-plain_statement op.Monitors at p = Some stmt.Monitors
-plain_statement op.Conditions at p = Some stmt.Conditions
-plain_statement op.Return at p = Some stmt.Return
-plain_statement op.Handle at p = Some (stmt.Handle p.pattern p.func p.number)
-plain_statement op.Unhandle at p = Some stmt.Unhandle
-plain_statement op.Raise at p = Some (stmt.Raise p.number)
-plain_statement op.ExcNotify at p = Some (stmt.ExcNotify p.number)
-plain_statement op.Bound at p = Some (stmt.Bound p.number)
-plain_statement op.UniqPatt at p = Some stmt.UniqPatt
-plain_statement op.Agents at p = Some stmt.Agents
-plain_statement op.Trap at p = Some (stmt.Trap p.number)
-plain_statement op.Skip at p = Some (stmt.Skip p.test)
-plain_statement op.Again at p = Some stmt.Again
-plain_statement o at p = option_map (λ x. stmt.OnExit x) (exit_statement o at p)
+-- a statement that names nothing
+abbrev pub plain_statement : Op → Phrase → Option Stmt
+plain_statement op.Resched p = Some (stmt.Resched p.number)
+plain_statement op.Sleep p = Some (stmt.Sleep p.number)
+plain_statement op.SetMaxPri p = Some (stmt.SetMaxPri p.number)
+plain_statement op.Me p = Some stmt.Me
+plain_statement op.SetExit p = Some (stmt.SetExit p.number)
+plain_statement op.GetExit p = Some stmt.GetExit
+plain_statement op.PodExit p = Some (stmt.PodExit p.number)
+plain_statement op.Threads p = Some stmt.Threads
+plain_statement op.Senders p = Some stmt.Senders
+plain_statement op.Receivers p = Some stmt.Receivers
+plain_statement op.Monitors p = Some stmt.Monitors
+plain_statement op.Conditions p = Some stmt.Conditions
+plain_statement op.Return p = Some stmt.Return
+plain_statement op.Handle p = Some (stmt.Handle p.pattern p.func p.number)
+plain_statement op.Unhandle p = Some stmt.Unhandle
+plain_statement op.Raise p = Some (stmt.Raise p.number)
+plain_statement op.ExcNotify p = Some (stmt.ExcNotify p.number)
+plain_statement op.Bound p = Some (stmt.Bound p.number)
+plain_statement op.UniqPatt p = Some stmt.UniqPatt
+plain_statement op.Agents p = Some stmt.Agents
+plain_statement op.Trap p = Some (stmt.Trap p.number)
+plain_statement op.Skip p = Some (stmt.Skip p.test)
+plain_statement op.Again p = Some stmt.Again
+plain_statement _ p = None
 
--- the same, or a statement that names a monitor or a condition
+-- a statement that names a monitor or a condition
 abbrev pub lock_statement : Op → Places → Phrase → Option Stmt
 lock_statement op.MonCreate at p = Some (stmt.MonCreate at.monitor)
 lock_statement op.CvCreate at p = Some (stmt.CvCreate at.condition at.monitor)
@@ -143,25 +144,29 @@ lock_statement op.Notify at p = Some (stmt.Notify at.condition)
 lock_statement op.Broadcast at p = Some (stmt.Broadcast at.condition)
 lock_statement op.CvSend at p = Some (stmt.CvSend at.condition (who_of p.who at.thread))
 lock_statement op.CvWaiters at p = Some (stmt.CvWaiters at.condition)
-lock_statement o at p = plain_statement o at p
+lock_statement _ at p = None
+
+-- a statement that speaks of a thread, starts a procedure or has a text
+abbrev pub thread_statement : Op → Places → Phrase → Option Stmt
+thread_statement op.Create at p = Some (stmt.Create at.thread at.procedure p.number p.flags)
+thread_statement op.Destroy at p = Some (stmt.Destroy (who_of p.who at.thread))
+thread_statement op.Ping at p = Some (stmt.Ping (who_of p.who at.thread))
+thread_statement op.Yield at p = Some (stmt.Yield (who_of p.who at.thread))
+thread_statement op.Suspend at p = Some (stmt.Suspend (who_of p.who at.thread))
+thread_statement op.Resume at p = Some (stmt.Resume (who_of p.who at.thread))
+thread_statement op.Join at p = Some (stmt.Join (who_of p.who at.thread))
+thread_statement op.SetPri at p = Some (stmt.SetPri (who_of p.who at.thread) p.number)
+thread_statement op.Send at p = Some (stmt.Send (who_of p.who at.thread) p.room at.text)
+thread_statement op.Recv at p = Some (stmt.Recv (from_of p.who at.thread) p.mode)
+thread_statement op.Reply at p = Some (stmt.Reply (who_of p.who at.thread) at.text)
+thread_statement op.Say at p = Some (stmt.Say at.text)
+thread_statement op.CallProc at p = Some (stmt.CallProc at.procedure)
+thread_statement op.Agent at p = Some (stmt.Agent at.thread p.number)
+thread_statement _ at p = None
 
 -- the statement of a line whose names and text stand so, if its row is one of a statement
 abbrev pub statement_of : Op → Places → Phrase → Option Stmt
-statement_of op.Create at p = Some (stmt.Create at.thread at.procedure p.number p.flags)
-statement_of op.Destroy at p = Some (stmt.Destroy (who_of p.who at.thread))
-statement_of op.Ping at p = Some (stmt.Ping (who_of p.who at.thread))
-statement_of op.Yield at p = Some (stmt.Yield (who_of p.who at.thread))
-statement_of op.Suspend at p = Some (stmt.Suspend (who_of p.who at.thread))
-statement_of op.Resume at p = Some (stmt.Resume (who_of p.who at.thread))
-statement_of op.Join at p = Some (stmt.Join (who_of p.who at.thread))
-statement_of op.SetPri at p = Some (stmt.SetPri (who_of p.who at.thread) p.number)
-statement_of op.Send at p = Some (stmt.Send (who_of p.who at.thread) p.room at.text)
-statement_of op.Recv at p = Some (stmt.Recv (from_of p.who at.thread) p.mode)
-statement_of op.Reply at p = Some (stmt.Reply (who_of p.who at.thread) at.text)
-statement_of op.Say at p = Some (stmt.Say at.text)
-statement_of op.CallProc at p = Some (stmt.CallProc at.procedure)
-statement_of op.Agent at p = Some (stmt.Agent at.thread p.number)
-statement_of o at p = lock_statement o at p
+statement_of o at p = option_or (thread_statement o at p) (option_or (lock_statement o at p) (option_or (plain_statement o p) (option_map (λ x. stmt.OnExit x) (exit_statement o at p))))
 
 -- the procedure with one more statement
 abbrev pub with_statement : Option Stmt → Option Proc → Option Proc

@@ -1,6 +1,6 @@
 // A script that grows line by line.
 ghost use Rattle.std.specs.Prelude.{◌≡◌, ◌++◌, ◌∷◌, [], Some, IfOk, OnOk, option_map, option_to_list};
-ghost use Rattle.script_text.specs.Meaning.{after_name, with_text_of, places_of, who_of, from_of, exit_statement, plain_statement, lock_statement, statement_of, with_statement, native_kind};
+ghost use Rattle.script_text.specs.Meaning.{after_name, with_text_of, places_of, who_of, from_of, exit_statement, plain_statement, lock_statement, thread_statement, statement_of, with_statement, native_kind};
 ghost use Rattle.script_text.specs.declared.script.Stmt.TheVariants as stmt;
 
 use crate::counts::Counts;
@@ -137,9 +137,9 @@ fn on_exit(at: Places, phrase: &Phrase<'_>) -> Option<Stmt>
     }
 }
 
-// A statement that names nothing, or one that sets an exit procedure.
-fn plain_statement(at: Places, phrase: &Phrase<'_>) -> Option<Stmt>
-    ensures { result ≡ plain_statement phrase.now.op at phrase.now }
+// A statement that names nothing.
+fn plain_statement(phrase: &Phrase<'_>) -> Option<Stmt>
+    ensures { result ≡ plain_statement phrase.now.op phrase.now }
 {
     let number = phrase.number;
     match phrase.op {
@@ -170,11 +170,11 @@ fn plain_statement(at: Places, phrase: &Phrase<'_>) -> Option<Stmt>
         Op::Trap => Some(Stmt::Trap { event: number }),
         Op::Skip => Some(Stmt::Skip { test: phrase.test }),
         Op::Again => Some(Stmt::Again),
-        _ => on_exit(at, phrase),
+        _ => None,
     }
 }
 
-// The same, or a statement that names a monitor or a condition.
+// A statement that names a monitor or a condition.
 fn lock_statement(at: Places, phrase: &Phrase<'_>) -> Option<Stmt>
     ensures { result ≡ lock_statement phrase.now.op at phrase.now }
 {
@@ -198,13 +198,13 @@ fn lock_statement(at: Places, phrase: &Phrase<'_>) -> Option<Stmt>
             who: whom(at, phrase),
         }),
         Op::CvWaiters => Some(Stmt::CvWaiters { cond }),
-        _ => plain_statement(at, phrase),
+        _ => None,
     }
 }
 
-// The statement of a line whose names and text stand so.
-fn statement_of(at: Places, phrase: &Phrase<'_>) -> Option<Stmt>
-    ensures { result ≡ statement_of phrase.now.op at phrase.now }
+// A statement that speaks of a thread, starts a procedure or has a text.
+fn thread_statement(at: Places, phrase: &Phrase<'_>) -> Option<Stmt>
+    ensures { result ≡ thread_statement phrase.now.op at phrase.now }
 {
     match phrase.op {
         Op::Create => Some(Stmt::Create {
@@ -254,8 +254,24 @@ fn statement_of(at: Places, phrase: &Phrase<'_>) -> Option<Stmt>
             name: at.thread,
             event: phrase.number,
         }),
-        _ => lock_statement(at, phrase),
+        _ => None,
     }
+}
+
+// The statement of a line whose names and text stand so.
+fn statement_of(at: Places, phrase: &Phrase<'_>) -> Option<Stmt>
+    ensures { result ≡ statement_of phrase.now.op at phrase.now }
+{
+    if let Some(stmt) = thread_statement(at, phrase) {
+        return Some(stmt);
+    }
+    if let Some(stmt) = lock_statement(at, phrase) {
+        return Some(stmt);
+    }
+    if let Some(stmt) = plain_statement(phrase) {
+        return Some(stmt);
+    }
+    on_exit(at, phrase)
 }
 
 // Puts a statement at the end of the procedure.
