@@ -12,7 +12,7 @@ use Rattle.stale_ids.specs.Register.{AreRising, value_of}
 use Rattle.std.proofs.Common.{Bool, List, None, Option, Some, [], ap, arith, cond, eqb, false, get_or, inl, inr, length, refl, sym, true, ℕ, ◌+◌, ◌<◌, ◌∙◌, ◌∷◌, ◌≡◌, ◌≤◌, ◌⊎◌}
 use Rattle.std.proofs.lemmas.Bool.{and_parts, cases_eq, cases_lt, cases_order, eq-eqb, eqb-true, ne_eqb}
 use Rattle.std.proofs.lemmas.List.Edits.{get_or-remove_above, get_or-remove_below, length-remove}
-use Rattle.std.specs.List.{AllByRecursion, find, list_any, remove}
+use Rattle.std.specs.List.{AllByRecursion, find, list_all, list_any, remove}
 use Rattle.std.specs.Prelude.{option_map}
 
 -- one was found, and it isn't younger than n
@@ -59,11 +59,14 @@ pub record Reached (what : Awaited) (t : ℕ) (living : List (ℕ × Kind)) (wai
   pub noted : all_noted waits living ≡ true
   pub gap : IsGap (run_number what t) 0 waits at
 
-module _ (what : Awaited) (t : ℕ) (living : List (ℕ × Kind)) (rising : AreRising living) (waits : List NamedWait) (at : ℕ) (reached : Reached what t living waits at) where
-  -- whoever waits for t so is noted from this place on
-  noted-ahead : (n : ℕ) (k : Kind) (d : NamedWait) → value_of n living ≡ Some k → waits_for what t k ≡ true → record { place : ℕ; from : at ≤ place; within : place < length waits; tid : (get_or waits place d).tid ≡ n; own : run_of (get_or waits place d) ≡ run_number what t }
-  noted-ahead n k d is here =
-      let covered : covers waits n (kind_name k) ≡ true = looked (λ m l. covers waits m (kind_name l)) living reached.noted n k is in
+module _ (what : Awaited) (t : ℕ) (living : List (ℕ × Kind)) (waits : List NamedWait) (at : ℕ) (reached : Reached what t living waits at) where
+  -- a wait of thread n for this of t stands from this place on
+  abbrev Ahead : ℕ → NamedWait → Type 0
+  Ahead n d = record { place : ℕ; from : at ≤ place; within : place < length waits; tid : (get_or waits place d).tid ≡ n; own : run_of (get_or waits place d) ≡ run_number what t }
+
+  -- that of whoever waits for t so and is noted does
+  covered-ahead : (n : ℕ) (k : Kind) (d : NamedWait) → covers waits n (kind_name k) ≡ true → waits_for what t k ≡ true → Ahead n d
+  covered-ahead n k d covered here =
       let some : list_any (is_wait (run_number what t) n) waits ≡ true = (rw (named-by what t k here) at covered) in
       let there = any-place (is_wait (run_number what t) n) waits d some in
       let both = and_parts (eqb (get_or waits there.place d).tid n) (eqb (run_of (get_or waits there.place d)) (run_number what t)) there.passes in
@@ -82,17 +85,36 @@ module _ (what : Awaited) (t : ℕ) (living : List (ℕ × Kind)) (rising : AreR
         own = own;
       }
 
-  -- nobody is found where they end
-  pub reached-none : HasNoWaiter (run_number what t) waits at → None ≡ first_waiting what t living
-  reached-none none = first-is (waits_for what t) None living rising (λ m is. absurd (cc)) (λ n k is here. absurd (
+  -- where they end nobody waits so who is noted
+  none-at : HasNoWaiter (run_number what t) waits at → (n : ℕ) (k : Kind) → covers waits n (kind_name k) ≡ true → waits_for what t k ≡ true → ⊥
+  none-at none n k covered here =
       let d : NamedWait = record { what = what; of = t; tid = n } in
-      let ahead = noted-ahead n k d is here in
+      let ahead = covered-ahead n k d covered here in
       let first : at < length waits = omega (arith, ahead.from, ahead.within) in
       let least : run_number what t ≤ run_of (get_or waits at d) = (before-not (get_or waits at d) (run_number what t) 0 (reached.gap.above at d (omega arith) first)).0 in
       elim (cases_lt at ahead.place) [
         | inl later ↦ none d first (omega (arith, least, (ordered-at waits at ahead.place d reached.ordered later ahead.within).low, ahead.own))
         | inr same ↦ none d first (ap (λ i. run_of (get_or waits i d)) (let e : at ≡ ahead.place = omega (arith, same, ahead.from) in e) ∙ ahead.own)
-      ]))
+      ]
+
+  none-first : HasNoWaiter (run_number what t) waits at → (ls : List (ℕ × Kind)) → list_all (λ live. covers waits live.0 (kind_name live.1)) ls ≡ true → None ≡ option_map (λ (live : ℕ × Kind). live.0) (find (λ live. waits_for what t live.1) ls)
+  none-first none [] all = refl
+  none-first none (live ∷ ls) all =
+      let parts = and_parts (covers waits live.0 (kind_name live.1)) (list_all (λ l. covers waits l.0 (kind_name l.1)) ls) all in
+      by_test (waits_for what t live.1) refl parts.0 (none-first none ls parts.1)
+    where
+      by_test : (c : Bool) → waits_for what t live.1 ≡ c → covers waits live.0 (kind_name live.1) ≡ true → None ≡ option_map (λ (l : ℕ × Kind). l.0) (find (λ l. waits_for what t l.1) ls) → None ≡ option_map (λ (l : ℕ × Kind). l.0) (cond c (Some live) (find (λ l. waits_for what t l.1) ls))
+      by_test true e covered later = absurd (none-at none live.0 live.1 covered e)
+      by_test false e covered later = later
+
+  -- nobody is found where they end
+  pub reached-none : HasNoWaiter (run_number what t) waits at → None ≡ first_waiting what t living
+  reached-none none = none-first none living reached.noted
+
+module _ (what : Awaited) (t : ℕ) (living : List (ℕ × Kind)) (rising : AreRising living) (waits : List NamedWait) (at : ℕ) (reached : Reached what t living waits at) where
+  -- whoever waits for t so is noted from this place on
+  noted-ahead : (n : ℕ) (k : Kind) (d : NamedWait) → value_of n living ≡ Some k → waits_for what t k ≡ true → Ahead what t living waits at reached n d
+  noted-ahead n k d is here = covered-ahead what t living waits at reached n k d (looked (λ m l. covers waits m (kind_name l)) living reached.noted n k is) here
 
   module _ (w : NamedWait) (here : HasWaiter (run_number what t) w waits at) where
     for-this : (w.what ≡ what) × (w.of ≡ t)

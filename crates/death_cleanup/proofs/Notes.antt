@@ -20,6 +20,7 @@ use Rattle.stale_ids.specs.Register.{AreRising, value_of, without}
 use Rattle.std.proofs.Common.{Bool, List, None, Option, Some, [], ap, arith, cond, eqb, false, inl, inr, length, map, not, refl, sym, true, ℕ, ◌*◌, ◌++◌, ◌+◌, ◌||◌, ◌∙◌, ◌∷◌, ◌≡◌, ◌≤◌, ◌⊎◌}
 use Rattle.std.proofs.lemmas.Bool.{and_from, and_parts, cases_eq, eq-eqb, eqb-true, ne_eqb, or_right}
 use Rattle.std.specs.List.{filter, list_all, list_any}
+use Rattle.std.specs.List.Retain.{IsFiltered, ReturnsInTurn}
 
 -- as many threads live after these changes
 
@@ -184,6 +185,17 @@ noted-waits waits others living rising has all = all_looked (λ n k. covers othe
     by_name : (n : ℕ) (k : Kind) → value_of n living ≡ Some k → (o : Option (Awaited × ℕ)) → kind_name k ≡ o → covers waits n o ≡ true → covers others n o ≡ true
     by_name n k is None e h = refl
     by_name n k is (Some name) e h = has n k name is e h
+
+-- what each answer of a test tells is so, if anything was tested
+module _ {X F : Type 0} (R : F → X → Bool → F → Type 0) (Q : Type 0) (f : F) (tells : (x : X) (b : Bool) (f' : F) → R f x b f' → Q) where
+  by_first : (bs : List Bool) (xs : List X) (q : F) → length bs ≡ length xs → ReturnsInTurn R f bs xs q → 1 ≤ length xs → Q
+  by_first [] [] q same told some = absurd (omega (arith, some))
+  by_first [] (x ∷ xs) q same told some = absurd (omega (arith, same))
+  by_first (b ∷ bs) [] q same told some = absurd told
+  by_first (b ∷ bs) (x ∷ xs) q same told some = tells x b told.0 told.1
+
+  pub tested : (xs ys : List X) → IsFiltered R f xs ys → 1 ≤ length xs → Q
+  tested xs ys filtered some = by_first filtered.0 xs filtered.1 filtered.2 filtered.3 some
 
 -- without the waits that go on no longer
 pub noted-pruned : (waits : List NamedWait) (living : List (ℕ × Kind)) → AreRising living → all_noted waits living ≡ true → all_noted (filter (is_on living) waits) living ≡ true

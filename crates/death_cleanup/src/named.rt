@@ -5,6 +5,7 @@ ghost use Rattle.std.specs.List.{list_any, remove, slice_index_or};
 ghost use Rattle.death_cleanup.specs.Named.{AreOrdered, HasNoWaiter, HasWaiter, IsBeforeLast, IsGap, IsNoteOf, after_reserve, all_noted, is_before, is_on, is_wait, no_names, run_number, run_of};
 ghost use Rattle.death_cleanup.specs.Waits.{first_waiting};
 ghost use Rattle.death_cleanup.specs.declared.rows.Awaited.TheVariants as awaited;
+ghost use Rattle.stale_ids.specs.Register.{AreRising};
 
 use crate::rows::{Awaited, Kind, NamedWait, wait_of};
 use lwp_types::{Block, NoMemory, Tid};
@@ -38,7 +39,8 @@ impl Model for Named {
 
 // Whether the wait goes on.
 fn goes_on(ids: &Registry<Kind>, wait: &NamedWait) -> bool
-    ensures { result ≡ is_on ids.now.live wait.now }
+    ensures value { result ≡ is_on ids.now.live wait.now }
+    ensures rising { AreRising ids.now.live }
 {
     match ids.get(wait.tid.number) {
         Some(kind) => kind.waits_for(wait.what, wait.of),
@@ -169,8 +171,6 @@ fn first_in(
     ensures next { IfNone result (IsGap (run_number what tid + 1) 0 waits.new.items at) }
     ensures capacity { vec_capacity waits.new ≡ vec_capacity waits.old }
 {
-    // The check learns here that the living stand in birth order.
-    let _living = ids.len();
     let first = NamedWait {
         what,
         of: tid,
@@ -211,8 +211,6 @@ fn make_room(named: &mut Named, ids: &Registry<Kind>)
     ensures noted { IsNoteOf named.new ids.now.live }
     ensures room { length named.new.waits < named.new.places }
 {
-    // The check learns here that the living stand in birth order.
-    let _living = ids.len();
     if named.waits.len() >= named.places {
         named.waits.retain(|wait| goes_on(ids, wait));
     }

@@ -1,10 +1,14 @@
 ghost use Rattle.std.specs.Prelude.{◌≡◌, ◌<◌};
 ghost use Rattle.buckets.specs.Order.{empty_order};
 
-use buckets::{Buckets, Steps};
+use buckets::{Buckets, Steps, first_of_last};
 use std::alloc::Global;
 use std::marker::Brand;
 use std::sync::ledger::{Blank, Ledger};
+
+fn best<L: Ledger>(order: &Buckets, steps: &mut Steps<L>) -> Option<usize> {
+    first_of_last::<L, usize, Buckets>(order, steps)
+}
 
 // The first of the greatest priority, in each word of marks and at both ends of them.
 fn does_all<L: Ledger>(order: &mut Buckets, steps: &mut Steps<L>) -> bool
@@ -13,22 +17,22 @@ fn does_all<L: Ledger>(order: &mut Buckets, steps: &mut Steps<L>) -> bool
     let Ok(()) = order.reserve(3) else {
         return false;
     };
-    let none = order.best(steps);
+    let none = best(order, steps);
     order.put_last(256, 63);
     order.put_last(257, 63);
     order.put_last(258, 64);
-    let second_word = order.best(steps);
+    let second_word = best(order, steps);
     order.take(258);
-    let first = order.best(steps);
+    let first = best(order, steps);
     order.put_before(257, 256);
-    let before = order.best(steps);
+    let before = best(order, steps);
     order.put_last(256, 191);
-    let third_word = order.best(steps);
+    let third_word = best(order, steps);
     order.put_last(257, 192);
-    let fourth_word = order.best(steps);
+    let fourth_word = best(order, steps);
     order.put_last(256, 255);
     (none, second_word, first, before) == (None, Some(258), Some(256), Some(257))
-        && (third_word, fourth_word, order.best(steps)) == (Some(256), Some(257), Some(256))
+        && (third_word, fourth_word, best(order, steps)) == (Some(256), Some(257), Some(256))
         && order.first_of(192) == Some(257)
 }
 
