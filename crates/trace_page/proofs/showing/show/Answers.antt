@@ -1,5 +1,5 @@
 use Rattle.std.proofs.Common.{rules}
-use Rattle.view_words.proofs.showing.show.Goals as goal
+use Rattle.trace_page.proofs.showing.show.Goals as goal
 
 pub returns : goal.returns
 returns c = search rules

@@ -1,5 +1,5 @@
 use Rattle.std.proofs.Common.{rules}
-use Rattle.view_words.proofs.words.from_to.Goals as goal
+use Rattle.trace_page.proofs.words.from_to.Goals as goal
 
 pub returns-else-to-most : goal.returns-else-to-most
 returns-else-to-most c = search rules

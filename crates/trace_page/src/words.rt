@@ -1,6 +1,6 @@
 // What the words ask for.
 ghost use Rattle.std.specs.Prelude.{◌≡◌, ◌≤◌, IfSome, map, string_bytes};
-ghost use Rattle.view_words.specs.Words.{call_of, from_to, window_of};
+ghost use Rattle.trace_page.specs.Words.{call_of, from_to, window_of};
 
 use trace_lines::whole_number;
 

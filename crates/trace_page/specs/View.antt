@@ -3,9 +3,9 @@ use Rattle.lwp_types.specs.Streams.{after_append}
 use Rattle.std.specs.Fmt.{decimal}
 use Rattle.std.specs.Prelude.{List, None, Option, Some, [], codes, ℕ, ◌++◌, ◌≡◌}
 use Rattle.trace_page.specs.Page.{bad_line, page, whole_lines}
-use Rattle.view_words.specs.declared.showing.ViewEnd.{ViewEnd}
-use Rattle.view_words.specs.declared.showing.ViewEnd.TheVariants as end
-use Rattle.view_words.specs.declared.words.Window.{Window}
+use Rattle.trace_page.specs.declared.showing.ViewEnd.{ViewEnd}
+use Rattle.trace_page.specs.declared.showing.ViewEnd.TheVariants as end
+use Rattle.trace_page.specs.declared.words.Window.{Window}
 use Rattle.whole_streams.specs.Reading.{HasRead, IsReadPart}
 use Rattle.whole_streams.specs.Streams.{IsFaultless, IsFaulty, IsQuiet, Stream}
 use Rattle.whole_streams.specs.Writing.{AppendsPart}

@@ -1,7 +1,7 @@
 -- What the words ask for.
 use Rattle.std.specs.Prelude.{List, None, Option, Some, [], if◌then◌else◌, nat_lt, ℕ, ◌+◌, ◌-◌, ◌==◌, ◌||◌, ◌∷◌}
 use Rattle.trace_lines.specs.Words.{whole_number}
-use Rattle.view_words.specs.declared.words.Window.{Window}
+use Rattle.trace_page.specs.declared.words.Window.{Window}
 
 -- the number of a call, if it is one
 abbrev pub call_by : Option ℕ → Option ℕ
