@@ -1,19 +1,19 @@
 //! The program: standard input holds a trace, and standard output takes its page, of the calls that the words ask for.
 //!
-//! All that it does is `view_words::view`, on the standard streams; no contract can say what those hold. What is written is
+//! All that it does is `trace_page::view`, on the standard streams; no contract can say what those hold. What is written is
 //! gathered, and goes out 64 KiB at a time. What went wrong is said on standard error.
 #![tactic(auto)]
 
 ghost use Rattle.std.specs.Prelude.{◌≡◌, ◌≢◌};
 ghost use Rattle.std.specs.IoError.{error_kind};
-ghost use Rattle.view_words.specs.declared.showing.ViewEnd.TheVariants.{NoMemory, Usage};
+ghost use Rattle.trace_page.specs.declared.showing.ViewEnd.TheVariants.{NoMemory, Usage};
 
 use lwp_types::Failed;
 use std::io::{ErrorKind, Write};
 use std::process::ExitCode;
 use std::{env, io};
 use std_streams::{GATHERED, StdSink, StdSource};
-use view_words::{ViewEnd, fault_text, status_of, view};
+use trace_page::{ViewEnd, fault_text, status_of, view};
 
 fn main(rt: HostRuntime) -> ExitCode {
     let end = match words(&rt) {

@@ -13,8 +13,8 @@ use Rattle.script_lines.specs.Reading.{phrase_at}
 use Rattle.script_lines.specs.Table.{ranks, role_of, starts}
 use Rattle.script_text.specs.Meaning.{contains_name, enter}
 use Rattle.script_text.specs.Spelling.{line_cut}
-use Rattle.script_line_faults.specs.Near.{nearest, or_else}
-use Rattle.script_line_faults.specs.Faults.{slot_at}
+use Rattle.script_advice.specs.Near.{nearest, or_else}
+use Rattle.script_advice.specs.Faults.{slot_at}
 use Rattle.script_advice.specs.Remarks.{Remark, place_at, some_names, word_or_none}
 use Rattle.script_advice.specs.declared.remarks.Cause.TheVariants as cause
 use Rattle.script_advice.specs.declared.remarks.Doubt.{Doubt}

@@ -1,11 +1,14 @@
--- What holds of the errors of all texts.
-use Rattle.std.specs.Prelude.{◌≡◌, ◌≢◌, ◌↔◌, ℕ, List, [], ◌∷◌, Err, take}
+-- What holds of the errors of all texts, and of the faults of all lines.
+use Rattle.std.specs.Prelude.{◌≡◌, ◌≢◌, ◌↔◌, ℕ, List, [], ◌∷◌, Err, take, not, ◌&&◌, is_some}
+use Rattle.lwp_types.specs.TextFields.{is_printable}
+use Rattle.script_lines.specs.Reading.{phrase_at}
 use Rattle.script_text.specs.declared.reason.Reason.{Reason}
 use Rattle.script_text.specs.declared.script.Script.{Script}
 use Rattle.script_text.specs.Grammar.{Spells}
 use Rattle.script_text.specs.Spelling.{verdict}
 use Rattle.script_advice.specs.Advice.{grade_of, remarks, report}
 use Rattle.script_advice.specs.Errors.{errors}
+use Rattle.script_advice.specs.Faults.{fault_of}
 use Rattle.script_advice.specs.Remarks.{Remark}
 use Rattle.script_advice.specs.declared.remarks.Cause.TheVariants as cause
 use Rattle.script_advice.specs.declared.advice.Grade.TheVariants as grade
@@ -34,3 +37,7 @@ AreErrorsTold text = grade_of text ≡ grade.Wrong → remarks text ≡ errors t
 pub record IsKnownByFront (f : Format) (text : List ℕ) : Type 0 where
   pub report : report f (take 16777217 text) ≡ report f text
   pub grade : grade_of (take 16777217 text) ≡ grade_of text
+
+-- a line has a fault exactly where it isn't the printable text of a phrase
+abbrev pub IsFaultedWhereUnsaid : List ℕ → Type 0
+IsFaultedWhereUnsaid line = is_some (fault_of line) ≡ not (is_printable line && is_some (phrase_at line))

@@ -4,3 +4,8 @@ pub mod Texts
 pub mod Advice
 pub mod Laws
 pub mod Doubts
+pub mod Near
+pub mod Forms
+pub mod Slots
+pub mod Faults
+pub mod WhatTexts

@@ -12,11 +12,11 @@ use Rattle.script_text.specs.declared.reader.Declared.{Declared}
 use Rattle.script_text.specs.declared.reason.Reason.{Reason}
 use Rattle.script_text.specs.declared.reason.Reason.TheVariants as reason
 use Rattle.script_text.specs.Grammar.{is_declared}
-use Rattle.script_line_faults.specs.Near.{nearest, or_else}
-use Rattle.script_line_faults.specs.Forms.{nearest_op}
-use Rattle.script_line_faults.specs.Faults.{fault_of, key_at, op_of, slot_at}
-use Rattle.script_line_faults.specs.Texts.{what_text}
-use Rattle.script_line_faults.specs.declared.faults.Fault.{Fault}
+use Rattle.script_advice.specs.Near.{nearest, or_else}
+use Rattle.script_advice.specs.Forms.{nearest_op}
+use Rattle.script_advice.specs.Faults.{fault_of, key_at, op_of, slot_at}
+use Rattle.script_advice.specs.WhatTexts.{what_text}
+use Rattle.script_advice.specs.declared.faults.Fault.{Fault}
 use Rattle.script_advice.specs.declared.remarks.Cause.{Cause}
 use Rattle.script_advice.specs.declared.remarks.Cause.TheVariants as cause
 use Rattle.script_advice.specs.declared.remarks.Doubt.{Doubt}

@@ -3,7 +3,7 @@ use Rattle.std.specs.Fmt.{decimal}
 use Rattle.std.specs.Prelude.{ℕ, ◌&&◌, ◌+◌, ◌-◌, nat_le, List, [], ◌∷◌, ◌++◌, length, map, take, Option, Some, None, codes, if◌then◌else◌}
 use Rattle.std.specs.List.{flat_map}
 use Rattle.script_lines.specs.declared.table.Op.{Op}
-use Rattle.script_line_faults.specs.Forms.{form}
+use Rattle.script_advice.specs.Forms.{form}
 use Rattle.script_advice.specs.Remarks.{Remark, cause_text, severity_text, why_text}
 use Rattle.script_advice.specs.declared.texts.Format.{Format}
 use Rattle.script_advice.specs.declared.texts.Format.TheVariants as format

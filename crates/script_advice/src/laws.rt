@@ -1,6 +1,6 @@
-// What holds of the errors of all texts.
+// What holds of the errors of all texts, and of the faults of all lines.
 ghost use Rattle.std.specs.Prelude.{ℕ, List};
-ghost use Rattle.script_advice.specs.Laws.{AreErrorsTold, FirstIsReaders, IsFineWhereSpelt, IsKnownByFront};
+ghost use Rattle.script_advice.specs.Laws.{AreErrorsTold, FirstIsReaders, IsFaultedWhereUnsaid, IsFineWhereSpelt, IsKnownByFront};
 ghost use Rattle.script_advice.specs.declared.texts.Format.{Format};
 
 /// Where the reader refuses a text, the first error is of the reader's line, for the reader's reason.
@@ -21,4 +21,9 @@ pub fn errors_are_told()
 /// Of a text that is too long, no more has to be read than one byte more than a script may have.
 pub fn front_is_enough()
     ensures { (f : Format) (text : List ℕ) → IsKnownByFront f text }
+{}
+
+/// A line has a fault exactly where the reader takes it for none: where a byte isn't printable, or it is the text of no phrase.
+pub fn faults_are_unsaid()
+    ensures { (line : List ℕ) → IsFaultedWhereUnsaid line }
 {}

@@ -6,8 +6,13 @@
 //! thousand lines are told. `no_errors_where_spelt`, `first_error_is_the_readers` and `errors_are_told` are laws: errors are told exactly
 //! where `script_text` refuses a text, and the first of them is its own.
 //!
-//! The crate stands on `script_text`, whose verdict this is, on `script_line_faults` for the form of single lines, on the buffers of `trace_text`,
-//! and reads and writes by `whole_streams`.
+//! What is wrong in a line by itself is a matter of `faults`, with `slots`, `forms`, `near` and `what_texts`. A line that isn't the text
+//! of a phrase has a first word that may not stand where it does, or ends too early. `fault_of` finds it, going over the slots of the
+//! line's row as the reader of lines does, and it finds one exactly where the reader takes the line for none (`faults_are_unsaid`, a
+//! law). `add_form` writes what may stand in a line of a kind, and `nearest_op` finds the kind whose key is nearly what stands there.
+//!
+//! The crate stands on `script_text`, whose verdict this is, on `script_lines`, whose table of lines is the only one, on the buffers of
+//! `trace_text`, and reads and writes by `whole_streams`.
 #![tactic(auto)]
 
 mod advice;
@@ -15,18 +20,24 @@ mod ahead;
 mod checking;
 mod doubts;
 mod errors;
+mod faults;
+mod forms;
 mod known;
 mod laws;
 mod lines;
 mod near;
+mod near_names;
 mod remarks;
 mod sets;
+mod slots;
 mod texts;
 mod way;
+mod what_texts;
 
 pub use advice::{Grade, add_report};
 pub use checking::{CheckEnd, check, fault_text, status_of};
 pub use laws::{
-    errors_are_told, first_error_is_the_readers, front_is_enough, no_errors_where_spelt,
+    errors_are_told, faults_are_unsaid, first_error_is_the_readers, front_is_enough,
+    no_errors_where_spelt,
 };
 pub use texts::Format;

@@ -1,48 +1,50 @@
-// The name that a word is nearly.
-ghost use Rattle.std.specs.Prelude.{◌≡◌, option_map};
-ghost use Rattle.script_line_faults.specs.Near.{first_near, nearest, one_apart, two_apart};
-ghost use Rattle.script_advice.specs.Remarks.{some_names};
+// Words that are nearly the same.
+ghost use Rattle.std.specs.Prelude.{◌≡◌, ℕ, Bool, List};
+ghost use Rattle.script_advice.specs.Near.{behind_first, is_edited, is_edited_once, one_apart, two_apart};
 
-use script_line_faults::{one_apart, two_apart};
-use script_text::NameList;
-
-// So many of the first names are looked at.
-const MOST: usize = 256;
-
-// The first of these names that is one edit away from the word.
-fn first_one_apart<'n>(names: &'n NameList, word: &[u8]) -> Option<&'n [u8]>
-    ensures { option_map (λ w. w.now) result
-        ≡ first_near (λ v. one_apart v word.now) (some_names names.now) }
+/// The word without its first byte.
+pub(crate) fn behind_first(word: &[u8]) -> &[u8]
+    ensures { result.now ≡ behind_first word.now }
 {
-    for place in 0..names.len().min(MOST) {
-        let name = names.bytes(place);
-        if one_apart(name, word) {
-            return Some(name);
-        }
+    match word {
+        [] => &[],
+        [_, rest @ ..] => rest,
     }
-    None
 }
 
-// The first of these names that is two edits away from the word.
-fn first_two_apart<'n>(names: &'n NameList, word: &[u8]) -> Option<&'n [u8]>
-    ensures { option_map (λ w. w.now) result
-        ≡ first_near (λ v. two_apart v word.now) (some_names names.now) }
+// What is left of two words behind the bytes with which both begin.
+fn parted<'v, 'w>(v: &'v [u8], w: &'w [u8]) -> (&'v [u8], &'w [u8])
+    ensures { (alike : List ℕ → List ℕ → Bool) →
+        is_edited_once alike v.now w.now ≡ is_edited alike result.0.now result.1.now }
 {
-    for place in 0..names.len().min(MOST) {
-        let name = names.bytes(place);
-        if two_apart(name, word) {
-            return Some(name);
+    let mut left = v;
+    let mut other = w;
+    while let [b, more @ ..] = left {
+        match other {
+            [c, rest @ ..] if *b == *c => {
+                left = more;
+                other = rest;
+            }
+            _ => return (left, other),
         }
     }
-    None
+    (left, other)
 }
 
-/// The first of these names that is one edit away from the word, or else the first that is two away.
-pub(crate) fn nearest<'n>(names: &'n NameList, word: &[u8]) -> Option<&'n [u8]>
-    ensures { option_map (λ w. w.now) result ≡ nearest (some_names names.now) word.now }
+/// Whether the words are the same, but for one byte at most that is changed, put in or left out.
+pub fn one_apart(v: &[u8], w: &[u8]) -> bool
+    ensures { result ≡ one_apart v.now w.now }
 {
-    match first_one_apart(names, word) {
-        Some(name) => Some(name),
-        None => first_two_apart(names, word),
-    }
+    let (v, w) = parted(v, w);
+    behind_first(v) == behind_first(w) || v == behind_first(w) || behind_first(v) == w
+}
+
+/// The same, but for two such bytes at most.
+pub fn two_apart(v: &[u8], w: &[u8]) -> bool
+    ensures { result ≡ two_apart v.now w.now }
+{
+    let (v, w) = parted(v, w);
+    one_apart(behind_first(v), behind_first(w))
+        || one_apart(v, behind_first(w))
+        || one_apart(behind_first(v), w)
 }

@@ -3,9 +3,11 @@ ghost use Rattle.std.specs.Prelude.{◌≡◌, length, option_map};
 ghost use Rattle.script_lines.specs.Reading.{phrase_at};
 ghost use Rattle.script_advice.specs.Remarks.{cause_text, doubt_text, doubted_text, fault_place, form_of, is_of_text, key_or_none, likely_op, near_key, near_of, near_procedure, place_at, place_of, reason_text, remark_of, rule_text, said_place, severity_text, starts_nothing, why_text};
 
+use crate::faults::{Fault, What, fault_of, key_at, op_of, slot_at};
+use crate::forms::nearest_op;
 use crate::known::Known;
-use crate::near::nearest;
-use script_line_faults::{Fault, What, fault_of, key_at, nearest_op, op_of, slot_at, what_text};
+use crate::near_names::nearest;
+use crate::what_texts::what_text;
 use script_lines::{Kind, Op, Phrase, phrase_at};
 use script_text::Reason;
 use std::marker::Model;

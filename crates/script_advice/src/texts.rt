@@ -2,9 +2,9 @@
 ghost use Rattle.std.specs.Prelude.{◌≡◌, ◌++◌, OnOk, map};
 ghost use Rattle.script_advice.specs.Texts.{advice_text, column, head_text, json_advice, json_place, json_reason, json_text, labelled_form, line_with_caret, plain_text, remark_text, shown_byte, under, with_label};
 
+use crate::forms::add_form;
 use crate::remarks::{Remark, cause_text, severity_text, why_text};
 use lwp_types::NoMemory;
-use script_line_faults::add_form;
 use script_lines::Op;
 use trace_text::{add_number, add_text};
 

@@ -7,3 +7,5 @@ pub mod Frame
 pub mod Page
 pub mod Titles
 pub mod Nesting
+pub mod Words
+pub mod View

@@ -1,4 +1,4 @@
-//! Traces with the pages that `view_words` must make of them.
+//! Traces with the pages that `trace_page` must make of them.
 //!
 //! `data/rows` is a table, a row a line: a name, the file with the trace, the file with what is wanted, the status that is wanted,
 //! and the words. What is wanted is the page, or what is said on standard error. Each row is run over streams in memory, and one
@@ -13,7 +13,7 @@ use std::alloc::Global;
 use std::process::ExitCode;
 use std::{fs, io};
 use stored_rows::{Row, Verdict, compare, io_error, print_verdict, row_of};
-use view_words::{fault_text, status_of, view};
+use trace_page::{fault_text, status_of, view};
 
 // A page has room for so many bytes, of which the sink takes at most so many at once.
 const ROOM: usize = 4_194_304;

@@ -1,7 +1,0 @@
-use Rattle.std.proofs.Common.{◌≡◌, drop}
-use Rattle.script_line_faults.specs.Forms.{first_op}
-use Rattle.script_line_faults.specs.Near.{one_apart}
-use Rattle.script_line_faults.proofs.forms.first_one_apart.Given as goal
-
-abbrev pub invariant-loop-op : goal.invariant-loop-op
-invariant-loop-op l = first_op (λ v. one_apart v l.words) (drop l.op-index l.ops) ≡ first_op (λ v. one_apart v l.words) l.ops

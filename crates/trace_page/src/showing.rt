@@ -1,0 +1,114 @@
+// A trace is read, and its page is written.
+ghost use Rattle.std.specs.Prelude.{◌≡◌, ◌++◌, [], IfOk, OnOk, map, string_bytes};
+ghost use Rattle.trace_page.specs.View.{EndSays, ViewSays, fault_text, line_front, status_of};
+ghost use Rattle.trace_page.specs.Words.{window_of};
+ghost use Rattle.whole_streams.specs.Streams.{sides};
+
+use crate::page::{PageErr, add_page};
+use crate::words::{Window, window_of};
+use lwp_types::{NoMemory, Sink, Source};
+use std::alloc::Global;
+use trace_text::{add_number, add_text};
+use whole_streams::{ReadFailure, read_all, write_all};
+
+/// How the program ends.
+#[derive(Clone, Copy)]
+pub enum ViewEnd {
+    /// The page is written.
+    Shown,
+    /// The words ask for nothing.
+    Usage,
+    ReadFault,
+    WriteFault,
+    /// This line, counted from 1, is no line of a trace.
+    Line(u64),
+    NoMemory,
+}
+
+/// The status of an end.
+pub fn status_of(end: ViewEnd) -> u8
+    ensures { result ≡ status_of end }
+{
+    match end {
+        ViewEnd::Shown => 0,
+        ViewEnd::Usage => 100,
+        ViewEnd::ReadFault => 101,
+        ViewEnd::WriteFault => 102,
+        ViewEnd::Line(_) => 103,
+        ViewEnd::NoMemory => 106,
+    }
+}
+
+#[tactic(auto, unfolding(crate::specs::View::line_front))]
+fn line_front() -> &'static [u8]
+    ensures { result.now ≡ line_front }
+{
+    b"lwpview: trace line "
+}
+
+fn add_fault(out: &mut Vec<u8>, end: ViewEnd) -> Result<(), NoMemory>
+    ensures { OnOk result (out.new.items ≡ out.old.items ++ fault_text end) }
+{
+    match end {
+        ViewEnd::Shown => Ok(()),
+        ViewEnd::Usage => add_text(out, b"lwpview: usage: [FROM TO]\n"),
+        ViewEnd::ReadFault => add_text(out, b"lwpview: read fault\n"),
+        ViewEnd::WriteFault => add_text(out, b"lwpview: write fault\n"),
+        ViewEnd::Line(number) => {
+            add_text(out, line_front())?;
+            add_number(out, number)?;
+            add_text(out, b"\n")
+        }
+        ViewEnd::NoMemory => add_text(out, b"lwpview: no memory\n"),
+    }
+}
+
+/// What is said of an end on standard error; no bytes, where nothing is.
+pub fn fault_text(alloc: Global, end: ViewEnd) -> Result<Vec<u8>, NoMemory>
+    ensures { IfOk result (λ out. out.items ≡ fault_text end) }
+{
+    let mut out = Vec::new(alloc);
+    add_fault(&mut out, end)?;
+    Ok(out)
+}
+
+// The page of so many calls.
+fn show<S: Source, K: Sink>(alloc: Global, window: Window, source: &mut S, sink: &mut K) -> ViewEnd
+    ensures { EndSays window
+        (sides S.left S.faults source.old source.new)
+        (sides K.written K.faults sink.old sink.new) result }
+{
+    let text = match read_all(alloc, source) {
+        Ok(text) => text,
+        Err(ReadFailure::Fault) => return ViewEnd::ReadFault,
+        Err(ReadFailure::NoMemory) => return ViewEnd::NoMemory,
+    };
+    let mut page = Vec::new(alloc);
+    match add_page(alloc, &mut page, window.base, window.last, &text) {
+        Ok(()) => {}
+        Err(PageErr::Line(number)) => return ViewEnd::Line(number),
+        Err(PageErr::NoMemory) => return ViewEnd::NoMemory,
+    }
+    match write_all(sink, &page) {
+        Ok(()) => ViewEnd::Shown,
+        Err(_) => ViewEnd::WriteFault,
+    }
+}
+
+/// Reads a trace and writes its page, by the program's words, which stand behind its name: none, or the numbers of the first call
+/// that is to be drawn and of the last. Other words are no command: nothing is read or written then.
+pub fn view<S: Source, K: Sink>(
+    alloc: Global,
+    words: &Vec<String>,
+    source: &mut S,
+    sink: &mut K,
+) -> ViewEnd
+    ensures { ViewSays (window_of (map string_bytes words.now.items))
+        (sides S.left S.faults source.old source.new)
+        (sides K.written K.faults sink.old sink.new) result }
+{
+    match window_of(words) {
+        Some(window) => show(alloc, window, source, sink),
+        None => ViewEnd::Usage,
+    }
+}
