@@ -177,7 +177,9 @@ impl Sched {
     pub fn resched(&mut self, prio: u32)
         ensures { self.new ≡ after_resched self.old prio }
     {
-        self.turns.resched(prio);
+        if let Some(tid) = self.turns.first_of(prio) {
+            self.turns.requeue(tid);
+        }
     }
 
     /// Raises the greatest priority.

@@ -1,7 +1,7 @@
 // Who is known, and whose turn it is: the scheduler but for its clock.
 ghost use Rattle.std.specs.Prelude.{[], ◌≡◌, ◌+◌, ◌<◌, ◌≤◌, ◌==◌, Some, false, length, true, IsTrue, IsOk, IfOk, IfSome, OnOk, OnErr};
 ghost use Rattle.lwp_types.specs.First.{FindsBest};
-ghost use Rattle.pod_sched.specs.Schedule.{IsOrdered, after_admit, after_block, after_leave, after_resched, after_reserve, after_resume, after_set_priority, after_suspend, after_unblock, after_yield, choice, empty_schedule, first_of, is_blocked_in, is_eligible, is_eligible_in, knows, prio_in, priority_in, thread_of, with_maxpri};
+ghost use Rattle.pod_sched.specs.Schedule.{IsOrdered, after_admit, after_block, after_leave, after_reserve, after_resume, after_set_priority, after_suspend, after_unblock, after_yield, choice, empty_schedule, first_of, is_blocked_in, is_eligible, is_eligible_in, knows, prio_in, priority_in, thread_of, with_maxpri};
 
 use crate::Known;
 use crate::bucket::{self, Bucket};
@@ -237,15 +237,6 @@ impl Turns {
         }
     }
 
-    /// The first of this priority goes last. Where there is none, nothing happens.
-    pub fn resched(&mut self, prio: u32)
-        ensures { self.new ≡ after_resched self.old prio }
-    {
-        if let Some(tid) = self.first_of(prio) {
-            self.requeue(tid);
-        }
-    }
-
     /// Raises the greatest priority.
     pub fn set_maxpri(&mut self, maxpri: u32)
         requires least { self.old.maxpri ≤ maxpri }
@@ -366,8 +357,8 @@ impl Turns {
         row_at(&self.rows, slot)
     }
 
-    // The first of this priority. Whoever stands in the order may run.
-    fn first_of(&self, prio: u32) -> Option<Tid>
+    /// The first of this priority. Whoever stands in the order may run.
+    pub fn first_of(&self, prio: u32) -> Option<Tid>
         ensures value { result ≡ first_of self.now prio }
         ensures runs { IfSome result (λ t. IsTrue (is_eligible_in self.now t)) }
     {
@@ -388,8 +379,8 @@ impl Turns {
         self.order.take(slot);
     }
 
-    // A thread that may run goes last, with the row that it has.
-    fn requeue(&mut self, tid: Tid)
+    /// A thread that may run goes last, with the row that it has.
+    pub fn requeue(&mut self, tid: Tid)
         requires { IsTrue (is_eligible_in self.old tid) }
         ensures { self.new ≡ after_requeue self.old tid }
     {
