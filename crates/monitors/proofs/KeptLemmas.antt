@@ -1,7 +1,7 @@
 -- Each call keeps what `Monitors` keeps of its fields, and has room for the lock that it adds.
-use Rattle.lwp_types.specs.CountLaws.{any_counted, count-failed, count-filter-le, count-map, count-push, count-reverse, count_any, count_found, count_found_by, count_not_found, find_none, length-failed, one, times-without_other}
+use Rattle.lwp_types.specs.CountLaws.{any_counted, count-failed, count-filter-le, count-map, count-push, count_any, count_found, count_not_found, find_none, length-failed, one, times-without_other}
 use Rattle.lwp_types.specs.FirstLaws.{best_passes}
-use Rattle.lwp_types.specs.MonitorRelease.{is_lock, is_owned_by, last_lock, lock_of, locks_on, without_lock}
+use Rattle.lwp_types.specs.MonitorRelease.{is_lock, lock_of, locks_on, without_lock}
 use Rattle.lwp_types.specs.Monitors.{depth_set, with_depth}
 use Rattle.lwp_types.specs.State.{times_in}
 use Rattle.lwp_types.specs.declared.rows.Lock.{Lock}
@@ -10,7 +10,7 @@ use Rattle.monitors.proofs.Room.{length-locks-le, length-locks-lt}
 use Rattle.monitors.specs.Kept.{IsKept}
 use Rattle.monitors.specs.MonitorTable.{MonitorTable, after_destroy, after_give_up, is_free, is_live, next_request, with_grant}
 use Rattle.monitors.specs.declared.requests.EntryRequest.{EntryRequest}
-use Rattle.std.proofs.Common.{List, None, Option, Some, [], ap, arith, eqb, false, inl, inr, is_none, length, refl, reverse, sym, true, ℕ, ◌++◌, ◌+◌, ◌<◌, ◌∙◌, ◌∷◌, ◌≡◌, ◌≤◌}
+use Rattle.std.proofs.Common.{List, None, Option, Some, [], ap, arith, eqb, false, inl, inr, is_none, length, refl, sym, true, ℕ, ◌++◌, ◌+◌, ◌<◌, ◌∙◌, ◌∷◌, ◌≡◌, ◌≤◌}
 use Rattle.std.proofs.lemmas.Bool.{cases_eq, eq-eqb, eqb-true, ne_eqb}
 use Rattle.std.proofs.lemmas.List.{length_push}
 
@@ -30,13 +30,6 @@ module _ (s : MonitorTable) (m : ℕ) where
       by_lock : (o : Option Lock) → lock_of s.locks m ≡ o → is_none o ≡ false → 1 ≤ locks_on s.locks m
       by_lock None e none = absurd (cc)
       by_lock (Some lock) e none = count_found (is_lock m) s.locks lock e
-
-  pub not_free-held : 1 ≤ locks_on s.locks m → is_free s m ≡ false
-  not_free-held some = by_lock (lock_of s.locks m) refl
-    where
-      by_lock : (o : Option Lock) → lock_of s.locks m ≡ o → is_none o ≡ false
-      by_lock None e = absurd (omega (arith, some, count_not_found (is_lock m) s.locks e))
-      by_lock (Some lock) e = refl
 
 module _ {s : MonitorTable} {lock_room : ℕ} (was : IsKept s lock_room) where
   -- the same locks of the same monitors, whoever waits
@@ -86,11 +79,6 @@ module _ {s : MonitorTable} {lock_room : ℕ} (was : IsKept s lock_room) where
   -- after it is freed nobody holds it
   pub is_free-freed : (m : ℕ) → is_free (after_give_up s m) m ≡ true
   is_free-freed m = ap is_none (find_none (is_lock m) (without_lock m s.locks) (count-failed (is_lock m) s.locks))
-
-  -- the monitor of the lock that a thread acquired last is held
-  pub not_free-last : (t : ℕ) (lock : Lock) → last_lock s.locks t ≡ Some lock → is_free s lock.mon ≡ false
-  not_free-last t lock last =
-      not_free-held s lock.mon (omega (arith, count_found_by (is_owned_by t) (is_lock lock.mon) (reverse s.locks) lock last (eq-eqb lock.mon lock.mon refl), count-reverse (is_lock lock.mon) s.locks))
 
   pub IsKept-deepened : (m depth : ℕ) → IsKept (record s { locks = with_depth m depth s.locks }) lock_room
   IsKept-deepened m depth = kept_locks (with_depth m depth s.locks) (λ k. omega (arith, was.held_once k, as_many k)) (λ k. omega (arith, was.held_live k, as_many k))

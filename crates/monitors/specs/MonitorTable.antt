@@ -1,6 +1,6 @@
 -- The monitors of a pod as plain lists, and what each call on them makes of the lists.
 use Rattle.lwp_types.specs.Choice.{best_by}
-use Rattle.lwp_types.specs.MonitorRelease.{is_owned_by, last_lock, lock_of, without_lock}
+use Rattle.lwp_types.specs.MonitorRelease.{is_owned_by, lock_of, without_lock}
 use Rattle.lwp_types.specs.Monitors.{depth_in, with_depth, with_entry}
 use Rattle.lwp_types.specs.State.{member, without}
 use Rattle.lwp_types.specs.declared.rows.Lock.{Lock}
@@ -149,19 +149,6 @@ after_exit s m = if is_outermost s m then after_release s m else record s { lock
 -- who holds the monitor because its owner has left once
 abbrev pub owner_after : MonitorTable → ℕ → Option ℕ
 owner_after s m = if is_outermost s m then next_owner s m else None
-
--- the monitor of this lock is released
-abbrev pub without_hold : MonitorTable → Option Lock → MonitorTable
-without_hold s None = s
-without_hold s (Some lock) = after_release s lock.mon
-
--- the monitor that t acquired last is released
-abbrev pub after_release_last : MonitorTable → ℕ → MonitorTable
-after_release_last s t = without_hold s (last_lock s.locks t)
-
--- that monitor, and who holds it then
-abbrev pub last_release : MonitorTable → ℕ → Option (ℕ × Option ℕ)
-last_release s t = option_map (λ lock. (lock.mon, next_owner s lock.mon)) (last_lock s.locks t)
 
 -- the priority of t is another from now on
 abbrev pub after_requeue : MonitorTable → ℕ → ℕ → MonitorTable

@@ -3,7 +3,7 @@ ghost use Rattle.std.specs.Prelude.{◌≡◌, ◌<◌, ◌≤◌, false, length
 ghost use Rattle.lwp_types.specs.First.{FindsBest};
 ghost use Rattle.lwp_types.specs.Monitors.{depth_in, is_owned_by_other, is_owner};
 ghost use Rattle.lwp_types.specs.MonitorRelease.{last_lock, lock_of, locks_on};
-ghost use Rattle.monitors.specs.MonitorTable.{after_create, after_destroy, after_enter, after_exit, after_forget, after_give_up, after_grant, after_release, after_release_last, after_request, after_requeue, after_reserve, empty_table, has_request, is_free, is_live, is_unwanted, last_release, may_enter, newborn, next_owner, next_request, owner_after, owner_of, requests_of};
+ghost use Rattle.monitors.specs.MonitorTable.{after_create, after_destroy, after_enter, after_exit, after_forget, after_grant, after_release, after_request, after_requeue, after_reserve, empty_table, has_request, is_free, is_live, is_unwanted, may_enter, newborn, next_owner, next_request, owner_after, owner_of, requests_of};
 
 use crate::live::{has, list, take_out};
 use crate::locks::{acquire, depth_of, free, last_lock, lock_of, set_depth};
@@ -204,17 +204,6 @@ impl Monitors {
         self.grant(mon)
     }
 
-    /// The owner leaves the monitor altogether, and nobody enters it yet. The answer is how often it had entered.
-    pub fn give_up(&mut self, mon: Mid, _owner: Tid) -> u32
-        requires { IsTrue (is_owner self.old.locks _owner mon) }
-        ensures value { result ≡ depth_in self.old.locks mon }
-        ensures after { self.new ≡ after_give_up self.old mon }
-    {
-        let before = depth_of(&self.held, mon);
-        free(&mut self.locks, &mut self.held, &mut self.owners, mon);
-        before
-    }
-
     /// Whoever is next enters a free monitor. The answer is that thread, if any waits.
     pub fn grant(&mut self, mon: Mid) -> Option<Tid>
         requires live { IsTrue (is_live self.old mon) }
@@ -255,16 +244,6 @@ impl Monitors {
         ensures { self.new ≡ after_forget self.old tid }
     {
         self.requests.leave(tid);
-    }
-
-    /// Takes from the thread the monitor that it acquired last. The answer is that monitor, and who holds it then.
-    pub fn release_last(&mut self, tid: Tid) -> Option<(Mid, Option<Tid>)>
-        ensures value { result ≡ last_release self.old tid }
-        ensures after { self.new ≡ after_release_last self.old tid }
-    {
-        let lock = last_lock(&self.locks, &self.owners, tid)?;
-        let next = self.break_lock(lock.mon);
-        Some((lock.mon, next))
     }
 
     /// The threads that wait to enter the monitor, in the order of their arrival.

@@ -35,12 +35,11 @@ fn enters(mons: &mut Monitors) -> bool
     let depth = mons.depth(mon);
     let owner = mons.owner(mon);
     mons.forget(B);
-    let before = mons.give_up(mon, C);
     waiting
         && next == Some(C)
-        && (depth, before) == (3, 3)
+        && depth == 3
         && owner == Some(C)
-        && mons.grant(mon).is_none()
+        && mons.break_lock(mon).is_none()
 }
 
 // The last acquired goes first, and a destroyed one isn't live.
@@ -59,12 +58,14 @@ fn releases(mons: &mut Monitors) -> bool
     let next = mons.break_lock(FIRST);
     let listed = holds(mons.list(), &[0, 1]);
     mons.destroy(FIRST);
+    let left = mons.last_held(A);
+    let after = mons.break_lock(SECOND);
     listed
-        && last == Some(FIRST)
+        && (last, left) == (Some(FIRST), Some(SECOND))
         && next.is_none()
+        && after.is_none()
         && !mons.is_live(FIRST)
-        && mons.release_last(A) == Some((SECOND, None))
-        && mons.release_last(A).is_none()
+        && mons.last_held(A).is_none()
 }
 
 fn is_done(alloc: Global) -> bool {
