@@ -53,9 +53,18 @@ impl<'s> Model for Poster<'s> {
 
     ghost Value = { Posting };
 
-    ghost view = { λ s. record { port = port_id s.pass.web s.seat.table_id; client = s.client; posted = s.pass.me.view.client.posted; announced = s.seat.me.0.announced } };
+    ghost view = { λ s. record {
+      port = port_id s.pass.web s.seat.table_id;
+      client = s.client;
+      posted = s.pass.me.view.client.posted;
+      announced = s.seat.me.0.announced;
+    } };
 
-    ghost invariant = { λ s. IsSegPassOf (arc_value s.port).queue s.pass × IsPostersView s.pass.me.view.client s.client s.count × IsAtGauge (arc_value s.port).gauge.shared.table_id s.seat.table_id × (s.seat.me ≡ (at_work s.client s.pass.me.view.client.posted, [])) × (s.pass.me.view.client.gauge.table ≡ s.seat.table_id) };
+    ghost invariant = { λ s. IsSegPassOf (arc_value s.port).queue s.pass
+        × IsPostersView s.pass.me.view.client s.client s.count
+        × IsAtGauge (arc_value s.port).gauge.shared.table_id s.seat.table_id
+        × (s.seat.me ≡ (at_work s.client s.pass.me.view.client.posted, []))
+        × (s.pass.me.view.client.gauge.table ≡ s.seat.table_id) };
 }
 
 impl<'s> Poster<'s> {
@@ -172,7 +181,15 @@ impl<'s> Model for PostPass<'s> {
 
     ghost Value = { Posting };
 
-    ghost view = { λ s. record { port = port_id s.pass.web s.seat.table_id; client = s.client; posted = s.pass.me.view.client.posted; announced = s.seat.me.0.announced } };
+    ghost view = { λ s. record {
+      port = port_id s.pass.web s.seat.table_id;
+      client = s.client;
+      posted = s.pass.me.view.client.posted;
+      announced = s.seat.me.0.announced;
+    } };
 
-    ghost invariant = { λ s. (s.pass.me.hand ≡ None) × (s.pass.me.spare ≡ None) × IsPostersView s.pass.me.view.client s.client s.count × (s.seat.me ≡ (at_work s.client s.pass.me.view.client.posted, [])) };
+    ghost invariant = { λ s. (s.pass.me.hand ≡ None)
+        × (s.pass.me.spare ≡ None)
+        × IsPostersView s.pass.me.view.client s.client s.count
+        × (s.seat.me ≡ (at_work s.client s.pass.me.view.client.posted, [])) };
 }
