@@ -60,6 +60,8 @@ impl<'s> Model for Poster<'s> {
       announced = s.seat.me.0.announced;
     } };
 
+    // The pass is of the port's queue, and its view is this client's poster's, of which the field holds the count. The
+    // seat is of the port's gauge, has announced what the view posted and carries nothing; and the view names this gauge.
     ghost invariant = { λ s. IsSegPassOf (arc_value s.port).queue s.pass
         × IsPostersView s.pass.me.view.client s.client s.count
         × IsAtGauge (arc_value s.port).gauge.shared.table_id s.seat.table_id
@@ -188,6 +190,8 @@ impl<'s> Model for PostPass<'s> {
       announced = s.seat.me.0.announced;
     } };
 
+    // The pass carries nothing, and its view is this client's poster's, of which the field holds the count. The seat has
+    // announced what the view posted, and carries nothing.
     ghost invariant = { λ s. (s.pass.me.hand ≡ None)
         × (s.pass.me.spare ≡ None)
         × IsPostersView s.pass.me.view.client s.client s.count
