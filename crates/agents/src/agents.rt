@@ -45,7 +45,8 @@ impl Model for Agents {
 
     ghost view = { λ a. record { agents = a.rows.items; places = a.places } };
 
-    ghost invariant = { λ a. IsKept (record { agents = a.rows.items; places = a.places }) (vec_capacity a.rows) a.by_event a.by_owner a.board };
+    ghost invariant = { λ a. IsKept (record { agents = a.rows.items; places = a.places })
+        (vec_capacity a.rows) a.by_event a.by_owner a.board };
 }
 
 impl Agents {

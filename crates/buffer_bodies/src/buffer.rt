@@ -39,7 +39,16 @@ impl<'s> Model for Buffer<'s> {
 
     ghost Value = { Buffer };
 
-    ghost view = { λ b. record { crew = b.crew; created = b.created; room = b.room; items = b.items.items; waiting = b.waiting.items; asking = b.asking.items; replies = b.replies.items; left = b.left } };
+    ghost view = { λ b. record {
+      crew = b.crew;
+      created = b.created;
+      room = b.room;
+      items = b.items.items;
+      waiting = b.waiting.items;
+      asking = b.asking.items;
+      replies = b.replies.items;
+      left = b.left;
+    } };
 }
 
 impl<'s> Buffer<'s> {

@@ -45,7 +45,13 @@ impl Model for Conditions {
 
     ghost Value = { ConditionTable };
 
-    ghost view = { λ s. record { conditions = s.rows.items; births = s.births; limit = s.limit; waits = map wait_in s.waits.waiting; places = s.waits.places } };
+    ghost view = { λ s. record {
+      conditions = s.rows.items;
+      births = s.births;
+      limit = s.limit;
+      waits = map wait_in s.waits.waiting;
+      places = s.waits.places;
+    } };
 
     ghost invariant = { λ s. IsKept s.rows.items s.births };
 }

@@ -28,7 +28,9 @@ impl<'s> Model for ListGate<'s> {
 
     ghost view = { λ s. s.rack };
 
-    ghost invariant = { λ s. (length s.rack ≡ 256) × (length s.left.items ≡ 256) × ((c : ℕ) → slice_index s.left.items c ≡ left_of_client c s.rack) };
+    ghost invariant = { λ s. (length s.rack ≡ 256)
+        × (length s.left.items ≡ 256)
+        × ((c : ℕ) → slice_index s.left.items c ≡ left_of_client c s.rack) };
 }
 
 impl<'s> ListGate<'s> {

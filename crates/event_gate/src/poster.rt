@@ -53,9 +53,20 @@ impl<'s> Model for Poster<'s> {
 
     ghost Value = { Posting };
 
-    ghost view = { λ s. record { port = port_id s.pass.web s.seat.table_id; client = s.client; posted = s.pass.me.view.client.posted; announced = s.seat.me.0.announced } };
+    ghost view = { λ s. record {
+      port = port_id s.pass.web s.seat.table_id;
+      client = s.client;
+      posted = s.pass.me.view.client.posted;
+      announced = s.seat.me.0.announced;
+    } };
 
-    ghost invariant = { λ s. IsSegPassOf (arc_value s.port).queue s.pass × IsPostersView s.pass.me.view.client s.client s.count × IsAtGauge (arc_value s.port).gauge.shared.table_id s.seat.table_id × (s.seat.me ≡ (at_work s.client s.pass.me.view.client.posted, [])) × (s.pass.me.view.client.gauge.table ≡ s.seat.table_id) };
+    // The pass is of the port's queue, and its view is this client's poster's, of which the field holds the count. The
+    // seat is of the port's gauge, has announced what the view posted and carries nothing; and the view names this gauge.
+    ghost invariant = { λ s. IsSegPassOf (arc_value s.port).queue s.pass
+        × IsPostersView s.pass.me.view.client s.client s.count
+        × IsAtGauge (arc_value s.port).gauge.shared.table_id s.seat.table_id
+        × (s.seat.me ≡ (at_work s.client s.pass.me.view.client.posted, []))
+        × (s.pass.me.view.client.gauge.table ≡ s.seat.table_id) };
 }
 
 impl<'s> Poster<'s> {
@@ -172,7 +183,17 @@ impl<'s> Model for PostPass<'s> {
 
     ghost Value = { Posting };
 
-    ghost view = { λ s. record { port = port_id s.pass.web s.seat.table_id; client = s.client; posted = s.pass.me.view.client.posted; announced = s.seat.me.0.announced } };
+    ghost view = { λ s. record {
+      port = port_id s.pass.web s.seat.table_id;
+      client = s.client;
+      posted = s.pass.me.view.client.posted;
+      announced = s.seat.me.0.announced;
+    } };
 
-    ghost invariant = { λ s. (s.pass.me.hand ≡ None) × (s.pass.me.spare ≡ None) × IsPostersView s.pass.me.view.client s.client s.count × (s.seat.me ≡ (at_work s.client s.pass.me.view.client.posted, [])) };
+    // The pass carries nothing, and its view is this client's poster's, of which the field holds the count. The seat has
+    // announced what the view posted, and carries nothing.
+    ghost invariant = { λ s. (s.pass.me.hand ≡ None)
+        × (s.pass.me.spare ≡ None)
+        × IsPostersView s.pass.me.view.client s.client s.count
+        × (s.seat.me ≡ (at_work s.client s.pass.me.view.client.posted, [])) };
 }

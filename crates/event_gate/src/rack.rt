@@ -31,7 +31,8 @@ impl<T> Model for Rack<T> {
 
     ghost view = { λ r. r.shelves.items };
 
-    ghost invariant = { λ r. (length r.shelves.items ≡ 256) × ((e : ℕ) → e < 64 → is_marked r.marks e ≡ has_left r.shelves.items e) };
+    ghost invariant = { λ r. (length r.shelves.items ≡ 256)
+        × ((e : ℕ) → e < 64 → is_marked r.marks e ≡ has_left r.shelves.items e) };
 }
 
 impl<T> Rack<T> {

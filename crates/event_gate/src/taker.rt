@@ -60,7 +60,13 @@ impl<'s> Model for Taker<'s> {
 
     ghost view = { λ s. taking (port_id s.pass.web s.seat.table_id) s.event s.pass.me.view.client s.seat.me.0 };
 
-    ghost invariant = { λ s. IsSegPassOf (arc_value s.port).queue s.pass × IsTakersView s.pass.me.view.client s.clients.items s.taken.items s.told.items s.posted.items s.count × IsAtGauge (arc_value s.port).gauge.shared.table_id s.seat.table_id × (s.pass.me.view.client.gauge.table ≡ s.seat.table_id) × IsTakersBook s.pass.me.view.client s.seat.me.0 };
+    // The pass is of the port's queue, and its view is a taker's, of which the fields hold the counts. The seat is of the
+    // port's gauge, which is the one that the view names, and its book has the lines that the view took.
+    ghost invariant = { λ s. IsSegPassOf (arc_value s.port).queue s.pass
+        × IsTakersView s.pass.me.view.client s.clients.items s.taken.items s.told.items s.posted.items s.count
+        × IsAtGauge (arc_value s.port).gauge.shared.table_id s.seat.table_id
+        × (s.pass.me.view.client.gauge.table ≡ s.seat.table_id)
+        × IsTakersBook s.pass.me.view.client s.seat.me.0 };
 }
 
 impl<'s> Taker<'s> {

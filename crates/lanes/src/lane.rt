@@ -44,9 +44,16 @@ impl<'s> Model for LanePoster<'s> {
 
     ghost Value = { LanePosting };
 
-    ghost view = { λ s. record { lane = s.seat.table_id; client = s.client; posted = s.seat.me.0.posted; lines = s.seat.table_id.slots } };
+    ghost view = { λ s. record {
+      lane = s.seat.table_id;
+      client = s.client;
+      posted = s.seat.me.0.posted;
+      lines = s.seat.table_id.slots;
+    } };
 
-    ghost invariant = { λ s. IsAtLane (arc_value s.table).shared.table_id s.seat.table_id × (s.seat.me.1 ≡ []) × IsLanePoster s.seat.me.0 s.client s.count };
+    ghost invariant = { λ s. IsAtLane (arc_value s.table).shared.table_id s.seat.table_id
+        × (s.seat.me.1 ≡ [])
+        × IsLanePoster s.seat.me.0 s.client s.count };
 }
 
 impl<'s> LanePoster<'s> {
@@ -123,7 +130,12 @@ impl<'s> Model for LanePass<'s> {
 
     ghost Value = { LanePosting };
 
-    ghost view = { λ s. record { lane = s.seat.table_id; client = s.client; posted = s.seat.me.0.posted; lines = s.seat.table_id.slots } };
+    ghost view = { λ s. record {
+      lane = s.seat.table_id;
+      client = s.client;
+      posted = s.seat.me.0.posted;
+      lines = s.seat.table_id.slots;
+    } };
 
     ghost invariant = { λ s. (s.seat.me.1 ≡ []) × IsLanePoster s.seat.me.0 s.client s.count };
 }
@@ -162,7 +174,8 @@ impl<'s> Model for LaneTaker<'s> {
 
     ghost view = { λ s. lane_taking s.seat.table_id s.event s.seat.me.0 };
 
-    ghost invariant = { λ s. IsAtLane (arc_value s.table).shared.table_id s.seat.table_id × IsLaneTaker s.seat.me.0 s.client s.count s.told s.posted };
+    ghost invariant = { λ s. IsAtLane (arc_value s.table).shared.table_id s.seat.table_id
+        × IsLaneTaker s.seat.me.0 s.client s.count s.told s.posted };
 }
 
 impl<'s> LaneTaker<'s> {

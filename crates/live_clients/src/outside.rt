@@ -28,7 +28,8 @@ pub(crate) struct Posts<'s, G> {
 impl<'s, G: PostGate + Send> Job for Posts<'s, G> {
     type End = AnyEnd<'s>;
 
-    ghost ready = { λ j. IsReady (posting_of j.poster).place (posting_of j.poster).client j.texts.now.items (posting_of j.poster) };
+    ghost ready = { λ j. IsReady (posting_of j.poster).place (posting_of j.poster).client j.texts.now.items
+        (posting_of j.poster) };
 
     ghost ends = { λ j e. IsEnd (posting_of j.poster).place (posting_of j.poster).client j.texts.now.items e };
 
@@ -51,7 +52,8 @@ pub(crate) struct Owes<'s> {
 }
 
 impl<'s> Promise<AnyEnd<'s>> for Owes<'s> {
-    ghost kept_by = { λ p e. IsEnd (posting_of p.poster.value).place (posting_of p.poster.value).client p.texts.value.items e };
+    ghost kept_by = { λ p e. IsEnd (posting_of p.poster.value).place (posting_of p.poster.value).client
+        p.texts.value.items e };
 }
 
 /// What a client's thread does there, or did here, where none could be started.

@@ -75,7 +75,10 @@ impl<'s> Model for Pod<'s> {
 
     ghost view = { λ p. state_of p.parts };
 
-    ghost invariant = { λ p. Lawful (state_of p.parts) None × InStep p.parts × (p.parts.dying ≡ None) × (p.next ≡ choice p.parts.sched) };
+    ghost invariant = { λ p. Lawful (state_of p.parts) None
+        × InStep p.parts
+        × (p.parts.dying ≡ None)
+        × (p.next ≡ choice p.parts.sched) };
 }
 
 // What a thread has that begins.

@@ -19,7 +19,8 @@ pub trait Polled<'s>: Body {
     fn poll(&mut self, env: &mut Env, got: &Answer<'s>, call: &mut Call<'s>) -> Result<(), NoMemory>
         ensures { OnOk result (Self.next self.old env.old got.now ≡ (call.new, self.new, env.new)) };
 
-    ghost keeps_lengths: { (body : Self) (names : Names) (got : Answer) → KeepsLengths names (Self.next body names got).2 };
+    ghost keeps_lengths: { (body : Self) (names : Names) (got : Answer)
+        → KeepsLengths names (Self.next body names got).2 };
 }
 
 /// The procedures that threads are created with: their names, and the bodies that they begin as.

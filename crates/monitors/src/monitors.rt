@@ -55,9 +55,23 @@ impl Model for Monitors {
 
     ghost Value = { MonitorTable };
 
-    ghost view = { λ s. record { monitors = s.live.items; births = s.births; limit = s.limit; locks = s.locks.items; requests = map request_of s.requests.waiting; places = s.requests.places } };
+    ghost view = { λ s. record {
+      monitors = s.live.items;
+      births = s.births;
+      limit = s.limit;
+      locks = s.locks.items;
+      requests = map request_of s.requests.waiting;
+      places = s.requests.places;
+    } };
 
-    ghost invariant = { λ s. IsSound (record { monitors = s.live.items; births = s.births; limit = s.limit; locks = s.locks.items; requests = map request_of s.requests.waiting; places = s.requests.places }) s.held.items s.owners.items (vec_capacity s.locks) (vec_capacity s.held) };
+    ghost invariant = { λ s. IsSound (record {
+      monitors = s.live.items;
+      births = s.births;
+      limit = s.limit;
+      locks = s.locks.items;
+      requests = map request_of s.requests.waiting;
+      places = s.requests.places;
+    }) s.held.items s.owners.items (vec_capacity s.locks) (vec_capacity s.held) };
 }
 
 impl Monitors {

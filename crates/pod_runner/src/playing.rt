@@ -64,9 +64,23 @@ impl<'s, B: Body, P: Program<B>> Model for Run<'s, B, P> {
 
     ghost Value = { Played P };
 
-    ghost view = { λ r. record { program = r.program; params = r.params; names = null_names r.threads r.mons r.conds; turns = r.turns; calls = r.calls; takes = r.takes; failed = r.failed } };
+    ghost view = { λ r. record {
+      program = r.program;
+      params = r.params;
+      names = null_names r.threads r.mons r.conds;
+      turns = r.turns;
+      calls = r.calls;
+      takes = r.takes;
+      failed = r.failed;
+    } };
 
-    ghost invariant = { λ r. Keeps (record { next = B.next; bodies = P.bodies r.program; params = r.params; names = null_names r.threads r.mons r.conds }) (P.proc_names r.program) r.procs (live_of r.parts) (told_of r.parts) r.takes r.calls r.turns r.failed };
+    ghost invariant = { λ r. Keeps (record {
+      next = B.next;
+      bodies = P.bodies r.program;
+      params = r.params;
+      names = null_names r.threads r.mons r.conds;
+    }) (P.proc_names r.program) r.procs (live_of r.parts) (told_of r.parts)
+        r.takes r.calls r.turns r.failed };
 }
 
 // The names of a program's procedures, by number.

@@ -53,7 +53,8 @@ impl Model for Turns {
 
     ghost view = { λ s. schedule_of s.slots s.order s.rows.items s.maxpri s.places };
 
-    ghost invariant = { λ s. IsHeld s.slots s.order s.rows.items (slot_in s.index.entries) (length s.index.entries) s.index.room s.maxpri s.places };
+    ghost invariant = { λ s. IsHeld s.slots s.order s.rows.items
+        (slot_in s.index.entries) (length s.index.entries) s.index.room s.maxpri s.places };
 }
 
 impl Turns {

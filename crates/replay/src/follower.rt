@@ -30,9 +30,18 @@ impl<'b> Model for Follower<'b> {
 
     ghost Value = { Following };
 
-    ghost view = { λ f. record { recorded = f.recorded.now; at = f.at; lines = line_count (take f.at f.recorded.now); ticks = f.ticks; step = take f.ahead (drop f.at f.recorded.now) ++ f.unlike.items; faults = f.faults } };
+    ghost view = { λ f. record {
+      recorded = f.recorded.now;
+      at = f.at;
+      lines = line_count (take f.at f.recorded.now);
+      ticks = f.ticks;
+      step = take f.ahead (drop f.at f.recorded.now) ++ f.unlike.items;
+      faults = f.faults;
+    } };
 
-    ghost invariant = { λ f. (f.at + f.ahead ≤ length f.recorded.now) × (f.ticks ≤ 4294967295) × IsUnlike (drop f.ahead (drop f.at f.recorded.now)) f.unlike.items };
+    ghost invariant = { λ f. (f.at + f.ahead ≤ length f.recorded.now)
+        × (f.ticks ≤ 4294967295)
+        × IsUnlike (drop f.ahead (drop f.at f.recorded.now)) f.unlike.items };
 }
 
 impl<'b> Follower<'b> {

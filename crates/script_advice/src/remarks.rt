@@ -78,7 +78,14 @@ impl<'t> Model for Remark<'t> {
 
     ghost Value = { AnyRemark };
 
-    ghost view = { λ r. record { line = r.line; cause = r.cause; text = r.text.now; place = r.place; form = r.form; near = r.near.now } };
+    ghost view = { λ r. record {
+      line = r.line;
+      cause = r.cause;
+      text = r.text.now;
+      place = r.place;
+      form = r.form;
+      near = r.near.now;
+    } };
 }
 
 // By hand, so that whoever drops a remark calls this.

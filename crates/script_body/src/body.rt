@@ -47,7 +47,13 @@ impl<'s> Model for ScriptBody<'s> {
 
     ghost Value = { ScriptBody };
 
-    ghost view = { λ b. record { script = b.script.now; top = b.top; below = b.below.items; sender = b.sender; last = option_map (λ s. s.now) b.last } };
+    ghost view = { λ b. record {
+      script = b.script.now;
+      top = b.top;
+      below = b.below.items;
+      sender = b.sender;
+      last = option_map (λ s. s.now) b.last;
+    } };
 
     ghost invariant = { λ b. length (proc_places b.script.now) < 2 ^ 32 };
 }

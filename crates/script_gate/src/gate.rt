@@ -45,7 +45,9 @@ impl<'s> Model for ScriptGate<'s> {
 
     ghost view = { λ s. shelves_by (lines_posted s.script.now) s.places };
 
-    ghost invariant = { λ s. (length s.places ≡ 256) × (length s.left.items ≡ 256) × ((c : ℕ) → slice_index s.left.items c ≡ left_of_client c (shelves_by (lines_posted s.script.now) s.places)) };
+    ghost invariant = { λ s. (length s.places ≡ 256)
+        × (length s.left.items ≡ 256)
+        × ((c : ℕ) → slice_index s.left.items c ≡ left_of_client c (shelves_by (lines_posted s.script.now) s.places)) };
 }
 
 // The line of the post at this place.

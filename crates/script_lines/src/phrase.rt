@@ -62,7 +62,24 @@ impl<'l> Model for Phrase<'l> {
 
     ghost Value = { AnyPhrase };
 
-    ghost view = { λ p. record { op = p.op; who = p.who; thread = p.thread.now; procedure = p.procedure.now; monitor = p.monitor.now; condition = p.condition.now; number = p.number; room = p.room; client = p.client; event = p.event; flags = p.flags; mode = p.mode; pattern = p.pattern; func = p.func; test = p.test; text = p.text.now } };
+    ghost view = { λ p. record {
+      op = p.op;
+      who = p.who;
+      thread = p.thread.now;
+      procedure = p.procedure.now;
+      monitor = p.monitor.now;
+      condition = p.condition.now;
+      number = p.number;
+      room = p.room;
+      client = p.client;
+      event = p.event;
+      flags = p.flags;
+      mode = p.mode;
+      pattern = p.pattern;
+      func = p.func;
+      test = p.test;
+      text = p.text.now;
+    } };
 
     ghost invariant = { λ p. IsTrue (is_text p.text.now) };
 }

@@ -54,7 +54,8 @@ pub fn said_at(line: &[u8]) -> Option<&[u8]>
 #[inline(always)]
 pub fn posted_at(line: &[u8]) -> Option<(u8, &[u8])>
     ensures said { IfSome result (λ x. phrase_at line.now ≡ Some (posting x.0 x.1.now)) }
-    ensures every { (client : ℕ) (text : List ℕ) → phrase_at line.now ≡ Some (posting client text) → result ≡ None → text ≡ [] }
+    ensures every { (client : ℕ) (text : List ℕ) → phrase_at line.now ≡ Some (posting client text) → result ≡ None →
+        text ≡ [] }
     ensures is_text { IfSome result (λ x. IsTrue (is_text x.1.now)) }
 {
     let words = behind_post(line);

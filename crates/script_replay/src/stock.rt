@@ -28,7 +28,10 @@ impl<'s> Model for ScriptLines<'s> {
 
     ghost Value = { Stock };
 
-    ghost view = { λ s. record { posts = lines_posted s.script.now; lines = record { clients = s.script.now.clients; left = left_by (lines_posted s.script.now) s.places.items } } };
+    ghost view = { λ s. record {
+      posts = lines_posted s.script.now;
+      lines = record { clients = s.script.now.clients; left = left_by (lines_posted s.script.now) s.places.items };
+    } };
 
     ghost invariant = { λ s. length s.places.items ≡ length s.script.now.clients };
 }

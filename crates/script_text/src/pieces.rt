@@ -43,7 +43,11 @@ impl Model for ScriptReader {
 
     ghost Value = { Standing };
 
-    ghost view = { λ r. standing r.failed r.is_large (record { total = r.total; lines = r.lines.reader; tail = r.lines.tail.items }) };
+    ghost view = { λ r. standing r.failed r.is_large (record {
+      total = r.total;
+      lines = r.lines.reader;
+      tail = r.lines.tail.items;
+    }) };
 }
 
 impl ScriptReader {

@@ -41,9 +41,15 @@ impl<T> Model for Registry<T> {
 
     ghost Value = { Register T };
 
-    ghost view = { λ r. record { live = pairs r.values.slots r.index.items; births = r.births; limit = r.limit; places = r.places } };
+    ghost view = { λ r. record {
+      live = pairs r.values.slots r.index.items;
+      births = r.births;
+      limit = r.limit;
+      places = r.places;
+    } };
 
-    ghost invariant = { λ r. IsSound r.values.slots r.values.capacity r.index.items (vec_capacity r.index) r.births r.limit r.places };
+    ghost invariant = { λ r. IsSound r.values.slots r.values.capacity
+        r.index.items (vec_capacity r.index) r.births r.limit r.places };
 }
 
 impl<T> Registry<T> {

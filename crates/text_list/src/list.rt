@@ -30,7 +30,8 @@ impl Model for TextList {
 
     ghost view = { λ t. texts_in t.bytes.items t.spans.items };
 
-    ghost invariant = { λ t. AreWithin (length t.bytes.items) t.spans.items × AllByRecursion (λ x. IsTrue (is_text x)) (texts_in t.bytes.items t.spans.items) };
+    ghost invariant = { λ t. AreWithin (length t.bytes.items) t.spans.items
+        × AllByRecursion (λ x. IsTrue (is_text x)) (texts_in t.bytes.items t.spans.items) };
 }
 
 fn text_in(bytes: &[u8], span: Span) -> &[u8]

@@ -251,5 +251,20 @@ impl<'t> Model for Scene<'t> {
 
     ghost Value = { Seen };
 
-    ghost view = { λ s. record { base = s.base; last = s.last; more = s.more; time = s.time; caller = s.caller; events = s.events; agent = s.agent; closings = s.closings; words = s.words; lanes = s.lanes.items; spans = s.spans.items; settings = s.settings.items; names = s.names.items; shapes = s.shapes.items } };
+    ghost view = { λ s. record {
+      base = s.base;
+      last = s.last;
+      more = s.more;
+      time = s.time;
+      caller = s.caller;
+      events = s.events;
+      agent = s.agent;
+      closings = s.closings;
+      words = s.words;
+      lanes = s.lanes.items;
+      spans = s.spans.items;
+      settings = s.settings.items;
+      names = s.names.items;
+      shapes = s.shapes.items;
+    } };
 }

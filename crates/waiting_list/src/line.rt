@@ -54,7 +54,8 @@ impl Model for WaitingList {
 
     ghost view = { λ s. record { waiting = map waiting_of s.entries.items; places = s.places } };
 
-    ghost invariant = { λ s. IsKept s.entries.items s.ranks.items s.arrived.items s.index (deque_capacity s.entries) (deque_capacity s.ranks) (deque_capacity s.arrived) s.places };
+    ghost invariant = { λ s. IsKept s.entries.items s.ranks.items s.arrived.items s.index
+        (deque_capacity s.entries) (deque_capacity s.ranks) (deque_capacity s.arrived) s.places };
 }
 
 impl WaitingList {

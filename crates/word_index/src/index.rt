@@ -40,7 +40,11 @@ impl Model for WordIndex {
 
     ghost Value = { Numbered };
 
-    ghost view = { λ i. record { short = i.short.entries; wide = i.wide.entries; long = entries_by_key i.long.entries } };
+    ghost view = { λ i. record {
+      short = i.short.entries;
+      wide = i.wide.entries;
+      long = entries_by_key i.long.entries;
+    } };
 }
 
 impl WordIndex {

@@ -58,13 +58,15 @@ pub fn stack()
     ensures last_mark_by_onexit { Answers (with_marks 255) (call.OnExit (exit.MonExit 0)) (value 0) }
     ensures no_mark_by_call { Refuses (with_marks 256) (call.CallProc 0) error.NoRoom }
     ensures no_mark_by_handle { Refuses (with_marks 256) (call.Handle pattern.All func.Give 1) error.NoRoom }
-    ensures no_pattern_before_no_room { Refuses (with_marks 256) (call.Handle (pattern.Num 0) func.Give 1) error.InvalidArg }
+    ensures no_pattern_before_no_room { Refuses (with_marks 256) (call.Handle (pattern.Num 0) func.Give 1)
+        error.InvalidArg }
     ensures no_mark_by_onexit { Refuses (with_marks 256) (call.OnExit (exit.MonExit 0)) error.NoRoom }
 {}
 
 /// 4,294,967,295 exit procedures are registered in a pod, and patterns are given up to 2,147,483,647.
 pub fn given()
-    ensures last_registration { Answers (with_registrations 4294967294) (call.OnExit (exit.SetExit 1)) (value 4294967294) }
+    ensures last_registration { Answers (with_registrations 4294967294) (call.OnExit (exit.SetExit 1))
+        (value 4294967294) }
     ensures no_registration { Refuses (with_registrations 4294967295) (call.OnExit (exit.SetExit 1)) error.NoRoom }
     ensures last_pattern { Answers (with_patterns 2147483647) call.UniqPatt (value 2147483647) }
     ensures no_pattern { Refuses (with_patterns 2147483648) call.UniqPatt error.NoRoom }

@@ -17,11 +17,14 @@ ghost use Rattle.worked_rows.specs.NextCalls.{Calls, Stops, frame, hundred, lett
 pub fn scripted_threads()
     ensures caught_below_all { Stops script_next (scripted (stmt.Raise 1) (frame (1 ∷ [])) []) (answer.Caught 0 0 1) }
     ensures caught_above_all { Stops script_next (scripted (stmt.Raise 1) (frame (1 ∷ [])) []) (answer.Caught 2 0 1) }
-    ensures caught_without_a_place { Stops script_next (scripted (stmt.Raise 1) (frame (1 ∷ [])) (frame (1 ∷ 2 ∷ []) ∷ [])) (answer.Caught 2 1 1) }
+    ensures caught_without_a_place { Stops script_next
+        (scripted (stmt.Raise 1) (frame (1 ∷ [])) (frame (1 ∷ 2 ∷ []) ∷ [])) (answer.Caught 2 1 1) }
     ensures caught_where_there_is_none { Stops script_next (scripted (stmt.Raise 1) (frame []) []) (answer.Caught 1 0 1) }
-    ensures removed_without_a_place { Stops script_next (scripted stmt.Unhandle (frame []) (frame (1 ∷ []) ∷ [])) (value 0) }
+    ensures removed_without_a_place { Stops script_next (scripted stmt.Unhandle (frame []) (frame (1 ∷ []) ∷ []))
+        (value 0) }
     ensures returned_from_the_last { Stops script_next (scripted stmt.Return (frame (1 ∷ [])) []) (value 0) }
-    ensures return_refused { Stops script_next (scripted stmt.Return (frame (1 ∷ [])) []) (answer.Refused error.NonExist) }
+    ensures return_refused { Stops script_next (scripted stmt.Return (frame (1 ∷ [])) [])
+        (answer.Refused error.NonExist) }
 {}
 
 /// Answers of another kind than the session's last call gives, and any answer to its return.
@@ -41,8 +44,10 @@ pub fn sessions_go_on()
     ensures start { Calls session_next (session serving.Start) (value 0) (call.Agent 3) }
     ensures no_agent { Calls session_next (session serving.Agent) (answer.Refused error.NoRoom) call.Return }
     ensures no_letter_ever { Calls session_next (session serving.Recv) (answer.Refused error.NonExist) call.Return }
-    ensures down { Calls session_next (session serving.Send) (answer.Refused error.InvalidArg) (call.Reply 2 (codes "down")) }
-    ensures a_refused_reply { Calls session_next (session serving.Reply) (answer.Refused error.NonExist) (call.Recv (Some 2) mode.Block) }
+    ensures down { Calls session_next (session serving.Send) (answer.Refused error.InvalidArg)
+        (call.Reply 2 (codes "down")) }
+    ensures a_refused_reply { Calls session_next (session serving.Reply) (answer.Refused error.NonExist)
+        (call.Recv (Some 2) mode.Block) }
     ensures a_refused_bye { Calls session_next (session serving.Bye) (answer.Refused error.NoWait) call.Return }
 {}
 
@@ -50,10 +55,14 @@ pub fn sessions_go_on()
 pub fn stores_go_on()
     ensures start { Calls store_next (store storing.Start) (value 0) (call.Recv None mode.Block) }
     ensures a_letter { Calls store_next (store storing.Recv) (letter (codes "get k")) (call.Reply 1 (codes "none")) }
-    ensures a_refused_receive { Calls store_next (store storing.Recv) (answer.Refused error.NonExist) (call.Recv None mode.Block) }
-    ensures a_reply_that_is_too_long { Calls store_next (store storing.Reply) (answer.Refused error.InvalidArg) (call.Reply 1 []) }
-    ensures a_refused_reply { Calls store_next (store storing.Reply) (answer.Refused error.NonExist) (call.Recv None mode.Block) }
-    ensures a_refused_empty_reply { Calls store_next (store storing.Empty) (answer.Refused error.NonExist) (call.Recv None mode.Block) }
+    ensures a_refused_receive { Calls store_next (store storing.Recv) (answer.Refused error.NonExist)
+        (call.Recv None mode.Block) }
+    ensures a_reply_that_is_too_long { Calls store_next (store storing.Reply) (answer.Refused error.InvalidArg)
+        (call.Reply 1 []) }
+    ensures a_refused_reply { Calls store_next (store storing.Reply) (answer.Refused error.NonExist)
+        (call.Recv None mode.Block) }
+    ensures a_refused_empty_reply { Calls store_next (store storing.Empty) (answer.Refused error.NonExist)
+        (call.Recv None mode.Block) }
     ensures no_letter { Stops store_next (store storing.Recv) (value 0) }
     ensures a_letter_to_a_reply { Stops store_next (store storing.Reply) (letter (codes "x")) }
     ensures a_letter_to_an_empty_reply { Stops store_next (store storing.Empty) (answer.Reply (codes "x")) }

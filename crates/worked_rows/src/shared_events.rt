@@ -21,7 +21,9 @@ pub fn letters()
 
 /// An owner that waits for anybody goes on with the first letter; the others stay in its mailbox.
 pub fn waiting_for_anybody()
-    ensures effects { (deliver (waiting_with_agents 3) 7 (codes "x")).effects ≡ effect.Delivered 1 7 ∷ effect.Answered 0 (answer.Letter 1 (codes "x") 240) ∷ effect.Delivered 2 7 ∷ effect.Delivered 3 7 ∷ [] }
+    ensures effects { (deliver (waiting_with_agents 3) 7 (codes "x")).effects
+        ≡ effect.Delivered 1 7 ∷ effect.Answered 0 (answer.Letter 1 (codes "x") 240) ∷ effect.Delivered 2 7
+        ∷ effect.Delivered 3 7 ∷ [] }
     ensures mailbox { senders_to (deliver (waiting_with_agents 3) 7 (codes "x")).after.letters 0 ≡ 1 ∷ 2 ∷ 3 ∷ [] }
     ensures unarmed { is_event_armed (deliver (waiting_with_agents 3) 7 (codes "x")).after 7 ≡ false }
     ensures armed_before { is_event_armed (waiting_with_agents 3) 7 ≡ true }

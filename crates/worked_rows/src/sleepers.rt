@@ -57,11 +57,14 @@ pub fn last_tick()
     ensures goes_on { is_event_armed (at_time 4294967294) 0 ≡ true }
     ensures is_told { (deliver (at_time 4294967294) 0 (codes "x")).effects ≡ effect.Ticked 4294967295 ∷ [] }
     ensures changes_nothing_else { (deliver (at_time 4294967294) 0 (codes "x")).after ≡ at_time 4294967295 }
-    ensures wakes { (deliver (asleep_until 4294967295 4294967294) 0 (codes "x")).effects ≡ effect.Ticked 4294967295 ∷ effect.Answered 0 zero_answer ∷ [] }
+    ensures wakes { (deliver (asleep_until 4294967295 4294967294) 0 (codes "x")).effects
+        ≡ effect.Ticked 4294967295 ∷ effect.Answered 0 zero_answer ∷ [] }
     ensures wakes_to_run { (deliver (asleep_until 4294967295 4294967294) 0 (codes "x")).after ≡ at_time 4294967295 }
-    ensures wakes_nobody_early { (deliver (asleep_until 4294967296 4294967294) 0 (codes "x")).after ≡ asleep_until 4294967296 4294967295 }
+    ensures wakes_nobody_early { (deliver (asleep_until 4294967296 4294967294) 0 (codes "x")).after
+        ≡ asleep_until 4294967296 4294967295 }
     ensures no_more { is_event_armed (at_time 4294967295) 0 ≡ false }
     ensures sleeps_for_ever { (step (at_time 4294967295) (call.Sleep 1)).after ≡ asleep_until 4294967296 4294967295 }
-    ensures sleeps_the_longest { (step (at_time 4294967295) (call.Sleep 4294967295)).after ≡ asleep_until 8589934590 4294967295 }
+    ensures sleeps_the_longest { (step (at_time 4294967295) (call.Sleep 4294967295)).after
+        ≡ asleep_until 8589934590 4294967295 }
     ensures none_once_ended { is_event_armed (record alone { ended = true }) 0 ≡ false }
 {}
