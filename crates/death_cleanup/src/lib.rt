@@ -31,7 +31,7 @@ mod parts;
 mod rows;
 mod waiters;
 
-pub use condition_wakes::{ask_again, broadcast, cond_send, is_last, notify};
+pub use condition_wakes::{broadcast, cond_send, is_last, notify};
 pub use death::die;
 pub use exits::{exit_call, reply, resume, set_exit};
 pub use frames::leave_frames;

@@ -74,7 +74,6 @@ impl<'b> Follower<'b> {
         ensures same { result ≡ self.now.ticks }
         ensures small { result ≤ 4294967295 }
     {
-        let _ = self.recorded;
         self.ticks
     }
 

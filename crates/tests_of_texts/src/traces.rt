@@ -19,7 +19,7 @@ fn add_words(out: &mut Vec<u8>) -> Result<(), NoMemory> {
     add_text(out, b"\n")
 }
 
-// What a refusal, a death and a later delivery are written as.
+// What a refusal, a death, a later delivery and the end of a pod are written as.
 fn add_step(
     out: &mut Vec<u8>,
     lines: &mut StepLines,
@@ -38,6 +38,7 @@ fn add_step(
         agent: Tid { number: 3 },
         event: 5,
     });
+    effects.push(Effect::Ended { status: 3 });
     lines.set_step(effects, None, names)?;
     add_text(out, lines.bytes())
 }
@@ -50,10 +51,6 @@ fn add_lines(out: &mut Vec<u8>, alloc: Global) -> Result<(), NoMemory> {
         &mut StepLines::new(alloc),
         &mut Effects::new(alloc)?,
         &names,
-    )?;
-    add_text(
-        out,
-        &trace_line(alloc, &Effect::Ended { status: 3 }, None, &names)?,
     )?;
     add_text(out, &end_lines(alloc, &Halt::Stuck, 9, &[0, 2])?)
 }

@@ -16,7 +16,7 @@ use text_list::TextList;
 
 // A word and a thread.
 #[inline(always)]
-pub(crate) fn put_word_who(
+fn put_word_who(
     row: &mut [u8],
     at: usize,
     word: &[u8],

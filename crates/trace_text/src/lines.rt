@@ -7,7 +7,6 @@ use crate::calls::{put_call, put_exit, put_word_id, put_word_number};
 use crate::room::make_room;
 use crate::rows::{put_byte, put_id, put_number, put_spaced, put_word};
 use lwp_types::{Answer, Call, Effect, Effects, ExitCall, Line, NoMemory, Tid};
-use std::alloc::Global;
 use text_list::TextList;
 
 // Who posted a line, and as which of its own, and the line's text.
@@ -237,21 +236,4 @@ pub(crate) fn add_call_line(
     let bytes = row.as_mut_slice();
     let end = put_called(bytes, at, names, tid, call);
     Ok(put_byte(bytes, end, b'\n'))
-}
-
-/// The line of an effect, with its newline. `took` is the line that was taken, where the effect is a tick or the first delivery
-/// of its step, and `names` are the procedures' names by number.
-pub fn trace_line(
-    alloc: Global,
-    e: &Effect,
-    took: Option<&Line>,
-    names: &TextList,
-) -> Result<Vec<u8>, NoMemory>
-    ensures { IfOk result
-        (λ out. out.items ≡ ended_line (line_text names.now (option_copied took.entry) e.now)) }
-{
-    let mut out = Vec::new(alloc);
-    let end = add_line(&mut out, 0, e, took, names)?;
-    out.truncate(end);
-    Ok(out)
 }

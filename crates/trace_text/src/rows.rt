@@ -53,7 +53,7 @@ fn put_ends(row: &mut [u8], at: usize, text: &[u8], half: usize) -> usize
 
 // A text, which mostly is short.
 #[inline(always)]
-pub(crate) fn put_text(row: &mut [u8], at: usize, text: &[u8]) -> usize
+fn put_text(row: &mut [u8], at: usize, text: &[u8]) -> usize
     requires { at + length text.now ≤ length row.old }
     ensures len { length row.new ≡ length row.old }
     ensures end { result ≡ at + length text.now }

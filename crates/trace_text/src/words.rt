@@ -56,7 +56,7 @@ const ROOM: usize = 96;
 // Opens room for the short words of a line, and answers where it begins. They are put there one by one, which can't fail, and
 // `truncate` takes away the rest.
 #[inline(always)]
-pub(crate) fn open(out: &mut Vec<u8>) -> Result<usize, NoMemory>
+fn open(out: &mut Vec<u8>) -> Result<usize, NoMemory>
     ensures from { IfOk result (λ from. take from out.new.items ≡ out.old.items) }
     ensures room { IfOk result (λ from. from + 96 ≤ length out.new.items) }
 {
