@@ -14,4 +14,5 @@ pub mod Moving
 pub mod Armed
 pub mod Lives
 pub mod Looks
+pub mod Serving
 pub mod Nexts
