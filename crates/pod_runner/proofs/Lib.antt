@@ -9,6 +9,7 @@ pub mod Eagers
 pub mod Kept
 pub mod Ends
 pub mod Rounds
+pub mod Halts
 pub mod Lawfuls
 pub mod Moving
 pub mod Armed
