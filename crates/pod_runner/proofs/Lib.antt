@@ -1,3 +1,4 @@
+pub mod Results
 pub mod Rising
 pub mod RowLemmas
 pub mod TakeLemmas
