@@ -1,3 +1,4 @@
+pub mod Results
 pub mod Rising
 pub mod RowLemmas
 pub mod TakeLemmas
@@ -9,9 +10,11 @@ pub mod Eagers
 pub mod Kept
 pub mod Ends
 pub mod Rounds
+pub mod Halts
 pub mod Lawfuls
 pub mod Moving
 pub mod Armed
 pub mod Lives
 pub mod Looks
+pub mod Serving
 pub mod Nexts

@@ -6,7 +6,8 @@ ghost use Rattle.pod_runner.specs.Does.{Does};
 ghost use Rattle.pod_runner.specs.Due.{IsDefined};
 ghost use Rattle.pod_runner.specs.Eager.{IsFirstPart, after_finish, after_offer, boundary, plan_over, plan_whole, round};
 ghost use Rattle.pod_runner.specs.Over.{can_take};
-ghost use Rattle.pod_runner.specs.Run.{setting_of, session_of, plan_now, planned_of, EndsAt, IsNew};
+ghost use Rattle.pod_runner.specs.Run.{setting_of, session_of, phase_now, plan_now, planned_of, EndsAt, IsNew};
+ghost use Rattle.pod_runner.specs.declared.phase.Phase.TheVariants as phase;
 ghost use Rattle.whole_streams.specs.Streams.{sides};
 
 use crate::playing::Run;
@@ -105,6 +106,53 @@ fn serve_all<'s, B: Polled<'s>, P: Program<B>, G: Gate<'s>, K: Sink>(
     }
 }
 
+// A round where somebody may run: lines are taken, and then a call is made.
+#[inline(always)]
+fn turn_round<'s, B: Polled<'s>, P: Program<B>, G: Gate<'s>, K: Sink>(
+    run: &mut Run<'s, B, P>,
+    gate: &mut G,
+    sink: &mut K,
+) -> Result<(), RunErr>
+    requires sound { run.old.failed ≡ false }
+    requires made { IsDefined (setting_of B.next P.bodies run.old) run.old.takes run.old.calls }
+    requires room { run.old.calls ≤ run.old.turns }
+    requires due { phase_now B.next P.bodies run.old ≡ phase.Turn }
+    ensures { Does B.next P.bodies P.proc_names (sides K.written K.faults sink.old sink.new)
+        (λ planned plan. round planned plan) run.old run.new (G.stock gate.old) (G.stock gate.new)
+        result }
+{
+    serve_all(run, gate, sink)?;
+    run.turn(sink)
+}
+
+// A round where nobody may run: lines are taken, and where there was none the session is stuck.
+#[inline(always)]
+fn idle_round<'s, B: Polled<'s>, P: Program<B>, G: Gate<'s>, K: Sink>(
+    run: &mut Run<'s, B, P>,
+    gate: &mut G,
+    sink: &mut K,
+) -> Result<Option<Halt>, RunErr>
+    requires sound { run.old.failed ≡ false }
+    requires made { IsDefined (setting_of B.next P.bodies run.old) run.old.takes run.old.calls }
+    requires room { run.old.calls ≤ run.old.turns }
+    requires idle { phase_now B.next P.bodies run.old ≡ phase.Idle }
+    ensures does { Does B.next P.bodies P.proc_names (sides K.written K.faults sink.old sink.new)
+        (λ planned plan. round planned plan) run.old run.new (G.stock gate.old) (G.stock gate.new)
+        result }
+    ensures over { IfOk result
+        (λ halt.
+        plan_over (planned_of B.next P.bodies run.old)
+        (plan_now B.next P.bodies run.old (G.stock gate.old))
+        ≡ halt) }
+{
+    let taken = run.takes();
+    serve_all(run, gate, sink)?;
+    if run.takes() == taken {
+        return Ok(Some(Halt::Stuck));
+    }
+    Ok(None)
+}
+
 /// Lines are taken, each event's first if it can be delivered, and then, if somebody may run, a call is made; unless the session is
 /// over, which is told. `run` goes on so until the end.
 pub fn go_round<'s, B: Polled<'s>, P: Program<B>, G: Gate<'s>, K: Sink>(
@@ -126,18 +174,10 @@ pub fn go_round<'s, B: Polled<'s>, P: Program<B>, G: Gate<'s>, K: Sink>(
         Phase::Ended(status) => Ok(Some(Halt::Ended(status))),
         Phase::Spent => Ok(Some(Halt::Spent)),
         Phase::Turn => {
-            serve_all(run, gate, sink)?;
-            run.turn(sink)?;
+            turn_round(run, gate, sink)?;
             Ok(None)
         }
-        Phase::Idle => {
-            let taken = run.takes();
-            serve_all(run, gate, sink)?;
-            if run.takes() == taken {
-                return Ok(Some(Halt::Stuck));
-            }
-            Ok(None)
-        }
+        Phase::Idle => idle_round(run, gate, sink),
     }
 }
 

@@ -1,7 +1,10 @@
 // A run over inlets, into which other threads post while it goes on.
-ghost use Rattle.std.specs.Prelude.{◌≡◌, false, map, IfOk, OnOk};
+ghost use Rattle.std.specs.Prelude.{◌≡◌, ◌≤◌, false, map, IfOk, OnOk};
 ghost use Rattle.event_gate.specs.Inlet.{EventsRise};
+ghost use Rattle.pod_runner.specs.Due.{IsDefined};
 ghost use Rattle.pod_runner.specs.Live.{Answers, AnswersIf, LivesOn, LooksAtAll};
+ghost use Rattle.pod_runner.specs.Run.{phase_now, setting_of};
+ghost use Rattle.pod_runner.specs.declared.phase.Phase.TheVariants as phase;
 ghost use Rattle.whole_streams.specs.Streams.{sides};
 
 use crate::inlets::{all_told, serve_all};
@@ -11,6 +14,62 @@ use event_gate::Inlet;
 use lwp_types::{Polled, Program, Sink};
 use std::sync::Wait;
 use trace_text::Halt;
+
+// A round where somebody may run: lines are taken, and then a call is made.
+fn turn_round<'s, B: Polled<'s>, P: Program<B>, I: Inlet<'s>, K: Sink, R: Wait>(
+    rt: &R,
+    run: &mut Run<'s, B, P>,
+    inlets: &mut Vec<I>,
+    sink: &mut K,
+) -> Result<(), RunErr>
+    requires sound { run.old.failed ≡ false }
+    requires made { IsDefined (setting_of B.next P.bodies run.old) run.old.takes run.old.calls }
+    requires room { run.old.calls ≤ run.old.turns }
+    requires rise { EventsRise (map I.intake inlets.old.items) }
+    requires due { phase_now B.next P.bodies run.old ≡ phase.Turn }
+    ensures lives { LivesOn B.next P.bodies P.proc_names
+        (sides K.written K.faults sink.old sink.new) run.old run.new (map I.intake inlets.old.items)
+        (map I.intake inlets.new.items) result }
+    ensures looked { OnOk result
+        (LooksAtAll B.next P.bodies run.old run.new (map I.intake inlets.old.items)
+        (map I.intake inlets.new.items)) }
+{
+    serve_all(rt, run, inlets, sink)?;
+    run.turn(sink)
+}
+
+// A round where nobody may run: lines are taken, and where there was none the session is stuck or quiet.
+fn idle_round<'s, B: Polled<'s>, P: Program<B>, I: Inlet<'s>, K: Sink, R: Wait>(
+    rt: &R,
+    run: &mut Run<'s, B, P>,
+    inlets: &mut Vec<I>,
+    sink: &mut K,
+) -> Result<Option<Live>, RunErr>
+    requires sound { run.old.failed ≡ false }
+    requires made { IsDefined (setting_of B.next P.bodies run.old) run.old.takes run.old.calls }
+    requires room { run.old.calls ≤ run.old.turns }
+    requires rise { EventsRise (map I.intake inlets.old.items) }
+    requires idle { phase_now B.next P.bodies run.old ≡ phase.Idle }
+    ensures lives { LivesOn B.next P.bodies P.proc_names
+        (sides K.written K.faults sink.old sink.new) run.old run.new (map I.intake inlets.old.items)
+        (map I.intake inlets.new.items) result }
+    ensures looked { OnOk result
+        (LooksAtAll B.next P.bodies run.old run.new (map I.intake inlets.old.items)
+        (map I.intake inlets.new.items)) }
+    ensures answers { IfOk result
+        (AnswersIf B.next P.bodies run.new (map I.intake inlets.old.items)
+        (map I.intake inlets.new.items)) }
+{
+    let taken = run.takes();
+    serve_all(rt, run, inlets, sink)?;
+    if run.takes() != taken {
+        return Ok(None);
+    }
+    if all_told(inlets) {
+        return Ok(Some(Live::Halt(Halt::Stuck)));
+    }
+    Ok(Some(Live::Quiet))
+}
 
 // Lines are taken, and then, if somebody may run, a call is made; unless the session has ended or is quiet, which is told.
 fn go_round<'s, B: Polled<'s>, P: Program<B>, I: Inlet<'s>, K: Sink, R: Wait>(
@@ -35,21 +94,10 @@ fn go_round<'s, B: Polled<'s>, P: Program<B>, I: Inlet<'s>, K: Sink, R: Wait>(
         Phase::Ended(status) => Ok(Some(Live::Halt(Halt::Ended(status)))),
         Phase::Spent => Ok(Some(Live::Halt(Halt::Spent))),
         Phase::Turn => {
-            serve_all(rt, run, inlets, sink)?;
-            run.turn(sink)?;
+            turn_round(rt, run, inlets, sink)?;
             Ok(None)
         }
-        Phase::Idle => {
-            let taken = run.takes();
-            serve_all(rt, run, inlets, sink)?;
-            if run.takes() != taken {
-                return Ok(None);
-            }
-            if all_told(inlets) {
-                return Ok(Some(Live::Halt(Halt::Stuck)));
-            }
-            Ok(Some(Live::Quiet))
-        }
+        Phase::Idle => idle_round(rt, run, inlets, sink),
     }
 }
 

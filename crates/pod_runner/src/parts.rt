@@ -200,8 +200,7 @@ impl<'s, B: Polled<'s>> RunParts<'s, B> {
         self.pod
             .deliver(took.event, took.line.text.again(), &mut self.effects);
         out.set_step(&self.effects, Some(&took.line), names)?;
-        settle(&mut self.rows, program, None, &self.effects)?;
-        Ok(())
+        settle(&mut self.rows, program, None, &self.effects)
     }
 
     /// Polls the body of the thread whose turn it is, and makes its call. `out` then has the lines of what that did, and nothing
@@ -258,7 +257,6 @@ impl<'s, B: Polled<'s>> RunParts<'s, B> {
         )?;
         self.caller = caller;
         let born = proc_of(&self.call);
-        settle(&mut self.rows, program, born, &self.effects)?;
-        Ok(())
+        settle(&mut self.rows, program, born, &self.effects)
     }
 }

@@ -202,8 +202,7 @@ fn put_answer<'s, B>(
 {
     let alloc = *rows.allocator();
     let row = &mut rows[i];
-    set_answer(row, alloc, answer)?;
-    Ok(())
+    set_answer(row, alloc, answer)
 }
 
 // Forgets a thread, whose row is at a place.
@@ -306,7 +305,7 @@ impl<'s, B> RowList<'s, B> {
     {
         let i = self.place(tid);
         if i < self.rows.len() {
-            put_answer(&mut self.rows, i, tid, answer)?;
+            return put_answer(&mut self.rows, i, tid, answer);
         }
         Ok(())
     }

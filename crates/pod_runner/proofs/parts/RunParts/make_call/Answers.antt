@@ -9,6 +9,7 @@ use Rattle.pod_runner.specs.RunParts.{live_of}
 use Rattle.pod_runner.specs.Session.{after_settle}
 use Rattle.pod_runner.specs.declared.session.Row.{Row}
 use Rattle.pod_runner.proofs.Moves.{chosen_from, moves_at}
+use Rattle.pod_runner.proofs.Results.{on_ok}
 use Rattle.pod_runner.proofs.parts.RunParts.make_call.Goals as goal
 use Rattle.std.proofs.Common.{List, None, Option, Some, ap, refl, subst, ◌++◌, ◌∙◌, ◌≡◌, ℕ}
 
@@ -33,7 +34,10 @@ returns g c =
     let call = c.poll_at.new.call in
     let told = first_told es c.args.tid call c.carry_out.new.effects chosen c.in_ok-caller.ensures.effects in
     let effects = lead es.pending c.args.tid call ++ c.carry_out.new.effects in
-    let rows = c.in_ok-settle.ensures ∙ settled-lead (g.P.Program.bodies c.args.program.now) c.proc_of-born.result es.pending c.args.tid call c.carry_out.new.effects c.poll_at.new.self in
+    on_ok c.settle.result
+    (λ settled.
+    let rows = settled ∙ settled-lead (g.P.Program.bodies c.args.program.now) c.proc_of-born.result es.pending c.args.tid call c.carry_out.new.effects c.poll_at.new.self in
     let m = moves_at g.B.Body.next (g.P.Program.bodies c.args.program.now) c.args.names.now (live_of c.args.self.now) c.args.tid c.args.i c.set_me.new.self call c.carry_out.new.pod effects c.poll_at.new.self c.settle.new.rows c.poll_at.new.env c.carry_out.new.out c.proc_of-born.result
     chosen c.requires.place c.requires.within c.set_me.ensures c.in_ok-poll_at.ensures c.in_ok-caller.ensures.after told c.proc_of-born.ensures rows c.in_ok-caller.ensures.lines in
-    record { live = m.live; effects = ap (λ who. with_call_by who call c.carry_out.new.effects) c.in_ok-caller.ensures.caller ∙ led es.pending c.args.tid call c.carry_out.new.effects ∙ m.effects; lines = m.lines }
+    record { live = m.live; effects = ap (λ who. with_call_by who call c.carry_out.new.effects) c.in_ok-caller.ensures.caller ∙ led es.pending c.args.tid call c.carry_out.new.effects ∙ m.effects; lines = m.lines })
+    c.settle.ensures

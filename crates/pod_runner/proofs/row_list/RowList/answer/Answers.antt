@@ -9,10 +9,10 @@ put_answer-requires-clause-at g c = rw c.self.view_is c.place-i.ensures
 pub invariant_of-self : goal.invariant_of-self
 invariant_of-self g c = λ up. c.put_answer.ensures.rising (c.self.invariant up)
 
-pub returns-in_ok-put_answer : goal.returns-in_ok-put_answer
-returns-in_ok-put_answer g c = rw (← c.self.view_is) c.in_ok-put_answer.ensures.after
+pub returns-then-i-len : goal.returns-then-i-len
+returns-then-i-len g c = rw (← c.self.view_is) c.put_answer.ensures.after
 
-pub returns-else-i-len : goal.returns-else-i-len
-returns-else-i-len g c =
+pub returns : goal.returns
+returns g c =
     let past : length c.args.self.now ≤ place_of c.args.tid c.args.self.now = search rules in
     sym (with_row-missing c.args.tid _ c.args.self.now past)
